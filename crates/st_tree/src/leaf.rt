@@ -1,0 +1,38 @@
+//! The leaves of a program: what has a value while it runs.
+use crate::elem::Elem;
+use crate::list::List;
+use crate::value::Value;
+
+/// What a leaf is for.
+#[derive(Clone, Copy, Debug, PartialEq, Eq)]
+pub enum Role {
+    /// A variable that an operator may write and force.
+    Plain,
+    /// A variable that a scan may set from outside. An operator may write and force it.
+    ProcessInput,
+    /// What a block or an action keeps for itself.
+    Hidden,
+    /// Whether a chart has begun.
+    ChartBegun,
+    /// Whether a step is active. `begun` is the number of the leaf that tells whether its chart has begun.
+    StepActive { begun: u32 },
+    /// For how long a step has been active.
+    StepTime,
+}
+
+/// A leaf: a part of the main program that holds one value of an elementary type.
+#[derive(Drop)]
+pub struct Leaf {
+    /// Its name from the program on, in upper case, as `MAIN.A`.
+    pub path: List<u8>,
+    /// The same name, spelled as the program declares it.
+    pub shown: List<u8>,
+    /// What each proper prefix of the path names, as `PROGRAM`.
+    pub spine: List<List<u8>>,
+    /// Its elementary type.
+    pub elem: Elem,
+    /// The value that it begins with.
+    pub initial: Value,
+    /// What it is for.
+    pub role: Role,
+}
