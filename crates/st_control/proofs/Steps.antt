@@ -3,13 +3,13 @@ use Rattle.std.proofs.Common.{ℕ, zero, suc, ◌+◌, ◌≡◌, List, [], ◌�
 use Rattle.std.specs.Prelude.{Ok, Err, Result}
 use Rattle.std.specs.Result.{result_unwrap_or}
 use Rattle.st_control.specs.Laws.{GoesThroughStates, IsGivenBack}
-use Rattle.st_control.specs.Machine.{Command, Machine, accept, accept_at, after, after_all, after_undo, after_undos, is_full, leaf_to_force, leaf_to_release, leaf_to_write, passed, state_before, step}
+use Rattle.st_control.specs.Machine.{Command, Machine, accept_at, after, after_all, after_undo, after_undos, is_full, leaf_to_force, leaf_to_release, leaf_to_write, passed, state_before, step}
 use Rattle.st_control.specs.Machine.Command.{force, release, write}
 use Rattle.st_control.specs.States.{StateView, forced, released, written}
 
 -- undos one after another
 after_undos-+ : (a b : ℕ) (m : Machine) → after_undos (a + b) m ≡ after_undos b (after_undos a m)
-after_undos-+ zero b m = ap (λ (n : ℕ). after_undos n m) (omega arith)
+after_undos-+ zero b m = let sum : zero + b ≡ b = omega arith in ap (λ (n : ℕ). after_undos n m) sum
 after_undos-+ (suc a) b m =
     let sum : suc a + b ≡ suc (a + b) = omega arith in
     ap (λ (n : ℕ). after_undos n m) sum ∙ after_undos-+ a b (after_undo m)

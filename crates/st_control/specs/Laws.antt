@@ -1,5 +1,5 @@
 -- What holds of all lists of commands.
-use Rattle.std.specs.Prelude.{ℕ, ◌≡◌, ◌≤◌, List, ◌++◌, length}
+use Rattle.std.specs.Prelude.{◌≡◌, List, ◌++◌, length}
 use Rattle.st_control.specs.Machine.{Command, Machine, after_all, after_undos, passed}
 
 -- Whatever commands are given, refused ones between them included, as many undos as were accepted give back the machine

@@ -1,6 +1,6 @@
 -- The machine that a controller stands for: a state, and the states to go back to. It keeps whole states; a controller
 -- has records instead.
-use Rattle.std.specs.Prelude.{ℕ, zero, suc, ◌+◌, ◌≡◌, Bool, true, false, not, ◌&&◌, if◌then◌else◌, nat_le, ℤ, List, [], ◌∷◌, ◌++◌, length, reverse, replicate, count_by, Option, Some, None, Result, Ok, Err}
+use Rattle.std.specs.Prelude.{ℕ, zero, suc, Bool, not, ◌&&◌, if◌then◌else◌, nat_le, List, [], ◌∷◌, ◌++◌, length, Result, Ok, Err}
 use Rattle.std.specs.Option.{option_map_or}
 use Rattle.std.specs.Result.{result_unwrap_or}
 use Rattle.st_control.specs.States.{StateView, leaf_of, written, forced, released}

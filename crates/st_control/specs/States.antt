@@ -1,10 +1,10 @@
 -- The state of a controller, and what commands make of it.
-use Rattle.std.specs.Prelude.{ℕ, ℤ, ◌<◌, Bool, true, false, List, Option, length}
+use Rattle.std.specs.Prelude.{ℕ, ℤ, ◌<◌, true, false, List, Option, length}
 use Rattle.st_control.specs.declared.record.Record.{Record}
 use Rattle.st_control.specs.declared.record.Record.TheVariants.{Write, Force, Release}
 use Rattle.st_control.specs.declared.state.Status.{Status}
 use Rattle.st_layout.specs.Layout.{IsValueAt, number_of}
-use Rattle.st_layout.specs.Memory.{Content, value_at, forced_at, with_value, with_force}
+use Rattle.st_layout.specs.Memory.{Content, with_value, with_force}
 use Rattle.st_tree.specs.declared.leaf.Leaf.{Leaf}
 use Rattle.st_tree.specs.declared.value.Value.{Value}
 

@@ -105,8 +105,8 @@ impl<M: Memory> Controller<M> {
         match self.state.leaf_to_write(full, path, value) {
             Err(number) => Err(Refusal::O(number)),
             Ok(leaf) => {
-                let record = self.state.write(leaf, value);
-                keep(&mut self.records, record);
+                let newest = self.state.write(leaf, value);
+                keep(&mut self.records, newest);
                 Ok(())
             }
         }
@@ -124,8 +124,8 @@ impl<M: Memory> Controller<M> {
         match self.state.leaf_to_force(full, path, value) {
             Err(number) => Err(Refusal::O(number)),
             Ok(leaf) => {
-                let record = self.state.force(leaf, value);
-                keep(&mut self.records, record);
+                let newest = self.state.force(leaf, value);
+                keep(&mut self.records, newest);
                 Ok(())
             }
         }
@@ -142,8 +142,8 @@ impl<M: Memory> Controller<M> {
         match self.state.leaf_to_release(full, path) {
             Err(number) => Err(Refusal::O(number)),
             Ok(leaf) => {
-                let record = self.state.release(leaf);
-                keep(&mut self.records, record);
+                let newest = self.state.release(leaf);
+                keep(&mut self.records, newest);
                 Ok(())
             }
         }
@@ -156,13 +156,13 @@ impl<M: Memory> Controller<M> {
         ensures step { Takes (undo_step (machine_of self.old)) self.old result self.new }
         ensures record { OnOk result (DropsNewest self.old self.new) }
     {
-        let Some(record) = self.records.pop() else {
+        let Some(newest) = self.records.pop() else {
             return Err(Refusal::O(7));
         };
-        match revert(alloc, &mut self.state, record) {
+        match revert(alloc, &mut self.state, newest) {
             Ok(()) => Ok(()),
-            Err(record) => {
-                keep(&mut self.records, record);
+            Err(newest) => {
+                keep(&mut self.records, newest);
                 Err(Refusal::M)
             }
         }
@@ -185,11 +185,11 @@ impl<M: Memory> Controller<M> {
 }
 
 /// Puts a record after the others, for which there is room.
-fn keep(records: &mut Vec<Record>, record: Record)
+fn keep(records: &mut Vec<Record>, newest: Record)
     requires { vec_len records.old < vec_capacity records.old }
-    ensures items { records.new.items ≡ records.old.items ++ record ∷ [] }
+    ensures items { records.new.items ≡ records.old.items ++ newest ∷ [] }
     ensures len { vec_len records.new ≡ vec_len records.old + 1 }
     ensures room { vec_capacity records.old ≤ vec_capacity records.new }
 {
-    let _ = records.push(record);
+    let _ = records.push(newest);
 }

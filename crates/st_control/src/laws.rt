@@ -7,5 +7,4 @@ ghost use Rattle.st_control.specs.Laws.{GoesThroughStates, IsGivenBack};
 pub fn undos_give_back_states()
     ensures given_back { IsGivenBack }
     ensures in_order { GoesThroughStates }
-{
-}
+{}

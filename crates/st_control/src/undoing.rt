@@ -8,12 +8,12 @@ use st_layout::Memory;
 use std::alloc::Global;
 
 /// Gives back the state before the command that left this record. It takes no memory, and is never refused.
-pub fn revert<M: Memory>(_alloc: Global, state: &mut State<M>, record: Record) -> Result<(), Record>
-    requires { FitsRecord state.old record }
-    ensures ok { OnOk result (state.new ≡ undone state.old record) }
+pub fn revert<M: Memory>(_alloc: Global, state: &mut State<M>, newest: Record) -> Result<(), Record>
+    requires { FitsRecord state.old newest }
+    ensures ok { OnOk result (state.new ≡ undone state.old newest) }
     ensures always { IsOk result }
 {
-    match record {
+    match newest {
         Record::Write { leaf, old } => {
             state.memory.set(&state.layout, leaf, old);
         }
