@@ -2,7 +2,7 @@
 ghost use Rattle.std.specs.Prelude.{◌≡◌, ◌≤◌, ◌<◌, ◌↔◌, IfOk, IfSome, IsSome, length, map, take};
 ghost use Rattle.std.specs.List.{Contains, position};
 ghost use Rattle.std.specs.Str.{bytes_eq};
-ghost use Rattle.st_layout.specs.Layout.{IsSound, leaf_at, number_of, paths_of, raised as in_upper_case};
+ghost use Rattle.st_layout.specs.Layout.{IsSound, IsValueOf, leaf_at, number_of, paths_of, raised as in_upper_case};
 
 use indexmap::IndexSet;
 use st_tree::{Leaf, List};
@@ -54,7 +54,8 @@ impl Layout {
     /// The leaf of this number.
     pub fn at(&self, leaf: u32) -> &Leaf
         requires { leaf < length self.now }
-        ensures { result.now ≡ leaf_at self.now leaf }
+        ensures value { result.now ≡ leaf_at self.now leaf }
+        ensures initial { IsValueOf result.now result.now.initial }
     {
         &self.leaves[leaf as usize]
     }
