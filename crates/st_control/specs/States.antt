@@ -3,8 +3,8 @@ use Rattle.std.specs.Prelude.{ℕ, ℤ, ◌<◌, true, false, List, Option, leng
 use Rattle.st_control.specs.declared.record.Record.{Record}
 use Rattle.st_control.specs.declared.record.Record.TheVariants.{Write, Force, Release}
 use Rattle.st_control.specs.declared.state.Status.{Status}
-use Rattle.st_layout.specs.Layout.{IsValueAt, number_of}
-use Rattle.st_layout.specs.Memory.{Content, with_value, with_force}
+use Rattle.st_layout.specs.Layout.{IsSound, IsValueAt, number_of}
+use Rattle.st_layout.specs.Memory.{Content, Fits, with_value, with_force}
 use Rattle.st_tree.specs.declared.leaf.Leaf.{Leaf}
 use Rattle.st_tree.specs.declared.value.Value.{Value}
 
@@ -14,6 +14,11 @@ pub record StateView : Type 0 where
   pub content : Content
   pub now : ℤ
   pub status : Status
+
+-- what each state of a controller keeps: its leaves are those of a layout, and it has one value of the right type for each
+pub record IsWhole (s : StateView) : Type 0 where
+  pub sound : IsSound s.leaves
+  pub fits : Fits s.leaves s.content
 
 -- the number of the leaf with this path, in any case
 abbrev pub leaf_of : StateView → List ℕ → Option ℕ

@@ -3,7 +3,7 @@ ghost use Rattle.std.specs.Prelude.{◌≡◌, ◌+◌, ◌<◌, ◌≤◌, ◌+
 ghost use Rattle.st_control.specs.Controllers.{DropsNewest, Keeps, Takes, force_count, force_record, machine_of, release_record, shown_to, write_record};
 ghost use Rattle.st_control.specs.Machine.{step, undo_step};
 ghost use Rattle.st_control.specs.Machine.Command.{force, release, write};
-ghost use Rattle.st_control.specs.States.{leaf_of};
+ghost use Rattle.st_control.specs.States.{IsWhole, leaf_of};
 ghost use Rattle.st_layout.specs.Layout.{leaf_at};
 
 use crate::record::Record;
@@ -174,6 +174,7 @@ impl<M: Memory> Controller<M> {
         ensures now { result.now ≡ self.now.state.now }
         ensures forces { result.forces ≡ force_count self.now.state }
         ensures undo { result.undo ≡ length self.now.records }
+        ensures whole { IsWhole self.now.state }
     {
         Report {
             status: self.state.status,
