@@ -9,6 +9,8 @@ mod name;
 mod number;
 mod put;
 mod read;
+#[cfg(test)]
+mod tests;
 mod value;
 mod word;
 
@@ -17,5 +19,5 @@ pub use leaf::{Leaf, Role};
 pub use list::List;
 pub use name::Name;
 pub use put::put_value;
-pub use read::{BadValue, read_value};
-pub use value::{Value, is_value};
+pub use read::{BadValue, read_value, text_is_read_back};
+pub use value::{Value, is_value, wrap};
