@@ -1,0 +1,13 @@
+//! Sessions: an operator's commands, line by line, and the replies to them.
+//!
+//! The lines come from a [`Source`] and the replies go to a [`Sink`].
+#![tactic(auto)]
+
+mod devices;
+mod input;
+mod memory_devices;
+mod streams;
+
+pub use devices::{DeviceFault, Sink, Source};
+pub use memory_devices::{Bytes, Sheet};
+pub use streams::{FromReader, ToWriter};
