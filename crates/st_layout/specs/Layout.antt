@@ -1,8 +1,9 @@
 -- Layouts, as contracts see them: lists of leaves.
-use Rattle.std.specs.Prelude.{ℕ, pos, ◌≡◌, ◌≢◌, ◌≤◌, Bool, true, false, List, [], map, length, get_or, Option}
+use Rattle.std.specs.Prelude.{ℕ, pos, ◌≡◌, ◌≢◌, ◌≤◌, Bool, true, false, List, [], map, length, get_or, take, Option}
 use Rattle.std.specs.Char.{to_ascii_uppercase}
-use Rattle.std.specs.List.{All, AllPairs, position}
+use Rattle.std.specs.List.{All, AllPairs, position, sum_by}
 use Rattle.std.specs.Str.{bytes_eq}
+use Rattle.st_tree.specs.Types.{width_of}
 use Rattle.st_tree.specs.Values.{IsValue}
 use Rattle.st_tree.specs.declared.elem.Elem.TheVariants as E
 use Rattle.st_tree.specs.declared.leaf.Leaf.{Leaf}
@@ -31,6 +32,14 @@ paths_of leaves = map (λ leaf. leaf.path) leaves
 -- the number of the leaf with this path, in any case
 unfoldable pub number_of : List Leaf → List ℕ → Option ℕ
 number_of leaves path = position (bytes_eq (raised path)) (paths_of leaves)
+
+-- how many bytes the values of the leaves take
+abbrev pub total_width : List Leaf → ℕ
+total_width leaves = sum_by (λ leaf. width_of leaf.elem) leaves
+
+-- how many bytes the values of the leaves before this one take
+abbrev pub offset_of : List Leaf → ℕ → ℕ
+offset_of leaves i = total_width (take i leaves)
 
 -- whether an operator may write and force the leaf
 abbrev pub is_open : Role → Bool

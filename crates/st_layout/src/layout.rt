@@ -1,8 +1,8 @@
 //! Layouts: the leaves of a program by number and by path.
-ghost use Rattle.std.specs.Prelude.{◌≡◌, ◌≤◌, ◌<◌, ◌↔◌, IfOk, IfSome, IsSome, length, map, take};
+ghost use Rattle.std.specs.Prelude.{◌≡◌, ◌≤◌, ◌<◌, ◌+◌, ◌↔◌, EachIndex, IfOk, IfSome, IsSome, length, map, slice_index, take};
 ghost use Rattle.std.specs.List.{Contains, position};
 ghost use Rattle.std.specs.Str.{bytes_eq};
-ghost use Rattle.st_layout.specs.Layout.{IsSound, leaf_at, number_of, paths_of, raised as in_upper_case};
+ghost use Rattle.st_layout.specs.Layout.{IsSound, IsValueOf, leaf_at, number_of, offset_of, paths_of, total_width, raised as in_upper_case};
 
 use indexmap::IndexSet;
 use st_tree::{Leaf, List};
@@ -18,11 +18,13 @@ pub struct Layout {
     leaves: Vec<Leaf>,
     /// The leaves' paths, in order.
     names: IndexSet<Vec<u8>>,
+    /// The place of each leaf in bytes, and the end of the last one.
+    offsets: Vec<u32>,
 }
 
 impl Model for Layout {
     ghost use Rattle.std.specs.Prelude.{List as Items};
-    ghost use Rattle.st_layout.specs.Names.{IsLayout, leaves_of};
+    ghost use Rattle.st_layout.specs.Inside.{IsLayout, leaves_of};
     ghost use Rattle.st_tree.specs.declared.leaf.Leaf.{Leaf as LeafSeen};
 
     ghost Value = { Items LeafSeen };
@@ -40,7 +42,12 @@ impl Layout {
     {
         let leaves = leaves.items;
         let names = names_of(alloc, &leaves)?;
-        Ok(Layout { leaves, names })
+        let offsets = offsets_of(alloc, &leaves)?;
+        Ok(Layout {
+            leaves,
+            names,
+            offsets,
+        })
     }
 
     /// How many leaves there are.
@@ -51,10 +58,26 @@ impl Layout {
         self.leaves.len() as u32
     }
 
+    /// How many bytes the values of all leaves take, each in the width of its type.
+    pub fn bytes(&self) -> u32
+        ensures { result ≡ total_width self.now }
+    {
+        self.offsets[self.leaves.len()]
+    }
+
+    /// The place of a leaf's value in bytes: the values lie in order, with no gaps.
+    pub fn offset(&self, leaf: u32) -> u32
+        requires { leaf < length self.now }
+        ensures { result ≡ offset_of self.now leaf }
+    {
+        self.offsets[leaf as usize]
+    }
+
     /// The leaf of this number.
     pub fn at(&self, leaf: u32) -> &Leaf
         requires { leaf < length self.now }
-        ensures { result.now ≡ leaf_at self.now leaf }
+        ensures value { result.now ≡ leaf_at self.now leaf }
+        ensures initial { IsValueOf result.now result.now.initial }
     {
         &self.leaves[leaf as usize]
     }
@@ -89,6 +112,22 @@ fn names_of(alloc: Global, leaves: &[Leaf]) -> Result<IndexSet<Vec<u8>>, AllocEr
         names.insert(path)?;
     }
     Ok(names)
+}
+
+/// The place of each leaf, and the end of the last one.
+fn offsets_of(alloc: Global, leaves: &[Leaf]) -> Result<Vec<u32>, AllocError>
+    requires { length leaves.now ≤ 65536 }
+    ensures count { IfOk result (λ offsets. length offsets.items ≡ length leaves.now + 1) }
+    ensures offsets { IfOk result (λ offsets. EachIndex offsets.items (λ i. slice_index offsets.items i ≡ offset_of leaves.now i)) }
+{
+    let mut offsets = Vec::new(alloc);
+    let mut end = 0;
+    offsets.push(end)?;
+    for leaf in leaves {
+        end += leaf.elem.width();
+        offsets.push(end)?;
+    }
+    Ok(offsets)
 }
 
 /// The place of a path in the table.

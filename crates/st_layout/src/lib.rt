@@ -2,9 +2,11 @@
 #![tactic(auto)]
 
 mod cells;
+mod laws;
 mod layout;
 mod memory;
 
 pub use cells::Cells;
+pub use laws::{content_is_a_map, places_follow};
 pub use layout::Layout;
 pub use memory::Memory;
