@@ -1,0 +1,4 @@
+pub mod Contents
+pub mod Maps
+pub mod Paths
+pub mod Places
