@@ -1,11 +1,11 @@
 -- Values of a layout's leaves.
 use Rattle.std.proofs.Common.{ℕ, suc, zero, ◌<◌, List, [], ◌∷◌, length, map, set, arith}
 use Rattle.std.specs.List.{All}
-use Rattle.std.proofs.lemmas.List.{length-map, length-replicate, length-set}
+use Rattle.std.proofs.lemmas.List.{length-set}
 use Rattle.st_tree.specs.declared.leaf.Leaf.{Leaf}
 use Rattle.st_tree.specs.declared.value.Value.{Value}
-use Rattle.st_layout.specs.Layout.{IsSound, IsValueOf, IsValueAt}
-use Rattle.st_layout.specs.Memory.{AreValues, Content, Fits, initial_content, value_at, with_value}
+use Rattle.st_layout.specs.Layout.{IsValueOf, IsValueAt}
+use Rattle.st_layout.specs.Memory.{AreValues, Content, Fits, value_at, with_value}
 
 -- the value of a leaf is one of its type
 pub value_fits : (leaves : List Leaf) (values : List Value) (i : ℕ) → AreValues leaves values → i < length leaves → IsValueAt leaves i (value_at values i)
@@ -34,11 +34,3 @@ with_value_fits leaves content i value fit one = record {
 pub initial_values_fit : (leaves : List Leaf) → All (λ leaf. IsValueOf leaf leaf.initial) leaves → AreValues leaves (map (λ leaf. leaf.initial) leaves)
 initial_values_fit [] each = tt
 initial_values_fit (leaf ∷ leaves) each = (each 0 leaf (omega arith), initial_values_fit leaves (λ i d below. each (suc i) d (omega (arith, below))))
-
--- the initial content of a sound layout fits it
-pub initial_content_fits : (leaves : List Leaf) → IsSound leaves → Fits leaves (initial_content leaves)
-initial_content_fits leaves sound = record {
-  types = initial_values_fit leaves sound.initial;
-  values = simp length-map;
-  forced = simp length-replicate;
-}

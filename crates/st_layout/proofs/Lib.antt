@@ -2,3 +2,4 @@ pub mod Contents
 pub mod Maps
 pub mod Paths
 pub mod Places
+pub mod Samples

@@ -1,17 +1,16 @@
 -- What a memory holds, by path.
-use Rattle.std.proofs.Common.{ℕ, suc, zero, ◌≡◌, ◌≢◌, ◌<◌, ◌↔◌, ◌⊎◌, inl, inr, Bool, true, false, cond, List, [], ◌∷◌, length, map, get_or, set, Option, Some, None, IsSome, IfSome, refl, sym, ◌∙◌, ap, arith}
+use Rattle.std.proofs.Common.{ℕ, ◌≡◌, ◌≢◌, ◌<◌, ◌↔◌, Bool, true, false, cond, List, [], ◌∷◌, length, Option, Some, None, IsSome, IfSome, refl, sym, ◌∙◌, ap, arith}
 use Rattle.std.specs.Char.{to_ascii_uppercase}
 use Rattle.std.specs.List.{AllPairs, Contains}
 use Rattle.std.specs.Option.{option_map, option_map_or}
-use Rattle.std.specs.Str.{bytes_eq}
 use Rattle.std.proofs.lemmas.List.{get_or-map, get_or-set_other, get_or-set_same, length-map, same_lists, get_or_default}
 use Rattle.std.proofs.lemmas.Slice.Eq.{bytes_eq-Decides}
 use Rattle.std.proofs.lemmas.Bool.Decides.{nat_tests}
 use Rattle.st_tree.specs.declared.leaf.Leaf.{Leaf}
 use Rattle.st_tree.specs.declared.value.Value.{Value}
-use Rattle.st_layout.specs.Laws.{HasLeavesValues, MarkChangesOneForce, PathsDetermineContent, SetChangesOneValue, is_forced, is_path_of, value_of}
+use Rattle.st_layout.specs.Laws.{HasLeavesValues, MarkChangesOneForce, PathsDetermineContent, SetChangesOneValue, is_path_of}
 use Rattle.st_layout.specs.Layout.{IsSound, IsValueAt, leaf_at, no_leaf, no_value, number_of, paths_of, raised}
-use Rattle.st_layout.specs.Memory.{Content, Fits, forced_at, value_at, with_force, with_value}
+use Rattle.st_layout.specs.Memory.{Content, forced_at, value_at, with_force, with_value}
 use Rattle.st_layout.proofs.Contents.{value_fits}
 use Rattle.st_layout.proofs.Paths.{number-None, number-Some, number-listed}
 
@@ -52,15 +51,17 @@ option_map-is f (Some x) = refl
 pub set_changes_one_value : SetChangesOneValue
 set_changes_one_value leaves content i value path sound fits below =
     let one = at_path leaves i path sound.distinct below (λ k. Some (value_at (with_value content i value).values k)) (λ k. Some (value_at content.values k)) None (Some value)
-        (ap (λ (v : Value). Some v) (get_or-set_same content.values i value no_value (omega (arith, fits.values, below))))
-        (λ k apart. ap (λ (v : Value). Some v) (get_or-set_other content.values i k value no_value apart)) in
+    (ap (λ (v : Value). Some v) (get_or-set_same content.values i value no_value (omega (arith, fits.values, below))))
+    (λ k apart. ap (λ (v : Value). Some v) (get_or-set_other content.values i k value no_value apart)) in
     (rw (option_map-is (value_at (with_value content i value).values) (number_of leaves path), option_map-is (value_at content.values) (number_of leaves path)) one, refl)
 
 pub mark_changes_one_force : MarkChangesOneForce
-mark_changes_one_force leaves content i on path sound fits below =
-    (at_path leaves i path sound.distinct below (forced_at (with_force content i on).forced) (forced_at content.forced) false on
-        (get_or-set_same content.forced i on false (omega (arith, fits.forced, below)))
-        (λ k apart. get_or-set_other content.forced i k on false apart), refl)
+mark_changes_one_force leaves content i on path sound fits below = (
+  at_path leaves i path sound.distinct below (forced_at (with_force content i on).forced) (forced_at content.forced) false on
+      (get_or-set_same content.forced i on false (omega (arith, fits.forced, below)))
+      (λ k apart. get_or-set_other content.forced i k on false apart),
+  refl,
+)
 
 pub has_leaves_values : HasLeavesValues
 has_leaves_values leaves content path fits = by (number_of leaves path) refl
@@ -87,11 +88,11 @@ pub paths_determine_content : PathsDetermineContent
 paths_determine_content leaves content other sound fits other_fits values forces =
     let own : (i : ℕ) → i < length leaves → number_of leaves (leaf_at leaves i).path ≡ Some i = λ i below. number-own leaves i sound below in
     let same_values : content.values ≡ other.values = same_lists content.values other.values (omega (arith, fits.values, other_fits.values)) (λ k d below.
-        let here : k < length leaves = omega (arith, below, fits.values) in
-        let both : Some (value_at content.values k) ≡ Some (value_at other.values k) = rw (own k here) at (values (leaf_at leaves k).path) in
-        get_or_default content.values k d no_value below ∙ ((cc) ∙ get_or_default other.values k no_value d (omega (arith, here, other_fits.values)))) in
+    let here : k < length leaves = omega (arith, below, fits.values) in
+    let both : Some (value_at content.values k) ≡ Some (value_at other.values k) = rw (own k here) at (values (leaf_at leaves k).path) in
+    get_or_default content.values k d no_value below ∙ ((cc) ∙ get_or_default other.values k no_value d (omega (arith, here, other_fits.values)))) in
     let same_forces : content.forced ≡ other.forced = same_lists content.forced other.forced (omega (arith, fits.forced, other_fits.forced)) (λ k d below.
-        let here : k < length leaves = omega (arith, below, fits.forced) in
-        let both : forced_at content.forced k ≡ forced_at other.forced k = rw (own k here) at (forces (leaf_at leaves k).path) in
-        get_or_default content.forced k d false below ∙ (both ∙ get_or_default other.forced k false d (omega (arith, here, other_fits.forced)))) in
+    let here : k < length leaves = omega (arith, below, fits.forced) in
+    let both : forced_at content.forced k ≡ forced_at other.forced k = rw (own k here) at (forces (leaf_at leaves k).path) in
+    get_or_default content.forced k d false below ∙ (both ∙ get_or_default other.forced k false d (omega (arith, here, other_fits.forced)))) in
     ap (λ (vs : List Value). made vs content.forced) same_values ∙ ap (λ (bs : List Bool). made other.values bs) same_forces

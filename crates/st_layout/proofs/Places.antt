@@ -1,6 +1,6 @@
 -- Places of leaves.
-use Rattle.std.proofs.Common.{ℕ, ◌≡◌, ◌+◌, ◌*◌, ◌<◌, ◌≤◌, List, length, take, arith, ap}
-use Rattle.std.proofs.lemmas.List.{length-take-le, take_all, take-take}
+use Rattle.std.proofs.Common.{ℕ, ◌≡◌, ◌+◌, ◌<◌, ◌≤◌, List, length, take, arith, ap}
+use Rattle.std.proofs.lemmas.List.{take_all, take-take}
 use Rattle.std.proofs.lemmas.List.Sums.{sum_by-take-le, sum_by_more}
 use Rattle.st_tree.specs.Types.{width_of}
 use Rattle.st_tree.specs.declared.elem.Elem.{Elem}

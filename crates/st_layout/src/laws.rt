@@ -5,8 +5,7 @@ ghost use Rattle.st_layout.specs.Laws.{HasLeavesValues, LastPlaceEnds, MarkChang
 pub fn places_follow()
     ensures apart { PlacesAreApart }
     ensures last { LastPlaceEnds }
-{
-}
+{}
 
 /// What a memory holds is a map from the leaves' paths to values, and a set of forced paths: it changes at one path at a
 /// time, and the map and the set determine it.
@@ -15,5 +14,4 @@ pub fn content_is_a_map()
     ensures set { SetChangesOneValue }
     ensures mark { MarkChangesOneForce }
     ensures whole { PathsDetermineContent }
-{
-}
+{}
