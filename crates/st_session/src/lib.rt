@@ -6,6 +6,7 @@
 mod devices;
 mod input;
 mod memory_devices;
+mod request;
 mod streams;
 
 pub use devices::{DeviceFault, Sink, Source};
