@@ -2,6 +2,7 @@ pub mod Bytes
 pub mod Inputs
 pub mod Lines
 pub mod Pending
+pub mod Replies
 pub mod Requests
 pub mod Sheet
 pub mod Streams

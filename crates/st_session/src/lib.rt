@@ -6,6 +6,7 @@
 mod devices;
 mod input;
 mod memory_devices;
+mod reply;
 mod request;
 mod streams;
 
