@@ -1,3 +1,4 @@
 pub mod LineLemmas
 pub mod TakingLemmas
 pub mod WordLemmas
+pub mod StepLemmas

@@ -4,6 +4,7 @@
 #![tactic(auto)]
 
 mod devices;
+mod engine;
 mod input;
 mod memory_devices;
 mod reply;
