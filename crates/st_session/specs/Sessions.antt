@@ -3,7 +3,7 @@ use Rattle.std.specs.Prelude.{◌≡◌, ◌≤◌, ℕ, ◌||◌, Bool, false, 
 use Rattle.std.specs.Io.KnownBytes.{Appends}
 use Rattle.st_control.specs.Machine.{Machine}
 use Rattle.st_session.specs.Lines.{Line, lines_of, whole_lines_of}
-use Rattle.st_session.specs.Pending.{TakesLine}
+use Rattle.st_session.specs.Pending.{TakesLine, TakesPart}
 use Rattle.st_session.specs.Replies.{machine_after, replies, some_refused, turn}
 
 -- every line was answered: the machine is that after all of them, and all replies were written
@@ -46,3 +46,10 @@ pub record Turns (refused at_end : Bool) (old new : Machine) (before now : Optio
 abbrev pub TurnsOver : Option Bool → Bool → Machine → Machine → Option (List ℕ) → Option (List ℕ) → List ℕ → List ℕ → Type 0
 TurnsOver None at_end old new before now bytes rest = (bytes ≡ []) × (new ≡ old) × (now ≡ before)
 TurnsOver (Some refused) at_end old new before now bytes rest = Turns refused at_end old new before now bytes rest
+
+-- the source failed while a line was read: nothing was done since, and only a part without an LF was read
+pub record LosesPart (at_end : Bool) (old new : Machine) (before now : Option (List ℕ)) (bytes rest : List ℕ) : Type 0 where
+  pub not_ended : at_end ≡ false
+  pub machine : new ≡ old
+  pub told : now ≡ before
+  pub part : TakesPart bytes rest

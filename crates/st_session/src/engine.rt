@@ -1,12 +1,12 @@
 //! A session: each line of a source is acted on, and its reply written to a sink.
-ghost use Rattle.std.specs.Prelude.{◌≡◌, ◌≤◌, ◌<◌, ◌↔◌, ◌||◌, ℕ, Some, true, false, take, IfErr, IfOk, IfSome, IsTrue, OnErr, OnOk, OnSome, is_err, vec_capacity};
+ghost use Rattle.std.specs.Prelude.{◌≡◌, ◌≤◌, ◌<◌, ◌↔◌, ◌||◌, ℕ, [], Some, true, false, take, IfErr, IfOk, IfSome, IsTrue, OnErr, OnOk, OnSome, is_err, vec_capacity};
 ghost use Rattle.std.specs.Io.KnownBytes.{Appends, Keeps};
 ghost use Rattle.st_control.specs.Controllers.{machine_of};
-ghost use Rattle.st_session.specs.Inputs.{left, pending};
+ghost use Rattle.st_session.specs.Inputs.{left, pending, unread};
 ghost use Rattle.st_session.specs.Pending.{OnKnown, TakesPart};
 ghost use Rattle.st_session.specs.Replies.{answer as answer_to, shown as shown_at, turn as turn_of, value_given as given_at};
 ghost use Rattle.st_session.specs.Requests.{Request as Ask, request_of};
-ghost use Rattle.st_session.specs.Sessions.{AnswersAll, AnswersRead, StopsIn, TurnsOver};
+ghost use Rattle.st_session.specs.Sessions.{AnswersAll, AnswersRead, LosesPart, StopsIn, TurnsOver};
 
 use crate::devices::{DeviceFault, Sink, Source};
 use crate::input::{Found, Input, LINE};
@@ -15,7 +15,7 @@ use crate::request::{Request, read_request};
 use st_control::{Controller, Refusal};
 use st_layout::Memory;
 use st_tree::{Elem, Value, read_value};
-use std::alloc::Global;
+use std::alloc::{AllocError, Global};
 
 /// How a session ended.
 #[derive(Clone, Copy, Debug, PartialEq, Eq)]
@@ -135,4 +135,122 @@ fn write_all<W: Sink>(sink: &mut W, bytes: &[u8]) -> Result<(), DeviceFault>
         at += sink.write_some(&bytes[at..])?;
     }
     Ok(())
+}
+
+/// What a session makes room for before its first read.
+#[derive(Drop)]
+struct Buffers {
+    input: Input,
+    /// The line that was taken last.
+    line: Vec<u8>,
+    reply: Reply,
+    ghost room: { 4096 ≤ vec_capacity line },
+}
+
+impl Buffers {
+    /// Buffers of which nothing is used yet.
+    fn new(alloc: Global) -> Result<Self, AllocError>
+        ensures unread { IfOk result (λ buffers. unread buffers.input ≡ []) }
+        ensures not_ended { IfOk result (λ buffers. buffers.input.at_end ≡ false) }
+    {
+        Ok(Buffers {
+            input: Input::new(alloc)?,
+            line: Vec::with_capacity(alloc, LINE)?,
+            reply: Reply::new(alloc)?,
+        })
+    }
+}
+
+/// Reads a line, acts on it and writes the reply whole. Answers whether that is a refusal, or nothing at the end.
+fn turn<M: Memory, R: Source, W: Sink>(
+    alloc: Global,
+    controller: &mut Controller<M>,
+    source: &mut R,
+    sink: &mut W,
+    buffers: &mut Buffers,
+) -> Result<Option<bool>, DeviceFault>
+    requires source { R.has_failed source.old ≡ false }
+    requires sink { W.has_failed sink.old ≡ false }
+    ensures ok { IfOk result (λ refused. OnKnown (pending buffers.old.input (R.rest source.old)) (pending buffers.new.input (R.rest source.new))
+        (TurnsOver refused buffers.new.input.at_end (machine_of controller.old) (machine_of controller.new) (W.taken sink.old) (W.taken sink.new))) }
+    ensures err { OnErr result (IfSome (pending buffers.old.input (R.rest source.old))
+        (StopsIn (machine_of controller.old) (machine_of controller.new) (W.taken sink.old) (W.taken sink.new))) }
+    ensures read { R.has_failed source.new ≡ true → OnKnown (pending buffers.old.input (R.rest source.old)) (R.rest source.new)
+        (LosesPart buffers.old.input.at_end (machine_of controller.old) (machine_of controller.new) (W.taken sink.old) (W.taken sink.new)) }
+    ensures progress { IfOk result (λ refused. OnSome refused (left buffers.new.input (R.reads_left source.new) < left buffers.old.input (R.reads_left source.old))) }
+    ensures ended { buffers.old.input.at_end ≡ true → buffers.new.input.at_end ≡ true }
+    ensures failed { (R.has_failed source.new || W.has_failed sink.new) ≡ is_err result }
+    ensures source { OnOk result (R.has_failed source.new ≡ false) }
+    ensures sink { OnOk result (W.has_failed sink.new ≡ false) }
+{
+    let refused = match buffers.input.next_line(source, &mut buffers.line)? {
+        Found::End => return Ok(None),
+        Found::TooLong => buffers.reply.answer(Err(Refusal::O(11))),
+        Found::Line => {
+            let request = read_request(buffers.line.as_slice());
+            act(alloc, controller, request, &mut buffers.reply)
+        }
+    };
+    write_all(sink, buffers.reply.as_slice())?;
+    Ok(Some(refused))
+}
+
+/// Answers all lines that are pending, and answers whether one was refused.
+fn answer_lines<M: Memory, R: Source, W: Sink>(
+    alloc: Global,
+    controller: &mut Controller<M>,
+    source: &mut R,
+    sink: &mut W,
+    buffers: &mut Buffers,
+) -> Result<bool, DeviceFault>
+    requires source { R.has_failed source.old ≡ false }
+    requires sink { W.has_failed sink.old ≡ false }
+    ensures ok { IfOk result (λ refused. IfSome (pending buffers.old.input (R.rest source.old))
+        (AnswersAll refused (machine_of controller.old) (machine_of controller.new) (W.taken sink.old) (W.taken sink.new))) }
+    ensures err { OnErr result (IfSome (pending buffers.old.input (R.rest source.old))
+        (StopsIn (machine_of controller.old) (machine_of controller.new) (W.taken sink.old) (W.taken sink.new))) }
+    ensures read { R.has_failed source.new ≡ true → OnKnown (pending buffers.old.input (R.rest source.old)) (R.rest source.new)
+        (AnswersRead (machine_of controller.old) (machine_of controller.new) (W.taken sink.old) (W.taken sink.new)) }
+    ensures failed { (R.has_failed source.new || W.has_failed sink.new) ≡ is_err result }
+{
+    let mut refused = false;
+    while let Some(is_refused) = turn(alloc, controller, source, sink, buffers)? {
+        refused |= is_refused;
+    }
+    Ok(refused)
+}
+
+/// Answers each line of the source on the sink, over a controller. The devices have not failed.
+pub fn session<M: Memory, R: Source, W: Sink>(
+    alloc: Global,
+    controller: &mut Controller<M>,
+    source: &mut R,
+    sink: &mut W,
+) -> Outcome
+    requires source { R.has_failed source.old ≡ false }
+    requires sink { W.has_failed sink.old ≡ false }
+
+    // Every line is answered, unless a device fails or there is no memory for the session's own buffers.
+    ensures clean { result ≡ Outcome.Clean → IfSome (R.rest source.old)
+        (AnswersAll false (machine_of controller.old) (machine_of controller.new) (W.taken sink.old) (W.taken sink.new)) }
+    ensures refused { result ≡ Outcome.Refused → IfSome (R.rest source.old)
+        (AnswersAll true (machine_of controller.old) (machine_of controller.new) (W.taken sink.old) (W.taken sink.new)) }
+
+    // A device has failed, and the session ended there. Of the lines that were read whole none is lost.
+    ensures device { result ≡ Outcome.Device → IfSome (R.rest source.old)
+        (StopsIn (machine_of controller.old) (machine_of controller.new) (W.taken sink.old) (W.taken sink.new)) }
+    ensures read { R.has_failed source.new ≡ true → OnKnown (R.rest source.old) (R.rest source.new)
+        (AnswersRead (machine_of controller.old) (machine_of controller.new) (W.taken sink.old) (W.taken sink.new)) }
+    ensures failed { IsTrue (R.has_failed source.new || W.has_failed sink.new) ↔ (result ≡ Outcome.Device) }
+
+    ensures memory { result ≡ Outcome.Memory → (controller.new ≡ controller.old) × (source.new ≡ source.old) × (sink.new ≡ sink.old) }
+{
+    let Ok(mut buffers) = Buffers::new(alloc) else {
+        return Outcome::Memory;
+    };
+    match answer_lines(alloc, controller, source, sink, &mut buffers) {
+        Ok(false) => Outcome::Clean,
+        Ok(true) => Outcome::Refused,
+        Err(_) => Outcome::Device,
+    }
 }

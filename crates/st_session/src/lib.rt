@@ -11,6 +11,7 @@ mod reply;
 mod request;
 mod streams;
 
+pub use engine::{Outcome, session};
 pub use devices::{DeviceFault, Sink, Source};
 pub use memory_devices::{Bytes, Sheet};
 pub use streams::{FromReader, ToWriter};

@@ -4,7 +4,7 @@ use Rattle.st_session.specs.Inputs.{pending, left}
 use Rattle.st_session.specs.Pending.{TakesByte, TakesFound}
 use Rattle.st_session.specs.declared.input.Found.TheVariants.{Line, TooLong}
 use Rattle.st_session.proofs.LineLemmas.{LineSoFar, line_ended, line_last, byte_dropped, byte_kept}
-use Rattle.st_session.proofs.TakingLemmas.{OnErr-from, OnKnown-trans, TakesByte-same, still_open}
+use Rattle.st_session.proofs.TakingLemmas.{OnErr-from, OnKnown-trans, TakesByte-same, not_ended_before}
 use Rattle.st_session.proofs.input.Input.next_line.Goals as goal
 
 pub returns-then-byte-eq10-clause-line : goal.returns-then-byte-eq10-clause-line
@@ -85,4 +85,4 @@ returns-else-is_long-clause-line g c =
 -- the input was open when the source failed, so it was open before
 pub returns-in_err-byte-clause-not_ended : goal.returns-in_err-byte-clause-not_ended
 returns-in_err-byte-clause-not_ended g c =
-    OnErr-from c.from_residual.result (still_open c.args.self.now.at_end c.loop-byte.self.at_end c.loop-byte.invariant.ended c.in_err-byte.ensures.empty.1)
+    OnErr-from c.from_residual.result (not_ended_before c.args.self.now.at_end c.loop-byte.self.at_end c.loop-byte.invariant.ended c.in_err-byte.ensures.empty.1)
