@@ -5,6 +5,7 @@ ghost use Rattle.st_control.specs.Machine.{step, undo_step};
 ghost use Rattle.st_control.specs.Machine.Command.{force, release, write};
 ghost use Rattle.st_control.specs.States.{IsWhole, leaf_of};
 ghost use Rattle.st_layout.specs.Layout.{leaf_at};
+ghost use Rattle.st_tree.specs.Values.{IsValue};
 
 use crate::record::Record;
 use crate::refusal::Refusal;
@@ -92,7 +93,8 @@ impl<M: Memory> Controller<M> {
     /// The path of a leaf, spelled as the program declares it.
     pub fn shown(&self, leaf: u32) -> &[u8]
         requires { leaf < length self.now.state.leaves }
-        ensures { result.now ≡ (leaf_at self.now.state.leaves leaf).shown }
+        ensures value { result.now ≡ (leaf_at self.now.state.leaves leaf).shown }
+        ensures short { length result.now ≤ 255 }
     {
         self.state.layout.at(leaf).shown.items.as_slice()
     }
@@ -107,7 +109,8 @@ impl<M: Memory> Controller<M> {
 
     /// The value of the leaf with this path, and whether it is forced. Refused as O1 where there is no such path.
     pub fn get(&self, path: &[u8]) -> Result<(Value, bool), Refusal>
-        ensures { result ≡ shown_to self.now.state (leaf_of self.now.state path.now) }
+        ensures value { result ≡ shown_to self.now.state (leaf_of self.now.state path.now) }
+        ensures in_range { IfOk result (λ shown. IsValue shown.0) }
     {
         let layout = &self.state.layout;
         match layout.leaf(path) {

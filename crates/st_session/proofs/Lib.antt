@@ -1,0 +1,5 @@
+pub mod LineLemmas
+pub mod RunLemmas
+pub mod StepLemmas
+pub mod TakingLemmas
+pub mod WordLemmas
