@@ -1,0 +1,4 @@
+//! The controller.
+#![tactic(auto)]
+
+mod thin;
