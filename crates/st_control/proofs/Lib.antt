@@ -1,1 +1,2 @@
 pub mod ThinLexemes
+pub mod ThinVariables

@@ -1,8 +1,14 @@
 -- Thin program texts: one program whose variables are of type BOOL or INT (IEC 61131-3:2003, 2.4.3 and 2.5.3).
-use Rattle.std.specs.Prelude.{ℕ, ◌==◌, Bool, true, false, ◌&&◌, ◌||◌, not, List, [], ◌∷◌, codes, if◌then◌else◌}
-use Rattle.std.specs.Char.{is_ascii_alphanumeric, is_ascii_digit}
-use Rattle.std.specs.List.{list_any}
-use Rattle.std.specs.Str.{byte, str_eq_ignore_ascii_case}
+use Rattle.std.specs.Prelude.{ℕ, ◌≡◌, ◌≢◌, ◌≤◌, ◌==◌, Bool, true, false, ◌&&◌, ◌||◌, not, List, [], ◌∷◌, ◌++◌, map, length, pos, codes, if◌then◌else◌, Option, Some, None, option_map, option_and_then}
+use Rattle.std.specs.Char.{is_ascii_alphanumeric, is_ascii_digit, to_ascii_uppercase}
+use Rattle.std.specs.List.{All, AllPairs, flat_map, list_any}
+use Rattle.std.specs.Str.{byte}
+use Rattle.st_control.specs.Readings.{is_word, reads}
+use Rattle.st_tree.specs.declared.elem.Elem.{Elem}
+use Rattle.st_tree.specs.declared.elem.Elem.TheVariants as E
+use Rattle.st_tree.specs.declared.leaf.Leaf.{Leaf}
+use Rattle.st_tree.specs.declared.leaf.Role.TheVariants.{Plain}
+use Rattle.st_tree.specs.declared.value.Value.{Value}
 
 -- ---- lexemes (2.1)
 
@@ -59,8 +65,72 @@ reserved_words =
 
 -- whether a word is reserved, in any case
 unfoldable pub is_reserved : List ℕ → Bool
-is_reserved word = list_any (str_eq_ignore_ascii_case word) reserved_words
+is_reserved word = list_any (λ reserved. is_word reserved word) reserved_words
 
 -- an identifier that isn't reserved
 abbrev pub is_name : List ℕ → Bool
 is_name word = begins_with (λ c. not (is_ascii_digit c)) word && is_clean word && not (is_reserved word)
+
+-- ---- variables (2.4.3)
+
+-- a declaration as it is spelled; the initial value may be left out
+pub record Declaration : Type 0 where
+  pub name : List ℕ
+  pub type_name : List ℕ
+  pub initial : Option (List ℕ)
+
+abbrev pub initial_lexemes : Option (List ℕ) → List (List ℕ)
+initial_lexemes None = []
+initial_lexemes (Some literal) = codes ":=" ∷ literal ∷ []
+
+abbrev pub declaration_lexemes : Declaration → List (List ℕ)
+declaration_lexemes declaration = declaration.name ∷ codes ":" ∷ declaration.type_name ∷ initial_lexemes declaration.initial ++ codes ";" ∷ []
+
+-- BOOL or INT, in any case
+abbrev pub type_of : List ℕ → Option Elem
+type_of word = if is_word (codes "BOOL") word then Some E.Bool else if is_word (codes "INT") word then Some E.Int else None
+
+-- the value that a variable begins with: the one that is written, else 0 or FALSE.
+-- A lexeme has no sign and no `#`, so it is read as TRUE, FALSE or a decimal number, or not at all.
+unfoldable pub initial_of : Elem → Option (List ℕ) → Option Value
+initial_of elem None = Some (record { elem = elem; bits = pos 0 })
+initial_of elem (Some literal) = reads elem literal
+
+-- the leaf of a variable of a program
+abbrev pub leaf : List ℕ → List ℕ → Value → Leaf
+leaf program name value =
+    let shown = program ++ codes "." ++ name in
+    record { path = map to_ascii_uppercase shown; shown = shown; spine = codes "PROGRAM" ∷ []; elem = value.elem; initial = value; role = Plain }
+
+-- the leaf that a declaration gives, where its type and its initial value are right
+abbrev pub leaf_of : List ℕ → Declaration → Option Leaf
+leaf_of program declaration =
+    option_map (leaf program declaration.name) (option_and_then (λ elem. initial_of elem declaration.initial) (type_of declaration.type_name))
+
+-- the declarations of a program give these leaves, in order, and no name stands twice, in any case
+pub record Declares (program : List ℕ) (declarations : List Declaration) (leaves : List Leaf) : Type 0 where
+  pub gives : map (leaf_of program) declarations ≡ map Some leaves
+  pub names : All (λ declaration. is_name declaration.name ≡ true) declarations
+  pub distinct : AllPairs (λ leaf other. leaf.path ≢ other.path) leaves
+  pub short : All (λ leaf. length leaf.path ≤ 255) leaves
+  pub few : length leaves ≤ 65536
+
+-- ---- programs (2.5.3)
+
+-- the text is a program of this name, in any case, with these leaves
+pub record IsProgram (text main : List ℕ) (leaves : List Leaf) : Type 0 where
+  pub program_word : List ℕ
+  pub name : List ℕ
+  pub var_word : List ℕ
+  pub declarations : List Declaration
+  pub end_var_word : List ℕ
+  pub end_program_word : List ℕ
+  pub spelled : lexemes text ≡ program_word ∷ name ∷ var_word ∷ flat_map declaration_lexemes declarations ++ end_var_word ∷ end_program_word ∷ []
+  pub program : is_word (codes "PROGRAM") program_word ≡ true
+  pub var : is_word (codes "VAR") var_word ≡ true
+  pub end_var : is_word (codes "END_VAR") end_var_word ≡ true
+  pub end_program : is_word (codes "END_PROGRAM") end_program_word ≡ true
+  pub is_named : is_name name ≡ true
+  pub is_main : is_word main name ≡ true
+  pub short : length name ≤ 128
+  pub declared : Declares name declarations leaves

@@ -1,4 +1,5 @@
 //! The controller.
 #![tactic(auto)]
 
+mod stub;
 mod thin;

@@ -1,3 +1,35 @@
-//! Thin program texts: one program whose variables are of type BOOL or INT.
+//! Thin program texts: one program whose variables are of type BOOL and INT (IEC 61131-3:2003, 2.4.3 and 2.5.3).
+ghost use Rattle.std.specs.Prelude.{◌≡◌, IfOk, Err};
+ghost use Rattle.st_control.specs.ThinTexts.{IsProgram};
+
+mod fault;
 mod lexemes;
 mod names;
+mod reading;
+mod variables;
+
+pub(crate) use fault::ThinFault;
+
+use lexemes::Lexemes;
+use reading::{read_ending, read_heading};
+use st_tree::{Leaf, List};
+use std::alloc::Global;
+use variables::read_variables;
+
+/// Reads a text as the program of this name, in any case, and gives the leaves of its variables in order.
+///
+/// # Errors
+/// `NotThin` where the text is no such program, and `Memory`.
+pub(crate) fn read_thin(alloc: Global, text: &[u8], main: &[u8]) -> Result<List<Leaf>, ThinFault>
+    ensures ok { IfOk result (λ leaves. IsProgram text.now main.now leaves) }
+    ensures refused { result ≡ Err ThinFault.NotThin → (leaves : _) → IsProgram text.now main.now leaves → ⊥ }
+{
+    let mut lexemes = Lexemes::of(text);
+    let program = read_heading(&mut lexemes, main).ok_or(ThinFault::NotThin)?;
+    let leaves = read_variables(alloc, &mut lexemes, program)?;
+    if read_ending(&mut lexemes) {
+        Ok(leaves)
+    } else {
+        Err(ThinFault::NotThin)
+    }
+}

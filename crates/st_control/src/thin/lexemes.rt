@@ -1,11 +1,13 @@
 //! The lexemes of a text (IEC 61131-3:2003, 2.1).
 ghost use Rattle.std.specs.List.{prefix_len};
-ghost use Rattle.std.specs.Prelude.{◌≡◌, ◌∷◌, ◌<◌, ◌≤◌, [], false, MatchOption, IfSome, length, take, drop};
+ghost use Rattle.std.specs.Prelude.{◌≡◌, ◌∷◌, ◌<◌, ◌≤◌, [], false, MatchOption, None, Some, IfSome, length, take, drop};
+ghost use Rattle.st_control.specs.ThinReadings.{mark, next, word};
 ghost use Rattle.st_control.specs.ThinTexts.{begins_with, is_blank as is_blank_byte, is_word_byte as is_byte_of_words, lexemes};
 
 use std::marker::Model;
 
 /// The lexemes that are still to be read.
+#[derive(Drop)]
 pub(super) struct Lexemes<'a> {
     text: &'a [u8],
 }
@@ -28,9 +30,9 @@ impl<'a> Lexemes<'a> {
     }
 
     /// Takes the first lexeme, if there is one.
-    #[tactic(auto, using(crate::proofs::ThinLexemes::no_lexeme))]
+    #[tactic(auto, using(crate::proofs::ThinLexemes::no_lexeme), unfolding(crate::specs::ThinReadings::next))]
     pub(super) fn next(&mut self) -> Option<&'a [u8]>
-        ensures { MatchOption result (self.old ≡ []) (λ lexeme. self.old ≡ lexeme.now ∷ self.new) }
+        ensures { MatchOption result (next self.old ≡ None) (λ lexeme. next self.old ≡ Some (lexeme.now, self.new)) }
     {
         let text = without_blanks(self.text);
         if text.is_empty() {
@@ -39,6 +41,26 @@ impl<'a> Lexemes<'a> {
         let (lexeme, rest) = text.split_at(first_len(text));
         self.text = rest;
         Some(lexeme)
+    }
+
+    /// Takes the first lexeme, where it is this one.
+    #[tactic(auto, unfolding(crate::specs::ThinReadings::mark))]
+    pub(super) fn mark(&mut self, bytes: &[u8]) -> Option<&'a [u8]>
+        ensures { MatchOption result (mark bytes.now self.old ≡ None)
+            (λ lexeme. mark bytes.now self.old ≡ Some (lexeme.now, self.new)) }
+    {
+        let lexeme = self.next()?;
+        if lexeme == bytes { Some(lexeme) } else { None }
+    }
+
+    /// Takes the first lexeme, where it is this word in any case.
+    #[tactic(auto, unfolding(crate::specs::ThinReadings::word))]
+    pub(super) fn word(&mut self, bytes: &[u8]) -> Option<&'a [u8]>
+        ensures { MatchOption result (word bytes.now self.old ≡ None)
+            (λ lexeme. word bytes.now self.old ≡ Some (lexeme.now, self.new)) }
+    {
+        let lexeme = self.next()?;
+        if lexeme.eq_ignore_ascii_case(bytes) { Some(lexeme) } else { None }
     }
 }
 

@@ -1,7 +1,7 @@
 //! The names of a text (IEC 61131-3:2003, 2.1.2).
 ghost use Rattle.std.specs.List.{list_any};
 ghost use Rattle.std.specs.Prelude.{◌≡◌};
-ghost use Rattle.std.specs.Str.{str_eq_ignore_ascii_case};
+ghost use Rattle.st_control.specs.Readings.{is_word};
 ghost use Rattle.st_control.specs.ThinTexts.{is_clean as is_clean_word, is_name as is_free_name, is_reserved as is_reserved_word};
 
 /// The words that name nothing (2.1.3).
@@ -128,7 +128,7 @@ fn is_reserved(word: &[u8]) -> bool
 
 /// Tests whether a word is among others, in any case.
 fn is_among(word: &[u8], others: &[&[u8]]) -> bool
-    ensures { result ≡ list_any (λ other. str_eq_ignore_ascii_case word.now other.now) others.now }
+    ensures { result ≡ list_any (λ other. is_word other.now word.now) others.now }
 {
     others.iter().any(|other| word.eq_ignore_ascii_case(other))
 }
