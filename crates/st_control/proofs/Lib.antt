@@ -1,2 +1,3 @@
 pub mod ThinLexemes
+pub mod ThinReads
 pub mod ThinVariables

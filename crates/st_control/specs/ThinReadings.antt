@@ -45,16 +45,20 @@ word bytes = do
   lexeme ← next
   given (if is_word bytes lexeme then Some lexeme else None)
 
+-- an initial value and `;`, where the lexeme before them is `:=`
+unfoldable pub written : Elem → List ℕ → Reading Value
+written elem lexeme = do
+  assign ← given (if bytes_eq lexeme (codes ":=") then Some lexeme else None)
+  literal ← next
+  value ← given (initial_of elem (Some literal))
+  end ← mark (codes ";")
+  given (Some value)
+
 -- what stands behind the type of a variable
 unfoldable pub initial : Elem → Reading Value
 initial elem = do
   lexeme ← next
-  if bytes_eq lexeme (codes ";") then given (initial_of elem None) else do
-    colon ← given (if bytes_eq lexeme (codes ":=") then Some lexeme else None)
-    literal ← next
-    value ← given (initial_of elem (Some literal))
-    end ← mark (codes ";")
-    given (Some value)
+  if bytes_eq lexeme (codes ";") then given (initial_of elem None) else written elem lexeme
 
 -- what stands behind the name of a variable
 unfoldable pub declared : Reading Value

@@ -46,7 +46,7 @@ pub(super) fn read_declared(lexemes: &mut Lexemes) -> Option<Value>
 }
 
 /// Reads a declaration behind its type.
-#[tactic(auto, unfolding(crate::specs::ThinReadings::initial, crate::specs::ThinTexts::initial_of))]
+#[tactic(auto, unfolding(crate::specs::ThinReadings::initial, crate::specs::ThinReadings::written, crate::specs::ThinTexts::initial_of))]
 fn read_initial(lexemes: &mut Lexemes, elem: Elem) -> Option<Value>
     ensures { MatchOption result (initial elem lexemes.old ≡ None) (λ value. initial elem lexemes.old ≡ Some (value, lexemes.new)) }
 {
