@@ -30,7 +30,7 @@ equals_sign (c ∷ text) = refl
 word_not_blank : (c : ℕ) → is_word_byte c ≡ true → is_blank c ≡ false
 word_not_blank c word = grind (arith, nat_tests)
 
-by_test : {P : Type 0} (test : Bool) → (test ≡ true → P) → (test ≡ false → P) → P
+pub by_test : {P : Type 0} (test : Bool) → (test ≡ true → P) → (test ≡ false → P) → P
 by_test true holds fails = holds refl
 by_test false holds fails = fails refl
 
