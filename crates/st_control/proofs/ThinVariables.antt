@@ -1,16 +1,18 @@
 -- Declarations one after another: what was read of them, and what must follow.
-use Rattle.std.proofs.Common.{◌≡◌, ◌≢◌, ℕ, suc, ◌+◌, ◌<◌, ◌≤◌, Bool, true, false, ◌&&◌, not, List, [], ◌∷◌, ◌++◌, map, length, get_or, refl, sym, ap, ◌∙◌, subst, Option, Some, None, codes, arith, append_assoc, length-append}
+use Rattle.std.proofs.Common.{◌≡◌, ◌≢◌, ℕ, zero, suc, ◌+◌, ◌<◌, ◌≤◌, Bool, true, false, ◌&&◌, ◌||◌, not, List, [], ◌∷◌, ◌++◌, map, length, get_or, refl, sym, ap, ◌∙◌, subst, Option, Some, None, codes, arith, append_assoc, length-append}
 use Rattle.std.proofs.Math.ListN.{get_or-append}
 use Rattle.std.proofs.Math.Seq.{get_or-append_seam}
 use Rattle.std.proofs.lemmas.Grind.{flat_map-append}
 use Rattle.std.proofs.lemmas.List.{append-nil, map-append}
-use Rattle.std.proofs.lemmas.List.Elements.{All-push}
+use Rattle.std.proofs.lemmas.List.Elements.{All-cons, All-push}
 use Rattle.std.proofs.lemmas.List.Folds.{list_any_at}
 use Rattle.std.proofs.lemmas.List.Quantifiers.{all_pairs_push}
-use Rattle.std.specs.List.{All, AllPairs, flat_map}
+use Rattle.std.proofs.lemmas.Slice.Eq.{bytes_eq-Decides}
+use Rattle.std.specs.List.{All, AllPairs, flat_map, list_any}
+use Rattle.std.specs.Str.{bytes_eq}
 use Rattle.st_tree.specs.declared.leaf.Leaf.{Leaf}
 use Rattle.st_control.specs.Readings.{is_word}
-use Rattle.st_control.specs.ThinReadings.{Joins, Lexemes, Variables, variable}
+use Rattle.st_control.specs.ThinReadings.{Joins, Lexemes, Variables, paths_of, variable}
 use Rattle.st_control.specs.ThinTexts.{Declaration, Declares, begins_with, declaration_lexemes, initial_lexemes, is_clean, is_name, is_reserved, leaf_of, reserved_words}
 use Rattle.st_control.proofs.ThinLexemes.{by_test}
 use Rattle.st_control.proofs.ThinReads.{variable-Some, variable-of}
@@ -29,6 +31,37 @@ IsShort leaf = length leaf.path ≤ 255
 
 abbrev IsApart : Leaf → Leaf → Type 0
 IsApart earlier later = earlier.path ≢ later.path
+
+-- ---- elements
+
+All-head : {X : Type 0} (P : X → Type 0) (x : X) (xs : List X) → All P (x ∷ xs) → P x
+All-head P x xs each = each 0 x (omega arith)
+
+All-tail : {X : Type 0} (P : X → Type 0) (x : X) (xs : List X) → All P (x ∷ xs) → All P xs
+All-tail P x xs each = λ k d below. each (suc k) d (omega arith)
+
+-- ---- paths
+
+-- a path that is not among those of the leaves
+pub paths-apart : (path : List ℕ) (leaves : List Leaf) → list_any (bytes_eq path) (paths_of leaves) ≡ false → All (λ other. other.path ≢ path) leaves
+paths-apart path [] absent = λ k d below. absurd (omega arith)
+paths-apart path (leaf ∷ leaves) absent = by_test (bytes_eq path leaf.path)
+    (λ same. let always : true ≡ false = rw same at absent in absurd (cc))
+    (λ other. All-cons (λ it. it.path ≢ path) leaf leaves
+        (λ same. let equal : bytes_eq path leaf.path ≡ true = (bytes_eq-Decides path leaf.path).1 (sym same) in absurd (cc))
+        (paths-apart path leaves (rw other at absent)))
+
+pub paths-among : (path : List ℕ) (leaves : List Leaf) → list_any (bytes_eq path) (paths_of leaves) ≡ true → All (λ other. other.path ≢ path) leaves → ⊥
+paths-among path [] there apart = absurd (cc)
+paths-among path (leaf ∷ leaves) there apart = by_test (bytes_eq path leaf.path)
+    (λ same. All-head (λ it. it.path ≢ path) leaf leaves apart (sym ((bytes_eq-Decides path leaf.path).0 same)))
+    (λ other. paths-among path leaves (rw other at there) (All-tail (λ it. it.path ≢ path) leaf leaves apart))
+
+pub list_any-map : {X Y : Type 0} (f : X → Y) (test : Y → Bool) (xs : List X) → list_any test (map f xs) ≡ list_any (λ x. test (f x)) xs
+list_any-map f test [] = refl
+list_any-map f test (x ∷ xs) = ap (λ others. test (f x) || others) (list_any-map f test xs)
+
+pub ruleset any_items = (list_any-map)
 
 -- ---- names
 
@@ -80,12 +113,6 @@ HasRead-end program name lexemes rest leaves read is_end =
     record { declarations = read.declarations; end_word = name; spelled = read.spelled; is_end = is_end; declared = read.declared }
 
 -- ---- what must follow
-
-All-head : {X : Type 0} (P : X → Type 0) (x : X) (xs : List X) → All P (x ∷ xs) → P x
-All-head P x xs each = each 0 x (omega arith)
-
-All-tail : {X : Type 0} (P : X → Type 0) (x : X) (xs : List X) → All P (x ∷ xs) → All P xs
-All-tail P x xs each = λ k d below. each (suc k) d (omega arith)
 
 All-seam : {X : Type 0} (P : X → Type 0) (xs : List X) (x : X) (ys : List X) → All P (xs ++ x ∷ ys) → P x
 All-seam P xs x ys each = subst P (get_or-append_seam xs x ys x) (each (length xs) x (omega (arith, length-append xs (x ∷ ys))))

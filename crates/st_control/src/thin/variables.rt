@@ -1,6 +1,8 @@
 //! The variables of a program and their leaves.
 ghost use Rattle.std.specs.Char.{to_ascii_uppercase};
-ghost use Rattle.std.specs.Prelude.{◌≡◌, ◌++◌, ◌∷◌, [], map, IfOk, OnOk, Err, MatchResult, Some, codes};
+ghost use Rattle.std.specs.List.{list_any};
+ghost use Rattle.std.specs.Prelude.{◌≡◌, ◌++◌, ◌∷◌, [], map, IfOk, OnOk, Err, MatchResult, Some, codes, not, IsTrue};
+ghost use Rattle.std.specs.Str.{bytes_eq};
 ghost use Rattle.st_control.specs.ThinReadings.{Joins, Refuses, Variables, paths_of, variable};
 ghost use Rattle.st_control.specs.ThinTexts.{leaf as leaf_of_variable};
 
@@ -103,6 +105,16 @@ fn spine(alloc: Global) -> Result<List<List<u8>>, AllocError>
     Ok(List { items })
 }
 
+/// Puts a path among others, and tells whether it was not there yet.
+#[tactic(auto, using(crate::proofs::ThinVariables::any_items))]
+fn put_path(alloc: Global, path: &[u8], paths: &mut IndexSet<Vec<u8>>) -> Result<bool, AllocError>
+    ensures added { IfOk result (λ added. added ≡ not (list_any (bytes_eq path.now) (map (λ key. key.items) paths.old.keys))) }
+    ensures paths { IfOk result (λ added. IsTrue added → map (λ key. key.items) paths.new.keys ≡ map (λ key. key.items) paths.old.keys ++ path.now ∷ []) }
+{
+    let path = Vec::from_slice(alloc, path)?;
+    Ok(paths.insert(path)?)
+}
+
 /// Adds a leaf, whose path no earlier leaf may have.
 fn add(
     alloc: Global,
@@ -110,17 +122,16 @@ fn add(
     leaves: &mut List<Leaf>,
     paths: &mut IndexSet<Vec<u8>>,
 ) -> Result<(), ThinFault>
-    requires { map (λ path. path.items) paths.old.keys ≡ paths_of leaves.old }
+    requires { map (λ key. key.items) paths.old.keys ≡ paths_of leaves.old }
     ensures joins { OnOk result (Joins leaves.old leaf) }
     ensures leaves { OnOk result (leaves.new ≡ leaves.old ++ leaf ∷ []) }
-    ensures paths { OnOk result (map (λ path. path.items) paths.new.keys ≡ paths_of leaves.new) }
+    ensures paths { OnOk result (map (λ key. key.items) paths.new.keys ≡ paths_of leaves.new) }
     ensures refused { result ≡ Err ThinFault.NotThin → Joins leaves.old leaf → ⊥ }
 {
     if leaves.items.len() >= MOST_VARIABLES || leaf.path.items.len() > MOST_BYTES {
         return Err(ThinFault::NotThin);
     }
-    let path = Vec::from_slice(alloc, leaf.path.items.as_slice())?;
-    if !paths.insert(path)? {
+    if !put_path(alloc, leaf.path.items.as_slice(), paths)? {
         return Err(ThinFault::NotThin);
     }
     leaves.items.push(leaf)?;
