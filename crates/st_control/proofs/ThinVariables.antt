@@ -12,10 +12,12 @@ use Rattle.std.specs.List.{All, AllPairs, flat_map, list_any}
 use Rattle.std.specs.Str.{bytes_eq}
 use Rattle.st_tree.specs.declared.leaf.Leaf.{Leaf}
 use Rattle.st_control.specs.Readings.{is_word}
-use Rattle.st_control.specs.ThinReadings.{Joins, Lexemes, Variables, paths_of, variable}
+use Rattle.st_control.specs.ThinReadings.{Joins, Lexemes, Refuses, Variables, next, paths_of, variable}
 use Rattle.st_control.specs.ThinTexts.{Declaration, Declares, begins_with, declaration_lexemes, initial_lexemes, is_clean, is_name, is_reserved, leaf_of, reserved_words}
+use Rattle.st_control.specs.declared.thin.fault.ThinFault.{ThinFault}
+use Rattle.st_control.specs.declared.thin.fault.ThinFault.TheVariants.{Memory, NotThin}
 use Rattle.st_control.proofs.ThinLexemes.{by_test}
-use Rattle.st_control.proofs.ThinReads.{variable-Some, variable-of}
+use Rattle.st_control.proofs.ThinReads.{next-Some, some_parts, variable-Some, variable-of}
 
 -- declarations with these leaves stand before the rest
 pub record HasRead (program : List ℕ) (lexemes : Lexemes) (leaves : List Leaf) (rest : Lexemes) : Type 0 where
@@ -97,20 +99,32 @@ Declares-push program declarations leaves one leaf declares named gives joins =
       few = omega (arith, length-append leaves (leaf ∷ []), joins.few)
     }
 
-pub HasRead-more : (program name : List ℕ) (lexemes left rest : Lexemes) (leaves : List Leaf) (leaf : Leaf) → HasRead program lexemes leaves (name ∷ left)
+pub HasRead-more : (program name : List ℕ) (lexemes now left rest : Lexemes) (leaves : List Leaf) (leaf : Leaf) → HasRead program lexemes leaves now → next now ≡ Some (name, left)
     → variable program name left ≡ Some (leaf, rest) → Joins leaves leaf → HasRead program lexemes (leaves ++ leaf ∷ []) rest
-HasRead-more program name lexemes left rest leaves leaf read reads joins =
+HasRead-more program name lexemes now left rest leaves leaf read is_next reads joins =
     let one = variable-Some program name left leaf rest reads in
     record {
       declarations = read.declarations ++ one.declaration ∷ [];
-      spelled = read.spelled ∙ ap (λ more. flat_map declaration_lexemes read.declarations ++ more) one.spelled ∙ sym (flat_map-push read.declarations one.declaration rest);
+      spelled = read.spelled ∙ ap (λ more. flat_map declaration_lexemes read.declarations ++ more) (next-Some now name left is_next ∙ one.spelled) ∙ sym (flat_map-push read.declarations one.declaration rest);
       declared = Declares-push program read.declarations leaves one.declaration leaf read.declared (subst (λ it. is_name it ≡ true) (sym one.has_name) one.is_named) one.gives joins
     }
 
-pub HasRead-end : (program name : List ℕ) (lexemes rest : Lexemes) (leaves : List Leaf) → HasRead program lexemes leaves (name ∷ rest) → is_word (codes "END_VAR") name ≡ true
+pub HasRead-end : (program name : List ℕ) (lexemes now rest : Lexemes) (leaves : List Leaf) → HasRead program lexemes leaves now → next now ≡ Some (name, rest) → is_word (codes "END_VAR") name ≡ true
     → Variables program lexemes leaves rest
-HasRead-end program name lexemes rest leaves read is_end =
-    record { declarations = read.declarations; end_word = name; spelled = read.spelled; is_end = is_end; declared = read.declared }
+HasRead-end program name lexemes now rest leaves read is_next is_end =
+    record {
+      declarations = read.declarations;
+      end_word = name;
+      spelled = read.spelled ∙ ap (λ more. flat_map declaration_lexemes read.declarations ++ more) (next-Some now name rest is_next);
+      is_end = is_end;
+      declared = read.declared
+    }
+
+pub variable-shorter : (program name : List ℕ) (now left rest : Lexemes) (leaf : Leaf) → next now ≡ Some (name, left) → variable program name left ≡ Some (leaf, rest) → length rest < length now
+variable-shorter program name now left rest leaf is_next reads =
+    let one = variable-Some program name left leaf rest reads in
+    let all = ap length (next-Some now name left is_next ∙ one.spelled) in
+    omega (arith, all, length-append (initial_lexemes one.declaration.initial ++ codes ";" ∷ []) rest)
 
 -- ---- what must follow
 
@@ -175,13 +189,15 @@ goes_on_read program lexemes leaves left all rest read variables =
     goes_on program read.declarations leaves left variables.declarations all variables.end_word rest read.declared.names read.declared.gives variables.declared.gives variables.is_end (sym read.spelled ∙ variables.spelled)
 
 -- no end of the text comes before END_VAR
-pub HasRead-nil : (program : List ℕ) (lexemes : Lexemes) (leaves all : List Leaf) (rest : Lexemes) → HasRead program lexemes leaves [] → Variables program lexemes all rest → ⊥
-HasRead-nil program lexemes leaves all rest read variables =
+pub HasRead-nil : (program : List ℕ) (lexemes now : Lexemes) (leaves all : List Leaf) (rest : Lexemes) → HasRead program lexemes leaves now → next now ≡ None → Variables program lexemes all rest → ⊥
+unfolding next
+HasRead-nil program lexemes [] leaves all rest read is_next variables =
     let later = goes_on_read program lexemes leaves [] all rest read variables in
     none later.more later.spelled where
   none : (more : List Declaration) → [] ≡ flat_map declaration_lexemes more ++ variables.end_word ∷ rest → ⊥
   none [] same = absurd (cc)
   none (one ∷ more) same = absurd (cc)
+HasRead-nil program lexemes (lexeme ∷ now) leaves all rest read is_next variables = absurd (cc)
 
 Joins-of : (leaves : List Leaf) (leaf : Leaf) (others : List Leaf) → AllPairs IsApart (leaves ++ leaf ∷ others)
     → All IsShort (leaves ++ leaf ∷ others) → length (leaves ++ leaf ∷ others) ≤ 65536 → Joins leaves leaf
@@ -200,11 +216,11 @@ pub record Follows (program name : List ℕ) (leaves : List Leaf) (left : Lexeme
   pub reads : variable program name left ≡ Some (leaf, rest)
   pub joins : Joins leaves leaf
 
-pub follows : (program name : List ℕ) (lexemes : Lexemes) (leaves : List Leaf) (left : Lexemes) (all : List Leaf) (rest : Lexemes) → HasRead program lexemes leaves (name ∷ left)
-    → Variables program lexemes all rest → is_word (codes "END_VAR") name ≡ false → Follows program name leaves left
-follows program name lexemes leaves left all rest read variables no_end =
-    let later = goes_on_read program lexemes leaves (name ∷ left) all rest read variables in
-    by_more later.more later.others later.spelled later.declarations_are later.leaves_are later.gives where
+pub follows : (program name : List ℕ) (lexemes now : Lexemes) (leaves : List Leaf) (left : Lexemes) (all : List Leaf) (rest : Lexemes) → HasRead program lexemes leaves now
+    → next now ≡ Some (name, left) → is_word (codes "END_VAR") name ≡ false → Variables program lexemes all rest → Follows program name leaves left
+follows program name lexemes now leaves left all rest read is_next no_end variables =
+    let later = goes_on_read program lexemes leaves now all rest read variables in
+    by_more later.more later.others (sym (next-Some now name left is_next) ∙ later.spelled) later.declarations_are later.leaves_are later.gives where
   by_more : (more : List Declaration) (others : List Leaf) → name ∷ left ≡ flat_map declaration_lexemes more ++ variables.end_word ∷ rest → variables.declarations ≡ read.declarations ++ more → all ≡ leaves ++ others
       → map (leaf_of program) more ≡ map Some others → Follows program name leaves left
   by_more [] others spelled declarations_are leaves_are gives = let is_it : name ≡ variables.end_word = cc in absurd (cc (is_it, no_end, variables.is_end))
@@ -236,3 +252,10 @@ Variables-one program lexemes leaves all rest left one other =
       let is_it : next.name ≡ one.end_word = cc in
       let no_end = name_not_end next.name (All-seam IsNamed one.declarations next more (subst (All IsNamed) declarations_are other.declared.names)) in
       absurd (cc (is_it, no_end, one.is_end))
+
+pub Follows-refused : (program name : List ℕ) (leaves : List Leaf) (left : Lexemes) (fault : ThinFault) → fault ≡ NotThin → Refuses (variable program name left) fault → Follows program name leaves left → ⊥
+Follows-refused program name leaves left NotThin is_fault refuses one = let reads = one.reads in absurd (cc)
+Follows-refused program name leaves left Memory is_fault refuses one = absurd (cc)
+
+pub Follows-joins : (program name : List ℕ) (leaves : List Leaf) (left rest : Lexemes) (leaf : Leaf) → variable program name left ≡ Some (leaf, rest) → Follows program name leaves left → Joins leaves leaf
+Follows-joins program name leaves left rest leaf reads one = subst (Joins leaves) ((some_parts (sym one.reads ∙ reads)).0) one.joins

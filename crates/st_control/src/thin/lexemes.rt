@@ -4,6 +4,7 @@ ghost use Rattle.std.specs.Prelude.{◌≡◌, ◌∷◌, ◌<◌, ◌≤◌, []
 ghost use Rattle.st_control.specs.ThinReadings.{mark, next, word};
 ghost use Rattle.st_control.specs.ThinTexts.{begins_with, is_blank as is_blank_byte, is_word_byte as is_byte_of_words, lexemes};
 
+use super::names::is_word;
 use std::marker::Model;
 
 /// The lexemes that are still to be read.
@@ -60,7 +61,7 @@ impl<'a> Lexemes<'a> {
             (λ lexeme. word bytes.now self.old ≡ Some (lexeme.now, self.new)) }
     {
         let lexeme = self.next()?;
-        if lexeme.eq_ignore_ascii_case(bytes) { Some(lexeme) } else { None }
+        if is_word(bytes, lexeme) { Some(lexeme) } else { None }
     }
 }
 

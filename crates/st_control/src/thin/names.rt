@@ -1,7 +1,7 @@
 //! The names of a text (IEC 61131-3:2003, 2.1.2).
 ghost use Rattle.std.specs.List.{list_any};
 ghost use Rattle.std.specs.Prelude.{◌≡◌};
-ghost use Rattle.st_control.specs.Readings.{is_word};
+ghost use Rattle.st_control.specs.Readings.{is_word as is_same_word};
 ghost use Rattle.st_control.specs.ThinTexts.{is_clean as is_clean_word, is_name as is_free_name, is_reserved as is_reserved_word};
 
 /// The words that name nothing (2.1.3).
@@ -128,7 +128,14 @@ fn is_reserved(word: &[u8]) -> bool
 
 /// Tests whether a word is among others, in any case.
 fn is_among(word: &[u8], others: &[&[u8]]) -> bool
-    ensures { result ≡ list_any (λ other. is_word other.now word.now) others.now }
+    ensures { result ≡ list_any (λ other. is_same_word other.now word.now) others.now }
 {
-    others.iter().any(|other| word.eq_ignore_ascii_case(other))
+    others.iter().any(|other| is_word(other, word))
+}
+
+/// Tests whether a text is a word, in any case.
+pub(super) fn is_word(word: &[u8], text: &[u8]) -> bool
+    ensures { result ≡ is_same_word word.now text.now }
+{
+    text.eq_ignore_ascii_case(word)
 }

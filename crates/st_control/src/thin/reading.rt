@@ -4,7 +4,7 @@ ghost use Rattle.st_control.specs.ThinReadings.{declared, ends, heading, initial
 ghost use Rattle.st_control.specs.ThinTexts.{type_of as type_named};
 
 use super::lexemes::Lexemes;
-use super::names::is_name;
+use super::names::{is_name, is_word};
 use crate::stub::read_value;
 use st_tree::{Elem, Value};
 
@@ -20,7 +20,7 @@ pub(super) fn read_heading<'a>(lexemes: &mut Lexemes<'a>, main: &[u8]) -> Option
     lexemes.word(b"PROGRAM")?;
     let name = lexemes.next()?;
     lexemes.word(b"VAR")?;
-    if is_name(name) && name.eq_ignore_ascii_case(main) && name.len() <= MOST_BYTES {
+    if is_name(name) && is_word(main, name) && name.len() <= MOST_BYTES {
         Some(name)
     } else {
         None
@@ -65,9 +65,9 @@ fn read_initial(lexemes: &mut Lexemes, elem: Elem) -> Option<Value>
 fn type_of(word: &[u8]) -> Option<Elem>
     ensures { result ≡ type_named word.now }
 {
-    if word.eq_ignore_ascii_case(b"BOOL") {
+    if is_word(b"BOOL", word) {
         Some(Elem::Bool)
-    } else if word.eq_ignore_ascii_case(b"INT") {
+    } else if is_word(b"INT", word) {
         Some(Elem::Int)
     } else {
         None

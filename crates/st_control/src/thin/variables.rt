@@ -8,7 +8,7 @@ ghost use Rattle.st_control.specs.ThinTexts.{leaf as leaf_of_variable};
 
 use super::fault::ThinFault;
 use super::lexemes::Lexemes;
-use super::names::is_name;
+use super::names::{is_name, is_word};
 use super::reading::read_declared;
 use indexmap::IndexSet;
 use st_tree::{Leaf, List, Role, Value};
@@ -34,7 +34,7 @@ pub(super) fn read_variables(
     };
     let mut paths = IndexSet::new(alloc);
     while let Some(name) = lexemes.next() {
-        if name.eq_ignore_ascii_case(b"END_VAR") {
+        if is_word(b"END_VAR", name) {
             return Ok(leaves);
         }
         let leaf = read_variable(alloc, lexemes, program, name)?;
