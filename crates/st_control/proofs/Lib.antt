@@ -1,3 +1,4 @@
 pub mod ThinLexemes
+pub mod ThinPrograms
 pub mod ThinReads
 pub mod ThinVariables

@@ -134,3 +134,7 @@ pub record IsProgram (text main : List ℕ) (leaves : List Leaf) : Type 0 where
   pub is_main : is_word main name ≡ true
   pub short : length name ≤ 128
   pub declared : Declares name declarations leaves
+
+-- a text is a program with at most one list of leaves
+abbrev pub TextsGiveOneList : Type 0
+TextsGiveOneList = (text main : List ℕ) (leaves others : List Leaf) → IsProgram text main leaves → IsProgram text main others → leaves ≡ others

@@ -1,6 +1,6 @@
 //! Thin program texts: one program whose variables are of type BOOL and INT (IEC 61131-3:2003, 2.4.3 and 2.5.3).
 ghost use Rattle.std.specs.Prelude.{◌≡◌, IfOk, Err};
-ghost use Rattle.st_control.specs.ThinTexts.{IsProgram};
+ghost use Rattle.st_control.specs.ThinTexts.{IsProgram, TextsGiveOneList};
 
 mod fault;
 mod lexemes;
@@ -25,11 +25,19 @@ pub(crate) fn read_thin(alloc: Global, text: &[u8], main: &[u8]) -> Result<List<
     ensures refused { result ≡ Err ThinFault.NotThin → (leaves : _) → IsProgram text.now main.now leaves → ⊥ }
 {
     let mut lexemes = Lexemes::of(text);
-    let program = read_heading(&mut lexemes, main).ok_or(ThinFault::NotThin)?;
+    let Some(program) = read_heading(&mut lexemes, main) else {
+        return Err(ThinFault::NotThin);
+    };
     let leaves = read_variables(alloc, &mut lexemes, program)?;
     if read_ending(&mut lexemes) {
         Ok(leaves)
     } else {
         Err(ThinFault::NotThin)
     }
+}
+
+/// A text is a program with at most one list of leaves: a law of the definition.
+pub(crate) fn texts_give_one_list()
+    ensures { TextsGiveOneList }
+{
 }
