@@ -4,7 +4,7 @@ use Rattle.std.proofs.lemmas.Bool.Decides.{nat_tests}
 use Rattle.std.specs.List.{flat_map}
 use Rattle.std.specs.Option.{is_none, option_map_or}
 use Rattle.st_tree.specs.declared.leaf.Leaf.{Leaf}
-use Rattle.st_control.specs.Readings.{is_word}
+use Rattle.st_tree.specs.Words.{is_word}
 use Rattle.st_control.specs.ThinReadings.{Lexemes, Variables, ends, given, heading, next, word}
 use Rattle.st_control.specs.ThinTexts.{IsProgram, declaration_lexemes, is_name, lexemes}
 use Rattle.st_control.proofs.ThinReads.{first_of, given-test, next-Some, next-cons, some_parts, word-Some, word-cons}

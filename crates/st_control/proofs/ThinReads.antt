@@ -6,7 +6,7 @@ use Rattle.std.specs.Str.{bytes_eq}
 use Rattle.st_tree.specs.declared.elem.Elem.{Elem}
 use Rattle.st_tree.specs.declared.leaf.Leaf.{Leaf}
 use Rattle.st_tree.specs.declared.value.Value.{Value}
-use Rattle.st_control.specs.Readings.{is_word}
+use Rattle.st_tree.specs.Words.{is_word}
 use Rattle.st_control.specs.ThinReadings.{Lexemes, Reading, ◌>>=◌, declared, given, initial, mark, next, variable, word, written}
 use Rattle.st_control.specs.ThinTexts.{Declaration, declaration_lexemes, initial_lexemes, initial_of, is_name, leaf, leaf_of, type_of}
 

@@ -11,8 +11,9 @@ use Rattle.std.proofs.lemmas.Slice.Eq.{bytes_eq-Decides}
 use Rattle.std.specs.List.{All, AllPairs, flat_map, list_any}
 use Rattle.std.specs.Str.{bytes_eq}
 use Rattle.st_tree.specs.declared.leaf.Leaf.{Leaf}
-use Rattle.st_control.specs.Readings.{is_word}
-use Rattle.st_control.specs.ThinReadings.{Joins, Lexemes, Refuses, Variables, next, paths_of, variable}
+use Rattle.st_layout.specs.Layout.{paths_of}
+use Rattle.st_tree.specs.Words.{is_word}
+use Rattle.st_control.specs.ThinReadings.{Joins, Lexemes, Refuses, Variables, next, variable}
 use Rattle.st_control.specs.ThinTexts.{Declaration, Declares, begins_with, declaration_lexemes, initial_lexemes, is_clean, is_name, is_reserved, leaf_of, reserved_words}
 use Rattle.st_control.specs.declared.thin.fault.ThinFault.{ThinFault}
 use Rattle.st_control.specs.declared.thin.fault.ThinFault.TheVariants.{Memory, NotThin}

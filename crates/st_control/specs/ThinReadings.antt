@@ -3,7 +3,7 @@ use Rattle.std.specs.Prelude.{ℕ, ◌≡◌, ◌≢◌, ◌<◌, ◌≤◌, Boo
 use Rattle.std.specs.List.{All, flat_map}
 use Rattle.std.specs.Option.{option_map_or}
 use Rattle.std.specs.Str.{bytes_eq}
-use Rattle.st_control.specs.Readings.{is_word, reads}
+use Rattle.st_tree.specs.Words.{is_word}
 use Rattle.st_control.specs.ThinTexts.{Declaration, Declares, declaration_lexemes, initial_of, is_name, leaf, type_of}
 use Rattle.st_control.specs.declared.thin.fault.ThinFault.{ThinFault}
 use Rattle.st_control.specs.declared.thin.fault.ThinFault.TheVariants.{NotThin, Memory}
@@ -97,9 +97,6 @@ pub record Joins (leaves : List Leaf) (leaf : Leaf) : Type 0 where
   pub apart : All (λ other. other.path ≢ leaf.path) leaves
   pub short : length leaf.path ≤ 255
   pub few : length leaves < 65536
-
-abbrev pub paths_of : List Leaf → List (List ℕ)
-paths_of leaves = map (λ leaf. leaf.path) leaves
 
 -- the lexemes are declarations, which give these leaves, and END_VAR, up to the rest
 pub record Variables (program : List ℕ) (lexemes : Lexemes) (leaves : List Leaf) (rest : Lexemes) : Type 0 where

@@ -1,9 +1,11 @@
 -- Thin program texts: one program whose variables are of type BOOL or INT (IEC 61131-3:2003, 2.4.3 and 2.5.3).
 use Rattle.std.specs.Prelude.{ℕ, ◌≡◌, ◌≢◌, ◌≤◌, ◌==◌, Bool, true, false, ◌&&◌, ◌||◌, not, List, [], ◌∷◌, ◌++◌, map, length, pos, codes, if◌then◌else◌, Option, Some, None, option_map, option_and_then}
-use Rattle.std.specs.Char.{is_ascii_alphanumeric, is_ascii_digit, to_ascii_uppercase}
+use Rattle.std.specs.Char.{is_ascii_alphanumeric, is_ascii_digit}
 use Rattle.std.specs.List.{All, AllPairs, flat_map, list_any}
 use Rattle.std.specs.Str.{byte}
-use Rattle.st_control.specs.Readings.{is_word, reads}
+use Rattle.st_layout.specs.Layout.{raised}
+use Rattle.st_tree.specs.Readings.{reads}
+use Rattle.st_tree.specs.Words.{is_word}
 use Rattle.st_tree.specs.declared.elem.Elem.{Elem}
 use Rattle.st_tree.specs.declared.elem.Elem.TheVariants as E
 use Rattle.st_tree.specs.declared.leaf.Leaf.{Leaf}
@@ -100,7 +102,7 @@ initial_of elem (Some literal) = reads elem literal
 abbrev pub leaf : List ℕ → List ℕ → Value → Leaf
 leaf program name value =
     let shown = program ++ codes "." ++ name in
-    record { path = map to_ascii_uppercase shown; shown = shown; spine = codes "PROGRAM" ∷ []; elem = value.elem; initial = value; role = Plain }
+    record { path = raised shown; shown = shown; spine = codes "PROGRAM" ∷ []; elem = value.elem; initial = value; role = Plain }
 
 -- the leaf that a declaration gives, where its type and its initial value are right
 abbrev pub leaf_of : List ℕ → Declaration → Option Leaf

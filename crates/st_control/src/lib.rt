@@ -1,5 +1,4 @@
 //! The controller.
 #![tactic(auto)]
 
-mod stub;
 mod thin;

@@ -1,7 +1,7 @@
 //! The names of a text (IEC 61131-3:2003, 2.1.2).
 ghost use Rattle.std.specs.List.{list_any};
 ghost use Rattle.std.specs.Prelude.{◌≡◌};
-ghost use Rattle.st_control.specs.Readings.{is_word as is_same_word};
+ghost use Rattle.st_tree.specs.Words.{is_word as is_same_word};
 ghost use Rattle.st_control.specs.ThinTexts.{is_clean as is_clean_word, is_name as is_free_name, is_reserved as is_reserved_word};
 
 /// The words that name nothing (2.1.3).

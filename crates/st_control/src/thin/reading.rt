@@ -5,8 +5,7 @@ ghost use Rattle.st_control.specs.ThinTexts.{type_of as type_named};
 
 use super::lexemes::Lexemes;
 use super::names::{is_name, is_word};
-use crate::stub::read_value;
-use st_tree::{Elem, Value};
+use st_tree::{Elem, Value, read_value};
 
 /// The most bytes of a program's name.
 const MOST_BYTES: usize = 128;

@@ -1,9 +1,9 @@
 //! The variables of a program and their leaves.
-ghost use Rattle.std.specs.Char.{to_ascii_uppercase};
 ghost use Rattle.std.specs.List.{list_any};
 ghost use Rattle.std.specs.Prelude.{◌≡◌, ◌++◌, ◌∷◌, [], map, IfOk, OnOk, Err, MatchResult, Some, codes, not, IsTrue};
 ghost use Rattle.std.specs.Str.{bytes_eq};
-ghost use Rattle.st_control.specs.ThinReadings.{Joins, Refuses, Variables, paths_of, variable};
+ghost use Rattle.st_control.specs.ThinReadings.{Joins, Refuses, Variables, variable};
+ghost use Rattle.st_layout.specs.Layout.{paths_of, raised};
 ghost use Rattle.st_control.specs.ThinTexts.{leaf as leaf_of_variable};
 
 use super::fault::ThinFault;
@@ -89,7 +89,7 @@ fn shown(alloc: Global, program: &[u8], name: &[u8]) -> Result<Vec<u8>, AllocErr
 
 /// A text in upper case.
 fn upper_case(alloc: Global, text: &[u8]) -> Result<Vec<u8>, AllocError>
-    ensures { IfOk result (λ upper. upper.items ≡ map to_ascii_uppercase text.now) }
+    ensures { IfOk result (λ upper. upper.items ≡ raised text.now) }
 {
     let mut upper = Vec::from_slice(alloc, text)?;
     upper.make_ascii_uppercase();

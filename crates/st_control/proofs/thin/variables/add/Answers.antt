@@ -2,7 +2,7 @@ use Rattle.std.proofs.Common.{◌≡◌, arith, true, false, rules}
 use Rattle.std.proofs.lemmas.Grind.{common_steps}
 use Rattle.std.specs.List.{list_any}
 use Rattle.std.specs.Str.{bytes_eq}
-use Rattle.st_control.specs.ThinReadings.{paths_of}
+use Rattle.st_layout.specs.Layout.{paths_of}
 use Rattle.st_control.proofs.ThinVariables.{paths-among, paths-apart}
 use Rattle.st_control.proofs.thin.variables.add.Goals as goal
 

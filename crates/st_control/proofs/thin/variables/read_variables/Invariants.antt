@@ -1,6 +1,6 @@
 use Rattle.std.proofs.Common.{◌≡◌, ℕ, List, ◌++◌, map, length}
 use Rattle.std.specs.List.{flat_map}
-use Rattle.st_control.specs.ThinReadings.{paths_of}
+use Rattle.st_layout.specs.Layout.{paths_of}
 use Rattle.st_control.specs.ThinTexts.{Declaration, Declares, declaration_lexemes}
 use Rattle.st_control.proofs.ThinVariables.{HasRead}
 use Rattle.st_control.proofs.thin.variables.read_variables.Given as goal
