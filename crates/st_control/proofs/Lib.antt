@@ -1,3 +1,4 @@
+pub mod ThinLeaves
 pub mod ThinLexemes
 pub mod ThinPrograms
 pub mod ThinReads

@@ -179,14 +179,14 @@ variable-Some program name lexemes found rest reads =
     }
 
 -- the type and the value of a declaration with this leaf
-record LeafSo (program : List ℕ) (declaration : Declaration) (found : Leaf) : Type 0 where
-  elem : Elem
-  value : Value
-  is_type : type_of declaration.type_name ≡ Some elem
-  is_value : initial_of elem declaration.initial ≡ Some value
-  is_found : leaf program declaration.name value ≡ found
+pub record LeafSo (program : List ℕ) (declaration : Declaration) (found : Leaf) : Type 0 where
+  pub elem : Elem
+  pub value : Value
+  pub is_type : type_of declaration.type_name ≡ Some elem
+  pub is_value : initial_of elem declaration.initial ≡ Some value
+  pub is_found : leaf program declaration.name value ≡ found
 
-leaf_of-parts : (program : List ℕ) (declaration : Declaration) (found : Leaf) → leaf_of program declaration ≡ Some found → LeafSo program declaration found
+pub leaf_of-parts : (program : List ℕ) (declaration : Declaration) (found : Leaf) → leaf_of program declaration ≡ Some found → LeafSo program declaration found
 leaf_of-parts program declaration found gives = by_type (type_of declaration.type_name) refl gives where
   by_value : (elem : Elem) → type_of declaration.type_name ≡ Some elem → (value : Option Value) → initial_of elem declaration.initial ≡ value
       → option_map (leaf program declaration.name) value ≡ Some found → LeafSo program declaration found

@@ -1,6 +1,7 @@
 //! Thin program texts: one program whose variables are of type BOOL and INT (IEC 61131-3:2003, 2.4.3 and 2.5.3).
-ghost use Rattle.std.specs.Prelude.{◌≡◌, IfOk, Err};
+ghost use Rattle.std.specs.Prelude.{◌≡◌, ◌≤◌, IfOk, OnOk, Err, length};
 ghost use Rattle.st_control.specs.ThinTexts.{IsProgram, TextsGiveOneList};
+ghost use Rattle.st_layout.specs.Layout.{IsSound};
 
 mod fault;
 mod lexemes;
@@ -22,6 +23,8 @@ use variables::read_variables;
 /// `NotThin` where the text is no such program, and `Memory`.
 pub(crate) fn read_thin(alloc: Global, text: &[u8], main: &[u8]) -> Result<List<Leaf>, ThinFault>
     ensures ok { IfOk result (λ leaves. IsProgram text.now main.now leaves) }
+    ensures sound { IfOk result (λ leaves. IsSound leaves) }
+    ensures name { OnOk result (length main.now ≤ 128) }
     ensures refused { result ≡ Err ThinFault.NotThin → (leaves : _) → IsProgram text.now main.now leaves → ⊥ }
 {
     let mut lexemes = Lexemes::of(text);
