@@ -9,6 +9,9 @@ mod names;
 mod reading;
 mod variables;
 
+#[cfg(test)]
+mod tests;
+
 pub(crate) use fault::ThinFault;
 
 use lexemes::Lexemes;

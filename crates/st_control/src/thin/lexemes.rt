@@ -32,7 +32,7 @@ impl<'a> Lexemes<'a> {
 
     /// Takes the first lexeme, if there is one.
     #[tactic(auto, using(crate::proofs::ThinLexemes::no_lexeme), unfolding(crate::specs::ThinReadings::next))]
-    pub(super) fn next(&mut self) -> Option<&'a [u8]>
+    pub(super) fn take(&mut self) -> Option<&'a [u8]>
         ensures { MatchOption result (next self.old ≡ None) (λ lexeme. next self.old ≡ Some (lexeme.now, self.new)) }
     {
         let text = without_blanks(self.text);
@@ -46,21 +46,21 @@ impl<'a> Lexemes<'a> {
 
     /// Takes the first lexeme, where it is this one.
     #[tactic(auto, unfolding(crate::specs::ThinReadings::mark))]
-    pub(super) fn mark(&mut self, bytes: &[u8]) -> Option<&'a [u8]>
+    pub(super) fn take_mark(&mut self, bytes: &[u8]) -> Option<&'a [u8]>
         ensures { MatchOption result (mark bytes.now self.old ≡ None)
             (λ lexeme. mark bytes.now self.old ≡ Some (lexeme.now, self.new)) }
     {
-        let lexeme = self.next()?;
+        let lexeme = self.take()?;
         if lexeme == bytes { Some(lexeme) } else { None }
     }
 
     /// Takes the first lexeme, where it is this word in any case.
     #[tactic(auto, unfolding(crate::specs::ThinReadings::word))]
-    pub(super) fn word(&mut self, bytes: &[u8]) -> Option<&'a [u8]>
+    pub(super) fn take_word(&mut self, bytes: &[u8]) -> Option<&'a [u8]>
         ensures { MatchOption result (word bytes.now self.old ≡ None)
             (λ lexeme. word bytes.now self.old ≡ Some (lexeme.now, self.new)) }
     {
-        let lexeme = self.next()?;
+        let lexeme = self.take()?;
         if is_word(bytes, lexeme) { Some(lexeme) } else { None }
     }
 }

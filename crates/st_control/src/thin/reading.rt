@@ -16,9 +16,9 @@ pub(super) fn read_heading<'a>(lexemes: &mut Lexemes<'a>, main: &[u8]) -> Option
     ensures { MatchOption result (heading main.now lexemes.old ≡ None)
         (λ name. heading main.now lexemes.old ≡ Some (name.now, lexemes.new)) }
 {
-    lexemes.word(b"PROGRAM")?;
-    let name = lexemes.next()?;
-    lexemes.word(b"VAR")?;
+    lexemes.take_word(b"PROGRAM")?;
+    let name = lexemes.take()?;
+    lexemes.take_word(b"VAR")?;
     if is_name(name) && is_word(main, name) && name.len() <= MOST_BYTES {
         Some(name)
     } else {
@@ -31,7 +31,7 @@ pub(super) fn read_heading<'a>(lexemes: &mut Lexemes<'a>, main: &[u8]) -> Option
 pub(super) fn read_ending(lexemes: &mut Lexemes) -> bool
     ensures { result ≡ ends lexemes.old }
 {
-    lexemes.word(b"END_PROGRAM").is_some() && lexemes.next().is_none()
+    lexemes.take_word(b"END_PROGRAM").is_some() && lexemes.take().is_none()
 }
 
 /// Reads a declaration behind its name: the value that the variable begins with.
@@ -39,8 +39,8 @@ pub(super) fn read_ending(lexemes: &mut Lexemes) -> bool
 pub(super) fn read_declared(lexemes: &mut Lexemes) -> Option<Value>
     ensures { MatchOption result (declared lexemes.old ≡ None) (λ value. declared lexemes.old ≡ Some (value, lexemes.new)) }
 {
-    lexemes.mark(b":")?;
-    let elem = type_of(lexemes.next()?)?;
+    lexemes.take_mark(b":")?;
+    let elem = type_of(lexemes.take()?)?;
     read_initial(lexemes, elem)
 }
 
@@ -49,11 +49,11 @@ pub(super) fn read_declared(lexemes: &mut Lexemes) -> Option<Value>
 fn read_initial(lexemes: &mut Lexemes, elem: Elem) -> Option<Value>
     ensures { MatchOption result (initial elem lexemes.old ≡ None) (λ value. initial elem lexemes.old ≡ Some (value, lexemes.new)) }
 {
-    match lexemes.next()? {
+    match lexemes.take()? {
         b";" => Some(Value { elem, bits: 0 }),
         b":=" => {
-            let value = read_value(elem, lexemes.next()?).ok()?;
-            lexemes.mark(b";")?;
+            let value = read_value(elem, lexemes.take()?).ok()?;
+            lexemes.take_mark(b";")?;
             Some(value)
         }
         _ => None,

@@ -33,7 +33,7 @@ pub(super) fn read_variables(
         items: Vec::new(alloc),
     };
     let mut paths = IndexSet::new(alloc);
-    while let Some(name) = lexemes.next() {
+    while let Some(name) = lexemes.take() {
         if is_word(b"END_VAR", name) {
             return Ok(leaves);
         }
