@@ -1,5 +1,5 @@
 -- The leaves of a program make a layout.
-use Rattle.std.proofs.Common.{◌≡◌, ℕ, ◌≤◌, Bool, true, false, cond, IsTrue, List, [], ◌∷◌, map, length, refl, ap, subst, Option, Some, None, ℤ, pos, arith}
+use Rattle.std.proofs.Common.{◌≡◌, ℕ, ◌≤◌, Bool, true, false, cond, List, [], ◌∷◌, map, length, refl, ap, subst, Option, Some, None, ℤ, pos, arith}
 use Rattle.std.proofs.lemmas.List.{length-map}
 use Rattle.std.proofs.lemmas.List.Elements.{All-cons}
 use Rattle.std.proofs.lemmas.Slice.Eq.{bytes_eq-Decides}
@@ -57,12 +57,12 @@ leaf_of-initial program declaration leaf gives =
 
 pub IsSound-of : (text main : List ℕ) (leaves : List Leaf) → IsProgram text main leaves → IsSound leaves
 IsSound-of text main leaves it = record {
-    distinct = it.declared.distinct;
-    shown = each_leaf it.name (λ leaf. leaf.path ≡ raised leaf.shown) (leaf_of-shown it.name) it.declarations leaves it.declared.gives;
-    short = it.declared.short;
-    few = it.declared.few;
-    initial = each_leaf it.name (λ leaf. IsValueOf leaf leaf.initial) (leaf_of-initial it.name) it.declarations leaves it.declared.gives
-  }
+  distinct = it.declared.distinct;
+  shown = each_leaf it.name (λ leaf. leaf.path ≡ raised leaf.shown) (leaf_of-shown it.name) it.declarations leaves it.declared.gives;
+  short = it.declared.short;
+  few = it.declared.few;
+  initial = each_leaf it.name (λ leaf. IsValueOf leaf leaf.initial) (leaf_of-initial it.name) it.declarations leaves it.declared.gives;
+}
 
 -- a name that is another in any case is as long
 pub short_main : (text main : List ℕ) (leaves : List Leaf) → IsProgram text main leaves → length main ≤ 128

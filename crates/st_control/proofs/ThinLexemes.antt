@@ -1,7 +1,6 @@
 -- The first lexeme of a text.
-use Rattle.std.proofs.Common.{get_or, ◌<◌, nat_eq, codes, ℕ, suc, ◌+◌, ◌≡◌, Bool, true, false, cond, ◌==◌, ◌&&◌, List, [], ◌∷◌, length, take, drop, refl, ap, sym, ◌∙◌, arith, rules}
+use Rattle.std.proofs.Common.{get_or, ◌<◌, nat_eq, codes, ℕ, suc, ◌≡◌, Bool, true, false, ◌==◌, List, [], ◌∷◌, length, take, drop, refl, ap, sym, ◌∙◌, arith}
 use Rattle.std.proofs.lemmas.Bool.Decides.{nat_tests}
-use Rattle.std.proofs.lemmas.Grind.{common_steps}
 use Rattle.std.specs.List.{prefix_len, starts_with}
 use Rattle.st_control.specs.ThinTexts.{begins_with, goes_on, is_blank, is_word_byte, lexemes, onto_first}
 
@@ -93,4 +92,5 @@ first-blanks (c ∷ text) = by_test (is_blank c)
     (λ other. rw (prefix_len-end is_blank c text other) other)
 
 pub ruleset lexemes_behind_blanks = (lexemes-blanks, first-blanks)
+
 pub ruleset first_lexeme = (lexemes-word, lexemes-assign, lexemes-single)

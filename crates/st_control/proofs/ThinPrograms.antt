@@ -1,13 +1,13 @@
 -- Whole programs: what is read is a program, and a program is read.
-use Rattle.std.proofs.Common.{◌≡◌, ℕ, ◌≤◌, Bool, true, false, ◌&&◌, cond, List, [], ◌∷◌, ◌++◌, length, nat_le, refl, sym, ap, ◌∙◌, subst, Option, Some, None, codes, arith}
+use Rattle.std.proofs.Common.{◌≡◌, ℕ, ◌≤◌, Bool, true, false, ◌&&◌, List, [], ◌∷◌, ◌++◌, length, nat_le, refl, sym, ap, ◌∙◌, subst, Option, Some, None, codes, arith}
 use Rattle.std.proofs.lemmas.Bool.Decides.{nat_tests}
 use Rattle.std.specs.List.{flat_map}
 use Rattle.std.specs.Option.{is_none, option_map_or}
 use Rattle.st_tree.specs.declared.leaf.Leaf.{Leaf}
 use Rattle.st_tree.specs.Words.{is_word}
-use Rattle.st_control.specs.ThinReadings.{Lexemes, Variables, ends, given, heading, next, word}
+use Rattle.st_control.specs.ThinReadings.{Lexemes, Variables, ends, heading, next, word}
 use Rattle.st_control.specs.ThinTexts.{IsProgram, declaration_lexemes, is_name, lexemes}
-use Rattle.st_control.proofs.ThinReads.{first_of, given-test, next-Some, next-cons, some_parts, word-Some, word-cons}
+use Rattle.st_control.proofs.ThinReads.{first_of, given-test, next-Some, some_parts, word-Some, word-cons}
 use Rattle.st_control.proofs.ThinVariables.{Variables-one}
 
 and_parts : (one two three : Bool) → (one && two && three) ≡ true → (one ≡ true) × (two ≡ true) × (three ≡ true)
@@ -47,7 +47,7 @@ heading-Some main lexemes name rest reads =
       var = is_var.1;
       is_named = subst (λ it. is_name it ≡ true) test.1 parts.0;
       is_main = subst (λ it. is_word main it ≡ true) test.1 parts.1;
-      short = subst (λ it. length it ≤ 128) test.1 is_short
+      short = subst (λ it. length it ≤ 128) test.1 is_short;
     }
 
 heading-of : (main program_word name var_word : List ℕ) (rest : Lexemes) → is_word (codes "PROGRAM") program_word ≡ true → is_word (codes "VAR") var_word ≡ true → is_name name ≡ true
@@ -76,6 +76,7 @@ ends-true lexemes is_end = by_word (word (codes "END_PROGRAM") lexemes) refl is_
   by_next end_word left reads is_end =
       let is_word = word-Some (codes "END_PROGRAM") lexemes end_word left reads in
       record { end_word = end_word; spelled = is_word.0 ∙ ap (λ it. end_word ∷ it) (nothing_left left is_end); is_end = is_word.1 }
+
   by_word : (found : Option (List ℕ × Lexemes)) → word (codes "END_PROGRAM") lexemes ≡ found → option_map_or (λ it. is_none (next it.1)) found false ≡ true → EndSo lexemes
   by_word None reads is_end = absurd (cc)
   by_word (Some found) reads is_end = by_next found.0 found.1 reads is_end
@@ -106,7 +107,7 @@ IsProgram-of text main name left rest leaves reads variables is_end =
       is_named = head.is_named;
       is_main = head.is_main;
       short = head.short;
-      declared = variables.declared
+      declared = variables.declared;
     }
 
 -- how a program is read
@@ -127,7 +128,7 @@ IsProgram-read text main leaves it =
       rest = it.end_program_word ∷ [];
       head = ap (heading main) it.spelled ∙ heading-of main it.program_word it.name it.var_word left it.program it.var it.is_named it.is_main it.short;
       variables = record { declarations = it.declarations; end_word = it.end_var_word; spelled = refl; is_end = it.end_var; declared = it.declared };
-      end = ends-of it.end_program_word it.end_program
+      end = ends-of it.end_program_word it.end_program;
     }
 
 pub no_heading : (text main : List ℕ) (leaves : List Leaf) → heading main (lexemes text) ≡ None → IsProgram text main leaves → ⊥

@@ -1,5 +1,5 @@
 -- One declaration: what is read is spelled so, and what is spelled so is read.
-use Rattle.std.proofs.Common.{◌≡◌, ℕ, Bool, true, false, cond, List, [], ◌∷◌, ◌++◌, refl, sym, ap, ◌∙◌, subst, Option, Some, None, codes}
+use Rattle.std.proofs.Common.{◌≡◌, ℕ, Bool, true, false, cond, List, [], ◌∷◌, ◌++◌, refl, ap, ◌∙◌, subst, Option, Some, None, codes}
 use Rattle.std.proofs.lemmas.Slice.Eq.{bytes_eq-Decides}
 use Rattle.std.specs.Option.{option_and_then, option_map}
 use Rattle.std.specs.Str.{bytes_eq}
@@ -90,7 +90,7 @@ written-Some elem lexeme lexemes value rest reads =
       literal = literal.first;
       begins = same_bytes lexeme (codes ":=") is_colon.0;
       spelled = is_colon.2 ∙ next-Some colon.left literal.first literal.left literal.reads ∙ (rw (is_one.1, mark-Some (codes ";") one.left end.first end.left end.reads, is_end.1) refl);
-      reads = is_one.0 ∙ is_end.0
+      reads = is_one.0 ∙ is_end.0;
     }
 
 -- what stands behind a type
@@ -105,14 +105,14 @@ initial-Some elem lexemes value rest reads =
     let lexeme = first_of next _ lexemes value rest reads in
     let is_lexeme = next-Some lexemes lexeme.first lexeme.left lexeme.reads in
     by_mark lexeme.first lexeme.left is_lexeme (bytes_eq lexeme.first (codes ";")) refl lexeme.goes_on where
-  by_mark : (first : List ℕ) (left : Lexemes) → lexemes ≡ first ∷ left → (test : Bool) → bytes_eq first (codes ";") ≡ test
-      → cond test (given (initial_of elem None)) (written elem first) left ≡ Some (value, rest) → InitialSo elem lexemes value rest
-  by_mark first left is_lexeme true is_mark reads =
-      let is_value = given-Some (initial_of elem None) left value rest reads in
-      record { literal = None; spelled = cc (is_lexeme, same_bytes first (codes ";") is_mark, is_value.1); reads = is_value.0 }
-  by_mark first left is_lexeme false is_mark reads =
-      let so = written-Some elem first left value rest reads in
-      record { literal = Some so.literal; spelled = cc (is_lexeme, so.begins, so.spelled); reads = so.reads }
+      by_mark : (first : List ℕ) (left : Lexemes) → lexemes ≡ first ∷ left → (test : Bool) → bytes_eq first (codes ";") ≡ test
+          → cond test (given (initial_of elem None)) (written elem first) left ≡ Some (value, rest) → InitialSo elem lexemes value rest
+      by_mark first left is_lexeme true is_mark reads =
+          let is_value = given-Some (initial_of elem None) left value rest reads in
+          record { literal = None; spelled = cc (is_lexeme, same_bytes first (codes ";") is_mark, is_value.1); reads = is_value.0 }
+      by_mark first left is_lexeme false is_mark reads =
+          let so = written-Some elem first left value rest reads in
+          record { literal = Some so.literal; spelled = cc (is_lexeme, so.begins, so.spelled); reads = so.reads }
 
 initial-of : (elem : Elem) (literal : Option (List ℕ)) (value : Value) (rest : Lexemes) → initial_of elem literal ≡ Some value → initial elem (initial_lexemes literal ++ codes ";" ∷ rest) ≡ Some (value, rest)
 unfolding initial written next mark
@@ -142,7 +142,7 @@ declared-Some lexemes value rest reads =
       literal = so.literal;
       spelled = cc (mark-Some (codes ":") lexemes colon.first colon.left colon.reads, next-Some colon.left type_name.first type_name.left type_name.reads, is_elem.1, so.spelled);
       is_type = is_elem.0;
-      reads = so.reads
+      reads = so.reads;
     }
 
 -- a declaration of this name
@@ -175,7 +175,7 @@ variable-Some program name lexemes found rest reads =
       is_named = is_named.0;
       has_name = refl;
       spelled = cc (is_named.2, so.spelled, spelled-append so.literal rest, is_found.1);
-      gives = leaf_of-Some program one so.elem value.first so.is_type so.reads ∙ is_found.0
+      gives = leaf_of-Some program one so.elem value.first so.is_type so.reads ∙ is_found.0;
     }
 
 -- the type and the value of a declaration with this leaf
@@ -192,6 +192,7 @@ leaf_of-parts program declaration found gives = by_type (type_of declaration.typ
       → option_map (leaf program declaration.name) value ≡ Some found → LeafSo program declaration found
   by_value elem is_type None is_value gives = absurd (cc)
   by_value elem is_type (Some value) is_value gives = record { elem = elem; value = value; is_type = is_type; is_value = is_value; is_found = cc }
+
   by_type : (elem : Option Elem) → type_of declaration.type_name ≡ elem
       → option_map (leaf program declaration.name) (option_and_then (λ it. initial_of it declaration.initial) elem) ≡ Some found → LeafSo program declaration found
   by_type None is_type gives = absurd (cc)

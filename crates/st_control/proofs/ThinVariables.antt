@@ -1,5 +1,5 @@
 -- Declarations one after another: what was read of them, and what must follow.
-use Rattle.std.proofs.Common.{◌≡◌, ◌≢◌, ℕ, zero, suc, ◌+◌, ◌<◌, ◌≤◌, Bool, true, false, ◌&&◌, ◌||◌, not, List, [], ◌∷◌, ◌++◌, map, length, get_or, refl, sym, ap, ◌∙◌, subst, Option, Some, None, codes, arith, append_assoc, length-append}
+use Rattle.std.proofs.Common.{◌≡◌, ◌≢◌, ℕ, suc, ◌<◌, ◌≤◌, Bool, true, false, ◌&&◌, ◌||◌, not, List, [], ◌∷◌, ◌++◌, map, length, refl, sym, ap, ◌∙◌, subst, Option, Some, None, codes, arith, append_assoc, length-append}
 use Rattle.std.proofs.Math.ListN.{get_or-append}
 use Rattle.std.proofs.Math.Seq.{get_or-append_seam}
 use Rattle.std.proofs.lemmas.Grind.{flat_map-append}
@@ -51,8 +51,8 @@ paths-apart path [] absent = λ k d below. absurd (omega arith)
 paths-apart path (leaf ∷ leaves) absent = by_test (bytes_eq path leaf.path)
     (λ same. let always : true ≡ false = rw same at absent in absurd (cc))
     (λ other. All-cons (λ it. it.path ≢ path) leaf leaves
-        (λ same. let equal : bytes_eq path leaf.path ≡ true = (bytes_eq-Decides path leaf.path).1 (sym same) in absurd (cc))
-        (paths-apart path leaves (rw other at absent)))
+    (λ same. let equal : bytes_eq path leaf.path ≡ true = (bytes_eq-Decides path leaf.path).1 (sym same) in absurd (cc))
+    (paths-apart path leaves (rw other at absent)))
 
 pub paths-among : (path : List ℕ) (leaves : List Leaf) → list_any (bytes_eq path) (paths_of leaves) ≡ true → All (λ other. other.path ≢ path) leaves → ⊥
 paths-among path [] there apart = absurd (cc)
@@ -77,9 +77,9 @@ name_not_end : (name : List ℕ) → is_name name ≡ true → is_word (codes "E
 unfolding is_reserved
 name_not_end name named = by_test (is_word (codes "END_VAR") name)
     (λ is_end.
-        let found : is_reserved name ≡ true = list_any_at (λ reserved. is_word reserved name) reserved_words 15 [] (omega arith) is_end in
-        let free = third_fails (begins_with _ name) (is_clean name) (is_reserved name) named in
-        cc)
+    let found : is_reserved name ≡ true = list_any_at (λ reserved. is_word reserved name) reserved_words 15 [] (omega arith) is_end in
+    let free = third_fails (begins_with _ name) (is_clean name) (is_reserved name) named in
+    cc)
     (λ other. other)
 
 -- ---- one more declaration
@@ -97,7 +97,7 @@ Declares-push program declarations leaves one leaf declares named gives joins =
       names = All-push IsNamed declarations one declares.names named;
       distinct = all_pairs_push IsApart leaves leaf declares.distinct joins.apart;
       short = All-push IsShort leaves leaf declares.short joins.short;
-      few = omega (arith, length-append leaves (leaf ∷ []), joins.few)
+      few = omega (arith, length-append leaves (leaf ∷ []), joins.few);
     }
 
 pub HasRead-more : (program name : List ℕ) (lexemes now left rest : Lexemes) (leaves : List Leaf) (leaf : Leaf) → HasRead program lexemes leaves now → next now ≡ Some (name, left)
@@ -107,7 +107,7 @@ HasRead-more program name lexemes now left rest leaves leaf read is_next reads j
     record {
       declarations = read.declarations ++ one.declaration ∷ [];
       spelled = read.spelled ∙ ap (λ more. flat_map declaration_lexemes read.declarations ++ more) (next-Some now name left is_next ∙ one.spelled) ∙ sym (flat_map-push read.declarations one.declaration rest);
-      declared = Declares-push program read.declarations leaves one.declaration leaf read.declared (subst (λ it. is_name it ≡ true) (sym one.has_name) one.is_named) one.gives joins
+      declared = Declares-push program read.declarations leaves one.declaration leaf read.declared (subst (λ it. is_name it ≡ true) (sym one.has_name) one.is_named) one.gives joins;
     }
 
 pub HasRead-end : (program name : List ℕ) (lexemes now rest : Lexemes) (leaves : List Leaf) → HasRead program lexemes leaves now → next now ≡ Some (name, rest) → is_word (codes "END_VAR") name ≡ true
@@ -118,7 +118,7 @@ HasRead-end program name lexemes now rest leaves read is_next is_end =
       end_word = name;
       spelled = read.spelled ∙ ap (λ more. flat_map declaration_lexemes read.declarations ++ more) (next-Some now name rest is_next);
       is_end = is_end;
-      declared = read.declared
+      declared = read.declared;
     }
 
 pub variable-shorter : (program name : List ℕ) (now left rest : Lexemes) (leaf : Leaf) → next now ≡ Some (name, left) → variable program name left ≡ Some (leaf, rest) → length rest < length now
@@ -172,7 +172,7 @@ goes_on program (one ∷ done) (leaf ∷ leaves) left [] all end_word rest named
 goes_on program (one ∷ done) (leaf ∷ leaves) left (other ∷ declarations) [] end_word rest named gives all_gives is_end same = absurd (cc)
 goes_on program (one ∷ done) (leaf ∷ leaves) left (other ∷ declarations) (first ∷ all) end_word rest named gives all_gives is_end same =
     let parts = declaration_parts one other (flat_map declaration_lexemes done ++ left) (flat_map declaration_lexemes declarations ++ end_word ∷ rest)
-        (sym (append_assoc (declaration_lexemes one) (flat_map declaration_lexemes done) left) ∙ same ∙ append_assoc (declaration_lexemes other) (flat_map declaration_lexemes declarations) (end_word ∷ rest)) in
+    (sym (append_assoc (declaration_lexemes one) (flat_map declaration_lexemes done) left) ∙ same ∙ append_assoc (declaration_lexemes other) (flat_map declaration_lexemes declarations) (end_word ∷ rest)) in
     let later = goes_on program done leaves left declarations all end_word rest (All-tail IsNamed one done named) (cc) (cc) is_end parts.1 in
     let same_leaf : first ≡ leaf = cc (gives, all_gives, ap (leaf_of program) parts.0) in
     record {
@@ -181,7 +181,7 @@ goes_on program (one ∷ done) (leaf ∷ leaves) left (other ∷ declarations) (
       spelled = later.spelled;
       declarations_are = cc (parts.0, later.declarations_are);
       leaves_are = cc (same_leaf, later.leaves_are);
-      gives = later.gives
+      gives = later.gives;
     }
 
 pub goes_on_read : (program : List ℕ) (lexemes : Lexemes) (leaves : List Leaf) (left : Lexemes) (all : List Leaf) (rest : Lexemes) → (read : HasRead program lexemes leaves left)
@@ -195,9 +195,9 @@ unfolding next
 HasRead-nil program lexemes [] leaves all rest read is_next variables =
     let later = goes_on_read program lexemes leaves [] all rest read variables in
     none later.more later.spelled where
-  none : (more : List Declaration) → [] ≡ flat_map declaration_lexemes more ++ variables.end_word ∷ rest → ⊥
-  none [] same = absurd (cc)
-  none (one ∷ more) same = absurd (cc)
+      none : (more : List Declaration) → [] ≡ flat_map declaration_lexemes more ++ variables.end_word ∷ rest → ⊥
+      none [] same = absurd (cc)
+      none (one ∷ more) same = absurd (cc)
 HasRead-nil program lexemes (lexeme ∷ now) leaves all rest read is_next variables = absurd (cc)
 
 Joins-of : (leaves : List Leaf) (leaf : Leaf) (others : List Leaf) → AllPairs IsApart (leaves ++ leaf ∷ others)
@@ -207,7 +207,7 @@ Joins-of leaves leaf others distinct short few =
     record {
       apart = λ k d below. rw (get_or-append leaves (leaf ∷ others) d k below, get_or-append_seam leaves leaf others d) at (distinct k (length leaves) d below here);
       short = All-seam IsShort leaves leaf others short;
-      few = omega (arith, length-append leaves (leaf ∷ others))
+      few = omega (arith, length-append leaves (leaf ∷ others));
     }
 
 -- the declaration that must follow
@@ -222,22 +222,22 @@ pub follows : (program name : List ℕ) (lexemes now : Lexemes) (leaves : List L
 follows program name lexemes now leaves left all rest read is_next no_end variables =
     let later = goes_on_read program lexemes leaves now all rest read variables in
     by_more later.more later.others (sym (next-Some now name left is_next) ∙ later.spelled) later.declarations_are later.leaves_are later.gives where
-  by_more : (more : List Declaration) (others : List Leaf) → name ∷ left ≡ flat_map declaration_lexemes more ++ variables.end_word ∷ rest → variables.declarations ≡ read.declarations ++ more → all ≡ leaves ++ others
-      → map (leaf_of program) more ≡ map Some others → Follows program name leaves left
-  by_more [] others spelled declarations_are leaves_are gives = let is_it : name ≡ variables.end_word = cc in absurd (cc (is_it, no_end, variables.is_end))
-  by_more (one ∷ more) [] spelled declarations_are leaves_are gives = absurd (cc)
-  by_more (one ∷ more) (leaf ∷ others) spelled declarations_are leaves_are gives =
-      let is_it : one.name ≡ name = cc in
-      let after = flat_map declaration_lexemes more ++ variables.end_word ∷ rest in
-      let is_one : one.name ∷ left ≡ declaration_lexemes one ++ after = cc (is_it, spelled, append_assoc (declaration_lexemes one) (flat_map declaration_lexemes more) (variables.end_word ∷ rest)) in
-      let named = All-seam IsNamed read.declarations one more (subst (All IsNamed) declarations_are variables.declared.names) in
-      record {
-        leaf = leaf;
-        rest = after;
-        reads = subst (λ it. variable program it left ≡ Some (leaf, after)) is_it (variable-of program one leaf left after named (cc) is_one);
-        joins = Joins-of leaves leaf others (subst (AllPairs IsApart) leaves_are variables.declared.distinct) (subst (All IsShort) leaves_are variables.declared.short)
-            (subst (λ it. length it ≤ 65536) leaves_are variables.declared.few)
-      }
+      by_more : (more : List Declaration) (others : List Leaf) → name ∷ left ≡ flat_map declaration_lexemes more ++ variables.end_word ∷ rest → variables.declarations ≡ read.declarations ++ more → all ≡ leaves ++ others
+          → map (leaf_of program) more ≡ map Some others → Follows program name leaves left
+      by_more [] others spelled declarations_are leaves_are gives = let is_it : name ≡ variables.end_word = cc in absurd (cc (is_it, no_end, variables.is_end))
+      by_more (one ∷ more) [] spelled declarations_are leaves_are gives = absurd (cc)
+      by_more (one ∷ more) (leaf ∷ others) spelled declarations_are leaves_are gives =
+          let is_it : one.name ≡ name = cc in
+          let after = flat_map declaration_lexemes more ++ variables.end_word ∷ rest in
+          let is_one : one.name ∷ left ≡ declaration_lexemes one ++ after = cc (is_it, spelled, append_assoc (declaration_lexemes one) (flat_map declaration_lexemes more) (variables.end_word ∷ rest)) in
+          let named = All-seam IsNamed read.declarations one more (subst (All IsNamed) declarations_are variables.declared.names) in
+          record {
+            leaf = leaf;
+            rest = after;
+            reads = subst (λ it. variable program it left ≡ Some (leaf, after)) is_it (variable-of program one leaf left after named (cc) is_one);
+            joins = Joins-of leaves leaf others (subst (AllPairs IsApart) leaves_are variables.declared.distinct) (subst (All IsShort) leaves_are variables.declared.short)
+                (subst (λ it. length it ≤ 65536) leaves_are variables.declared.few);
+          }
 
 -- the lexemes give one list of leaves
 pub Variables-one : (program : List ℕ) (lexemes : Lexemes) (leaves all : List Leaf) (rest left : Lexemes) → Variables program lexemes leaves rest → Variables program lexemes all left → (leaves ≡ all) × (rest ≡ left)
@@ -245,14 +245,14 @@ Variables-one program lexemes leaves all rest left one other =
     let read : HasRead program lexemes leaves (one.end_word ∷ rest) = record { declarations = one.declarations; spelled = one.spelled; declared = one.declared } in
     let later = goes_on_read program lexemes leaves (one.end_word ∷ rest) all left read other in
     by_more later.more later.others later.spelled later.declarations_are later.leaves_are later.gives where
-  by_more : (more : List Declaration) (others : List Leaf) → one.end_word ∷ rest ≡ flat_map declaration_lexemes more ++ other.end_word ∷ left → other.declarations ≡ one.declarations ++ more → all ≡ leaves ++ others
-      → map (leaf_of program) more ≡ map Some others → (leaves ≡ all) × (rest ≡ left)
-  by_more [] [] spelled declarations_are leaves_are gives = (sym (leaves_are ∙ append-nil leaves), cc)
-  by_more [] (leaf ∷ others) spelled declarations_are leaves_are gives = absurd (cc)
-  by_more (next ∷ more) others spelled declarations_are leaves_are gives =
-      let is_it : next.name ≡ one.end_word = cc in
-      let no_end = name_not_end next.name (All-seam IsNamed one.declarations next more (subst (All IsNamed) declarations_are other.declared.names)) in
-      absurd (cc (is_it, no_end, one.is_end))
+      by_more : (more : List Declaration) (others : List Leaf) → one.end_word ∷ rest ≡ flat_map declaration_lexemes more ++ other.end_word ∷ left → other.declarations ≡ one.declarations ++ more → all ≡ leaves ++ others
+          → map (leaf_of program) more ≡ map Some others → (leaves ≡ all) × (rest ≡ left)
+      by_more [] [] spelled declarations_are leaves_are gives = (sym (leaves_are ∙ append-nil leaves), cc)
+      by_more [] (leaf ∷ others) spelled declarations_are leaves_are gives = absurd (cc)
+      by_more (next ∷ more) others spelled declarations_are leaves_are gives =
+          let is_it : next.name ≡ one.end_word = cc in
+          let no_end = name_not_end next.name (All-seam IsNamed one.declarations next more (subst (All IsNamed) declarations_are other.declared.names)) in
+          absurd (cc (is_it, no_end, one.is_end))
 
 pub Follows-refused : (program name : List ℕ) (leaves : List Leaf) (left : Lexemes) (fault : ThinFault) → fault ≡ NotThin → Refuses (variable program name left) fault → Follows program name leaves left → ⊥
 Follows-refused program name leaves left NotThin is_fault refuses one = let reads = one.reads in absurd (cc)

@@ -1,5 +1,5 @@
--- What is read of lexemes one after another, and the lexemes after it.
-use Rattle.std.specs.Prelude.{ℕ, ◌≡◌, ◌≢◌, ◌<◌, ◌≤◌, Bool, true, false, ◌&&◌, List, [], ◌∷◌, ◌++◌, map, length, nat_le, codes, if◌then◌else◌, Option, Some, None, is_none, option_map, option_and_then}
+-- What the parts of a reader of thin texts read of the lexemes. ThinTexts says what a thin text is.
+use Rattle.std.specs.Prelude.{ℕ, ◌≡◌, ◌≢◌, ◌<◌, ◌≤◌, Bool, true, false, ◌&&◌, List, [], ◌∷◌, ◌++◌, length, nat_le, codes, if◌then◌else◌, Option, Some, None, is_none, option_map, option_and_then}
 use Rattle.std.specs.List.{All, flat_map}
 use Rattle.std.specs.Option.{option_map_or}
 use Rattle.std.specs.Str.{bytes_eq}
@@ -11,41 +11,41 @@ use Rattle.st_tree.specs.declared.elem.Elem.{Elem}
 use Rattle.st_tree.specs.declared.leaf.Leaf.{Leaf}
 use Rattle.st_tree.specs.declared.value.Value.{Value}
 
+-- the lexemes that are left
 abbrev pub Lexemes : Type 0
 Lexemes = List (List ℕ)
 
+-- what is read and the lexemes after it, if the front of the lexemes is so
 abbrev pub Reading : Type 0 → Type 0
 Reading A = Lexemes → Option (A × Lexemes)
 
+-- one reading, and then one that depends on what was read
 infixl 10 ◌>>=◌
 abbrev pub ◌>>=◌ : {A B : Type 0} → Reading A → (A → Reading B) → Reading B
 reading >>= more = λ lexemes. option_and_then (λ found. more found.0 found.1) (reading lexemes)
 
-infixl 10 ◌>>◌
-abbrev pub ◌>>◌ : {A B : Type 0} → Reading A → Reading B → Reading B
-reading >> more = reading >>= (λ _. more)
-
--- reads nothing, and gives what is there
+-- nothing is read, and what is there is given
 abbrev pub given : {A : Type 0} → Option A → Reading A
 given found = λ lexemes. option_map (λ a. (a, lexemes)) found
 
+-- the first lexeme
 unfoldable pub next : Reading (List ℕ)
 next [] = None
 next (lexeme ∷ lexemes) = Some (lexeme, lexemes)
 
--- a lexeme that is this one
+-- the first lexeme, where it is this one
 unfoldable pub mark : List ℕ → Reading (List ℕ)
 mark bytes = do
   lexeme ← next
   given (if bytes_eq lexeme bytes then Some lexeme else None)
 
--- a word in any case
+-- the first lexeme, where it is this word in any case
 unfoldable pub word : List ℕ → Reading (List ℕ)
 word bytes = do
   lexeme ← next
   given (if is_word bytes lexeme then Some lexeme else None)
 
--- an initial value and `;`, where the lexeme before them is `:=`
+-- what stands behind a lexeme, where that is `:=`: the initial value
 unfoldable pub written : Elem → List ℕ → Reading Value
 written elem lexeme = do
   assign ← given (if bytes_eq lexeme (codes ":=") then Some lexeme else None)
@@ -54,13 +54,13 @@ written elem lexeme = do
   end ← mark (codes ";")
   given (Some value)
 
--- what stands behind the type of a variable
+-- what stands behind the type of a variable: the value that it begins with
 unfoldable pub initial : Elem → Reading Value
 initial elem = do
   lexeme ← next
   if bytes_eq lexeme (codes ";") then given (initial_of elem None) else written elem lexeme
 
--- what stands behind the name of a variable
+-- what stands behind the name of a variable: the value that it begins with
 unfoldable pub declared : Reading Value
 declared = do
   colon ← mark (codes ":")
@@ -68,7 +68,7 @@ declared = do
   elem ← given (type_of type_name)
   initial elem
 
--- the heading of the program of this name, which is given as it is spelled
+-- the heading of the program of this name, in any case: the name as it is spelled
 unfoldable pub heading : List ℕ → Reading (List ℕ)
 heading main = do
   program_word ← word (codes "PROGRAM")
@@ -80,25 +80,25 @@ heading main = do
 unfoldable pub ends : Lexemes → Bool
 ends lexemes = option_map_or (λ found. is_none (next found.1)) (word (codes "END_PROGRAM") lexemes) false
 
--- what stands behind the name of a variable of a program, where it is a name
+-- what stands behind a lexeme that is the name of a variable: the variable's leaf
 unfoldable pub variable : List ℕ → List ℕ → Reading Leaf
 variable program name = do
   named ← given (if is_name name then Some name else None)
   value ← declared
   given (Some (leaf program name value))
 
--- a refusal of a text says that nothing was read
+-- where a text is refused nothing is read
 abbrev pub Refuses : {A : Type 0} → Option A → ThinFault → Type 0
 Refuses read NotThin = read ≡ None
 Refuses read Memory = Unit {0}
 
--- a program with these leaves may have this one too
+-- a leaf that may stand behind these in a program
 pub record Joins (leaves : List Leaf) (leaf : Leaf) : Type 0 where
   pub apart : All (λ other. other.path ≢ leaf.path) leaves
   pub short : length leaf.path ≤ 255
   pub few : length leaves < 65536
 
--- the lexemes are declarations, which give these leaves, and END_VAR, up to the rest
+-- the lexemes up to the rest are declarations, which give these leaves, and END_VAR
 pub record Variables (program : List ℕ) (lexemes : Lexemes) (leaves : List Leaf) (rest : Lexemes) : Type 0 where
   pub declarations : List Declaration
   pub end_word : List ℕ

@@ -7,27 +7,25 @@ mod fault;
 mod lexemes;
 mod names;
 mod reading;
-mod variables;
-
 #[cfg(test)]
 mod tests;
+mod variables;
 
 pub(crate) use fault::ThinFault;
-
 use lexemes::Lexemes;
 use reading::{read_ending, read_heading};
 use st_tree::{Leaf, List};
 use std::alloc::Global;
 use variables::read_variables;
 
-/// Reads a text as the program of this name, in any case, and gives the leaves of its variables in order.
+/// Reads a text as the program of this name, in any case, and gives the leaves of its variables, in order.
 ///
 /// # Errors
-/// `NotThin` where the text is no such program, and `Memory`.
+/// `NotThin` where the text is no such program, `Memory` where memory ran out.
 pub(crate) fn read_thin(alloc: Global, text: &[u8], main: &[u8]) -> Result<List<Leaf>, ThinFault>
     ensures ok { IfOk result (λ leaves. IsProgram text.now main.now leaves) }
     ensures sound { IfOk result (λ leaves. IsSound leaves) }
-    ensures name { OnOk result (length main.now ≤ 128) }
+    ensures short { OnOk result (length main.now ≤ 128) }
     ensures refused { result ≡ Err ThinFault.NotThin → (leaves : _) → IsProgram text.now main.now leaves → ⊥ }
 {
     let mut lexemes = Lexemes::of(text);
@@ -42,8 +40,7 @@ pub(crate) fn read_thin(alloc: Global, text: &[u8], main: &[u8]) -> Result<List<
     }
 }
 
-/// A text is a program with at most one list of leaves: a law of the definition.
+/// A text is the program of a name with one list of leaves at most. A law, with nothing to run.
 pub fn texts_give_one_list()
     ensures { TextsGiveOneList }
-{
-}
+{}

@@ -61,7 +61,11 @@ impl<'a> Lexemes<'a> {
             (λ lexeme. word bytes.now self.old ≡ Some (lexeme.now, self.new)) }
     {
         let lexeme = self.take()?;
-        if is_word(bytes, lexeme) { Some(lexeme) } else { None }
+        if is_word(bytes, lexeme) {
+            Some(lexeme)
+        } else {
+            None
+        }
     }
 }
 

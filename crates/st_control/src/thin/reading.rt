@@ -1,4 +1,4 @@
-//! What is read of the lexemes of a thin text.
+//! The parts of a thin text, but for its list of variables (IEC 61131-3:2003, 2.4.3 and 2.5.3).
 ghost use Rattle.std.specs.Prelude.{◌≡◌, MatchOption, None, Some};
 ghost use Rattle.st_control.specs.ThinReadings.{declared, ends, heading, initial};
 ghost use Rattle.st_control.specs.ThinTexts.{type_of as type_named};
@@ -8,7 +8,7 @@ use super::names::{is_name, is_word};
 use st_tree::{Elem, Value, read_value};
 
 /// The most bytes of a program's name.
-const MOST_BYTES: usize = 128;
+const MOST_NAME_BYTES: usize = 128;
 
 /// Reads the heading of the program of this name, and gives the name as it is spelled.
 #[tactic(auto, unfolding(crate::specs::ThinReadings::heading))]
@@ -19,7 +19,7 @@ pub(super) fn read_heading<'a>(lexemes: &mut Lexemes<'a>, main: &[u8]) -> Option
     lexemes.take_word(b"PROGRAM")?;
     let name = lexemes.take()?;
     lexemes.take_word(b"VAR")?;
-    if is_name(name) && is_word(main, name) && name.len() <= MOST_BYTES {
+    if is_name(name) && is_word(main, name) && name.len() <= MOST_NAME_BYTES {
         Some(name)
     } else {
         None
@@ -34,7 +34,7 @@ pub(super) fn read_ending(lexemes: &mut Lexemes) -> bool
     lexemes.take_word(b"END_PROGRAM").is_some() && lexemes.take().is_none()
 }
 
-/// Reads a declaration behind its name: the value that the variable begins with.
+/// Reads a declaration behind its name, and gives the value that the variable begins with.
 #[tactic(auto, unfolding(crate::specs::ThinReadings::declared))]
 pub(super) fn read_declared(lexemes: &mut Lexemes) -> Option<Value>
     ensures { MatchOption result (declared lexemes.old ≡ None) (λ value. declared lexemes.old ≡ Some (value, lexemes.new)) }
@@ -44,7 +44,7 @@ pub(super) fn read_declared(lexemes: &mut Lexemes) -> Option<Value>
     read_initial(lexemes, elem)
 }
 
-/// Reads a declaration behind its type.
+/// Reads a declaration behind its type, and gives the value that the variable begins with.
 #[tactic(auto, unfolding(crate::specs::ThinReadings::initial, crate::specs::ThinReadings::written, crate::specs::ThinTexts::initial_of))]
 fn read_initial(lexemes: &mut Lexemes, elem: Elem) -> Option<Value>
     ensures { MatchOption result (initial elem lexemes.old ≡ None) (λ value. initial elem lexemes.old ≡ Some (value, lexemes.new)) }

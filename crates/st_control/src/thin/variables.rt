@@ -18,9 +18,9 @@ use std::alloc::{AllocError, Global};
 const MOST_VARIABLES: usize = 65_536;
 
 /// The most bytes of a path.
-const MOST_BYTES: usize = 255;
+const MOST_PATH_BYTES: usize = 255;
 
-/// Reads declarations up to END_VAR.
+/// Reads the declarations of a program up to END_VAR, and gives their leaves.
 pub(super) fn read_variables(
     alloc: Global,
     lexemes: &mut Lexemes,
@@ -43,7 +43,7 @@ pub(super) fn read_variables(
     Err(ThinFault::NotThin)
 }
 
-/// Reads a declaration behind its name.
+/// Reads a declaration behind its name, and gives its leaf.
 #[tactic(auto, unfolding(crate::specs::ThinReadings::variable))]
 fn read_variable(
     alloc: Global,
@@ -67,7 +67,9 @@ fn leaf(alloc: Global, program: &[u8], name: &[u8], value: Value) -> Result<Leaf
 {
     let shown = shown(alloc, program, name)?;
     Ok(Leaf {
-        path: List { items: upper_case(alloc, &shown)? },
+        path: List {
+            items: upper_case(alloc, &shown)?,
+        },
         shown: List { items: shown },
         spine: spine(alloc)?,
         elem: value.elem,
@@ -105,7 +107,7 @@ fn spine(alloc: Global) -> Result<List<List<u8>>, AllocError>
     Ok(List { items })
 }
 
-/// Puts a path among others, and tells whether it was not there yet.
+/// Puts a path into a table, and tells whether it was not there yet.
 #[tactic(auto, using(crate::proofs::ThinVariables::any_items))]
 fn put_path(alloc: Global, path: &[u8], paths: &mut IndexSet<Vec<u8>>) -> Result<bool, AllocError>
     ensures added { IfOk result (λ added. added ≡ not (list_any (bytes_eq path.now) (map (λ key. key.items) paths.old.keys))) }
@@ -115,7 +117,7 @@ fn put_path(alloc: Global, path: &[u8], paths: &mut IndexSet<Vec<u8>>) -> Result
     Ok(paths.insert(path)?)
 }
 
-/// Adds a leaf, whose path no earlier leaf may have.
+/// Adds a leaf, where there is room and its path is short and new. After a refusal the table may have the path already.
 fn add(
     alloc: Global,
     leaf: Leaf,
@@ -128,7 +130,7 @@ fn add(
     ensures paths { OnOk result (map (λ key. key.items) paths.new.keys ≡ paths_of leaves.new) }
     ensures refused { result ≡ Err ThinFault.NotThin → Joins leaves.old leaf → ⊥ }
 {
-    if leaves.items.len() >= MOST_VARIABLES || leaf.path.items.len() > MOST_BYTES {
+    if leaves.items.len() >= MOST_VARIABLES || leaf.path.items.len() > MOST_PATH_BYTES {
         return Err(ThinFault::NotThin);
     }
     if !put_path(alloc, leaf.path.items.as_slice(), paths)? {

@@ -17,5 +17,5 @@ returns-clause-joins c =
     record {
       apart = paths-apart c.args.leaf.path c.args.leaves.now absent;
       short = search rules;
-      few = search rules
+      few = search rules;
     }
