@@ -4,6 +4,8 @@
 #![tactic(auto)]
 
 #[cfg(test)]
+mod all_types;
+#[cfg(test)]
 mod first_path;
 #[cfg(test)]
 mod force_release_status;
