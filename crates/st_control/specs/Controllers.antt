@@ -1,12 +1,13 @@
 -- What contracts see of a controller, and the machine that it stands for.
 use Rattle.std.specs.Prelude.{ℕ, ◌≡◌, Bool, List, [], ◌∷◌, ◌++◌, reverse, count_by, unwrap_or, Option, Some, None, Result, Ok, Err, IsOk}
 use Rattle.st_control.specs.Machine.{Machine}
-use Rattle.st_control.specs.States.{StateView, leaf_of, undone, FitsRecord}
+use Rattle.st_control.specs.States.{StateView, first_state, leaf_of, undone, FitsRecord}
 use Rattle.st_control.specs.declared.record.Record.{Record}
 use Rattle.st_control.specs.declared.record.Record.TheVariants.{Force, Release, Write}
 use Rattle.st_control.specs.declared.refusal.Refusal.{Refusal}
 use Rattle.st_control.specs.declared.refusal.Refusal.TheVariants.{O}
 use Rattle.st_layout.specs.Memory.{value_at, forced_at}
+use Rattle.st_tree.specs.declared.leaf.Leaf.{Leaf}
 use Rattle.st_tree.specs.declared.value.Value.{Value}
 
 -- a controller: its state, the records of the commands that can be undone, the oldest first, the name of the main
@@ -16,6 +17,10 @@ pub record ControllerView : Type 0 where
   pub records : List Record
   pub main : List ℕ
   pub limit : ℕ
+
+-- a controller that was just started: its leaves have their initial values, and nothing else is there yet
+abbrev pub first_controller : List Leaf → List ℕ → ℕ → ControllerView
+first_controller leaves main limit = record { state = first_state leaves; records = []; main = main; limit = limit }
 
 -- the states that undoing the records gives, one after another, from the newest record on
 abbrev pub states_before : StateView → List Record → List StateView

@@ -1,10 +1,11 @@
 -- The state of a controller, and what commands make of it.
-use Rattle.std.specs.Prelude.{ℕ, ℤ, ◌<◌, true, false, List, Option, length}
+use Rattle.std.specs.Prelude.{ℕ, ℤ, pos, ◌<◌, true, false, List, Option, length}
 use Rattle.st_control.specs.declared.record.Record.{Record}
 use Rattle.st_control.specs.declared.record.Record.TheVariants.{Write, Force, Release}
 use Rattle.st_control.specs.declared.state.Status.{Status}
-use Rattle.st_layout.specs.Layout.{IsValueAt, number_of}
-use Rattle.st_layout.specs.Memory.{Content, with_value, with_force}
+use Rattle.st_control.specs.declared.state.Status.TheVariants.{Running}
+use Rattle.st_layout.specs.Layout.{IsSound, IsValueAt, number_of}
+use Rattle.st_layout.specs.Memory.{Content, Fits, initial_content, with_value, with_force}
 use Rattle.st_tree.specs.declared.leaf.Leaf.{Leaf}
 use Rattle.st_tree.specs.declared.value.Value.{Value}
 
@@ -14,6 +15,15 @@ pub record StateView : Type 0 where
   pub content : Content
   pub now : ℤ
   pub status : Status
+
+-- what each state of a controller keeps: its leaves are those of a layout, and it has one value of the right type for each
+pub record IsWhole (s : StateView) : Type 0 where
+  pub sound : IsSound s.leaves
+  pub fits : Fits s.leaves s.content
+
+-- the state that a program begins with: initial values, no force, moment 0, running
+abbrev pub first_state : List Leaf → StateView
+first_state leaves = record { leaves = leaves; content = initial_content leaves; now = pos 0; status = Running }
 
 -- the number of the leaf with this path, in any case
 abbrev pub leaf_of : StateView → List ℕ → Option ℕ

@@ -1,9 +1,9 @@
 //! The controller.
-ghost use Rattle.std.specs.Prelude.{◌≡◌, ◌+◌, ◌<◌, ◌≤◌, ◌++◌, ◌∷◌, [], IfOk, IfSome, OnOk, length, vec_capacity, vec_len};
-ghost use Rattle.st_control.specs.Controllers.{DropsNewest, Keeps, Takes, force_count, force_record, machine_of, release_record, shown_to, write_record};
+ghost use Rattle.std.specs.Prelude.{◌≡◌, ◌+◌, ◌<◌, ◌≤◌, ◌++◌, ◌∷◌, [], IfErr, IfOk, IfSome, OnOk, length, vec_capacity, vec_len};
+ghost use Rattle.st_control.specs.Controllers.{DropsNewest, Keeps, Takes, first_controller, force_count, force_record, machine_of, release_record, shown_to, write_record};
 ghost use Rattle.st_control.specs.Machine.{step, undo_step};
 ghost use Rattle.st_control.specs.Machine.Command.{force, release, write};
-ghost use Rattle.st_control.specs.States.{leaf_of};
+ghost use Rattle.st_control.specs.States.{IsWhole, leaf_of};
 ghost use Rattle.st_layout.specs.Layout.{leaf_at};
 ghost use Rattle.st_tree.specs.Values.{IsValue};
 
@@ -11,7 +11,7 @@ use crate::record::Record;
 use crate::refusal::Refusal;
 use crate::state::{State, Status};
 use crate::undoing::revert;
-use st_layout::Memory;
+use st_layout::{Layout, Memory};
 use st_tree::{Elem, Name, Value};
 use std::alloc::Global;
 use std::marker::Model;
@@ -56,6 +56,32 @@ impl<M: Memory> Model for Controller<M> {
 }
 
 impl<M: Memory> Controller<M> {
+    /// A controller of a program with these leaves: initial values, no force, moment 0, running, and nothing to undo.
+    ///
+    /// Room for all its records is made here. It is refused for want of memory alone.
+    pub fn start(alloc: Global, layout: Layout, main: Name, limit: u32) -> Result<Self, Refusal>
+        ensures ok { IfOk result (λ controller. controller ≡ first_controller layout main limit) }
+        ensures err { IfErr result (λ refusal. refusal ≡ Refusal.M) }
+    {
+        let Ok(memory) = M::fresh(alloc, &layout) else {
+            return Err(Refusal::M);
+        };
+        let Ok(records) = Vec::with_capacity(alloc, MOST_RECORDS) else {
+            return Err(Refusal::M);
+        };
+        Ok(Controller {
+            state: State {
+                layout,
+                memory,
+                now: 0,
+                status: Status::Running,
+            },
+            records,
+            main,
+            limit,
+        })
+    }
+
     /// The number of the leaf with this path, in any case.
     pub fn find(&self, path: &[u8]) -> Option<u32>
         ensures value { result ≡ leaf_of self.now.state path.now }
@@ -177,6 +203,7 @@ impl<M: Memory> Controller<M> {
         ensures now { result.now ≡ self.now.state.now }
         ensures forces { result.forces ≡ force_count self.now.state }
         ensures undo { result.undo ≡ length self.now.records }
+        ensures whole { IsWhole self.now.state }
     {
         Report {
             status: self.state.status,

@@ -9,7 +9,7 @@ mod state;
 mod undoing;
 
 pub use controller::{Controller, Report};
-pub use laws::undos_give_back_states;
+pub use laws::{command_changes_one_path, undos_give_back_states};
 pub use record::Record;
 pub use refusal::Refusal;
 pub use state::{RunFault, RunFaultKind, State, Status};

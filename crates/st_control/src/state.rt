@@ -64,7 +64,7 @@ impl<M: Memory> Model for State<M> {
 }
 
 impl<M: Memory> State<M> {
-    ghost use Rattle.st_control.specs.States.{FitsRecord, forced, leaf_of, released, undone, written};
+    ghost use Rattle.st_control.specs.States.{FitsRecord, IsWhole, forced, leaf_of, released, undone, written};
     ghost use Rattle.st_control.specs.Machine.{leaf_to_force, leaf_to_release, leaf_to_write};
 
     /// The leaf that a write would set, or the number of its refusal.
@@ -174,7 +174,8 @@ impl<M: Memory> State<M> {
 
     /// How many leaves are forced.
     pub(crate) fn force_count(&self) -> u32
-        ensures { result ≡ count_by (λ forced. forced) self.entry.now.content.forced }
+        ensures count { result ≡ count_by (λ forced. forced) self.entry.now.content.forced }
+        ensures whole { IsWhole self.entry.now }
     {
         let mut count = 0;
         for leaf in 0..self.layout.len() {

@@ -11,10 +11,11 @@ use Rattle.st_tree.specs.declared.leaf.Role.{Role}
 use Rattle.st_tree.specs.declared.leaf.Role.TheVariants.{Plain, ProcessInput, Hidden}
 use Rattle.st_tree.specs.declared.value.Value.{Value}
 
--- the value and the leaf past the end of a list
+-- what stands past the end of a list of values
 abbrev pub no_value : Value
 no_value = record { elem = E.Bool; bits = pos 0 }
 
+-- what stands past the end of a list of leaves
 abbrev pub no_leaf : Leaf
 no_leaf = record { path = []; shown = []; spine = []; elem = E.Bool; initial = no_value; role = Hidden }
 
@@ -26,6 +27,7 @@ leaf_at leaves i = get_or leaves i no_leaf
 abbrev pub raised : List ℕ → List ℕ
 raised path = map to_ascii_uppercase path
 
+-- the leaves' paths, in order
 abbrev pub paths_of : List Leaf → List (List ℕ)
 paths_of leaves = map (λ leaf. leaf.path) leaves
 
@@ -52,10 +54,12 @@ pub record IsValueOf (leaf : Leaf) (value : Value) : Type 0 where
   pub elem : value.elem ≡ leaf.elem
   pub in_range : IsValue value
 
+-- the value is one of the type of the leaf of this number
 abbrev pub IsValueAt : List Leaf → ℕ → Value → Type 0
 IsValueAt leaves i value = IsValueOf (leaf_at leaves i) value
 
--- What each layout keeps: no path stands twice, and each is its shown text in upper case.
+-- What each layout keeps: no two leaves have the same path, each path is its shown text in upper case and has at most 255
+-- bytes, there are at most 65536 leaves, and each begins with a value of its type.
 pub record IsSound (leaves : List Leaf) : Type 0 where
   pub distinct : AllPairs (λ leaf other. leaf.path ≢ other.path) leaves
   pub shown : All (λ leaf. leaf.path ≡ raised leaf.shown) leaves

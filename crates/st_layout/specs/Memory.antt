@@ -10,16 +10,19 @@ pub record Content : Type 0 where
   pub values : List Value
   pub forced : List Bool
 
+-- the value of the leaf of this number
 abbrev pub value_at : List Value → ℕ → Value
 value_at values i = get_or values i no_value
 
+-- whether the leaf of this number is forced
 abbrev pub forced_at : List Bool → ℕ → Bool
 forced_at forced i = get_or forced i false
 
--- one update of the values, and one of the forces
+-- the content with another value of one leaf
 abbrev pub with_value : Content → ℕ → Value → Content
 with_value content i value = record { values = set content.values i value; forced = content.forced }
 
+-- the content with one leaf forced, or not
 abbrev pub with_force : Content → ℕ → Bool → Content
 with_force content i on = record { values = content.values; forced = set content.forced i on }
 

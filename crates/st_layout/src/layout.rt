@@ -2,7 +2,7 @@
 ghost use Rattle.std.specs.Prelude.{◌≡◌, ◌≤◌, ◌<◌, ◌+◌, ◌↔◌, EachIndex, IfOk, IfSome, IsSome, length, map, slice_index, take};
 ghost use Rattle.std.specs.List.{Contains, position};
 ghost use Rattle.std.specs.Str.{bytes_eq};
-ghost use Rattle.st_layout.specs.Layout.{IsSound, IsValueOf, leaf_at, number_of, offset_of, paths_of, total_width, raised as in_upper_case};
+ghost use Rattle.st_layout.specs.Layout.{IsSound, IsValueOf, leaf_at, number_of, offset_of, paths_of, raised, total_width};
 
 use indexmap::IndexSet;
 use st_tree::{Leaf, List};
@@ -83,12 +83,12 @@ impl Layout {
         &self.leaves[leaf as usize]
     }
 
-    /// The number of the leaf with this path, in any case.
+    /// The number of the leaf with this path, which may be in any case. There is none exactly where no leaf has the path.
     pub fn leaf(&self, path: &[u8]) -> Option<u32>
         ensures value { result ≡ number_of self.now path.now }
         ensures below { IfSome result (λ i. i < length self.now) }
-        ensures found { IfSome result (λ i. (leaf_at self.now i).path ≡ in_upper_case path.now) }
-        ensures listed { IsSome result ↔ Contains (paths_of self.now) (in_upper_case path.now) }
+        ensures found { IfSome result (λ i. (leaf_at self.now i).path ≡ raised path.now) }
+        ensures listed { IsSome result ↔ Contains (paths_of self.now) (raised path.now) }
     {
         let names = &self.names;
         if path.len() > MOST_BYTES {
@@ -144,7 +144,7 @@ fn place_of(names: &IndexSet<Vec<u8>>, path: &[u8]) -> Option<usize>
 /// The path in upper case, and zeros after it.
 fn raised(path: &[u8]) -> [u8; MOST_BYTES]
     requires { length path.now ≤ 255 }
-    ensures { take (length path.now) result ≡ in_upper_case path.now }
+    ensures { take (length path.now) result ≡ raised path.now }
 {
     let mut bytes = [0; MOST_BYTES];
     for (i, byte) in path.iter().enumerate() {

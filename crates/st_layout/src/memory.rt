@@ -1,4 +1,4 @@
-//! Memories.
+//! Memories: what a layout's leaves hold while the program runs.
 ghost use Rattle.std.specs.Prelude.{◌≡◌, ◌<◌, IfOk, length, List as Items};
 ghost use Rattle.st_layout.specs.Layout.{IsValueAt};
 ghost use Rattle.st_layout.specs.Memory.{Content, Fits, forced_at, initial_content, value_at, with_force, with_value};
