@@ -9,6 +9,7 @@ mod input;
 mod memory_devices;
 mod reply;
 mod request;
+mod run;
 mod streams;
 
 pub use engine::{Outcome, session};
