@@ -1,9 +1,12 @@
 -- Lemmas on what a run writes.
-use Rattle.std.proofs.Common.{◌≡◌, ◌≢◌, ℕ, Bool, true, false, List, refl, arith, subst, sym}
-use Rattle.std.specs.Prelude.{Option, Some, None, ◌||◌, IfSome}
+use Rattle.std.proofs.Common.{◌≡◌, ◌≢◌, ℕ, Bool, true, false, List, inl, inr, refl, arith}
+use Rattle.std.specs.Prelude.{◌⊎◌, Option, Some, None, ◌||◌, IfSome, Result, Ok, Err, IfOk, IfErr}
+use Rattle.st_control.specs.Controllers.{ControllerView, IsLoaded, RefusesLoad}
 use Rattle.st_control.specs.Machine.{Machine}
+use Rattle.st_control.specs.declared.refusal.Refusal.{Refusal}
+use Rattle.st_control.specs.declared.refusal.Refusal.TheVariants.{M}
 use Rattle.st_session.specs.Pending.{OnKnown}
-use Rattle.st_session.specs.Runs.{Replies, RepliesRead, Serves}
+use Rattle.st_session.specs.Runs.{Loads, Replies, RepliesRead, Runs, RunsFrom, Serves}
 use Rattle.st_session.specs.Sessions.{AnswersRead, StopsIn}
 use Rattle.st_session.proofs.RunLemmas.{take-StopsIn}
 
@@ -25,3 +28,16 @@ Serves-stopped m new source_failed sink_failed old_rest new_rest before now fail
   replies = λ _. Replies-StopsIn old_rest (source_failed || sink_failed) m new before now failed stops;
   read = λ is_failed. RepliesRead-AnswersRead old_rest new_rest m new before now (read is_failed);
 }
+
+-- what was loaded, by the clauses of the load
+loads : (text main : List ℕ) (limit : ℕ) (loaded : Result ControllerView Refusal) → IfOk loaded (IsLoaded text main limit) → IfErr loaded (RefusesLoad text main) → Loads text main limit loaded
+loads text main limit (Ok c) ok refused = ok
+loads text main limit (Err refusal) ok refused = refused
+
+-- a run of what was loaded is a run of the text; want of memory may be refused of any text
+pub Runs-from : (text main : List ℕ) (limit : ℕ) (loaded : Result ControllerView Refusal) (source_failed sink_failed : Bool) (status : ℕ) (old_rest new_rest before now : Option (List ℕ))
+    → IfOk loaded (IsLoaded text main limit) → IfErr loaded (RefusesLoad text main)
+    → RunsFrom loaded source_failed sink_failed status old_rest new_rest before now ⊎ RunsFrom (Err M) source_failed sink_failed status old_rest new_rest before now
+    → Runs text main limit source_failed sink_failed status old_rest new_rest before now
+Runs-from text main limit loaded source_failed sink_failed status old_rest new_rest before now ok refused (inl runs) = record { loaded = loaded; loads = loads text main limit loaded ok refused; runs = runs }
+Runs-from text main limit loaded source_failed sink_failed status old_rest new_rest before now ok refused (inr runs) = record { loaded = Err M; loads = inl refl; runs = runs }

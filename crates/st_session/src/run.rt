@@ -1,5 +1,5 @@
 //! Running a program's text: it is loaded, and a session's lines are answered.
-ghost use Rattle.std.specs.Prelude.{◌≡◌, ◌⊎◌, ◌↔◌, ◌||◌, false, Err, IsTrue};
+ghost use Rattle.std.specs.Prelude.{◌≡◌, ◌≢◌, ◌⊎◌, ◌↔◌, ◌||◌, false, Err, IsTrue};
 ghost use Rattle.st_control.specs.Controllers.{machine_of};
 ghost use Rattle.st_control.specs.declared.refusal.Refusal.TheVariants.{M};
 ghost use Rattle.st_session.specs.Runs.{Refuses, Runs, RunsFrom, Serves, Tells, refusal_status};
@@ -54,8 +54,9 @@ fn run_loaded<R: Source, W: Sink>(
 ) -> u8
     requires source { R.has_failed source.old ≡ false }
     requires sink { W.has_failed sink.old ≡ false }
-    ensures { RunsFrom loaded (R.has_failed source.new) (W.has_failed sink.new) result (R.rest source.old) (R.rest source.new) (W.taken sink.old) (W.taken sink.new)
+    ensures ran { RunsFrom loaded (R.has_failed source.new) (W.has_failed sink.new) result (R.rest source.old) (R.rest source.new) (W.taken sink.old) (W.taken sink.new)
         ⊎ RunsFrom (Err M) (R.has_failed source.new) (W.has_failed sink.new) result (R.rest source.old) (R.rest source.new) (W.taken sink.old) (W.taken sink.new) }
+    ensures failed { IsTrue (R.has_failed source.new || W.has_failed sink.new) ↔ (result ≡ DEVICE_FAILED) }
 {
     match loaded {
         Ok(mut controller) => serve(alloc, &mut controller, source, sink),
@@ -72,8 +73,9 @@ fn serve<R: Source, W: Sink>(
 ) -> u8
     requires source { R.has_failed source.old ≡ false }
     requires sink { W.has_failed sink.old ≡ false }
-    ensures { Serves (machine_of controller.old) (R.has_failed source.new) (W.has_failed sink.new) result
+    ensures served { Serves (machine_of controller.old) (R.has_failed source.new) (W.has_failed sink.new) result
         (R.rest source.old) (R.rest source.new) (W.taken sink.old) (W.taken sink.new) }
+    ensures failed { IsTrue (R.has_failed source.new || W.has_failed sink.new) ↔ (result ≡ DEVICE_FAILED) }
 {
     match session(alloc, controller, source, sink) {
         Outcome::Clean => ACCEPTED,
@@ -86,8 +88,9 @@ fn serve<R: Source, W: Sink>(
 /// Writes a refusal, and answers its status. Where there is no memory for its text, that is what is refused.
 fn refuse<W: Sink>(alloc: Global, refusal: Refusal, sink: &mut W) -> u8
     requires { W.has_failed sink.old ≡ false }
-    ensures { Refuses (W.has_failed sink.new) refusal result (W.taken sink.old) (W.taken sink.new)
+    ensures refused { Refuses (W.has_failed sink.new) refusal result (W.taken sink.old) (W.taken sink.new)
         ⊎ Refuses (W.has_failed sink.new) M result (W.taken sink.old) (W.taken sink.new) }
+    ensures failed { IsTrue (W.has_failed sink.new) ↔ (result ≡ DEVICE_FAILED) }
 {
     match Reply::new(alloc) {
         Ok(mut reply) => {
@@ -110,8 +113,10 @@ fn status_of(refusal: Refusal) -> u8
 
 /// Writes a text and answers the status, or that a device failed.
 fn tell<W: Sink>(sink: &mut W, text: &[u8], status: u8) -> u8
-    requires { W.has_failed sink.old ≡ false }
-    ensures { Tells (W.has_failed sink.new) text.now status result (W.taken sink.old) (W.taken sink.new) }
+    requires works { W.has_failed sink.old ≡ false }
+    requires other { status ≢ DEVICE_FAILED }
+    ensures told { Tells (W.has_failed sink.new) text.now status result (W.taken sink.old) (W.taken sink.new) }
+    ensures failed { IsTrue (W.has_failed sink.new) ↔ (result ≡ DEVICE_FAILED) }
 {
     match write_all(sink, text) {
         Ok(()) => status,
