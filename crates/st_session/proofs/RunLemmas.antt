@@ -1,7 +1,9 @@
 -- Lemmas on runs over lines.
-use Rattle.std.proofs.Common.{◌≡◌, ◌≤◌, ◌<◌, ℕ, ◌+◌, Bool, true, false, List, [], ◌∷◌, ◌++◌, length, take, inl, inr, refl, ap, sym, ◌∙◌, arith, append_assoc, append-nil, subst}
+use Rattle.std.proofs.Common.{◌≡◌, ◌≤◌, ◌<◌, ℕ, ◌+◌, Bool, true, false, List, [], ◌∷◌, ◌++◌, length, take, min, inl, inr, refl, ap, sym, ◌∙◌, arith, append_assoc, append-nil, subst}
 use Rattle.std.specs.Prelude.{Option, Some, None, ◌||◌, IfSome}
 use Rattle.std.specs.Io.KnownBytes.{Appends}
+use Rattle.std.proofs.Math.Seq.{take-append-add}
+use Rattle.std.proofs.lemmas.List.{take_min, take-append-le}
 use Rattle.std.proofs.KnownBytes.{Appends-nil, Appends-trans}
 use Rattle.st_control.specs.Machine.{Machine}
 use Rattle.st_session.specs.Lines.{Line, lines_of, whole_lines_of}
@@ -173,3 +175,17 @@ StopsIn-line (Some x) (Some y) at_end line old new before now reply takes machin
 pub StopsIn-none : (a : Option (List ℕ)) (m : Machine) (before : Option (List ℕ)) → IfSome a (StopsIn m m before before)
 StopsIn-none None m before = tt
 StopsIn-none (Some bytes) m before = record { done = []; last = []; more = lines_of bytes; part = 0; all = refl; one = omega arith; machine = refl; told = Appends-nil before }
+
+-- a session that stopped wrote a beginning of the replies
+pub take-StopsIn : (old new : Machine) (before now : Option (List ℕ)) (bytes : List ℕ) → StopsIn old new before now bytes → (count : ℕ) × Appends before now (take count (replies (lines_of bytes) old))
+take-StopsIn old new before now bytes stop =
+    let mid = machine_after stop.done old in
+    let first = replies stop.done old in
+    let last = replies stop.last mid in
+    let rest = replies stop.more (machine_after (stop.done ++ stop.last) old) in
+    let part = min stop.part (length last) in
+    let all : replies (lines_of bytes) old ≡ first ++ last ++ rest = rw (stop.all, replies-append (stop.done ++ stop.last) stop.more old, replies-append stop.done stop.last old) refl in
+    let cut : take (length first + part) (first ++ last ++ rest) ≡ first ++ take stop.part last =
+      ap (take (length first + part)) (append_assoc first last rest) ∙ take-append-add first (last ++ rest) part
+      ∙ ap (λ xs. first ++ xs) (take-append-le part last rest (omega arith) ∙ take_min stop.part last) in
+    (length first + part, rw (all, cut) stop.told)

@@ -4,6 +4,7 @@ pub mod Lines
 pub mod Pending
 pub mod Replies
 pub mod Requests
+pub mod Runs
 pub mod Sessions
 pub mod Sheet
 pub mod Streams

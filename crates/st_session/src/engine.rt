@@ -124,7 +124,7 @@ fn act<M: Memory>(
 }
 
 /// Writes all the bytes, in as many writes as it takes.
-fn write_all<W: Sink>(sink: &mut W, bytes: &[u8]) -> Result<(), DeviceFault>
+pub fn write_all<W: Sink>(sink: &mut W, bytes: &[u8]) -> Result<(), DeviceFault>
     requires { W.has_failed sink.old ≡ false }
     ensures ok { OnOk result (Appends (W.taken sink.old) (W.taken sink.new) bytes.now) }
     ensures err { OnErr result ((count : ℕ) × Appends (W.taken sink.old) (W.taken sink.new) (take count bytes.now)) }
