@@ -1,7 +1,7 @@
 -- The program's command line, and the order that its words give.
-use Rattle.std.specs.Prelude.{◌≡◌, ◌≤◌, ℕ, true, List, [], Option, Some, None, codes, option_and_then, unwrap_or}
+use Rattle.std.specs.Prelude.{◌≡◌, ◌≤◌, ℕ, Bool, true, List, [], Option, Some, None, codes, option_and_then, unwrap_or}
 use Rattle.std.specs.Str.Parse.{IsNumeral, digits_value, without_leading_plus}
-use Rattle.clap.specs.Words.{App, Row, Rule, Shape, Text, first_of, new_app, new_rule, with_rule, with_subcommand}
+use Rattle.clap.specs.Words.{App, Row, Rule, Text, first_of, new_app, new_rule, subcommand_of, takes, with_rule, with_subcommand}
 use Rattle.stc.specs.declared.words.Verb.{Verb}
 use Rattle.stc.specs.declared.words.Verb.TheVariants.{Run}
 use Rattle.stc.specs.declared.words.Order.{Order}
@@ -36,6 +36,14 @@ stc_top = record {
 -- the whole command line
 abbrev pub stc_app : App
 stc_app = with_subcommand stc_top run_app.top
+
+-- the command line takes the words
+unfoldable pub is_taken : List Text → Bool
+is_taken words = takes stc_app words
+
+-- the subcommand that the words name, and what they give it
+unfoldable pub chosen_by : List Text → Option (Text × List Row)
+chosen_by words = subcommand_of stc_app words
 
 -- the subcommand of each verb
 abbrev pub verb_name : Verb → Text

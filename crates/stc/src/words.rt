@@ -1,9 +1,9 @@
 //! What the program's words ask for, as `clap` reads them.
 
 ghost use Rattle.std.specs.Prelude.{◌≡◌, ℕ, IfErr, IfOk, IfSome, IsNone, map, option_map, true, false, codes};
-ghost use Rattle.clap.specs.Words.{app_of, kind_of, subcommand_of, subcommand_rows_of, takes};
+ghost use Rattle.clap.specs.Words.{app_of, kind_of, subcommand_rows_of};
 ghost use Rattle.clap.specs.declared.builder.command.Command.TheViews.{out-Command as fields_of};
-ghost use Rattle.stc.specs.Words.{HasLimit, IsLimitOf, IsOrder, IsRunnable, IsStepLimit, limit_of, file_app, run_app, stc_app, verb_name};
+ghost use Rattle.stc.specs.Words.{HasLimit, IsLimitOf, IsOrder, IsRunnable, IsStepLimit, chosen_by, is_taken, limit_of, file_app, run_app, stc_app, verb_name};
 
 use clap::error::ErrorKind;
 use clap::{Arg, ArgMatches, Command, Error};
@@ -38,9 +38,9 @@ pub struct Order<'a> {
 /// The order that the words give, of which the first is the program's own name. An error is a
 /// request for help, a fault of usage, or want of memory.
 pub fn read_words<'a, S: AsStr>(alloc: Global, words: &'a [S]) -> Result<Order<'a>, Error>
-    ensures ok { IfOk result (λ order. IsOrder order (subcommand_of stc_app (map S.text words.entry.now))) }
-    ensures err { IfErr result (λ error. takes stc_app (map S.text words.entry.now) ≡ true
-        → HasLimit (limit_of (subcommand_of stc_app (map S.text words.entry.now))) → kind_of error ≡ ErrorKind.OutOfMemory) }
+    ensures ok { IfOk result (λ order. IsOrder order (chosen_by (map S.text words.entry.now))) }
+    ensures err { IfErr result (λ error. is_taken (map S.text words.entry.now) ≡ true
+        → HasLimit (limit_of (chosen_by (map S.text words.entry.now))) → kind_of error ≡ ErrorKind.OutOfMemory) }
 {
     let mut command = stc_command(alloc)?;
     let matches = command.try_get_matches_from_mut(words)?;
@@ -124,8 +124,8 @@ fn verb_named(name: &str) -> Option<Verb>
 
 /// The step limit that K gives, or the usual one where K is not given.
 fn step_limit(given: Option<&str>) -> Option<u32>
-    ensures some { IfSome result (IsLimitOf (option_map (λ text. text.now) given)) }
-    ensures none { IsNone result → ¬ HasLimit (option_map (λ text. text.now) given) }
+    ensures some { IfSome result (IsLimitOf (option_map (λ text. text.now) given.entry)) }
+    ensures none { IsNone result → ¬ HasLimit (option_map (λ text. text.now) given.entry) }
 {
     match given {
         Some(text) => number_in_range(text),
