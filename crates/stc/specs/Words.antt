@@ -12,11 +12,11 @@ file_rule = record (new_rule (codes "FILE")) { required = true }
 
 -- `--program N`, which is required
 abbrev pub program_rule : Rule
-program_rule = record (new_rule (codes "program")) { long = Some (codes "program"); required = true }
+program_rule = record (new_rule (codes "program")) { long = Some (codes "program"); value_names = 1; required = true }
 
 -- `--steps K`
 abbrev pub steps_rule : Rule
-steps_rule = record (new_rule (codes "steps")) { long = Some (codes "steps") }
+steps_rule = record (new_rule (codes "steps")) { long = Some (codes "steps"); value_names = 1 }
 
 -- a subcommand with FILE and `--program N`
 abbrev pub file_app : Text → App

@@ -48,7 +48,7 @@ pub fn read_words<'a, S: AsStr>(alloc: Global, words: &'a [S]) -> Result<Order<'
         Some(order) => Ok(order),
         None => Err(command.error(
             ErrorKind::ValueValidation,
-            "the number of steps is from 1 to 10000000",
+            "K of '--steps <K>' is a number from 1 to 10000000",
         )?),
     }
 }
@@ -72,7 +72,8 @@ fn run_command<'a>(alloc: Global) -> Result<Command<'a>, AllocError>
 {
     let steps = Arg::new(alloc, "steps")
         .long("steps")
-        .help("The most steps of one scan, from 1 to 10000000; 100000 if not given");
+        .value_name("K")
+        .help("The most steps of one scan, from 1 to 10000000; 100000 where it isn't given");
     file_command(alloc, "run")?
         .about("Run a session over the program on standard input and output.")
         .arg(steps)
@@ -88,6 +89,7 @@ fn file_command<'a>(alloc: Global, name: &'a str) -> Result<Command<'a>, AllocEr
         .required(true);
     let program = Arg::new(alloc, "program")
         .long("program")
+        .value_name("N")
         .help("The name of the main program")
         .required(true);
     Command::new(alloc, name).arg(file)?.arg(program)
