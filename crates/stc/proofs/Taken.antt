@@ -1,17 +1,18 @@
 -- Words that the command line takes name a verb's subcommand.
 use Rattle.std.proofs.Common.{◌≡◌, ◌∙◌, ◌&&◌, ◌||◌, ℕ, Bool, List, [], ◌∷◌, refl, sym, ap, subst, codes, true, false, not, cond, true≢false}
-use Rattle.std.specs.Prelude.{⊤, IfSome, Option, Some, None, Box, is_some, find, option_map, option_and_then, unwrap_or}
-use Rattle.std.specs.Borrow.{Bor}
+use Rattle.std.specs.Prelude.{IfSome, IsSome, Option, Some, None, Box, is_some, find, option_map, option_and_then}
 use Rattle.std.specs.Box.{box_value}
-use Rattle.std.specs.List.{list_all}
+use Rattle.std.specs.List.{AllByRecursion, list_all}
+use Rattle.std.specs.Option.{option_map_or}
 use Rattle.clap.specs.Words.{App, HasMatchesOf, Row, Text, first_of, is_simple, built, subcommand_of, subcommand_rows_of, takes}
-use Rattle.clap.specs.Takes.{built_takes, default_passes, entered_passes, is_valid, level_passes, settle_passes, walk_passes}
+use Rattle.clap.specs.Takes.{built_takes, default_passes, entered_passes, is_given, is_valid, level_passes, settle_passes, walk_passes}
 use Rattle.clap.specs.Simple.{Shape, argument_words, entered, label_of, names_of, rows_at, subcommand_rows}
 use Rattle.clap.specs.Walk.{Held, Names, answers_to, finished, nothing_held, walk, walk_from}
 use Rattle.clap.specs.declared.parser.matches.SubCommand.{SubCommand}
 use Rattle.clap.specs.declared.parser.matches.ArgMatches.{ArgMatches}
 use Rattle.clap.specs.declared.parser.matches.ArgMatches.TheViews.{out-SubCommand}
 use Rattle.clap.proofs.WalkLemmas.{both}
+use Rattle.stc.proofs.Valued.{AsksValue, asks_help, asks_one, found_holds, given_has_value, level_valued}
 use Rattle.stc.specs.Words.{HasLimit, IsLimitOf, IsOrder, IsRunnable, chosen_by, is_taken, limit_of, stc_app, verb_name}
 use Rattle.stc.specs.declared.words.Order.{Order}
 use Rattle.stc.specs.declared.words.Verb.{Verb}
@@ -31,14 +32,19 @@ chosen_in app words m same has = (has (ap is_simple same)).1 ∙ ap (λ a. subco
 
 -- ---- a level that is taken
 
+level_valid : (s : Shape) (names : Names) (h : Held) (words : List Text) (has : Bool) → level_passes s names h words has ≡ true
+    → is_valid s (finished s.rules (walk s.rules names h words).held) has ≡ true
+level_valid s names h words has e =
+    let end = (walk s.rules names h words).held in
+    let after = (both (walk_passes s names (walk_from h) words) _ e).1 in
+    let settles = both (settle_passes s.rules s.args_override_self end) _ after in
+    (both (list_all default_passes s.rules) (is_valid s (finished s.rules end) has) settles.1).1
+
 -- where a subcommand is required and the words are taken, one is entered
 level_enters : (s : Shape) (names : Names) (h : Held) (words : List Text) (has : Bool) → s.subcommand_required ≡ true
     → level_passes s names h words has ≡ true → has ≡ true
 level_enters s names h words has required e =
-    let end = (walk s.rules names h words).held in
-    let after = (both (walk_passes s names (walk_from h) words) _ e).1 in
-    let settles = both (settle_passes s.rules s.args_override_self end) _ after in
-    let valid = (both (list_all default_passes s.rules) (is_valid s (finished s.rules end) has) settles.1).1 in
+    let valid = level_valid s names h words has e in
     given s.subcommand_required has required (both (not s.subcommand_required || has) _ (both (not s.arg_required_else_help || _) _ valid).1).0
   where
     given : (a b : Bool) → a ≡ true → (not a || b) ≡ true → b ≡ true
@@ -47,32 +53,45 @@ level_enters s names h words has required e =
 
 -- ---- the subcommand that is entered
 
--- each subcommand is that of a verb
-abbrev AreVerbs : List Shape → Type 0
-AreVerbs [] = ⊤
-AreVerbs (s ∷ subs) = ((verb : Verb) × (s.name ≡ verb_name verb)) × AreVerbs subs
+-- a subcommand of a verb that requires FILE and `--program N`, each with a value
+record ServesVerb (s : Shape) : Type 0 where
+  pub verb : Verb
+  pub name : s.name ≡ verb_name verb
+  pub asks : AllByRecursion AsksValue s.rules
+  pub requires : (rows : List Row) → is_valid s rows false ≡ true → (is_given (codes "FILE") rows ≡ true) × (is_given (codes "program") rows ≡ true)
 
-found_verb : (p : Shape → Bool) (subs : List Shape) → AreVerbs subs → IfSome (find p subs) (λ s. (verb : Verb) × (s.name ≡ verb_name verb))
-found_verb p [] each = tt
-found_verb p (s ∷ subs) each = go (p s) (found_verb p subs each.1)
+-- what the words give where such a subcommand takes them
+abbrev IsServed : Text × List Row → Type 0
+IsServed met = ((verb : Verb) × (met.0 ≡ verb_name verb)) × IsSome (first_of (codes "FILE") met.1) × IsSome (first_of (codes "program") met.1)
+
+served : (s : Shape) (words : List Text) → ServesVerb s → level_passes s [] nothing_held words false ≡ true → IsServed (rows_at s words)
+served s words serves e =
+    let rows = finished s.rules (walk s.rules [] nothing_held words).held in
+    let valued = level_valued s [] serves.asks words false e in
+    let given = serves.requires rows (level_valid s [] nothing_held words false e) in
+    ((serves.verb, serves.name), given_has_value (codes "FILE") rows valued given.0, given_has_value (codes "program") rows valued given.1)
+
+entered_served : (a : App) (stop : Option (Text × List Text)) → AllByRecursion ServesVerb a.subs → entered_passes a stop ≡ true → IfSome (entered a stop) IsServed
+entered_served a None each e = tt
+entered_served a (Some p) each e = go (find (λ s. answers_to p.0 (label_of s)) a.subs) (found_holds ServesVerb (λ s. answers_to p.0 (label_of s)) a.subs each) e
   where
-    go : (b : Bool) → IfSome (find p subs) (λ x. (verb : Verb) × (x.name ≡ verb_name verb))
-        → IfSome (cond b (Some s) (find p subs)) (λ x. (verb : Verb) × (x.name ≡ verb_name verb))
-    go true later = each.0
-    go false later = later
+    go : (o : Option Shape) → IfSome o ServesVerb → option_map_or (λ s. level_passes s [] nothing_held p.1 false) o true ≡ true
+        → IfSome (option_map (λ s. rows_at s p.1) o) IsServed
+    go None h e = tt
+    go (Some s) h e = served s p.1 h e
 
-entered_verb : (a : App) (stop : Option (Text × List Text)) → AreVerbs a.subs → IfSome (entered a stop) (λ met. (verb : Verb) × (met.0 ≡ verb_name verb))
-entered_verb a None each = tt
-entered_verb a (Some p) each = go (find (λ s. answers_to p.0 (label_of s)) a.subs) (found_verb (λ s. answers_to p.0 (label_of s)) a.subs each)
-  where
-    go : (o : Option Shape) → IfSome o (λ s. (verb : Verb) × (s.name ≡ verb_name verb))
-        → IfSome (option_map (λ s. rows_at s p.1) o) (λ met. (verb : Verb) × (met.0 ≡ verb_name verb))
-    go None h = tt
-    go (Some s) h = h
+runs : (met : Option (Text × List Row)) → is_some met ≡ true → IfSome met IsServed → HasLimit (limit_of met) → IsRunnable met
+runs None some h limit = true≢false (sym some)
+runs (Some m) some h limit = (h.0, h.1, h.2, limit)
 
-runs : (met : Option (Text × List Row)) → is_some met ≡ true → IfSome met (λ m. (verb : Verb) × (m.0 ≡ verb_name verb)) → HasLimit (limit_of met) → IsRunnable met
-runs None some named limit = true≢false (sym some)
-runs (Some m) some named limit = (named, limit)
+-- each subcommand of the program serves a verb
+subcommands_serve : AllByRecursion ServesVerb (built stc_app).subs
+subcommands_serve = (record {
+  verb = Run;
+  name = refl;
+  asks = (asks_one _ refl refl, (asks_one _ refl refl, (asks_one _ refl refl, (asks_help _ refl, tt))));
+  requires = λ rows e. let p = both (is_given (codes "FILE") rows) _ e in (p.0, (both (is_given (codes "program") rows) _ p.1).0);
+}, tt)
 
 -- words that are taken name a verb's subcommand
 pub taken_runs : (words : List Text) → is_taken words ≡ true → HasLimit (limit_of (chosen_by words)) → IsRunnable (chosen_by words)
@@ -83,7 +102,7 @@ taken_runs words taken limit =
     let stop = (walk a.top.rules (names_of a) nothing_held given).stopped in
     let passes = both (entered_passes a stop) _ (both (is_simple stc_app) _ taken).1 in
     let some : is_some (entered a stop) ≡ true = level_enters a.top (names_of a) nothing_held given _ refl passes.1 in
-    runs (entered a stop) some (entered_verb a stop ((Run, refl), tt)) limit
+    runs (entered a stop) some (entered_served a stop subcommands_serve passes.0) limit
 
 -- --the matches of a subcommand
 
@@ -94,13 +113,17 @@ module _ {Z : Type 0} where
   rows_are (Some b) name rows e f = cc
 
 pub order_is : (order : Order) (met : Option (Text × List Row)) (name : Text) (rows : List Row) → met ≡ Some (name, rows) → name ≡ verb_name order.verb
-    → unwrap_or (first_of (codes "FILE") rows) [] ≡ order.file.now → unwrap_or (first_of (codes "program") rows) [] ≡ order.main.now
+    → first_of (codes "FILE") rows ≡ Some order.file.now → first_of (codes "program") rows ≡ Some order.main.now
     → IsLimitOf (first_of (codes "steps") rows) order.steps → IsOrder order met
 order_is order met name rows e verb file main steps = rw e (verb, file, main, steps)
 
-pub runs_within : (met : Option (Text × List Row)) (name : Text) (rows : List Row) → met ≡ Some (name, rows) → IsRunnable met → HasLimit (first_of (codes "steps") rows)
-runs_within met name rows e runs = (rw e at runs).1
+-- what a subcommand that can run gives
+module _ (met : Option (Text × List Row)) (name : Text) (rows : List Row) (is : met ≡ Some (name, rows)) (runs : IsRunnable met) where
+  pub file_within : None ≡ first_of (codes "FILE") rows → ⊥
+  file_within none = true≢false (sym (rw is at runs).1 ∙ ap is_some (sym none))
 
-pub text_or_none : (given : Option (Bor Text)) (none text : Bor Text) → text ≡ unwrap_or given none → none.now ≡ [] → unwrap_or (option_map (λ t. t.now) given) [] ≡ text.now
-text_or_none None none text is empty = cc
-text_or_none (Some t) none text is empty = cc
+  pub main_within : None ≡ first_of (codes "program") rows → ⊥
+  main_within none = true≢false (sym (rw is at runs).2 ∙ ap is_some (sym none))
+
+  pub limit_within : HasLimit (first_of (codes "steps") rows)
+  limit_within = (rw is at runs).3

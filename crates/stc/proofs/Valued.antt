@@ -1,15 +1,16 @@
 -- In words that a command takes, each argument that is given has a value, where each of its
 -- arguments asks for one.
 use Rattle.std.proofs.Common.{◌≡◌, ◌∙◌, ◌&&◌, ◌||◌, ℕ, Bool, zero, suc, List, [], ◌∷◌, ◌++◌, refl, sym, ap, subst, true, false, not, cond, true≢false}
-use Rattle.std.specs.Prelude.{⊤, IfSome, IsSome, Option, Some, None, drop, encode_utf8, find, fold, if◌then◌else◌, is_some, length, option_and_then, slice_get}
+use Rattle.std.specs.Prelude.{⊤, IfSome, IsSome, Option, Some, None, drop, encode_utf8, find, fold, if◌then◌else◌, is_some, length, nat_le, option_and_then, slice_get, unwrap_or}
 use Rattle.std.specs.List.{AllByRecursion}
 use Rattle.std.specs.Option.{option_map_or}
 use Rattle.std.specs.Str.{bytes_eq, chars}
 use Rattle.clap.specs.Lexer.{long_of, short_of}
-use Rattle.clap.specs.Facts.{explicit_source}
+use Rattle.clap.specs.Facts.{explicit_source, unwrap_or_range}
 use Rattle.clap.specs.Simple.{Shape}
 use Rattle.clap.specs.Takes.{bundle_passes, bundle_step_passes, flag_word_passes, flags_pass, is_given, level_passes, long_passes, option_passes, other_passes, positional_passes, react_passes, settle_passes, short_passes, step_passes, turn_passes, use_passes, walk_passes, word_passes}
-use Rattle.clap.specs.Walk.{Held, Names, Outcome, Row, Rule, Step, Text, Waiting, Walk, after_flag, after_step, arg_by_id, arg_by_index, arg_by_long, arg_by_short, at_row, attached_value, bundle_met, bundle_step, default_rows, done, finished, first_of, flag_met, has_row, idle, is_pending, long_met, long_or_other, more_values, next, nothing_held, option, option_met, option_word, plain, plain_word, positional, positional_held, reacted, reading_by, refused, settled, settled_rows, short_met, short_or_plain, subcommand, subcommand_met, subcommand_or_other, takes_several, takes_values, to_positional, trailing, used, used_by_id, value, waits, walk, walk_from, walked, walked_from, with_default, with_values, without, word_met}
+use Rattle.clap.specs.Walk.{Held, Names, Outcome, Row, Rule, Step, Text, Waiting, Walk, after_flag, after_step, arg_by_id, arg_by_index, arg_by_long, arg_by_short, at_row, attached_value, bundle_met, bundle_step, default_rows, done, finished, first_of, flag_met, has_row, idle, is_pending, long_met, long_or_other, more_values, next, nothing_held, option, option_met, option_word, plain, plain_word, positional, positional_held, reacted, reading_by, refused, settled, settled_rows, short_met, short_or_plain, subcommand, subcommand_met, subcommand_or_other, takes_several, takes_values, to_positional, trailing, used, used_as, used_by_id, value, values_or_missing, waits, walk, walk_from, walked, walked_from, with_default, with_values, without, word_met}
+use Rattle.clap.specs.declared.builder.action.ArgAction.TheVariants.{Help, Set}
 use Rattle.clap.specs.declared.builder.value_parser.Reading.{Reading}
 use Rattle.clap.specs.declared.parser.matches.ValueSource.{ValueSource}
 use Rattle.clap.proofs.WalkLemmas.{both}
@@ -80,8 +81,22 @@ given_has_value id rows f given = go (find (λ r. bytes_eq r.id id) rows) (found
 -- ---- the walk
 
 -- a use of the argument that passes leaves rows with values
-abbrev pub AsksValue : Rule → Type 0
-AsksValue a = (again : Bool) (values : List Text) (rows : List Row) → use_passes again a values rows ≡ true → Valued rows → Valued (used a values rows)
+pub record AsksValue (a : Rule) : Type 0 where
+  pub uses : (again : Bool) (values : List Text) (rows : List Row) → use_passes again a values rows ≡ true → Valued rows → Valued (used a values rows)
+
+-- an argument of one value
+pub asks_one : (a : Rule) → a.action ≡ Some Set → (unwrap_or_range a.range).start_inclusive ≡ 1 → AsksValue a
+asks_one a set one = record { uses = go }
+  where
+    go : (again : Bool) (values : List Text) (rows : List Row) → use_passes again a values rows ≡ true → Valued rows → Valued (used a values rows)
+    go again [] rows e f = absurd (true≢false (sym (sym (ap (λ n. nat_le n 0) one) ∙ (both (nat_le (unwrap_or_range a.range).start_inclusive 0) _ e).0)))
+    go again (v ∷ vs) rows e f =
+        subst (λ o. Valued (used_as (unwrap_or o Set) a.id (reading_by a) (v ∷ vs) rows)) (sym set)
+        (with_valued a.id (reading_by a) _ v vs (without a.id rows) (without_valued a.id rows f))
+
+-- a request for help, which leaves the rows
+pub asks_help : (a : Rule) → a.action ≡ Some Help → AsksValue a
+asks_help a help = record { uses = λ again values rows e f. subst (λ o. Valued (used_as (unwrap_or o Set) a.id (reading_by a) (values_or_missing a values) rows)) (sym help) f }
 
 module _ (c : List Rule) (again : Bool) (asks : AllByRecursion AsksValue c) where
   settle_valued : (h : Held) → settle_passes c again h ≡ true → Valued h.rows → Valued (settled c h).rows
@@ -90,7 +105,7 @@ module _ (c : List Rule) (again : Bool) (asks : AllByRecursion AsksValue c) wher
       by_id : (p : Text × List Text) (o : Option Rule) → IfSome o AsksValue → option_map_or (λ a. use_passes again a p.1 h.rows) o true ≡ true
           → Valued (used_by_id o p.1 h.rows)
       by_id p None q e = f
-      by_id p (Some a) q e = q again p.1 h.rows e f
+      by_id p (Some a) q e = q.uses again p.1 h.rows e f
       go : (o : Option (Text × List Text)) → option_map_or (λ p. option_map_or (λ a. use_passes again a p.1 h.rows) (arg_by_id c p.0) true) o true ≡ true
           → Valued (settled_rows c o h.rows)
       go None e = f
@@ -99,7 +114,7 @@ module _ (c : List Rule) (again : Bool) (asks : AllByRecursion AsksValue c) wher
   react_valued : (a : Rule) (values : List Text) (h : Held) → AsksValue a → react_passes c again a values h ≡ true → Valued h.rows → Valued (reacted c a values h).rows
   react_valued a values h ask e f =
       let p = both (settle_passes c again h) _ e in
-      ask again values (settled c h).rows p.1 (settle_valued h p.0 f)
+      ask.uses again values (settled c h).rows p.1 (settle_valued h p.0 f)
 
   option_valued : (a : Rule) (v : Option Text) (h : Held) → AsksValue a → option_passes c again a v h ≡ true → Valued h.rows → Valued (option_met c a v h).0.rows
   option_valued a None h ask e f = settle_valued h e f

@@ -1,5 +1,5 @@
 -- The program's command line, and the order that its words give.
-use Rattle.std.specs.Prelude.{◌≡◌, ◌≤◌, ℕ, Bool, true, List, [], Option, Some, None, codes, option_and_then, unwrap_or}
+use Rattle.std.specs.Prelude.{◌≡◌, ◌≤◌, IsSome, ℕ, Bool, true, List, [], Option, Some, None, codes, option_and_then}
 use Rattle.std.specs.Str.Parse.{IsNumeral, digits_value, without_leading_plus}
 use Rattle.clap.specs.Words.{App, Row, Rule, Text, first_of, new_app, new_rule, subcommand_of, takes, with_rule, with_subcommand}
 use Rattle.stc.specs.declared.words.Verb.{Verb}
@@ -66,15 +66,14 @@ HasLimit given = (steps : ℕ) × IsLimitOf given steps
 abbrev pub limit_of : Option (Text × List Row) → Option Text
 limit_of = option_and_then (λ met. first_of (codes "steps") met.1)
 
--- the subcommand is that of a verb, and its K is in range
+-- the subcommand is that of a verb, it has FILE and N, and its K is in range
 abbrev pub IsRunnable : Option (Text × List Row) → Type 0
 IsRunnable None = ⊥
-IsRunnable (Some met) = ((verb : Verb) × (met.0 ≡ verb_name verb)) × HasLimit (first_of (codes "steps") met.1)
+IsRunnable (Some met) = ((verb : Verb) × (met.0 ≡ verb_name verb)) × IsSome (first_of (codes "FILE") met.1)
+    × IsSome (first_of (codes "program") met.1) × HasLimit (first_of (codes "steps") met.1)
 
 -- the order is what the subcommand and its matches say
 abbrev pub IsOrder : Order → Option (Text × List Row) → Type 0
 IsOrder order None = ⊥
-IsOrder order (Some met) = (met.0 ≡ verb_name order.verb)
-    × (unwrap_or (first_of (codes "FILE") met.1) [] ≡ order.file.now)
-    × (unwrap_or (first_of (codes "program") met.1) [] ≡ order.main.now)
-    × IsLimitOf (first_of (codes "steps") met.1) order.steps
+IsOrder order (Some met) = (met.0 ≡ verb_name order.verb) × (first_of (codes "FILE") met.1 ≡ Some order.file.now)
+    × (first_of (codes "program") met.1 ≡ Some order.main.now) × IsLimitOf (first_of (codes "steps") met.1) order.steps

@@ -102,8 +102,8 @@ fn order_in<'a>(matches: &ArgMatches<'a>) -> Option<Order<'a>>
 {
     let (name, inner) = matches.subcommand()?;
     let verb = verb_named(name)?;
-    let file = inner.get_str("FILE").unwrap_or("");
-    let main = inner.get_str("program").unwrap_or("");
+    let file = inner.get_str("FILE")?;
+    let main = inner.get_str("program")?;
     let steps = step_limit(inner.get_str("steps"))?;
     Some(Order {
         verb,
