@@ -1,19 +1,20 @@
 -- Words that the command line takes name a verb's subcommand.
 use Rattle.std.proofs.Common.{◌≡◌, ◌∙◌, ◌&&◌, ◌||◌, ℕ, Bool, List, [], ◌∷◌, refl, sym, ap, subst, codes, true, false, not, cond, true≢false}
-use Rattle.std.specs.Prelude.{IfSome, IsSome, Option, Some, None, Box, is_some, find, option_map, option_and_then}
+use Rattle.std.specs.Prelude.{IfSome, IsSome, Option, Result, Some, None, Box, is_some, find, option_map, option_and_then}
 use Rattle.std.specs.Box.{box_value}
 use Rattle.std.specs.List.{AllByRecursion, list_all}
 use Rattle.std.specs.Option.{option_map_or}
-use Rattle.clap.specs.Words.{App, HasMatchesOf, Row, Text, first_of, is_simple, built, subcommand_of, subcommand_rows_of, takes}
+use Rattle.clap.specs.Words.{App, FailsBy, HasMatchesOf, Row, Text, first_of, fault_of, is_simple, is_simple_and_free, built, subcommand_of, subcommand_rows_of, takes}
 use Rattle.clap.specs.Takes.{built_takes, default_passes, entered_passes, is_given, is_valid, level_passes, settle_passes, walk_passes}
 use Rattle.clap.specs.Simple.{Shape, argument_words, entered, label_of, names_of, rows_at, subcommand_rows}
 use Rattle.clap.specs.Walk.{Held, Names, answers_to, finished, nothing_held, walk, walk_from}
+use Rattle.clap.specs.declared.error.Error.{Error}
 use Rattle.clap.specs.declared.parser.matches.SubCommand.{SubCommand}
 use Rattle.clap.specs.declared.parser.matches.ArgMatches.{ArgMatches}
 use Rattle.clap.specs.declared.parser.matches.ArgMatches.TheViews.{out-SubCommand}
 use Rattle.clap.proofs.WalkLemmas.{both}
 use Rattle.stc.proofs.Valued.{AsksValue, asks_help, asks_one, found_holds, given_has_value, level_valued}
-use Rattle.stc.specs.Words.{HasLimit, IsLimitOf, IsOrder, IsRunnable, chosen_by, is_taken, limit_of, stc_app, verb_name}
+use Rattle.stc.specs.Words.{HasLimit, IsLimitOf, IsOrder, IsRunnable, chosen_by, faults_of, is_taken, limit_of, stc_app, verb_name}
 use Rattle.stc.specs.declared.words.Order.{Order}
 use Rattle.stc.specs.declared.words.Verb.{Verb}
 use Rattle.stc.specs.declared.words.Verb.TheVariants.{Run}
@@ -29,6 +30,12 @@ taken_by app words same taken = ap (λ a. takes a words) same ∙ taken
 pub chosen_in : (app : App) (words : List Text) (m : ArgMatches) → app ≡ stc_app → HasMatchesOf app words m → subcommand_rows_of m ≡ chosen_by words
 unfolding chosen_by
 chosen_in app words m same has = (has (ap is_simple same)).1 ∙ ap (λ a. subcommand_of a words) same
+
+-- a parse by the command fails by the faults of the command line
+pub fails_by : {T : Type 0} (app : App) (words : List Text) (r : Result T Error) → app ≡ stc_app
+    → (is_simple_and_free app ≡ true → FailsBy (fault_of app words) r) → FailsBy (faults_of words) r
+unfolding faults_of
+fails_by app words r same fails = subst (λ a. FailsBy (fault_of a words) r) same (fails (ap is_simple_and_free same))
 
 -- ---- a level that is taken
 

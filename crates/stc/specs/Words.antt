@@ -1,7 +1,7 @@
 -- The program's command line, and the order that its words give.
 use Rattle.std.specs.Prelude.{◌≡◌, ◌≤◌, IsSome, ℕ, Bool, true, List, [], Option, Some, None, codes, option_and_then}
 use Rattle.std.specs.Str.Parse.{IsNumeral, digits_value, without_leading_plus}
-use Rattle.clap.specs.Words.{App, Row, Rule, Text, first_of, new_app, new_rule, subcommand_of, takes, with_rule, with_subcommand}
+use Rattle.clap.specs.Words.{App, Kinds, Row, Rule, Text, fault_of, first_of, new_app, new_rule, subcommand_of, takes, with_rule, with_subcommand}
 use Rattle.stc.specs.declared.words.Verb.{Verb}
 use Rattle.stc.specs.declared.words.Verb.TheVariants.{Run}
 use Rattle.stc.specs.declared.words.Order.{Order}
@@ -40,6 +40,10 @@ stc_app = with_subcommand stc_top run_app.top
 -- the command line takes the words
 unfoldable pub is_taken : List Text → Bool
 is_taken words = takes stc_app words
+
+-- the kinds of error that the command line gives at the words: none where it finds no fault in them
+unfoldable pub faults_of : List Text → Kinds
+faults_of words = fault_of stc_app words
 
 -- the subcommand that the words name, and what they give it
 unfoldable pub chosen_by : List Text → Option (Text × List Row)
