@@ -1,11 +1,11 @@
 -- Words that the command line takes name a verb's subcommand.
-use Rattle.std.proofs.Common.{◌≡◌, ◌∙◌, ◌&&◌, ◌||◌, ℕ, Bool, List, [], ◌∷◌, refl, sym, ap, subst, codes, true, false, not, cond, true≢false}
-use Rattle.std.specs.Prelude.{IfSome, IsSome, Option, Result, Some, None, Box, is_some, find, option_map, option_and_then}
+use Rattle.std.proofs.Common.{◌≡◌, ◌∙◌, ◌||◌, Bool, List, [], refl, sym, ap, subst, codes, true, false, not, true≢false}
+use Rattle.std.specs.Prelude.{IfSome, IsSome, Option, Result, Some, None, Box, is_some, find, option_map}
 use Rattle.std.specs.Box.{box_value}
 use Rattle.std.specs.List.{AllByRecursion, list_all}
 use Rattle.std.specs.Option.{option_map_or}
 use Rattle.clap.specs.Words.{App, FailsBy, HasMatchesOf, Row, Text, first_of, fault_of, is_simple, is_simple_and_free, built, subcommand_of, subcommand_rows_of, takes}
-use Rattle.clap.specs.Takes.{built_takes, default_passes, entered_passes, is_given, is_valid, level_passes, settle_passes, walk_passes}
+use Rattle.clap.specs.Takes.{default_passes, entered_passes, is_given, is_valid, level_passes, settle_passes, walk_passes}
 use Rattle.clap.specs.Simple.{Shape, argument_words, entered, label_of, names_of, rows_at, subcommand_rows}
 use Rattle.clap.specs.Walk.{Held, Names, answers_to, finished, nothing_held, walk, walk_from}
 use Rattle.clap.specs.declared.error.Error.{Error}
@@ -93,12 +93,15 @@ runs (Some m) some h limit = (h.0, h.1, h.2, limit)
 
 -- each subcommand of the program serves a verb
 subcommands_serve : AllByRecursion ServesVerb (built stc_app).subs
-subcommands_serve = (record {
-  verb = Run;
-  name = refl;
-  asks = (asks_one _ refl refl, (asks_one _ refl refl, (asks_one _ refl refl, (asks_help _ refl, tt))));
-  requires = λ rows e. let p = both (is_given (codes "FILE") rows) _ e in (p.0, (both (is_given (codes "program") rows) _ p.1).0);
-}, tt)
+subcommands_serve = (
+  record {
+    verb = Run;
+    name = refl;
+    asks = (asks_one _ refl refl, (asks_one _ refl refl, (asks_one _ refl refl, (asks_help _ refl, tt))));
+    requires = λ rows e. let p = both (is_given (codes "FILE") rows) _ e in (p.0, (both (is_given (codes "program") rows) _ p.1).0);
+  },
+  tt,
+)
 
 -- words that are taken name a verb's subcommand
 pub taken_runs : (words : List Text) → is_taken words ≡ true → HasLimit (limit_of (chosen_by words)) → IsRunnable (chosen_by words)

@@ -1,7 +1,7 @@
 -- In words that a command takes, each argument that is given has a value, where each of its
 -- arguments asks for one.
 use Rattle.std.proofs.Common.{◌≡◌, ◌∙◌, ◌&&◌, ◌||◌, ℕ, Bool, zero, suc, List, [], ◌∷◌, ◌++◌, refl, sym, ap, subst, true, false, not, cond, true≢false}
-use Rattle.std.specs.Prelude.{⊤, IfSome, IsSome, Option, Some, None, drop, encode_utf8, find, fold, if◌then◌else◌, is_some, length, nat_le, option_and_then, slice_get, unwrap_or}
+use Rattle.std.specs.Prelude.{IfSome, IsSome, Option, Some, None, drop, encode_utf8, find, fold, if◌then◌else◌, is_some, length, nat_le, option_and_then, slice_get, unwrap_or}
 use Rattle.std.specs.List.{AllByRecursion}
 use Rattle.std.specs.Option.{option_map_or}
 use Rattle.std.specs.Str.{bytes_eq, chars}
@@ -106,6 +106,7 @@ module _ (c : List Rule) (again : Bool) (asks : AllByRecursion AsksValue c) wher
           → Valued (used_by_id o p.1 h.rows)
       by_id p None q e = f
       by_id p (Some a) q e = q.uses again p.1 h.rows e f
+
       go : (o : Option (Text × List Text)) → option_map_or (λ p. option_map_or (λ a. use_passes again a p.1 h.rows) (arg_by_id c p.0) true) o true ≡ true
           → Valued (settled_rows c o h.rows)
       go None e = f
@@ -148,6 +149,7 @@ module _ (c : List Rule) (again : Bool) (asks : AllByRecursion AsksValue c) wher
           taken false e =
               let p = both (react_passes c again a [] h) _ e in
               later (reacted c a [] h) p.1 (react_valued a [] h ask p.0 f)
+
       go : (o : Option ℕ) (n : ℕ) → bundle_step_passes c again o flags n h (flags_pass c again k) ≡ true
           → ((t : Text) (m : ℕ) (s : Outcome) (g : Held) → flags_pass c again k t m g ≡ true → Valued g.rows → Valued (bundle_met c k t m s g).0.rows)
           → Valued (bundle_step c o flags n so_far h (bundle_met c k)).0.rows
@@ -179,6 +181,7 @@ module _ (c : List Rule) (again : Bool) (asks : AllByRecursion AsksValue c) wher
       short : (o : Option Text) → option_map_or (λ flags. bundle_passes c again flags h) o true ≡ true → Valued (short_or_plain c waiting word o h).0.rows
       short None e = plain_valued waiting word h f
       short (Some flags) e = after_valued waiting word _ _ (bundle_valued (length flags) flags h.skip plain (record h { skip = 0 }) e f)
+
       go : (o : Option (Text × Option Text)) → flag_word_passes c again o word h ≡ true → Valued (long_or_other c waiting word o h).0.rows
       go (Some p) e = after_valued waiting word _ _ (long_valued (arg_by_long c p.0) p.1 h (found_holds AsksValue _ c asks) e f)
       go None e = short (short_of word) e
@@ -200,6 +203,7 @@ module _ (s : Shape) (names : Names) (asks : AllByRecursion AsksValue s.rules) w
           → Valued (if b then (h, trailing position) else long_or_other s.rules waiting word (long_of word) h).0.rows
       other true e = f
       other false e = flag_valued s.rules s.args_override_self asks waiting word h e f
+
       go : (o : Option Text) → other_passes s o word h ≡ true → Valued (subcommand_or_other s.rules o waiting position word h).0.rows
       go (Some name) e = f
       go None e = other (bytes_eq word (45 ∷ 45 ∷ [])) e
@@ -220,6 +224,7 @@ module _ (s : Shape) (names : Names) (asks : AllByRecursion AsksValue s.rules) w
     where
       met : Held × Step
       met = word_met s.rules names w.is_trailing w.waiting w.position word w.held
+
       go : (o : Option (Text × List Text))
           → (is_some o || (word_passes s names w.is_trailing w.waiting word w.held && step_passes s w.position met.0 met.1)) ≡ true
           → Valued (walked_from s.rules names o w word).held.rows

@@ -1,8 +1,7 @@
 use Rattle.clap.proofs.TakesLemmas.{passed_up}
-use Rattle.std.proofs.Common.{◌≡◌, Err, Ok, inl, inr, map, refl, subst, sym, true}
-use Rattle.clap.specs.Words.{app_of, kind_of}
+use Rattle.std.proofs.Common.{Err, Ok, inl, inr, map, refl, subst, sym}
 use Rattle.clap.specs.declared.parser.matches.ArgMatches.{ArgMatches}
-use Rattle.stc.specs.Words.{HasLimit, IsOrder, IsRunnable, chosen_by, is_taken, limit_of}
+use Rattle.stc.specs.Words.{IsOrder, IsRunnable}
 use Rattle.stc.proofs.Taken.{chosen_in, fails_by, taken_by, taken_runs}
 use Rattle.stc.proofs.words.read_words.Goals as goal
 
