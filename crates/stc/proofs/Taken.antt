@@ -1,4 +1,4 @@
--- Words that the command line takes name a verb's subcommand.
+-- Words that are in order name a verb's subcommand, with all that it requires.
 use Rattle.std.proofs.Common.{◌≡◌, ◌∙◌, ◌||◌, Bool, List, [], refl, sym, ap, subst, codes, true, false, not, true≢false}
 use Rattle.std.specs.Prelude.{IfSome, IsSome, Option, Result, Some, None, Box, is_some, find, option_map}
 use Rattle.std.specs.Box.{box_value}
@@ -14,7 +14,7 @@ use Rattle.clap.specs.declared.parser.matches.ArgMatches.{ArgMatches}
 use Rattle.clap.specs.declared.parser.matches.ArgMatches.TheViews.{out-SubCommand}
 use Rattle.clap.proofs.WalkLemmas.{both}
 use Rattle.stc.proofs.Valued.{AsksValue, asks_help, asks_one, found_holds, given_has_value, level_valued}
-use Rattle.stc.specs.Words.{HasLimit, IsLimitOf, IsOrder, IsRunnable, chosen_by, faults_of, is_taken, limit_of, stc_app, verb_name}
+use Rattle.stc.specs.Words.{AreInOrder, HasLimit, IsLimitOf, IsOrder, IsRunnable, chosen_by, faults_of, is_taken, limit_of, stc_app, verb_name}
 use Rattle.stc.specs.declared.words.Order.{Order}
 use Rattle.stc.specs.declared.words.Verb.{Verb}
 use Rattle.stc.specs.declared.words.Verb.TheVariants.{Run}
@@ -103,16 +103,16 @@ subcommands_serve = (
   tt,
 )
 
--- words that are taken name a verb's subcommand
-pub taken_runs : (words : List Text) → is_taken words ≡ true → HasLimit (limit_of (chosen_by words)) → IsRunnable (chosen_by words)
+-- words that are in order name a subcommand that can run
+pub in_order_runs : (words : List Text) → AreInOrder words → IsRunnable (chosen_by words)
 unfolding is_taken chosen_by
-taken_runs words taken limit =
+in_order_runs words right =
     let a = built stc_app in
     let given = argument_words stc_app words in
     let stop = (walk a.top.rules (names_of a) nothing_held given).stopped in
-    let passes = both (entered_passes a stop) _ (both (is_simple stc_app) _ taken).1 in
+    let passes = both (entered_passes a stop) _ (both (is_simple stc_app) _ right.0).1 in
     let some : is_some (entered a stop) ≡ true = level_enters a.top (names_of a) nothing_held given _ refl passes.1 in
-    runs (entered a stop) some (entered_served a stop subcommands_serve passes.0) limit
+    runs (entered a stop) some (entered_served a stop subcommands_serve passes.0) right.1
 
 -- --the matches of a subcommand
 

@@ -1,7 +1,9 @@
 -- The program's command line, and the order that its words give.
-use Rattle.std.specs.Prelude.{◌≡◌, ◌≤◌, IsSome, ℕ, Bool, true, List, [], Option, Some, None, codes, option_and_then}
+use Rattle.std.specs.Prelude.{◌≡◌, ◌≤◌, ◌⊎◌, IsSome, ℕ, Bool, true, List, [], Option, Some, None, codes, option_and_then}
 use Rattle.std.specs.Str.Parse.{IsNumeral, digits_value, without_leading_plus}
-use Rattle.clap.specs.Words.{App, Kinds, Row, Rule, Text, fault_of, first_of, new_app, new_rule, subcommand_of, takes, with_rule, with_subcommand}
+use Rattle.clap.specs.Words.{App, HasKind, Kinds, Row, Rule, Text, fault_of, first_of, kind_of, new_app, new_rule, subcommand_of, takes, with_rule, with_subcommand}
+use Rattle.clap.specs.declared.error.Error.{Error}
+use Rattle.clap.specs.declared.error.kind.ErrorKind.TheVariants as ErrorKind
 use Rattle.stc.specs.declared.words.Verb.{Verb}
 use Rattle.stc.specs.declared.words.Verb.TheVariants.{Run}
 use Rattle.stc.specs.declared.words.Order.{Order}
@@ -37,18 +39,6 @@ stc_top = record {
 abbrev pub stc_app : App
 stc_app = with_subcommand stc_top run_app.top
 
--- the command line takes the words
-unfoldable pub is_taken : List Text → Bool
-is_taken words = takes stc_app words
-
--- the kinds of error that the command line gives at the words: none where it finds no fault in them
-unfoldable pub faults_of : List Text → Kinds
-faults_of words = fault_of stc_app words
-
--- the subcommand that the words name, and what they give it
-unfoldable pub chosen_by : List Text → Option (Text × List Row)
-chosen_by words = subcommand_of stc_app words
-
 -- the subcommand of each verb
 abbrev pub verb_name : Verb → Text
 verb_name Run = codes "run"
@@ -66,9 +56,29 @@ IsLimitOf (Some text) steps = IsStepLimit text steps
 abbrev pub HasLimit : Option Text → Type 0
 HasLimit given = (steps : ℕ) × IsLimitOf given steps
 
--- K of the subcommand that the words name
+-- K, where the subcommand was given it
 abbrev pub limit_of : Option (Text × List Row) → Option Text
 limit_of = option_and_then (λ met. first_of (codes "steps") met.1)
+
+-- the subcommand that the words name, with what they give it
+unfoldable pub chosen_by : List Text → Option (Text × List Row)
+chosen_by words = subcommand_of stc_app words
+
+-- the command line takes the words
+unfoldable pub is_taken : List Text → Bool
+is_taken words = takes stc_app words
+
+-- the kinds of error that the command line gives at the words: none where it finds no fault in them
+unfoldable pub faults_of : List Text → Kinds
+faults_of words = fault_of stc_app words
+
+-- the command line takes the words, with K in its range where they give it
+abbrev pub AreInOrder : List Text → Type 0
+AreInOrder words = (is_taken words ≡ true) × HasLimit (limit_of (chosen_by words))
+
+-- memory ran out, or the command line has this fault to find, or it has none and K is out of its range
+abbrev pub IsFaultOf : List Text → Error → Type 0
+IsFaultOf words error = HasKind (faults_of words) error ⊎ ((faults_of words ≡ []) × (kind_of error ≡ ErrorKind.ValueValidation))
 
 -- the subcommand is that of a verb, it has FILE and N, and its K is in range
 abbrev pub IsRunnable : Option (Text × List Row) → Type 0

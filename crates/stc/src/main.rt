@@ -116,3 +116,19 @@ fn run_text<R: Read, W: Write>(
 ) -> u8 {
     ACCEPTED
 }
+
+#[cfg(test)]
+mod tests {
+    use super::*;
+
+    #[test]
+    fn needs_the_file(rt: HostRuntime) {
+        let order = Order {
+            verb: Verb::Run,
+            file: "no/such/file.st",
+            main: "Main",
+            steps: 1,
+        };
+        assert_eq!(rt; obey(&rt, order), DEVICE);
+    }
+}

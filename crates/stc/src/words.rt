@@ -1,9 +1,9 @@
 //! What the program's words ask for, as `clap` reads them.
 
-ghost use Rattle.std.specs.Prelude.{◌≡◌, ◌⊎◌, ℕ, [], IfErr, IfOk, IfSome, IsNone, OnOk, map, option_map, true, false, codes};
-ghost use Rattle.clap.specs.Words.{HasKind, app_of, kind_of, subcommand_rows_of};
+ghost use Rattle.std.specs.Prelude.{◌≡◌, ℕ, [], IfErr, IfOk, IfSome, IsNone, OnOk, map, option_map, false};
+ghost use Rattle.clap.specs.Words.{app_of, kind_of, subcommand_rows_of};
 ghost use Rattle.clap.specs.declared.builder.command.Command.TheViews.{out-Command as fields_of};
-ghost use Rattle.stc.specs.Words.{HasLimit, IsLimitOf, IsOrder, IsRunnable, IsStepLimit, chosen_by, faults_of, is_taken, limit_of, file_app, run_app, stc_app, verb_name};
+ghost use Rattle.stc.specs.Words.{AreInOrder, HasLimit, IsFaultOf, IsLimitOf, IsOrder, IsRunnable, IsStepLimit, chosen_by, faults_of, file_app, run_app, stc_app, verb_name};
 
 use clap::error::ErrorKind;
 use clap::{Arg, ArgMatches, Command, Error};
@@ -38,14 +38,12 @@ pub struct Order<'a> {
 /// The order that the words give, of which the first is the program's own name. An error is a
 /// request for help, a fault of usage, or want of memory.
 pub fn read_words<'a, S: AsStr>(alloc: Global, words: &'a [S]) -> Result<Order<'a>, Error>
-    ensures ok { IfOk result (λ order. IsOrder order (chosen_by (map S.text words.entry.now))) }
+    ensures order { IfOk result (λ order. IsOrder order (chosen_by (map S.text words.entry.now))) }
     ensures faultless { OnOk result (faults_of (map S.text words.entry.now) ≡ []) }
+    ensures fault { IfErr result (IsFaultOf (map S.text words.entry.now)) }
 
-    // Words that are taken, with K in its range, are refused for want of memory alone.
-    ensures memory { IfErr result (λ error. is_taken (map S.text words.entry.now) ≡ true
-        → HasLimit (limit_of (chosen_by (map S.text words.entry.now))) → kind_of error ≡ ErrorKind.OutOfMemory) }
-    ensures fault { IfErr result (λ error. HasKind (faults_of (map S.text words.entry.now)) error
-        ⊎ ((faults_of (map S.text words.entry.now) ≡ []) × (kind_of error ≡ ErrorKind.ValueValidation))) }
+    // Words that are in order are refused for want of memory alone.
+    ensures memory { IfErr result (λ error. AreInOrder (map S.text words.entry.now) → kind_of error ≡ ErrorKind.OutOfMemory) }
 {
     let mut command = stc_command(alloc)?;
     let matches = command.try_get_matches_from_mut(words)?;
