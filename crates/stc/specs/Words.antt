@@ -76,7 +76,7 @@ faults_of words = fault_of stc_app words
 abbrev pub AreInOrder : List Text → Type 0
 AreInOrder words = (is_taken words ≡ true) × HasLimit (limit_of (chosen_by words))
 
--- memory ran out, or the command line has this fault to find, or it has none and K is out of its range
+-- memory ran out, or the command line finds this fault in the words, or it finds none and the error is that of K
 abbrev pub IsFaultOf : List Text → Error → Type 0
 IsFaultOf words error = HasKind (faults_of words) error ⊎ ((faults_of words ≡ []) × (kind_of error ≡ ErrorKind.ValueValidation))
 
