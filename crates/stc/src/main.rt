@@ -1,15 +1,16 @@
 //! The program `stc`: a soft controller for programs in Structured Text, driven line by line.
 #![tactic(auto)]
 
-ghost use Rattle.std.specs.Prelude.{◌≡◌, ◌≢◌, ◌⊎◌};
+ghost use Rattle.std.specs.Prelude.{◌≡◌, ◌≢◌, ◌⊎◌, false};
 ghost use Rattle.clap.specs.Words.{kind_of};
 
 mod words;
 
 use clap::error::ErrorKind;
+use st_session::{FromReader, Sink, Source, ToWriter};
 use std::alloc::Global;
 use std::fs::File;
-use std::io::{self, Read, Write};
+use std::io::{self, Read};
 use std::process::ExitCode;
 use std::rt::{Env, Files};
 use words::{Order, Verb, read_words};
@@ -93,27 +94,26 @@ fn read_source<R: Files + AllocGlobal>(rt: &R, path: &str) -> io::Result<Vec<u8>
 
 /// Does with the source text what is ordered.
 fn serve<R: Input + Print + AllocGlobal>(rt: &R, order: Order<'_>, text: &[u8]) -> u8 {
+    let mut source = FromReader::new(rt.reader());
+    let mut sink = ToWriter::new(io::writer(rt));
+    let main = order.main.as_bytes();
     match order.verb {
-        Verb::Run => run_text(
-            rt.alloc(),
-            text,
-            order.main.as_bytes(),
-            order.steps,
-            &mut rt.reader(),
-            &mut io::writer(rt),
-        ),
+        Verb::Run => run_text(rt.alloc(), text, main, order.steps, &mut source, &mut sink),
     }
 }
 
-/// Stands in for the session until its crate is there.
-fn run_text<R: Read, W: Write>(
+/// Stands in for the session until it is there.
+fn run_text<R: Source, W: Sink>(
     _alloc: Global,
     _text: &[u8],
     _main: &[u8],
     _steps: u32,
     _source: &mut R,
     _sink: &mut W,
-) -> u8 {
+) -> u8
+    requires source { R.has_failed _source.old ≡ false }
+    requires sink { W.has_failed _sink.old ≡ false }
+{
     ACCEPTED
 }
 

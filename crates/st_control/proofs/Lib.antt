@@ -1,0 +1,4 @@
+pub mod Changes
+pub mod Histories
+pub mod Steps
+pub mod Undone

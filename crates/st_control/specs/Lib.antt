@@ -1,0 +1,4 @@
+pub mod Controllers
+pub mod Laws
+pub mod Machine
+pub mod States

@@ -1,0 +1,18 @@
+//! Sessions: an operator's commands, line by line, and the replies to them.
+//!
+//! The lines come from a [`Source`] and the replies go to a [`Sink`].
+#![tactic(auto)]
+
+mod devices;
+mod engine;
+mod input;
+mod memory_devices;
+mod reply;
+mod request;
+mod run;
+mod streams;
+
+pub use engine::{Outcome, session};
+pub use devices::{DeviceFault, Sink, Source};
+pub use memory_devices::{Bytes, Sheet};
+pub use streams::{FromReader, ToWriter};
