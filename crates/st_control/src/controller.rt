@@ -1,6 +1,6 @@
 //! The controller.
 ghost use Rattle.std.specs.Prelude.{◌≡◌, ◌+◌, ◌<◌, ◌≤◌, ◌++◌, ◌∷◌, [], IfErr, IfOk, IfSome, OnOk, length, vec_capacity, vec_len};
-ghost use Rattle.st_control.specs.Controllers.{DropsNewest, Keeps, Takes, first_controller, force_count, force_record, machine_of, release_record, shown_to, write_record};
+ghost use Rattle.st_control.specs.Controllers.{DropsNewest, IsLoaded, Keeps, RefusesLoad, Takes, first_controller, force_count, force_record, machine_of, release_record, shown_to, write_record};
 ghost use Rattle.st_control.specs.Machine.{step, undo_step};
 ghost use Rattle.st_control.specs.Machine.Command.{force, release, write};
 ghost use Rattle.st_control.specs.States.{IsWhole, leaf_of};
@@ -10,6 +10,7 @@ ghost use Rattle.st_tree.specs.Values.{IsValue};
 use crate::record::Record;
 use crate::refusal::Refusal;
 use crate::state::{State, Status};
+use crate::thin::{ThinFault, read_thin};
 use crate::undoing::revert;
 use st_layout::{Layout, Memory};
 use st_tree::{Elem, Name, Value};
@@ -18,6 +19,9 @@ use std::marker::Model;
 
 /// How many commands can be undone.
 const MOST_RECORDS: usize = 256;
+
+/// Why a text that is no program is refused.
+const NO_PROGRAM: Refusal = Refusal::S { number: 2, line: 1 };
 
 /// What an operator is told of a controller as a whole.
 #[derive(Clone, Copy)]
@@ -56,6 +60,28 @@ impl<M: Memory> Model for Controller<M> {
 }
 
 impl<M: Memory> Controller<M> {
+    /// Loads the program of the name `main`, in any case, from a text: initial values, no force, moment 0, running, and
+    /// nothing to undo. `limit` is the step limit of a scan, which is kept.
+    ///
+    /// Refused as S2 line 1 exactly where the text is no such program, and else for want of memory alone.
+    pub fn load(alloc: Global, text: &[u8], main: &[u8], limit: u32) -> Result<Self, Refusal>
+        ensures ok { IfOk result (λ controller. IsLoaded text.now main.now limit controller) }
+        ensures refused { IfErr result (λ refusal. RefusesLoad text.now main.now refusal) }
+    {
+        let leaves = match read_thin(alloc, text, main) {
+            Ok(leaves) => leaves,
+            Err(ThinFault::NotThin) => return Err(NO_PROGRAM),
+            Err(ThinFault::Memory) => return Err(Refusal::M),
+        };
+        let Some(name) = Name::of(main) else {
+            return Err(NO_PROGRAM);
+        };
+        match Layout::of(alloc, leaves) {
+            Ok(layout) => Controller::start(alloc, layout, name, limit),
+            Err(_) => Err(Refusal::M),
+        }
+    }
+
     /// A controller of a program with these leaves: initial values, no force, moment 0, running, and nothing to undo.
     ///
     /// Room for all its records is made here. It is refused for want of memory alone.

@@ -6,6 +6,7 @@ mod laws;
 mod record;
 mod refusal;
 mod state;
+mod thin;
 mod undoing;
 
 pub use controller::{Controller, Report};
@@ -13,4 +14,5 @@ pub use laws::{command_changes_one_path, undos_give_back_states};
 pub use record::Record;
 pub use refusal::Refusal;
 pub use state::{RunFault, RunFaultKind, State, Status};
+pub use thin::texts_give_one_list;
 pub use undoing::revert;

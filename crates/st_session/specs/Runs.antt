@@ -1,7 +1,7 @@
 -- What a run does: a program is loaded, and a session's lines are answered.
 use Rattle.std.specs.Prelude.{◌≡◌, ◌≢◌, ℕ, Bool, true, false, ◌||◌, if◌then◌else◌, List, [], ◌++◌, take, Option, IfSome, Result, Ok, Err}
 use Rattle.std.specs.Io.KnownBytes.{Appends}
-use Rattle.st_control.specs.Controllers.{ControllerView, machine_of}
+use Rattle.st_control.specs.Controllers.{ControllerView, IsLoaded, RefusesLoad, machine_of}
 use Rattle.st_control.specs.Machine.{Machine}
 use Rattle.st_control.specs.declared.refusal.Refusal.{Refusal}
 use Rattle.st_control.specs.declared.refusal.Refusal.TheVariants.{M}
@@ -48,3 +48,14 @@ pub record Serves (m : Machine) (source_failed sink_failed : Bool) (status : ℕ
 abbrev pub RunsFrom : Result ControllerView Refusal → Bool → Bool → ℕ → Option (List ℕ) → Option (List ℕ) → Option (List ℕ) → Option (List ℕ) → Type 0
 RunsFrom (Ok c) source_failed sink_failed status old_rest new_rest before now = Serves (machine_of c) source_failed sink_failed status old_rest new_rest before now
 RunsFrom (Err refusal) source_failed sink_failed status old_rest new_rest before now = (source_failed ≡ false) × Refuses sink_failed refusal status before now
+
+-- what a load answers
+abbrev pub Loads : List ℕ → List ℕ → ℕ → Result ControllerView Refusal → Type 0
+Loads text main limit (Ok c) = IsLoaded text main limit c
+Loads text main limit (Err refusal) = RefusesLoad text main refusal
+
+-- a text was loaded, and its controller served the session or the refusal was written
+pub record Runs (text main : List ℕ) (limit : ℕ) (source_failed sink_failed : Bool) (status : ℕ) (old_rest new_rest before now : Option (List ℕ)) : Type 0 where
+  pub loaded : Result ControllerView Refusal
+  pub loads : Loads text main limit loaded
+  pub runs : RunsFrom loaded source_failed sink_failed status old_rest new_rest before now

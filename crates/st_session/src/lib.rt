@@ -14,5 +14,6 @@ mod streams;
 
 pub use engine::{Outcome, session};
 pub use devices::{DeviceFault, Sink, Source};
+pub use run::{ACCEPTED, DEVICE_FAILED, LINE_REFUSED, NO_MEMORY, NO_PROGRAM, run_text};
 pub use memory_devices::{Bytes, Sheet};
 pub use streams::{FromReader, ToWriter};

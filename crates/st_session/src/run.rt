@@ -1,8 +1,8 @@
 //! Running a program's text: it is loaded, and a session's lines are answered.
-ghost use Rattle.std.specs.Prelude.{◌≡◌, ◌⊎◌, false, Err};
+ghost use Rattle.std.specs.Prelude.{◌≡◌, ◌⊎◌, ◌↔◌, ◌||◌, false, Err, IsTrue};
 ghost use Rattle.st_control.specs.Controllers.{machine_of};
 ghost use Rattle.st_control.specs.declared.refusal.Refusal.TheVariants.{M};
-ghost use Rattle.st_session.specs.Runs.{Refuses, RunsFrom, Serves, Tells, refusal_status};
+ghost use Rattle.st_session.specs.Runs.{Refuses, Runs, RunsFrom, Serves, Tells, refusal_status};
 
 use crate::devices::{Sink, Source};
 use crate::engine::{Outcome, session, write_all};
@@ -25,6 +25,25 @@ pub const DEVICE_FAILED: u8 = 4;
 
 /// There was no memory.
 pub const NO_MEMORY: u8 = 5;
+
+/// Loads the program of the name `main` from a text and answers a session's lines over it, or writes the refusal of the
+/// load. Answers the status. The devices have not failed, and `steps` is the step limit of a scan.
+pub fn run_text<R: Source, W: Sink>(
+    alloc: Global,
+    text: &[u8],
+    main: &[u8],
+    steps: u32,
+    source: &mut R,
+    sink: &mut W,
+) -> u8
+    requires source { R.has_failed source.old ≡ false }
+    requires sink { W.has_failed sink.old ≡ false }
+    ensures ran { Runs text.now main.now steps (R.has_failed source.new) (W.has_failed sink.new) result
+        (R.rest source.old) (R.rest source.new) (W.taken sink.old) (W.taken sink.new) }
+    ensures failed { IsTrue (R.has_failed source.new || W.has_failed sink.new) ↔ (result ≡ DEVICE_FAILED) }
+{
+    run_loaded(alloc, Controller::load(alloc, text, main, steps), source, sink)
+}
 
 /// Runs a session over what was loaded, or writes why nothing was, and answers the status.
 fn run_loaded<R: Source, W: Sink>(

@@ -1,6 +1,7 @@
 //! What all layers speak of: values of the elementary types and their texts, names, lists, and the leaves of a program.
 #![tactic(auto)]
 
+mod duration;
 mod elem;
 mod leaf;
 mod list;
@@ -8,12 +9,15 @@ mod name;
 mod number;
 mod put;
 mod read;
+#[cfg(test)]
+mod tests;
 mod value;
+mod word;
 
 pub use elem::{Class, Elem};
 pub use leaf::{Leaf, Role};
 pub use list::List;
 pub use name::Name;
 pub use put::put_value;
-pub use read::{BadValue, read_value};
-pub use value::{Value, is_value};
+pub use read::{BadValue, read_value, text_is_read_back};
+pub use value::{Value, is_value, wrap};

@@ -1,14 +1,13 @@
 //! The program `stc`: a soft controller for programs in Structured Text, driven line by line.
 #![tactic(auto)]
 
-ghost use Rattle.std.specs.Prelude.{◌≡◌, ◌≢◌, ◌⊎◌, false};
+ghost use Rattle.std.specs.Prelude.{◌≡◌, ◌≢◌, ◌⊎◌};
 ghost use Rattle.clap.specs.Words.{kind_of};
 
 mod words;
 
 use clap::error::ErrorKind;
-use st_session::{FromReader, Sink, Source, ToWriter};
-use std::alloc::Global;
+use st_session::{ACCEPTED, DEVICE_FAILED, FromReader, NO_MEMORY, ToWriter, run_text};
 use std::fs::File;
 use std::io::{self, Read};
 use std::process::ExitCode;
@@ -18,17 +17,8 @@ use words::{Order, Verb, read_words};
 /// One byte more than a source text may have, so that a longer text is seen to be too long.
 const MOST_BYTES: u64 = 1_048_577;
 
-/// All was accepted, or the help that was asked for was written.
-const ACCEPTED: u8 = 0;
-
 /// The words are at fault.
 const USAGE: u8 = 2;
-
-/// A file, the input or the output failed.
-const DEVICE: u8 = 4;
-
-/// Memory was wanting.
-const MEMORY: u8 = 5;
 
 fn main(rt: HostRuntime) -> ExitCode {
     ExitCode::from(run(&rt))
@@ -38,7 +28,7 @@ fn main(rt: HostRuntime) -> ExitCode {
 fn run<R: Env + Files + Input + Print + Eprint + AllocGlobal>(rt: &R) -> u8 {
     let words = match given_words(rt) {
         Ok(words) => words,
-        Err(error) if error.kind() == io::ErrorKind::OutOfMemory => return MEMORY,
+        Err(error) if error.kind() == io::ErrorKind::OutOfMemory => return NO_MEMORY,
         Err(_) => {
             let _ = eprintln!(rt; "error: a word is not text in UTF-8");
             return USAGE;
@@ -58,16 +48,16 @@ fn given_words<R: Env + AllocGlobal>(rt: &R) -> io::Result<Vec<String>> {
 
 /// Writes the help that was asked for, or what is wrong with the words, and answers the status.
 fn explain<R: Print + Eprint>(rt: &R, error: &clap::Error) -> u8
-    ensures memory { kind_of error.now ≡ ErrorKind.OutOfMemory → result ≡ MEMORY }
-    ensures help { kind_of error.now ≡ ErrorKind.DisplayHelp → (result ≡ ACCEPTED) ⊎ (result ≡ DEVICE) }
+    ensures memory { kind_of error.now ≡ ErrorKind.OutOfMemory → result ≡ NO_MEMORY }
+    ensures help { kind_of error.now ≡ ErrorKind.DisplayHelp → (result ≡ ACCEPTED) ⊎ (result ≡ DEVICE_FAILED) }
     ensures usage { kind_of error.now ≢ ErrorKind.OutOfMemory → kind_of error.now ≢ ErrorKind.DisplayHelp
-        → kind_of error.now ≢ ErrorKind.DisplayVersion → (result ≡ USAGE) ⊎ (result ≡ DEVICE) }
+        → kind_of error.now ≢ ErrorKind.DisplayVersion → (result ≡ USAGE) ⊎ (result ≡ DEVICE_FAILED) }
 {
     if error.kind() == ErrorKind::OutOfMemory {
-        return MEMORY;
+        return NO_MEMORY;
     }
     if error.print(rt).is_err() {
-        return DEVICE;
+        return DEVICE_FAILED;
     }
     if error.use_stderr() { USAGE } else { ACCEPTED }
 }
@@ -76,10 +66,10 @@ fn explain<R: Print + Eprint>(rt: &R, error: &clap::Error) -> u8
 fn obey<R: Files + Input + Print + Eprint + AllocGlobal>(rt: &R, order: Order<'_>) -> u8 {
     match read_source(rt, order.file) {
         Ok(text) => serve(rt, order, text.as_slice()),
-        Err(error) if error.kind() == io::ErrorKind::OutOfMemory => MEMORY,
+        Err(error) if error.kind() == io::ErrorKind::OutOfMemory => NO_MEMORY,
         Err(_) => {
             let _ = eprintln!(rt; "cannot read {}", order.file);
-            DEVICE
+            DEVICE_FAILED
         }
     }
 }
@@ -102,21 +92,6 @@ fn serve<R: Input + Print + AllocGlobal>(rt: &R, order: Order<'_>, text: &[u8]) 
     }
 }
 
-/// Stands in for the session until it is there.
-fn run_text<R: Source, W: Sink>(
-    _alloc: Global,
-    _text: &[u8],
-    _main: &[u8],
-    _steps: u32,
-    _source: &mut R,
-    _sink: &mut W,
-) -> u8
-    requires source { R.has_failed _source.old ≡ false }
-    requires sink { W.has_failed _sink.old ≡ false }
-{
-    ACCEPTED
-}
-
 #[cfg(test)]
 mod tests {
     use super::*;
@@ -129,6 +104,6 @@ mod tests {
             main: "Main",
             steps: 1,
         };
-        assert_eq!(rt; obey(&rt, order), DEVICE);
+        assert_eq!(rt; obey(&rt, order), DEVICE_FAILED);
     }
 }
