@@ -14,6 +14,7 @@ mod tests;
 mod value;
 mod word;
 
+pub use duration::interval_is_its_parts;
 pub use elem::{Class, Elem};
 pub use leaf::{Leaf, Role};
 pub use list::List;
