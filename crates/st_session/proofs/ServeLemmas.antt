@@ -1,5 +1,5 @@
 -- Lemmas on what a run writes.
-use Rattle.std.proofs.Common.{◌≡◌, ◌≢◌, ℕ, Bool, true, false, List, inl, inr, refl, arith}
+use Rattle.std.proofs.Common.{◌≡◌, ℕ, Bool, true, false, List, inl, inr, refl, arith}
 use Rattle.std.specs.Prelude.{◌⊎◌, Option, Some, None, ◌||◌, IfSome, Result, Ok, Err, IfOk, IfErr}
 use Rattle.st_control.specs.Controllers.{ControllerView, IsLoaded, RefusesLoad}
 use Rattle.st_control.specs.Machine.{Machine}

@@ -42,7 +42,12 @@ pub fn run_text<R: Source, W: Sink>(
         (R.rest source.old) (R.rest source.new) (W.taken sink.old) (W.taken sink.new) }
     ensures failed { IsTrue (R.has_failed source.new || W.has_failed sink.new) ↔ (result ≡ DEVICE_FAILED) }
 {
-    run_loaded(alloc, Controller::load(alloc, text, main, steps), source, sink)
+    run_loaded(
+        alloc,
+        Controller::load(alloc, text, main, steps),
+        source,
+        sink,
+    )
 }
 
 /// Runs a session over what was loaded, or writes why nothing was, and answers the status.
