@@ -5,7 +5,7 @@ use Rattle.std.specs.Str.Lines.{strip_carriage_return}
 use Rattle.std.proofs.lemmas.Bool.{le-ltb, lt-ltb, ltb-false}
 use Rattle.std.proofs.lemmas.Grind.{common_steps}
 use Rattle.std.proofs.lemmas.List.{length-take, take_all, take-append-le}
-use Rattle.std.proofs.lemmas.List.Elements.{All-append, All-nil}
+use Rattle.std.proofs.lemmas.List.Elements.{All-append}
 use Rattle.std.proofs.lemmas.List.Splits.{length-slice_split, slice_split_at, slice_split_none}
 use Rattle.st_session.specs.Lines.{is_lf, parts_of, ended_line, last_line, lines_in, lines_of, whole_lines_in, whole_lines_of}
 use Rattle.st_session.specs.Pending.{NoLf, TakesFound}
@@ -67,10 +67,6 @@ pub record LineSoFar (is_empty is_long : Bool) (line bytes rest : List ℕ) : Ty
   pub empty : is_empty ≡ (length part == 0)
   pub long : is_long ≡ nat_lt 4096 (length part)
 
--- nothing was taken yet
-pub no_line_yet : (bytes : List ℕ) → LineSoFar true false [] bytes bytes
-no_line_yet bytes = record { part = []; front = refl; no_lf = All-nil (λ b. is_lf b ≡ false); kept = refl; empty = refl; long = refl }
-
 -- a line that is short enough was kept whole
 kept_whole : (line part : List ℕ) → line ≡ take 4096 part → false ≡ nat_lt 4096 (length part) → line ≡ part
 kept_whole line part kept short = kept ∙ take_all 4096 part (ltb-false 4096 (length part) (sym short))
@@ -99,10 +95,6 @@ line_last is_empty true at_end line bytes rest more found so bytes_read none end
 line_last is_empty false at_end line bytes rest more found so bytes_read none ended long short =
     let whole : bytes ≡ so.part = so.front ∙ ap (λ xs. so.part ++ xs) none.0 ∙ append-nil so.part in
     rw (short refl) (inr (record { whole = none.1; no_lf = rw whole so.no_lf; some = rw whole (is_some so.part (sym bytes_read ∙ so.empty)); is = rw (whole, ← so.long, kept_whole line so.part so.kept so.long) refl }, ended))
-
--- the end was met, after no byte
-pub no_line : (is_long at_end : Bool) (line bytes rest more : List ℕ) → LineSoFar true is_long line bytes rest → (rest ≡ []) × (more ≡ []) → TakesFound F.End at_end line bytes more
-no_line is_long at_end line bytes rest more so none = (so.front ∙ rw (is_nil so.part so.empty) none.0, none.1)
 
 -- another byte was taken, and there is room for it
 pub byte_kept : (is_empty is_long : Bool) (line bytes rest more after : List ℕ) (byte : ℕ) → LineSoFar is_empty is_long line bytes rest → rest ≡ byte ∷ more → byte ≢ 10 → length line < 4096

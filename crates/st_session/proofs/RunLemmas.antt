@@ -1,5 +1,5 @@
 -- Lemmas on runs over lines.
-use Rattle.std.proofs.Common.{◌≡◌, ◌≤◌, ◌<◌, ℕ, ◌+◌, Bool, true, false, List, [], ◌∷◌, ◌++◌, length, take, min, inl, inr, refl, ap, sym, ◌∙◌, arith, append_assoc, append-nil, subst}
+use Rattle.std.proofs.Common.{◌≡◌, ℕ, ◌+◌, Bool, true, false, List, [], ◌∷◌, ◌++◌, length, take, min, inl, inr, refl, ap, sym, ◌∙◌, arith, append_assoc, append-nil}
 use Rattle.std.specs.Prelude.{Option, Some, None, ◌||◌, IfSome}
 use Rattle.std.specs.Io.KnownBytes.{Appends}
 use Rattle.std.proofs.Math.Seq.{take-append-add}
@@ -7,9 +7,9 @@ use Rattle.std.proofs.lemmas.List.{take_min, take-append-le}
 use Rattle.std.proofs.KnownBytes.{Appends-nil, Appends-trans}
 use Rattle.st_control.specs.Machine.{Machine}
 use Rattle.st_session.specs.Lines.{Line, lines_of, whole_lines_of}
-use Rattle.st_session.specs.Pending.{NoLf, OnKnown, TakesEnded, TakesLast, TakesLine, TakesPart}
-use Rattle.st_session.specs.Replies.{Turn, machine_after, replies, some_refused, turn}
-use Rattle.st_session.specs.Sessions.{Answers, AnswersAll, AnswersRead, LosesPart, StopsIn, Turns, TurnsOver}
+use Rattle.st_session.specs.Pending.{OnKnown, TakesLine}
+use Rattle.st_session.specs.Replies.{machine_after, replies, some_refused, turn}
+use Rattle.st_session.specs.Sessions.{AnswersRead, LosesPart, StopsIn, Turns, TurnsOver}
 use Rattle.st_session.proofs.LineLemmas.{lines_of-ended, lines_of-last, whole_lines_of-ended, whole_lines_of-part}
 
 -- ---- lists of lines
@@ -94,20 +94,10 @@ SoFar-more was_end at_end old mid new before between now refused is_refused x y 
       front = so.front ∙ ap (λ xs. so.read ++ xs) first.front ∙ sym (append_assoc so.read first.read z);
       lines = so.lines ∙ ap (λ ls. so.done ++ ls) first.lines ∙ sym (append_assoc so.done one (lines_of z));
       whole = λ not_ended more. ap whole_lines_of (append_assoc so.read first.read more) ∙ so.whole (ended not_ended) (first.read ++ more)
-        ∙ ap (λ ls. so.done ++ ls) (first.whole not_ended more) ∙ sym (append_assoc so.done one (whole_lines_of more));
+          ∙ ap (λ ls. so.done ++ ls) (first.whole not_ended more) ∙ sym (append_assoc so.done one (whole_lines_of more));
       machine = next.machine ∙ ap (λ m. (turn next.line m).machine) so.machine ∙ sym (machine_after-append so.done one old);
       told = rw (replies-append so.done one old, reply) (Appends-trans before between now (replies so.done old) (turn next.line mid).reply so.told next.told);
       refusals = rw (some_refused-append so.done one old, refusal, so.refusals) refl;
-    }
-
--- all was answered
-pub AnswersAll-SoFar : (at_end : Bool) (old mid new : Machine) (before between now : Option (List ℕ)) (refused : Bool) (x y : List ℕ)
-    → SoFar at_end old mid before between refused x y → y ≡ [] → new ≡ mid → now ≡ between → AnswersAll refused old new before now x
-AnswersAll-SoFar at_end old mid new before between now refused x y so end same still =
-    let all : lines_of x ≡ so.done = so.lines ∙ rw end (append-nil so.done) in
-    record {
-      answers = record { machine = same ∙ so.machine ∙ ap (λ ls. machine_after ls old) (sym all); told = rw (still, all) so.told };
-      refusals = so.refusals ∙ ap (λ ls. some_refused ls old) (sym all);
     }
 
 -- a part of a line was read when the source failed
@@ -116,7 +106,7 @@ pub AnswersRead-SoFar : (at_end : Bool) (old mid new : Machine) (before between 
 AnswersRead-SoFar at_end old mid new before between now refused x y z so lost =
     let part = lost.part.0 in
     let all : whole_lines_of (so.read ++ part) ≡ so.done =
-      so.whole lost.not_ended part ∙ ap (λ ls. so.done ++ ls) (whole_lines_of-part part lost.part.2) ∙ append-nil so.done in
+    so.whole lost.not_ended part ∙ ap (λ ls. so.done ++ ls) (whole_lines_of-part part lost.part.2) ∙ append-nil so.done in
     record {
       read = so.read ++ part;
       front = so.front ∙ ap (λ xs. so.read ++ xs) lost.part.1 ∙ sym (append_assoc so.read part z);
@@ -130,18 +120,18 @@ StopsIn-SoFar at_end old mid new before between now refused x y so stop =
     let state : machine_after (so.done ++ stop.done) old ≡ machine_after stop.done mid = machine_after-append so.done stop.done old ∙ ap (machine_after stop.done) (sym so.machine) in
     let part = take stop.part (replies stop.last (machine_after stop.done mid)) in
     let written : replies (so.done ++ stop.done) old ≡ replies so.done old ++ replies stop.done mid =
-      replies-append so.done stop.done old ∙ ap (λ m. replies so.done old ++ replies stop.done m) (sym so.machine) in
+    replies-append so.done stop.done old ∙ ap (λ m. replies so.done old ++ replies stop.done m) (sym so.machine) in
     record {
       done = so.done ++ stop.done;
       last = stop.last;
       more = stop.more;
       part = stop.part;
       all = so.lines ∙ ap (λ ls. so.done ++ ls) stop.all ∙ sym (append_assoc so.done (stop.done ++ stop.last) stop.more)
-        ∙ ap (λ ls. ls ++ stop.more) (sym (append_assoc so.done stop.done stop.last));
+          ∙ ap (λ ls. ls ++ stop.more) (sym (append_assoc so.done stop.done stop.last));
       one = stop.one;
       machine = rw state stop.machine;
       told = rw (state, written, append_assoc (replies so.done old) (replies stop.done mid) part)
-        (Appends-trans before between now (replies so.done old) (replies stop.done mid ++ part) so.told stop.told);
+          (Appends-trans before between now (replies so.done old) (replies stop.done mid ++ part) so.told stop.told);
     }
 
 -- ---- one line
@@ -186,6 +176,6 @@ take-StopsIn old new before now bytes stop =
     let part = min stop.part (length last) in
     let all : replies (lines_of bytes) old ≡ first ++ last ++ rest = rw (stop.all, replies-append (stop.done ++ stop.last) stop.more old, replies-append stop.done stop.last old) refl in
     let cut : take (length first + part) (first ++ last ++ rest) ≡ first ++ take stop.part last =
-      ap (take (length first + part)) (append_assoc first last rest) ∙ take-append-add first (last ++ rest) part
-      ∙ ap (λ xs. first ++ xs) (take-append-le part last rest (omega arith) ∙ take_min stop.part last) in
+    ap (take (length first + part)) (append_assoc first last rest) ∙ take-append-add first (last ++ rest) part
+    ∙ ap (λ xs. first ++ xs) (take-append-le part last rest (omega arith) ∙ take_min stop.part last) in
     (length first + part, rw (all, cut) stop.told)

@@ -7,7 +7,7 @@ use Rattle.st_control.specs.Machine.{Machine}
 use Rattle.st_control.specs.States.{StateView, undone}
 use Rattle.st_control.specs.declared.record.Record.{Record}
 use Rattle.st_control.specs.declared.refusal.Refusal.{Refusal}
-use Rattle.st_session.specs.Replies.{Turn, result_text, stepped}
+use Rattle.st_session.specs.Replies.{result_text, stepped}
 
 -- the turn of a command, from what the controller's call answers
 pub stepped-reply : {A : Type 0} (next : Result Machine ℕ) (old new : ControllerView) (result : Result A Refusal) → Takes next old result new → (stepped (machine_of old) next).reply ≡ result_text result
@@ -19,10 +19,6 @@ pub stepped-refused : {A : Type 0} (next : Result Machine ℕ) (old new : Contro
 stepped-refused (Ok next) old new (Ok done) takes = refl
 stepped-refused (Ok next) old new (Err refusal) takes = let ok = takes.0 in cc ok
 stepped-refused (Err number) old new result takes = sym (ap is_err takes.0)
-
-pub stepped-machine : {A : Type 0} (next : Result Machine ℕ) (old new : ControllerView) (result : Result A Refusal) → Takes next old result new → (stepped (machine_of old) next).machine ≡ machine_of new
-stepped-machine (Ok next) old new result takes = sym takes.1
-stepped-machine (Err number) old new result takes = sym (ap machine_of takes.1)
 
 length-states_before : (s : StateView) (records : List Record) → length (states_before s records) ≡ length records
 length-states_before s [] = refl

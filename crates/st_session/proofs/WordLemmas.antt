@@ -1,10 +1,10 @@
 -- Lemmas on the words of a line.
 use Rattle.std.proofs.Common.{◌≡◌, ℕ, ◌+◌, ◌<◌, Bool, true, false, List, [], ◌∷◌, length, take, drop, min, refl, sym, ap, ◌∙◌, arith, suc}
-use Rattle.std.specs.Prelude.{not, filter, ◌==◌, cond}
-use Rattle.std.specs.List.{slice_split, prefix_len, position_or_len, onto_first}
+use Rattle.std.specs.Prelude.{filter, cond}
+use Rattle.std.specs.List.{slice_split, prefix_len, position_or_len}
 use Rattle.std.proofs.lemmas.Grind.{common_steps}
 use Rattle.std.proofs.lemmas.List.{length-take}
-use Rattle.std.proofs.lemmas.List.Splits.{slice_split-cons_yes, slice_split-cons_no}
+use Rattle.std.proofs.lemmas.List.Splits.{slice_split-cons_yes}
 use Rattle.st_session.specs.Words.{HasNoBlankFirst, is_blank, has_bytes, words_of}
 
 -- the blanks at the front

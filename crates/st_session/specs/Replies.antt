@@ -8,7 +8,6 @@ use Rattle.st_control.specs.Machine.{Command as Do}
 use Rattle.st_control.specs.States.{StateView, leaf_of}
 use Rattle.st_control.specs.declared.refusal.Refusal.{Refusal}
 use Rattle.st_control.specs.declared.refusal.Refusal.TheVariants.{S, C, O, M}
-use Rattle.st_control.specs.declared.state.RunFault.{RunFault}
 use Rattle.st_control.specs.declared.state.RunFaultKind.{RunFaultKind}
 use Rattle.st_control.specs.declared.state.RunFaultKind.TheVariants.{StepLimit, ZeroDivisor, IndexOutOfRange}
 use Rattle.st_control.specs.declared.state.Status.{Status}

@@ -1,5 +1,5 @@
 -- What the lines of a session ask for.
-use Rattle.std.specs.Prelude.{ℕ, Bool, List, [], ◌∷◌, if◌then◌else◌, codes}
+use Rattle.std.specs.Prelude.{ℕ, List, [], ◌∷◌, if◌then◌else◌, codes}
 use Rattle.std.specs.Str.{bytes_eq}
 use Rattle.st_session.specs.declared.request.Request.{Request as Read}
 use Rattle.st_session.specs.declared.request.Request.TheVariants as R

@@ -1,5 +1,5 @@
 -- What a session does.
-use Rattle.std.specs.Prelude.{◌≡◌, ◌≤◌, ℕ, ◌||◌, Bool, false, List, [], ◌∷◌, ◌++◌, length, take, Option, Some, None}
+use Rattle.std.specs.Prelude.{◌≡◌, ◌≤◌, ℕ, Bool, false, List, [], ◌++◌, length, take, Option, Some, None}
 use Rattle.std.specs.Io.KnownBytes.{Appends}
 use Rattle.st_control.specs.Machine.{Machine}
 use Rattle.st_session.specs.Lines.{Line, lines_of, whole_lines_of}

@@ -12,8 +12,11 @@ mod request;
 mod run;
 mod streams;
 
-pub use engine::{Outcome, session};
 pub use devices::{DeviceFault, Sink, Source};
-pub use run::{ACCEPTED, DEVICE_FAILED, LINE_REFUSED, NO_MEMORY, NO_PROGRAM, run_text};
+pub use engine::{Outcome, session};
 pub use memory_devices::{Bytes, Sheet};
+pub use run::{ACCEPTED, DEVICE_FAILED, LINE_REFUSED, NO_MEMORY, NO_PROGRAM, run_text};
 pub use streams::{FromReader, ToWriter};
+
+#[cfg(test)]
+mod tests;

@@ -1,8 +1,11 @@
 //! Running a program's text: it is loaded, and a session's lines are answered.
-ghost use Rattle.std.specs.Prelude.{◌≡◌, ◌≢◌, ◌⊎◌, ◌↔◌, ◌||◌, false, Err, IsTrue};
-ghost use Rattle.st_control.specs.Controllers.{machine_of};
+ghost use Rattle.std.specs.Prelude.{◌≡◌, ◌≢◌, ◌⊎◌, ◌↔◌, ◌||◌, ℕ, [], false, true, Err, Ok, IfSome, IsTrue, codes, take};
+ghost use Rattle.std.specs.Io.KnownBytes.{Appends};
 ghost use Rattle.st_control.specs.declared.refusal.Refusal.TheVariants.{M};
-ghost use Rattle.st_session.specs.Runs.{Refuses, Runs, RunsFrom, Serves, Tells, refusal_status};
+ghost use Rattle.st_session.specs.Lines.{lines_of};
+ghost use Rattle.st_session.specs.Pending.{OnKnown};
+ghost use Rattle.st_session.specs.Replies.{ended};
+ghost use Rattle.st_session.specs.Runs.{OfLoad, WritesAll, WritesPart, WritesRead, refusal_status};
 
 use crate::devices::{Sink, Source};
 use crate::engine::{Outcome, session, write_all};
@@ -38,27 +41,21 @@ pub fn run_text<R: Source, W: Sink>(
 ) -> u8
     requires source { R.has_failed source.old ≡ false }
     requires sink { W.has_failed sink.old ≡ false }
-    ensures ran { Runs text.now main.now steps (R.has_failed source.new) (W.has_failed sink.new) result
-        (R.rest source.old) (R.rest source.new) (W.taken sink.old) (W.taken sink.new) }
-    ensures failed { IsTrue (R.has_failed source.new || W.has_failed sink.new) ↔ (result ≡ DEVICE_FAILED) }
-{
-    run_loaded(alloc, Controller::load(alloc, text, main, steps), source, sink)
-}
 
-/// Runs a session over what was loaded, or writes why nothing was, and answers the status.
-fn run_loaded<R: Source, W: Sink>(
-    alloc: Global,
-    loaded: Result<Controller<Cells>, Refusal>,
-    source: &mut R,
-    sink: &mut W,
-) -> u8
-    requires source { R.has_failed source.old ≡ false }
-    requires sink { W.has_failed sink.old ≡ false }
-    ensures ran { RunsFrom loaded (R.has_failed source.new) (W.has_failed sink.new) result (R.rest source.old) (R.rest source.new) (W.taken sink.old) (W.taken sink.new)
-        ⊎ RunsFrom (Err M) (R.has_failed source.new) (W.has_failed sink.new) result (R.rest source.old) (R.rest source.new) (W.taken sink.old) (W.taken sink.new) }
+    // The replies to all lines are written, or the refusal of the load.
+    ensures all { result ≢ DEVICE_FAILED → result ≢ NO_MEMORY → IfSome (R.rest source.old) (λ bytes.
+        OfLoad text.now main.now steps (WritesAll (lines_of bytes) result (W.taken sink.old) (W.taken sink.new))) }
+    ensures memory { result ≡ NO_MEMORY → Appends (W.taken sink.old) (W.taken sink.new) []
+        ⊎ Appends (W.taken sink.old) (W.taken sink.new) (ended (codes "refused M")) }
+
+    // A device has failed, and the run ended there. Of the lines that were read whole none is lost.
+    ensures part { result ≡ DEVICE_FAILED → IfSome (R.rest source.old) (λ bytes.
+        OfLoad text.now main.now steps (WritesPart (lines_of bytes) (W.taken sink.old) (W.taken sink.new))) }
+    ensures read { R.has_failed source.new ≡ true → OnKnown (R.rest source.old) (R.rest source.new) (λ bytes rest.
+        OfLoad text.now main.now steps (WritesRead bytes rest (W.taken sink.old) (W.taken sink.new))) }
     ensures failed { IsTrue (R.has_failed source.new || W.has_failed sink.new) ↔ (result ≡ DEVICE_FAILED) }
 {
-    match loaded {
+    match Controller::load(alloc, text, main, steps) {
         Ok(mut controller) => serve(alloc, &mut controller, source, sink),
         Err(refusal) => refuse(alloc, refusal, sink),
     }
@@ -73,8 +70,13 @@ fn serve<R: Source, W: Sink>(
 ) -> u8
     requires source { R.has_failed source.old ≡ false }
     requires sink { W.has_failed sink.old ≡ false }
-    ensures served { Serves (machine_of controller.old) (R.has_failed source.new) (W.has_failed sink.new) result
-        (R.rest source.old) (R.rest source.new) (W.taken sink.old) (W.taken sink.new) }
+    ensures all { result ≢ DEVICE_FAILED → result ≢ NO_MEMORY → IfSome (R.rest source.old) (λ bytes.
+        WritesAll (lines_of bytes) result (W.taken sink.old) (W.taken sink.new) (Ok controller.old)) }
+    ensures memory { result ≡ NO_MEMORY → Appends (W.taken sink.old) (W.taken sink.new) [] }
+    ensures part { result ≡ DEVICE_FAILED → IfSome (R.rest source.old) (λ bytes.
+        WritesPart (lines_of bytes) (W.taken sink.old) (W.taken sink.new) (Ok controller.old)) }
+    ensures read { R.has_failed source.new ≡ true → OnKnown (R.rest source.old) (R.rest source.new) (λ bytes rest.
+        WritesRead bytes rest (W.taken sink.old) (W.taken sink.new) (Ok controller.old)) }
     ensures failed { IsTrue (R.has_failed source.new || W.has_failed sink.new) ↔ (result ≡ DEVICE_FAILED) }
 {
     match session(alloc, controller, source, sink) {
@@ -88,8 +90,10 @@ fn serve<R: Source, W: Sink>(
 /// Writes a refusal, and answers its status. Where there is no memory for its text, that is what is refused.
 fn refuse<W: Sink>(alloc: Global, refusal: Refusal, sink: &mut W) -> u8
     requires { W.has_failed sink.old ≡ false }
-    ensures refused { Refuses (W.has_failed sink.new) refusal result (W.taken sink.old) (W.taken sink.new)
-        ⊎ Refuses (W.has_failed sink.new) M result (W.taken sink.old) (W.taken sink.new) }
+    ensures all { result ≢ DEVICE_FAILED → result ≢ NO_MEMORY → WritesAll [] result (W.taken sink.old) (W.taken sink.new) (Err refusal) }
+    ensures memory { result ≡ NO_MEMORY → Appends (W.taken sink.old) (W.taken sink.new) (ended (codes "refused M")) }
+    ensures part { result ≡ DEVICE_FAILED → WritesPart [] (W.taken sink.old) (W.taken sink.new) (Err refusal)
+        ⊎ WritesPart [] (W.taken sink.old) (W.taken sink.new) (Err M) }
     ensures failed { IsTrue (W.has_failed sink.new) ↔ (result ≡ DEVICE_FAILED) }
 {
     match Reply::new(alloc) {
@@ -115,7 +119,8 @@ fn status_of(refusal: Refusal) -> u8
 fn tell<W: Sink>(sink: &mut W, text: &[u8], status: u8) -> u8
     requires works { W.has_failed sink.old ≡ false }
     requires other { status ≢ DEVICE_FAILED }
-    ensures told { Tells (W.has_failed sink.new) text.now status result (W.taken sink.old) (W.taken sink.new) }
+    ensures all { result ≢ DEVICE_FAILED → (result ≡ status) × Appends (W.taken sink.old) (W.taken sink.new) text.now }
+    ensures part { result ≡ DEVICE_FAILED → (count : ℕ) × Appends (W.taken sink.old) (W.taken sink.new) (take count text.now) }
     ensures failed { IsTrue (W.has_failed sink.new) ↔ (result ≡ DEVICE_FAILED) }
 {
     match write_all(sink, text) {

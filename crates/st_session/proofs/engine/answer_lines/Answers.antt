@@ -1,4 +1,4 @@
-use Rattle.std.proofs.Common.{◌≡◌, true, false, refl}
+use Rattle.std.proofs.Common.{false}
 use Rattle.std.specs.Prelude.{Some, ◌||◌}
 use Rattle.st_control.specs.Controllers.{machine_of}
 use Rattle.st_session.specs.Inputs.{pending}
@@ -31,8 +31,8 @@ returns-in_err-is_refused-clause-err g c =
     let now = g.W.Sink.taken c.turn.new.sink in
     let refused = c.loop-is_refused.refused in
     OnErr-from c.from_residual.result (OnKnown-IfSome first before (SoFar at_end old mid told between refused) (StopsIn mid new between now) (StopsIn old new told now)
-      (λ x y so stop. StopsIn-SoFar at_end old mid new told between now refused x y so stop)
-      c.loop-is_refused.invariant.so_far c.in_err-is_refused.ensures.err)
+    (λ x y so stop. StopsIn-SoFar at_end old mid new told between now refused x y so stop)
+    c.loop-is_refused.invariant.so_far c.in_err-is_refused.ensures.err)
 
 pub returns-in_err-is_refused-clause-read : goal.returns-in_err-is_refused-clause-read
 returns-in_err-is_refused-clause-read g c =
@@ -48,8 +48,8 @@ returns-in_err-is_refused-clause-read g c =
     let now = g.W.Sink.taken c.turn.new.sink in
     let refused = c.loop-is_refused.refused in
     λ failed. OnKnown-trans first before after (SoFar at_end old mid told between refused) (LosesPart at_end mid new between now) (AnswersRead old new told now)
-      (λ x y z so lost. AnswersRead-SoFar at_end old mid new told between now refused x y z so lost)
-      c.loop-is_refused.invariant.so_far (c.turn.ensures.read failed)
+    (λ x y z so lost. AnswersRead-SoFar at_end old mid new told between now refused x y z so lost)
+    c.loop-is_refused.invariant.so_far (c.turn.ensures.read failed)
 
 pub loop-is_refused-preserved : goal.loop-is_refused-preserved
 loop-is_refused-preserved g c =
@@ -69,8 +69,8 @@ loop-is_refused-preserved g c =
     let turns = TurnsOver-same c.in_ok-is_refused.field-0 (Some is_refused) at_end before after mid new between now c.in_ok-is_refused.ensures.ok c.in-Some.is in
     record {
       so_far = OnKnown-trans first before after (SoFar was_end old mid told between refused) (TurnsOver (Some is_refused) at_end mid new between now) (SoFar at_end old new told now (refused || is_refused))
-        (λ x y z so next. SoFar-more was_end at_end old mid new told between now refused is_refused x y z (not_ended_before was_end at_end c.turn.ensures.ended) so next)
-        c.loop-is_refused.invariant.so_far turns;
+          (λ x y z so next. SoFar-more was_end at_end old mid new told between now refused is_refused x y z (not_ended_before was_end at_end c.turn.ensures.ended) so next)
+          c.loop-is_refused.invariant.so_far turns;
       source = c.in_ok-is_refused.ensures.source;
       sink = c.in_ok-is_refused.ensures.sink;
     }

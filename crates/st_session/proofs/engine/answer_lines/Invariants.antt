@@ -1,4 +1,4 @@
-use Rattle.std.proofs.Common.{◌≡◌, true, false}
+use Rattle.std.proofs.Common.{◌≡◌, false}
 use Rattle.st_control.specs.Controllers.{machine_of}
 use Rattle.st_session.specs.Inputs.{pending, left}
 use Rattle.st_session.specs.Pending.{OnKnown}

@@ -1,4 +1,4 @@
-use Rattle.std.proofs.Common.{◌≡◌, refl, ◌∙◌}
+use Rattle.std.proofs.Common.{refl, ◌∙◌}
 use Rattle.st_session.proofs.StepLemmas.{history_length}
 use Rattle.st_session.proofs.engine.report.Goals as goal
 

@@ -1,4 +1,4 @@
-use Rattle.std.proofs.Common.{◌≡◌, refl, sym, ◌∙◌, ap}
+use Rattle.std.proofs.Common.{refl, ◌∙◌, ap}
 use Rattle.std.specs.Prelude.{Some, None}
 use Rattle.st_control.specs.Controllers.{machine_of}
 use Rattle.st_session.specs.Inputs.{pending}

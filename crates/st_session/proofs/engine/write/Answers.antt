@@ -1,4 +1,4 @@
-use Rattle.std.proofs.Common.{◌≡◌, sym, ◌∙◌}
+use Rattle.std.proofs.Common.{sym, ◌∙◌}
 use Rattle.st_control.specs.Controllers.{machine_of}
 use Rattle.st_control.specs.Machine.{Command as Do, step}
 use Rattle.st_session.specs.Replies.{value_given}

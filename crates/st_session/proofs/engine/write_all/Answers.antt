@@ -1,4 +1,4 @@
-use Rattle.std.proofs.Common.{◌≡◌, ◌+◌, ◌-◌, length, take, drop, arith, length-drop}
+use Rattle.std.proofs.Common.{◌≡◌, ◌-◌, length, take, drop, arith, length-drop}
 use Rattle.std.proofs.KnownBytes.{Appends-trans}
 use Rattle.std.proofs.Math.Seq.{take-add}
 use Rattle.std.proofs.lemmas.Grind.{common_steps}
@@ -13,6 +13,6 @@ loop-at-preserved g c =
     record {
       within = omega (arith, bound, length-drop at bytes, c.loop-at-test.true);
       told = rw (take-add at c.in_ok-at.field-0 bytes) (Appends-trans (g.W.Sink.taken c.args.sink.now) (g.W.Sink.taken c.loop-at.sink) (g.W.Sink.taken c.write_some.new.self)
-        (take at bytes) (take c.in_ok-at.field-0 (drop at bytes)) c.loop-at.invariant.told (rw whole at c.in_ok-at.ensures.bytes));
+          (take at bytes) (take c.in_ok-at.field-0 (drop at bytes)) c.loop-at.invariant.told (rw whole at c.in_ok-at.ensures.bytes));
       works = c.in_ok-at.ensures.failed;
     }
