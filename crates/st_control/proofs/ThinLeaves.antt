@@ -31,7 +31,7 @@ value_of-fits elem number value reads = by_range (in_range elem number) refl rea
   by_range false fits is_value = absurd (cc)
 
 initial_of-fits : (elem : Elem) (literal : Option (List ℕ)) (value : Value) → initial_of elem literal ≡ Some value → IsValue value
-unfolding initial_of
+unfolding initial_of reads
 initial_of-fits elem None value is_value = let same : record { elem = elem; bits = pos 0 } ≡ value = cc in subst IsValue same (zero_fits elem)
 initial_of-fits elem (Some literal) value is_value = by_number (number_in (class_of elem) elem literal) is_value where
   by_number : (number : Option ℤ) → option_and_then (value_of elem) number ≡ Some value → IsValue value

@@ -41,6 +41,6 @@ pub(crate) fn read_thin(alloc: Global, text: &[u8], main: &[u8]) -> Result<List<
 }
 
 /// A text is the program of a name with one list of leaves at most. A law, with nothing to run.
-pub(crate) fn texts_give_one_list()
+pub fn texts_give_one_list()
     ensures { TextsGiveOneList }
 {}

@@ -77,6 +77,7 @@ impl Layout {
     pub fn at(&self, leaf: u32) -> &Leaf
         requires { leaf < length self.now }
         ensures value { result.now ≡ leaf_at self.now leaf }
+        ensures short { length result.now.shown ≤ 255 }
         ensures initial { IsValueOf result.now result.now.initial }
     {
         &self.leaves[leaf as usize]

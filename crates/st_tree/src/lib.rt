@@ -9,13 +9,16 @@ mod name;
 mod number;
 mod put;
 mod read;
+#[cfg(test)]
+mod tests;
 mod value;
 mod word;
 
+pub use duration::interval_is_its_parts;
 pub use elem::{Class, Elem};
 pub use leaf::{Leaf, Role};
 pub use list::List;
 pub use name::Name;
 pub use put::put_value;
-pub use read::{BadValue, read_value};
-pub use value::{Value, is_value};
+pub use read::{BadValue, read_value, text_is_read_back};
+pub use value::{Value, is_value, wrap};
