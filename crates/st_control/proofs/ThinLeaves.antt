@@ -23,6 +23,7 @@ zero_fits : (elem : Elem) → IsValue (record { elem = elem; bits = pos 0 })
 zero_fits E.Bool = refl
 zero_fits _ = refl
 
+-- what is read is a value
 value_of-fits : (elem : Elem) (number : ℤ) (value : Value) → value_of elem number ≡ Some value → IsValue value
 value_of-fits elem number value reads = by_range (in_range elem number) refl reads where
   by_range : (test : Bool) → in_range elem number ≡ test → cond test (Some (record { elem = elem; bits = number })) None ≡ Some value → IsValue value
@@ -46,13 +47,15 @@ each_leaf program P holds (declaration ∷ declarations) [] gives = absurd (cc)
 each_leaf program P holds (declaration ∷ declarations) (leaf ∷ leaves) gives =
     All-cons P leaf leaves (holds declaration leaf (cc)) (each_leaf program P holds declarations leaves (cc))
 
+-- a leaf is shown as its path, in upper case
 leaf_of-shown : (program : List ℕ) (declaration : Declaration) (leaf : Leaf) → leaf_of program declaration ≡ Some leaf → leaf.path ≡ raised leaf.shown
 leaf_of-shown program declaration leaf gives =
-    let so = leaf_of-parts program declaration leaf gives in subst (λ it. it.path ≡ raised it.shown) so.is_found refl
+    let so = leaf_of-parts program declaration gives in subst (λ it. it.path ≡ raised it.shown) so.is_found refl
 
+-- a leaf begins with a value of its type
 leaf_of-initial : (program : List ℕ) (declaration : Declaration) (leaf : Leaf) → leaf_of program declaration ≡ Some leaf → IsValueOf leaf leaf.initial
 leaf_of-initial program declaration leaf gives =
-    let so = leaf_of-parts program declaration leaf gives in
+    let so = leaf_of-parts program declaration gives in
     subst (λ it. IsValueOf it it.initial) so.is_found (record { elem = refl; in_range = initial_of-fits so.elem declaration.initial so.value so.is_value })
 
 pub IsSound-of : (text main : List ℕ) (leaves : List Leaf) → IsProgram text main leaves → IsSound leaves

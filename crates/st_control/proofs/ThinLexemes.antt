@@ -4,12 +4,14 @@ use Rattle.std.proofs.lemmas.Bool.Decides.{nat_tests}
 use Rattle.std.specs.List.{prefix_len, starts_with}
 use Rattle.st_control.specs.ThinTexts.{begins_with, goes_on, is_blank, is_word_byte, lexemes, onto_first}
 
+-- a text without bytes has no lexeme
 pub no_lexeme : (text : List ℕ) → length text ≡ 0 → lexemes text ≡ []
 unfolding lexemes
 no_lexeme [] empty = refl
 no_lexeme (c ∷ text) empty = absurd (omega arith)
 
-pub lexemes-blank : (c : ℕ) (text : List ℕ) → is_blank c ≡ true → lexemes (c ∷ text) ≡ lexemes text
+-- a blank gives no lexeme
+lexemes-blank : (c : ℕ) (text : List ℕ) → is_blank c ≡ true → lexemes (c ∷ text) ≡ lexemes text
 unfolding lexemes
 lexemes-blank c text blank = rw blank refl
 
@@ -18,10 +20,12 @@ lexemes-apart : (c : ℕ) (text : List ℕ) → is_blank c ≡ false → goes_on
 unfolding lexemes
 lexemes-apart c text no_blank apart = rw (no_blank, apart) refl
 
+-- a byte that goes on with the next
 lexemes-joined : (c : ℕ) (text : List ℕ) → is_blank c ≡ false → goes_on c text ≡ true → lexemes (c ∷ text) ≡ onto_first c (lexemes text)
 unfolding lexemes
 lexemes-joined c text no_blank joined = rw (no_blank, joined) refl
 
+-- nothing goes on with a `=`
 equals_sign : (text : List ℕ) → goes_on 61 text ≡ false
 equals_sign [] = refl
 equals_sign (c ∷ text) = refl
@@ -29,18 +33,22 @@ equals_sign (c ∷ text) = refl
 word_not_blank : (c : ℕ) → is_word_byte c ≡ true → is_blank c ≡ false
 word_not_blank c word = grind (arith, nat_tests)
 
-pub by_test : {P : Type 0} (test : Bool) → (test ≡ true → P) → (test ≡ false → P) → P
+-- by a test, with how it went
+by_test : {P : Type 0} (test : Bool) → (test ≡ true → P) → (test ≡ false → P) → P
 by_test true holds fails = holds refl
 by_test false holds fails = fails refl
 
+-- two bytes of words stand in one lexeme
 goes_on-words : (c x : ℕ) (text : List ℕ) → is_word_byte c ≡ true → is_word_byte x ≡ true → goes_on c (x ∷ text) ≡ true
 goes_on-words c x text first next = rw (first, next) refl
 
+-- a byte of a word and another one don't
 goes_on-end : (c x : ℕ) (text : List ℕ) → is_word_byte c ≡ true → is_word_byte x ≡ false → goes_on c (x ∷ text) ≡ false
 goes_on-end c x text first next =
     let no_colon : (c == 58) ≡ false = grind (arith, nat_tests) in
     rw (first, next, no_colon) refl
 
+-- one more byte that passes, and the end of those
 prefix_len-more : (test : ℕ → Bool) (c : ℕ) (text : List ℕ) → test c ≡ true → prefix_len test (c ∷ text) ≡ suc (prefix_len test text)
 prefix_len-more test c text passes = rw passes (omega arith)
 
@@ -52,8 +60,10 @@ lexemes-run : (c : ℕ) (text : List ℕ) → is_word_byte c ≡ true
     → lexemes (c ∷ text) ≡ (c ∷ take (prefix_len is_word_byte text) text) ∷ lexemes (drop (prefix_len is_word_byte text) text)
 lexemes-run c [] first = lexemes-apart c [] (word_not_blank c first) refl
 lexemes-run c (x ∷ text) first = by_test (is_word_byte x)
-    (λ next. rw (prefix_len-more is_word_byte x text next) (lexemes-joined c (x ∷ text) (word_not_blank c first) (goes_on-words c x text first next) ∙ ap (onto_first c) (lexemes-run x text next)))
-    (λ next. rw (prefix_len-end is_word_byte x text next) (lexemes-apart c (x ∷ text) (word_not_blank c first) (goes_on-end c x text first next)))
+    (λ next. rw (prefix_len-more is_word_byte x text next)
+    (lexemes-joined c (x ∷ text) (word_not_blank c first) (goes_on-words c x text first next) ∙ ap (onto_first c) (lexemes-run x text next)))
+    (λ next. rw (prefix_len-end is_word_byte x text next)
+    (lexemes-apart c (x ∷ text) (word_not_blank c first) (goes_on-end c x text first next)))
 
 -- a text that begins with a word or a number
 pub lexemes-word : (text : List ℕ) → is_word_byte (get_or text 0 0) ≡ true
@@ -70,7 +80,7 @@ lexemes-assign (c ∷ d ∷ text) starts =
     let equals : d ≡ 61 = grind (arith, nat_tests) in
     rw (colon, equals) (lexemes-joined 58 (61 ∷ text) refl refl ∙ ap (onto_first 58) (lexemes-apart 61 text refl (equals_sign text)))
 
--- another text
+-- a text that begins with a byte of its own
 pub lexemes-single : (text : List ℕ) → 0 < length text → begins_with is_blank text ≡ false → is_word_byte (get_or text 0 0) ≡ false
     → starts_with nat_eq text (codes ":=") ≡ false → lexemes text ≡ take 1 text ∷ lexemes (drop 1 text)
 lexemes-single [] some no_blank first starts = absurd (omega arith)
@@ -85,6 +95,7 @@ lexemes-blanks (c ∷ text) = by_test (is_blank c)
     (λ blank. rw (prefix_len-more is_blank c text blank) (lexemes-blanks text ∙ sym (lexemes-blank c text blank)))
     (λ other. rw (prefix_len-end is_blank c text other) refl)
 
+-- behind the blanks is none
 pub first-blanks : (text : List ℕ) → begins_with is_blank (drop (prefix_len is_blank text) text) ≡ false
 first-blanks [] = refl
 first-blanks (c ∷ text) = by_test (is_blank c)

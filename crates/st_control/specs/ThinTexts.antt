@@ -118,7 +118,7 @@ leaf program name value =
 abbrev pub leaf_of : List ℕ → Declaration → Option Leaf
 leaf_of program declaration =
     option_map (leaf program declaration.name)
-        (option_and_then (λ elem. initial_of elem declaration.initial) (type_of declaration.type_name))
+    (option_and_then (λ elem. initial_of elem declaration.initial) (type_of declaration.type_name))
 
 -- The declarations give these leaves, in order. Each has a name, and no two have one path, so no name stands twice in any case.
 pub record Declares (program : List ℕ) (declarations : List Declaration) (leaves : List Leaf) : Type 0 where
