@@ -95,9 +95,15 @@ fn only_leaf(alloc: Global, elem: Elem) -> Result<List<Leaf>, AllocError>
 {
     let mut items = Vec::new(alloc);
     items.push(Leaf {
-        path: List { items: Vec::from_slice(alloc, b"MAIN.V")? },
-        shown: List { items: Vec::from_slice(alloc, b"Main.V")? },
-        spine: List { items: Vec::new(alloc) },
+        path: List {
+            items: Vec::from_slice(alloc, b"MAIN.V")?,
+        },
+        shown: List {
+            items: Vec::from_slice(alloc, b"Main.V")?,
+        },
+        spine: List {
+            items: Vec::new(alloc),
+        },
         elem,
         initial: Value { elem, bits: 0 },
         role: Role::Plain,
