@@ -1,3 +1,4 @@
 pub mod Name
 pub mod Types
 pub mod Values
+pub mod formers
