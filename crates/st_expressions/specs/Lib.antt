@@ -1,0 +1,5 @@
+pub mod Grammar
+pub mod Levels
+pub mod Parsers
+pub mod Reading
+pub mod Tokens
