@@ -6,3 +6,4 @@ pub mod Texts
 pub mod Types
 pub mod Values
 pub mod Words
+pub mod formers

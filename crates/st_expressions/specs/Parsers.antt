@@ -1,0 +1,139 @@
+-- Parsers: what is read from the first of some tokens on, or why nothing is.
+use Rattle.std.specs.Prelude.{◌≡◌, ℕ, zero, suc, Bool, true, false, if◌then◌else◌, List, [], ◌∷◌, length, Option, Some, None, Result, Ok, Err}
+use Rattle.st_tokens.specs.declared.fault.SyntaxFault.{SyntaxFault}
+use Rattle.st_tokens.specs.declared.fault.SyntaxFault.TheVariants as fault
+use Rattle.st_tokens.specs.declared.keyword.Keyword.{Keyword}
+use Rattle.st_tokens.specs.declared.symbol.Symbol.{Symbol}
+use Rattle.st_tokens.specs.declared.symbol.Symbol.TheVariants as s
+use Rattle.st_tokens.specs.declared.token.Kind.{Kind}
+use Rattle.st_tokens.specs.declared.token.Kind.TheVariants as k
+use Rattle.st_tree.specs.declared.tree.place.Place.{Place}
+use Rattle.st_tree.specs.declared.tree.place.Identifier.{Identifier}
+use Rattle.st_expressions.specs.Tokens.{Tok, kind, place, next, same_symbol, same_keyword}
+
+-- not in the grammar, or too deep
+pub data Refusal : Type 0 where
+  Wrong : Refusal
+  Deep : Refusal
+
+-- what was read, and the tokens behind it
+abbrev pub Outcome : Type 0 → Type 0
+Outcome A = Result (A × List Tok) Refusal
+
+abbrev pub Parser : Type 0 → Type 0
+Parser A = List Tok → Outcome A
+
+abbrev pub and_then : {A B : Type 0} → Outcome A → (A → Parser B) → Outcome B
+and_then (Ok x) f = f x.0 x.1
+and_then (Err r) f = Err r
+
+infixl 10 ◌>>=◌
+abbrev pub ◌>>=◌ : {A B : Type 0} → Parser A → (A → Parser B) → Parser B
+p >>= f = λ ts. and_then (p ts) f
+
+infixl 10 ◌>>◌
+abbrev pub ◌>>◌ : {A B : Type 0} → Parser A → Parser B → Parser B
+p >> q = p >>= (λ _. q)
+
+abbrev pub pure : {A : Type 0} → A → Parser A
+pure a = λ ts. Ok (a, ts)
+
+abbrev pub refuse : {A : Type 0} → Parser A
+refuse = λ ts. Err Wrong
+
+-- the first token's place, and the tokens behind it
+abbrev pub skip : Parser Place
+skip = λ ts. Ok (place ts, next ts)
+
+-- what the first token is
+abbrev pub peek : Parser (Option Kind)
+peek = λ ts. Ok (kind ts, ts)
+
+-- what the second token is
+abbrev pub peek_second : Parser (Option Kind)
+peek_second = λ ts. Ok (kind (next ts), ts)
+
+-- where the first token stands
+abbrev pub here : Parser Place
+here = λ ts. Ok (place ts, ts)
+
+-- ---- single tokens
+
+abbrev pub is_symbol : Symbol → Option Kind → Bool
+is_symbol x (Some (k.Symbol y)) = same_symbol x y
+is_symbol x _ = false
+
+abbrev pub is_keyword : Keyword → Option Kind → Bool
+is_keyword x (Some (k.Keyword y)) = same_keyword x y
+is_keyword x _ = false
+
+-- takes a token that passes the test
+unfoldable pub expect : (Option Kind → Bool) → Parser Place
+expect test = λ ts. if test (kind ts) then skip ts else Err Wrong
+
+abbrev pub symbol : Symbol → Parser Place
+symbol x = expect (is_symbol x)
+
+abbrev pub keyword : Keyword → Parser Place
+keyword x = expect (is_keyword x)
+
+-- takes a token that opens a level, where one more may be open
+unfoldable pub enter : ℕ → Parser Place
+enter zero = λ ts. Err Deep
+enter (suc room) = skip
+
+abbrev pub identifier : Place → List ℕ → Identifier
+identifier p w = record { place = p; spelling = w }
+
+abbrev pub word_by : Option Kind → Parser Identifier
+word_by (Some (k.Word w)) = λ ts. Ok (identifier (place ts) w, next ts)
+word_by _ = refuse
+
+-- a word
+unfoldable pub word : Parser Identifier
+word = λ ts. word_by (kind ts) ts
+
+abbrev pub number_by : Option Kind → Parser ℕ
+number_by (Some (k.Number n)) = λ ts. Ok (n, next ts)
+number_by _ = refuse
+
+-- a number
+unfoldable pub number : Parser ℕ
+number = λ ts. number_by (kind ts) ts
+
+-- ---- lists, whose turns are bounded by the count of tokens
+
+unfoldable pub many_from : {A : Type 0} → (Option Kind → Bool) → Parser A → ℕ → Parser (List A)
+many_from test item zero = refuse
+many_from test item (suc n) = λ ts. if test (kind ts) then (do x ← item; xs ← many_from test item n; pure (x ∷ xs)) ts else Ok ([], ts)
+
+-- { item }, as long as the first token passes the test
+unfoldable pub many : {A : Type 0} → (Option Kind → Bool) → Parser A → Parser (List A)
+many test item = λ ts. many_from test item (suc (length ts)) ts
+
+abbrev pub is_comma : Option Kind → Bool
+is_comma (Some (k.Symbol s.Comma)) = true
+is_comma _ = false
+
+-- ',' item
+unfoldable pub next_item : {A : Type 0} → Parser A → Parser A
+next_item item = skip >> item
+
+-- item { ',' item }
+unfoldable pub listed : {A : Type 0} → Parser A → Parser (List A)
+listed item = do
+  x ← item
+  xs ← many is_comma (next_item item)
+  pure (x ∷ xs)
+
+-- ---- what a function that reads ensures: the outcome, unless memory runs out
+
+abbrev pub Refuses : {A : Type 0} → Outcome A → SyntaxFault → Type 0
+Refuses o fault.Memory = Unit {0}
+Refuses o (fault.NotInGrammar line) = o ≡ Err Wrong
+Refuses o (fault.TooDeep line) = o ≡ Err Deep
+Refuses o _ = ⊥
+
+abbrev pub Reads : {A : Type 0} → Outcome A → Result A SyntaxFault → List Tok → Type 0
+Reads o (Ok a) new = o ≡ Ok (a, new)
+Reads o (Err f) new = Refuses o f

@@ -1,0 +1,42 @@
+-- The tokens of a text with their numbers.
+use denote.Enum.Bare.{sameb}
+use Rattle.std.specs.Prelude.{ℕ, suc, Bool, List, [], ◌∷◌, Option, Some, None}
+use Rattle.st_tokens.specs.contracts.keyword.Keyword as keyword
+use Rattle.st_tokens.specs.contracts.symbol.Symbol as symbol
+use Rattle.st_tokens.specs.declared.keyword.Keyword.{Keyword}
+use Rattle.st_tokens.specs.declared.symbol.Symbol.{Symbol}
+use Rattle.st_tokens.specs.declared.token.Kind.{Kind}
+use Rattle.st_tokens.specs.declared.token.Token.{Token}
+use Rattle.st_tree.specs.declared.tree.place.Place.{Place}
+
+-- a token: where it stands, and what it is
+abbrev pub Tok : Type 0
+Tok = Place × Kind
+
+-- the tokens with their numbers, the first of which is this
+abbrev pub numbered : ℕ → List Token → List Tok
+numbered n [] = []
+numbered n (t ∷ ts) = (record { number = n; line = t.line }, t.kind) ∷ numbered (suc n) ts
+
+-- what the first token is
+abbrev pub kind : List Tok → Option Kind
+kind [] = None
+kind (t ∷ ts) = Some t.1
+
+-- where the first token stands
+abbrev pub place : List Tok → Place
+place [] = record { number = 0; line = 0 }
+place (t ∷ ts) = t.0
+
+-- the tokens behind the first
+abbrev pub next : List Tok → List Tok
+next [] = []
+next (t ∷ ts) = ts
+
+-- `==` on symbols
+unfoldable pub same_symbol : Symbol → Symbol → Bool
+same_symbol = sameb symbol.the_type
+
+-- `==` on reserved words
+unfoldable pub same_keyword : Keyword → Keyword → Bool
+same_keyword = sameb keyword.the_type

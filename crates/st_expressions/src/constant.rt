@@ -1,0 +1,55 @@
+//! Literals.
+ghost use Rattle.std.specs.Prelude.{◌<◌, length, OnOk};
+ghost use Rattle.st_expressions.specs.Parsers.{Reads};
+ghost use Rattle.st_expressions.specs.Reading as spec;
+
+use crate::cursor::Cursor;
+use crate::token::number;
+use st_tokens::{Keyword, Kind, Symbol, SyntaxFault};
+use st_tree::tree::{Constant, Duration, SignedInteger};
+
+/// A sign, and its number.
+#[tactic(auto, unfolding(crate::specs::Reading::signed))]
+fn signed(ts: &mut Cursor<'_>, is_negative: bool) -> Result<SignedInteger, SyntaxFault>
+    ensures read { Reads (spec.signed is_negative ts.old) result ts.new }
+    ensures shorter { OnOk result (length ts.new < length ts.old) }
+{
+    let place = ts.skip();
+    let size = number(ts)?;
+    Ok(SignedInteger { place, is_negative, size })
+}
+
+/// Takes a number with or without a sign.
+#[tactic(auto, unfolding(crate::specs::Reading::signed_integer))]
+pub fn signed_integer(ts: &mut Cursor<'_>) -> Result<SignedInteger, SyntaxFault>
+    ensures read { Reads (spec.signed_integer ts.old) result ts.new }
+    ensures shorter { OnOk result (length ts.new < length ts.old) }
+{
+    match ts.kind() {
+        Some(Kind::Number(size)) => {
+            let place = ts.skip();
+            Ok(SignedInteger { place, is_negative: false, size })
+        }
+        Some(Kind::Symbol(Symbol::Plus)) => signed(ts, false),
+        Some(Kind::Symbol(Symbol::Minus)) => signed(ts, true),
+        _ => Err(SyntaxFault::NotInGrammar { line: ts.line() }),
+    }
+}
+
+/// Takes a literal.
+#[tactic(auto, unfolding(crate::specs::Reading::constant))]
+pub fn constant(ts: &mut Cursor<'_>) -> Result<Constant, SyntaxFault>
+    ensures read { Reads (spec.constant ts.old) result ts.new }
+    ensures shorter { OnOk result (length ts.new < length ts.old) }
+{
+    match ts.kind() {
+        Some(Kind::Typed(value)) => Ok(Constant::Typed(ts.skip(), value)),
+        Some(Kind::Duration(milliseconds)) => {
+            let place = ts.skip();
+            Ok(Constant::Duration(Duration { place, milliseconds }))
+        }
+        Some(Kind::Keyword(Keyword::True)) => Ok(Constant::Truth(ts.skip(), true)),
+        Some(Kind::Keyword(Keyword::False)) => Ok(Constant::Truth(ts.skip(), false)),
+        _ => Ok(Constant::Integer(signed_integer(ts)?)),
+    }
+}

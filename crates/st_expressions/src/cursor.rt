@@ -1,0 +1,118 @@
+//! A place among the tokens of a text.
+ghost use Rattle.std.specs.Prelude.{◌≡◌, ◌<◌, ◌≤◌, ◌-◌, length, IsSome};
+ghost use Rattle.st_expressions.specs.Tokens.{numbered, kind, place, next};
+
+
+
+use st_tokens::{Kind, Spelling, Symbol, Token};
+use st_tree::tree::Place;
+use std::marker::Model;
+
+/// The tokens that are still to be read. Contracts see them with their numbers.
+#[derive(Drop)]
+pub struct Cursor<'a> {
+    rest: &'a [Token<'a>],
+    number: usize,
+    /// The line of the text's last byte.
+    last_line: u32,
+}
+
+impl<'a> Model for Cursor<'a> {
+    ghost use Rattle.std.specs.Prelude.{List, ◌+◌, ◌<◌, ◌^◌, length};
+    ghost use Rattle.st_expressions.specs.Tokens.{Tok, numbered};
+
+    ghost Value = { List Tok };
+
+    ghost view = { λ cursor. numbered cursor.number cursor.rest.now };
+
+    ghost invariant = { λ cursor. cursor.number + length cursor.rest.now < 2 ^ 64 };
+}
+
+impl<'a> Cursor<'a> {
+    /// All tokens of a text.
+    pub fn new(rest: &'a [Token<'a>], last_line: u32) -> Cursor<'a>
+        ensures { result ≡ numbered 0 rest.now }
+    {
+        Cursor { rest, number: 0, last_line }
+    }
+
+    /// What the first token is.
+    #[tactic(auto, using(crate::proofs::TokenLemmas::length_numbered))]
+    pub fn kind(&self) -> Option<Kind<'a>>
+        ensures value { result ≡ kind self.now }
+        ensures some { IsSome result → 0 < length self.now }
+    {
+        match self.rest {
+            [] => None,
+            [token, ..] => Some(copy_of(&token.kind)),
+        }
+    }
+
+    /// What the second token is.
+    pub fn second(&self) -> Option<Kind<'a>>
+        ensures { result ≡ kind (next self.now) }
+    {
+        match self.rest {
+            [] => None,
+            [_, rest @ ..] => match rest {
+                [] => None,
+                [token, ..] => Some(copy_of(&token.kind)),
+            },
+        }
+    }
+
+    /// Where the first token stands.
+    pub fn place(&self) -> Place
+        ensures { result ≡ place self.now }
+    {
+        match self.rest {
+            [] => Place { number: 0, line: 0 },
+            [token, ..] => Place {
+                number: self.number,
+                line: token.line,
+            },
+        }
+    }
+
+    /// The line of the first token, or of the text's last byte where there is none.
+    pub fn line(&self) -> u32 {
+        match self.rest {
+            [] => self.last_line,
+            [token, ..] => token.line,
+        }
+    }
+
+    /// Takes the first token.
+    pub fn skip(&mut self) -> Place
+        ensures value { result ≡ place self.old }
+        ensures rest { self.new ≡ next self.old }
+        ensures shorter { length self.new ≡ length self.old - 1 }
+    {
+        match self.rest {
+            [] => Place { number: 0, line: 0 },
+            [token, rest @ ..] => {
+                let place = Place {
+                    number: self.number,
+                    line: token.line,
+                };
+                self.rest = rest;
+                self.number += 1;
+                place
+            }
+        }
+    }
+}
+
+fn copy_of<'a>(kind: &Kind<'a>) -> Kind<'a>
+    ensures { result ≡ kind.now }
+{
+    match kind {
+        Kind::Word(spelling) => Kind::Word(Spelling::of(spelling.bytes())),
+        Kind::Keyword(keyword) => Kind::Keyword(*keyword),
+        Kind::Type(elem) => Kind::Type(*elem),
+        Kind::Number(number) => Kind::Number(*number),
+        Kind::Typed(value) => Kind::Typed(*value),
+        Kind::Duration(duration) => Kind::Duration(*duration),
+        Kind::Symbol(symbol) => Kind::Symbol(*symbol),
+    }
+}

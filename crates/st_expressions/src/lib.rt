@@ -1,0 +1,7 @@
+//! Expressions and what stands in them, read from tokens.
+#![tactic(auto)]
+
+pub mod cursor;
+pub mod token;
+pub mod constant;
+pub mod expression;

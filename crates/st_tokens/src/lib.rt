@@ -1,0 +1,12 @@
+//! The tokens of a text (IEC 61131-3:2003, 2.1 and 2.2).
+#![tactic(auto)]
+
+mod fault;
+mod keyword;
+mod symbol;
+mod token;
+
+pub use fault::SyntaxFault;
+pub use keyword::Keyword;
+pub use symbol::Symbol;
+pub use token::{Kind, Spelling, Token};

@@ -1,0 +1,94 @@
+//! Declarations of variables and types (2.3.3, 2.4.3).
+use crate::elem::Elem;
+use crate::list::List;
+use crate::tree::constant::{Constant, SignedInteger};
+use crate::tree::place::{Identifier, Place};
+
+/// The name of a type.
+#[derive(Drop)]
+pub enum TypeName {
+    /// An elementary type.
+    Elementary(Place, Elem),
+    /// A declared type, or a function block.
+    Declared(Identifier),
+}
+
+/// The bounds of a subscript. Both belong to it.
+#[derive(Clone, Copy, Debug, PartialEq, Eq)]
+pub struct Subrange {
+    /// The least subscript.
+    pub lower: SignedInteger,
+    /// The greatest.
+    pub upper: SignedInteger,
+}
+
+/// What a variable, a member or a declared type is.
+#[derive(Drop)]
+pub enum Specification {
+    /// One of a named type.
+    Simple(TypeName),
+    /// `ARRAY`: its subscripts, and the type of its elements.
+    Array(Place, List<Subrange>, TypeName),
+}
+
+/// An initial value (2.4.2).
+#[derive(Drop)]
+pub enum Initial {
+    /// A literal.
+    Constant(Constant),
+    /// The elements of an array, from the first on. The place is that of the `[`.
+    Array(Place, List<ArrayElement>),
+}
+
+/// A part of an array's initial values.
+#[derive(Clone, Copy, Debug, PartialEq, Eq)]
+pub enum ArrayElement {
+    /// One element.
+    Single(Constant),
+    /// So many elements in a row, of this value or of the one that their type has.
+    Repeated(Place, u128, Option<Constant>),
+}
+
+/// Names that are declared together, as variables or as a member.
+#[derive(Drop)]
+pub struct Declaration {
+    /// The names, in order.
+    pub names: List<Identifier>,
+    /// What each of them is.
+    pub specification: Specification,
+    /// With which value it begins, where one is written.
+    pub initial: Option<Initial>,
+}
+
+/// What the variables of a block of declarations are for (2.4.3, table 16).
+#[derive(Clone, Copy, Debug, PartialEq, Eq)]
+pub enum Section {
+    /// `VAR`
+    Internal,
+    /// `VAR CONSTANT`
+    Constant,
+    /// `VAR_INPUT`
+    Input,
+    /// `VAR_OUTPUT`
+    Output,
+}
+
+/// A block of declarations, from VAR, VAR_INPUT or VAR_OUTPUT to END_VAR.
+#[derive(Drop)]
+pub struct VarBlock {
+    /// Where it begins.
+    pub place: Place,
+    /// What its variables are for. RETAIN and NON_RETAIN have no effect, and aren't kept.
+    pub section: Section,
+    /// The declarations, in order.
+    pub declarations: List<Declaration>,
+}
+
+/// What a type is declared as.
+#[derive(Drop)]
+pub enum DeclaredType {
+    /// Another type, or an array, and the value with which its variables begin, where one is written.
+    Derived(Specification, Option<Initial>),
+    /// A structure of these members. Each declares one name.
+    Structure(Place, List<Declaration>),
+}

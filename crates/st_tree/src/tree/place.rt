@@ -1,0 +1,20 @@
+//! Where a node stands, and names.
+use crate::list::List;
+
+/// Where a token stands.
+#[derive(Clone, Copy, Debug, PartialEq, Eq)]
+pub struct Place {
+    /// The number of the token in the text. The first is 0.
+    pub number: usize,
+    /// The line on which it begins. The first is 1.
+    pub line: u32,
+}
+
+/// A name, spelled as in the text. Names are the same where they differ in case only.
+#[derive(Drop)]
+pub struct Identifier {
+    /// Where it stands.
+    pub place: Place,
+    /// Its bytes.
+    pub spelling: List<u8>,
+}
