@@ -3,10 +3,12 @@
 
 mod fault;
 mod keyword;
+mod scan;
 mod symbol;
 mod token;
 
 pub use fault::SyntaxFault;
-pub use keyword::Keyword;
+pub use keyword::{KEYWORDS, Keyword};
+pub use scan::tokens;
 pub use symbol::Symbol;
 pub use token::{Kind, Spelling, Token};
