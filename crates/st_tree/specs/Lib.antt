@@ -1,3 +1,6 @@
 pub mod Name
+pub mod Numbers
+pub mod Readings
+pub mod Texts
 pub mod Types
 pub mod Values

@@ -5,10 +5,15 @@ mod elem;
 mod leaf;
 mod list;
 mod name;
+mod number;
+mod put;
+mod read;
 mod value;
 
 pub use elem::{Class, Elem};
 pub use leaf::{Leaf, Role};
 pub use list::List;
 pub use name::Name;
+pub use put::put_value;
+pub use read::{BadValue, read_value};
 pub use value::{Value, is_value};

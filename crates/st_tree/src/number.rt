@@ -1,0 +1,42 @@
+//! Numbers in texts (IEC 61131-3:2003, 2.2.1, table 4).
+ghost use Rattle.std.specs.Prelude.{◌≡◌, ◌≤◌, option_map};
+ghost use Rattle.st_tree.specs.Numbers.{capped, digits_read, number_read};
+
+/// Above what any type holds.
+const TOO_MUCH: u128 = 1 << 64;
+
+/// Reads a whole text as a number with or without a base. What is above all types' ranges counts as 2^64.
+pub fn read_number(text: &[u8]) -> Option<u128>
+    ensures { result ≡ option_map capped (number_read text.now) }
+{
+    if text.starts_with(b"16#") {
+        read_digits(16, &text[3..])
+    } else if text.starts_with(b"8#") {
+        read_digits(8, &text[2..])
+    } else if text.starts_with(b"2#") {
+        read_digits(2, &text[2..])
+    } else {
+        read_digits(10, text)
+    }
+}
+
+/// Reads a whole text as digits of a base with single `_` between them. What is above all types' ranges counts as 2^64.
+pub fn read_digits(base: u32, text: &[u8]) -> Option<u128>
+    requires low { 2 ≤ base }
+    requires high { base ≤ 16 }
+    ensures { result ≡ option_map capped (digits_read base text.now) }
+{
+    let mut number = 0u128;
+    let mut after_digit = false;
+    for byte in text {
+        if let Some(digit) = char::from(*byte).to_digit(base) {
+            number = (number * u128::from(base) + u128::from(digit)).min(TOO_MUCH);
+            after_digit = true;
+        } else if after_digit && *byte == b'_' {
+            after_digit = false;
+        } else {
+            return None;
+        }
+    }
+    after_digit.then_some(number)
+}
