@@ -1,6 +1,7 @@
 pub mod Characters
+pub mod Durations
 pub mod Forms
-pub mod Numbers
+pub mod Scanning
 pub mod Symbols
 pub mod Text
 pub mod Words

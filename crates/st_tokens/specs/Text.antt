@@ -1,7 +1,10 @@
 -- A text and its tokens.
-use Rattle.std.specs.Prelude.{◌≡◌, ℕ, ◌+◌, ◌≤◌, true, List, [], ◌∷◌, ◌++◌, length, codes}
+use Rattle.std.specs.Prelude.{◌≡◌, ℕ, ◌+◌, ◌<◌, ◌≤◌, true, List, [], ◌∷◌, ◌++◌, length, codes}
 use Rattle.st_tree.specs.declared.elem.Elem.TheVariants.{Time}
 use Rattle.st_tree.specs.declared.value.Value.{Value}
+use Rattle.st_tokens.specs.declared.fault.SyntaxFault.{SyntaxFault}
+use Rattle.st_tokens.specs.declared.fault.SyntaxFault.TheVariants as F
+use Rattle.st_tokens.specs.declared.scan.TheConstants.{MOST_BYTES}
 use Rattle.st_tokens.specs.declared.token.Kind.{Kind}
 use Rattle.st_tokens.specs.declared.token.Kind.TheVariants as K
 use Rattle.st_tokens.specs.declared.token.Token.{Token}
@@ -45,3 +48,11 @@ pub data HasTokens : ℕ → List ℕ → List Token → Type 0 where
   next : {line : ℕ} {text front rest : List ℕ} {kind : Kind} {ts : List Token}
       → (BeginsComment text → ⊥) → IsLongest text front rest kind → (IsRefused kind rest → ⊥)
       → HasTokens line rest ts → HasTokens line text (token line kind ∷ ts)
+
+-- what a fault says of a text
+abbrev pub Explains : SyntaxFault → List ℕ → Type 0
+Explains F.Memory text = Unit {0}
+Explains (F.NoToken line) text = (ts : List Token) → HasTokens 1 text ts → ⊥
+Explains F.TooLong text = MOST_BYTES < length text
+Explains (F.NotInGrammar line) text = ⊥
+Explains (F.TooDeep line) text = ⊥

@@ -1,10 +1,11 @@
 -- Words (IEC 61131-3:2003, 2.1.2) and reserved words (2.1.3 and annex C).
 use Rattle.std.specs.Prelude.{◌≡◌, ℕ, Bool, true, false, ◌&&◌, not, ◌==◌, ◌⊎◌, List, [], ◌∷◌, ◌++◌, codes, map, Option, Some, None}
 use Rattle.std.specs.Char.{to_ascii_lowercase}
-use Rattle.std.specs.Str.{bytes_eq}
 use Rattle.std.specs.List.{find}
 use Rattle.st_tree.specs.declared.elem.Elem.{Elem}
+use Rattle.st_tree.specs.Readings.{is_word}
 use Rattle.st_tree.specs.Types.{name_of}
+use Rattle.st_tokens.specs.declared.word.TheConstants.{ELEMS}
 use Rattle.st_tokens.specs.declared.keyword.TheConstants.{KEYWORDS}
 use Rattle.st_tokens.specs.declared.keyword.Keyword.{Keyword}
 use Rattle.st_tokens.specs.declared.keyword.Keyword.TheVariants as K
@@ -98,10 +99,10 @@ IsUnclean w = ((front back : List ℕ) × (w ≡ front ++ 95 ∷ 95 ∷ back)) �
 abbrev pub IsReserved : List ℕ → Type 0
 IsReserved w = ((keyword : Keyword) × IsSame w (spelling_of keyword)) ⊎ ((elem : Elem) × IsSame w (name_of elem))
 
--- `IsSame` as a test
-abbrev pub is_same : List ℕ → List ℕ → Bool
-is_same a b = bytes_eq (map to_ascii_lowercase a) (map to_ascii_lowercase b)
-
 -- the reserved word that this is, in any case
 unfoldable pub keyword_of : List ℕ → Option Keyword
-keyword_of w = find (λ keyword. is_same w (spelling_of keyword)) KEYWORDS
+keyword_of w = find (λ keyword. is_word (spelling_of keyword) w) KEYWORDS
+
+-- the type whose name this is, in any case
+unfoldable pub elem_of : List ℕ → Option Elem
+elem_of w = find (λ elem. is_word (name_of elem) w) ELEMS

@@ -6,6 +6,7 @@ mod keyword;
 mod scan;
 mod symbol;
 mod token;
+mod word;
 
 pub use fault::SyntaxFault;
 pub use keyword::{KEYWORDS, Keyword};

@@ -1,0 +1,3 @@
+mod Firsts
+mod Longest
+pub mod Reads
