@@ -1,5 +1,5 @@
 -- The digits of a number, laid from the last one on.
-use Rattle.std.proofs.Common.{◌≡◌, ℕ, zero, suc, ◌+◌, ◌-◌, ◌*◌, ◌/◌, ◌%◌, ◌^◌, ◌<◌, ◌≤◌, Bool, true, false, cond, List, [], ◌∷◌, ◌++◌, length, drop, refl, sym, ◌∙◌, arith, add-one, ◌==◌, slice_set, ℤ, pos, negsuc, unsigned_abs}
+use Rattle.std.proofs.Common.{◌≡◌, ℕ, zero, suc, ◌+◌, ◌*◌, ◌/◌, ◌%◌, ◌^◌, ◌<◌, ◌≤◌, Bool, true, false, cond, List, [], ◌∷◌, ◌++◌, length, drop, refl, sym, arith, add-one, ◌==◌, slice_set, ℤ, pos, negsuc, unsigned_abs}
 use Rattle.std.proofs.Math.Nat.{div-lt_iff_lt-mul, mul-le-mul_left}
 use Rattle.std.proofs.lemmas.Grind.{common_steps, drop-set_at}
 use Rattle.std.specs.Fmt.{decimal, digits, digits_onto, digit_glyph}
@@ -39,7 +39,7 @@ digits_onto-append : (k base n : ℕ) (upper : Bool) (laid more : List ℕ) → 
 digits_onto-append zero base n upper laid more = refl
 digits_onto-append (suc k) base n upper laid more =
     elim (n / base == 0) as (λ b. cond b (digit_glyph upper (n % base) ∷ (laid ++ more)) (digits_onto k base upper (n / base) (digit_glyph upper (n % base) ∷ (laid ++ more)))
-      ≡ cond b (digit_glyph upper (n % base) ∷ laid) (digits_onto k base upper (n / base) (digit_glyph upper (n % base) ∷ laid)) ++ more)
+    ≡ cond b (digit_glyph upper (n % base) ∷ laid) (digits_onto k base upper (n / base) (digit_glyph upper (n % base) ∷ laid)) ++ more)
     [ true ↦ refl | false ↦ digits_onto-append k base (n / base) upper (digit_glyph upper (n % base) ∷ laid) more ]
 
 digits_onto-digits : (base n : ℕ) (more : List ℕ) → digits_onto 64 base true n more ≡ digits base true n ++ more

@@ -1,3 +1,6 @@
 pub mod Cases
-pub mod NumberLemmas
 pub mod Laid
+pub mod NumberLemmas
+pub mod RoundTrip
+pub mod SignLemmas
+pub mod WordLemmas

@@ -5,7 +5,7 @@ use Rattle.std.proofs.Math.Seq.{drop-cons}
 use Rattle.std.specs.Char.{digit_value}
 use Rattle.std.specs.Prelude.{Option, Some, None, option_map, if◌then◌else◌}
 use Rattle.std.specs.Str.Parse.{digits_value_after}
-use Rattle.st_tree.proofs.Cases.{is_below, is_not_below, differs}
+use Rattle.st_tree.proofs.Cases.{is_below, differs}
 use Rattle.st_tree.specs.Numbers.{are_digits, capped, digits_read, too_much, without_underscores}
 
 -- what the rest of a text gives, after the digits of n
@@ -34,7 +34,7 @@ capped-after base n (d ∷ digits) low =
     ∙ ap (λ m. capped (digits_value_after base m digits)) (scaled base n (digit_value d) too_much low)
     ∙ capped-after base (n * base + digit_value d) digits low
 
-no_underscore : (c base : ℕ) → digit_value c < base → base ≤ 16 → c ≢ 95
+pub no_underscore : (c base : ℕ) → digit_value c < base → base ≤ 16 → c ≢ 95
 no_underscore c base small high e = let big : digit_value c ≡ 36 = rw e refl in omega arith
 
 rest_read-digit : (base : ℕ) (after_digit : Bool) (n c : ℕ) (text : List ℕ) → 1 ≤ base → base ≤ 16 → digit_value c < base

@@ -1,7 +1,7 @@
 -- What a whole text is read as (IEC 61131-3:2003, 2.2.1).
-use Rattle.std.specs.Prelude.{ℕ, ◌+◌, Bool, ◌&&◌, List, length, take, drop, ℤ, pos, negsuc, neg_ℤ, codes, if◌then◌else◌, Option, Some, None, option_map, option_and_then}
+use Rattle.std.specs.Prelude.{ℕ, ◌+◌, Bool, ◌&&◌, ◌==◌, List, length, slice_index, take, drop, ℤ, pos, negsuc, neg_ℤ, codes, if◌then◌else◌, Option, Some, None, option_map, option_and_then}
 use Rattle.std.specs.Option.{option_or}
-use Rattle.std.specs.Str.{str_eq_ignore_ascii_case}
+use Rattle.std.specs.Str.{byte, str_eq_ignore_ascii_case}
 use Rattle.st_tree.specs.declared.elem.Class.{Class}
 use Rattle.st_tree.specs.declared.elem.Class.TheVariants.{Boolean, Integer, BitString, Duration}
 use Rattle.st_tree.specs.declared.elem.Elem.{Elem}
@@ -42,8 +42,8 @@ after_sign typed text = if typed then digits_read 10 text else number_read text
 -- an optional sign, and a number
 abbrev pub signed_read : Bool → List ℕ → Option ℤ
 signed_read typed text =
-    if begins_with (codes "-") text then option_map negative (after_sign typed (after (codes "-") text))
-    else if begins_with (codes "+") text then option_map pos (after_sign typed (after (codes "+") text))
+    if slice_index text 0 == byte "-" then option_map negative (after_sign typed (drop 1 text))
+    else if slice_index text 0 == byte "+" then option_map pos (after_sign typed (drop 1 text))
     else option_map pos (number_read text)
 
 -- TRUE or FALSE

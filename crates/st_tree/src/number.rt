@@ -1,5 +1,5 @@
 //! Numbers in texts (IEC 61131-3:2003, 2.2.1, table 4).
-ghost use Rattle.std.specs.Prelude.{◌≡◌, ◌≤◌, option_map};
+ghost use Rattle.std.specs.Prelude.{◌≡◌, ◌≤◌, ◌^◌, option_map, IfSome};
 ghost use Rattle.st_tree.specs.Numbers.{capped, digits_read, number_read};
 
 /// Above what any type holds.
@@ -7,7 +7,8 @@ const TOO_MUCH: u128 = 1 << 64;
 
 /// Reads a whole text as a number with or without a base. What is above all types' ranges counts as 2^64.
 pub fn read_number(text: &[u8]) -> Option<u128>
-    ensures { result ≡ option_map capped (number_read text.now) }
+    ensures value { result ≡ option_map capped (number_read text.now) }
+    ensures bound { IfSome result (λ number. number ≤ 2 ^ 64) }
 {
     if text.starts_with(b"16#") {
         read_digits(16, &text[3..])
@@ -24,7 +25,8 @@ pub fn read_number(text: &[u8]) -> Option<u128>
 pub fn read_digits(base: u32, text: &[u8]) -> Option<u128>
     requires low { 2 ≤ base }
     requires high { base ≤ 16 }
-    ensures { result ≡ option_map capped (digits_read base text.now) }
+    ensures value { result ≡ option_map capped (digits_read base text.now) }
+    ensures bound { IfSome result (λ number. number ≤ 2 ^ 64) }
 {
     let mut number = 0u128;
     let mut after_digit = false;
