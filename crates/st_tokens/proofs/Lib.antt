@@ -1,3 +1,5 @@
-mod Firsts
-mod Longest
-pub mod Reads
+pub mod Comments
+pub mod Firsts
+pub mod Longest
+pub mod Reading
+pub mod Tests

@@ -282,10 +282,10 @@ fn scan<'a>(alloc: Global, text: &'a [u8]) -> Result<Vec<Token<'a>>, SyntaxFault
     let mut found = Vec::new(alloc);
     let mut line = 1;
     let mut rest = text;
-    while let [first, behind @ ..] = rest {
+    while let [first, ..] = rest {
         if is_blank(*first) {
             line += u32::from(*first == b'\n');
-            rest = behind;
+            rest = &rest[1..];
         } else if rest.starts_with(b"(*") {
             let Some((next, behind)) = comment_at(line, &rest[2..]) else {
                 return Err(SyntaxFault::NoToken { line });

@@ -14,6 +14,7 @@ pub use elem::{Class, Elem};
 pub use leaf::{Leaf, Role};
 pub use list::List;
 pub use name::Name;
+pub use number::{read_digits, read_number};
 pub use put::put_value;
 pub use read::{BadValue, read_value};
 pub use value::{Value, is_value};

@@ -1,5 +1,5 @@
 use Rattle.std.proofs.Common.{length, ◌≤◌, ◌+◌}
-use Rattle.st_tokens.proofs.Reads.{Reads}
+use Rattle.st_tokens.proofs.Reading.{Reads}
 use Rattle.st_tokens.proofs.scan.scan.Given as goal
 
 -- what is left decides about the tokens that are left
