@@ -1,5 +1,10 @@
 pub mod Comments
 pub mod Firsts
+pub mod Literals
 pub mod Longest
+pub mod Marks
+pub mod Names
+pub mod Numbers
 pub mod Reading
+pub mod Runs
 pub mod Tests

@@ -1,7 +1,8 @@
 -- The token at the front of a text, byte by byte.
-use Rattle.std.specs.Prelude.{◌≡◌, ℕ, ◌+◌, Bool, true, false, ◌&&◌, ◌||◌, not, ◌==◌, if◌then◌else◌, List, [], ◌∷◌, ◌++◌, Option, Some, None, option_map, option_and_then, slice_index, codes, ℤ, pos, neg_ℤ}
+use Rattle.std.specs.Prelude.{◌≡◌, ℕ, ◌+◌, Bool, true, false, ◌&&◌, ◌||◌, not, ◌==◌, if◌then◌else◌, List, [], ◌∷◌, ◌++◌, drop, Option, Some, None, option_map, option_and_then, slice_index, codes, ℤ, pos, neg_ℤ}
 use Rattle.std.specs.Borrow.{Bor}
 use Rattle.std.specs.Char.{is_ascii_digit}
+use Rattle.std.specs.Str.{byte, bytes_eq}
 use Rattle.st_tree.specs.declared.elem.Class.{Class}
 use Rattle.st_tree.specs.declared.elem.Class.TheVariants.{Boolean, Integer, BitString, Duration}
 use Rattle.st_tree.specs.declared.elem.Elem.{Elem}
@@ -43,7 +44,7 @@ is_clean w = is_clean_after false w
 
 -- a base as a number has it before its `#`
 abbrev pub base_of : List ℕ → Option ℕ
-base_of w = if is_word (codes "16") w then Some 16 else if is_word (codes "8") w then Some 8 else if is_word (codes "2") w then Some 2 else None
+base_of w = if bytes_eq w (codes "16") then Some 16 else if bytes_eq w (codes "8") then Some 8 else if bytes_eq w (codes "2") then Some 2 else None
 
 -- digits of a base
 unfoldable pub digits_at : ℕ → List ℕ → Option (ℕ × List ℕ)
@@ -67,8 +68,8 @@ negative_found found = (negative found.0, found.1)
 -- a number that may have a sign where it is decimal
 unfoldable pub signed_at : List ℕ → Option (ℤ × List ℕ)
 signed_at text =
-    if begins_with (codes "-") text then option_map negative_found (digits_at 10 (after (codes "-") text))
-    else if begins_with (codes "+") text then option_map positive_found (digits_at 10 (after (codes "+") text))
+    if slice_index text 0 == byte "-" then option_map negative_found (digits_at 10 (drop 1 text))
+    else if slice_index text 0 == byte "+" then option_map positive_found (digits_at 10 (drop 1 text))
     else option_map positive_found (number_at text)
 
 -- a number, or TRUE or FALSE

@@ -50,13 +50,13 @@ fn split_run(text: &[u8]) -> (&[u8], &[u8])
 
 /// The base that a number has before its `#`.
 fn base_of(word: &[u8]) -> Option<u32>
-    ensures value { result ≡ spec.base_of word.now }
+    ensures { result ≡ spec.base_of word.now }
 {
-    if word.eq_ignore_ascii_case(b"16") {
+    if word == b"16".as_slice() {
         Some(16)
-    } else if word.eq_ignore_ascii_case(b"8") {
+    } else if word == b"8".as_slice() {
         Some(8)
-    } else if word.eq_ignore_ascii_case(b"2") {
+    } else if word == b"2".as_slice() {
         Some(2)
     } else {
         None
@@ -94,15 +94,19 @@ fn number_at(text: &[u8]) -> Option<(u128, &[u8])>
 fn signed_at(text: &[u8]) -> Option<(i128, &[u8])>
     ensures { seen result ≡ spec.signed_at text.now }
 {
-    if text.starts_with(b"-") {
-        let (number, rest) = digits_at(10, &text[1..])?;
-        Some((-(number as i128), rest))
-    } else if text.starts_with(b"+") {
-        let (number, rest) = digits_at(10, &text[1..])?;
-        Some((number as i128, rest))
-    } else {
-        let (number, rest) = number_at(text)?;
-        Some((number as i128, rest))
+    match text {
+        [b'-', digits @ ..] => {
+            let (number, rest) = digits_at(10, digits)?;
+            Some((-(number as i128), rest))
+        }
+        [b'+', digits @ ..] => {
+            let (number, rest) = digits_at(10, digits)?;
+            Some((number as i128, rest))
+        }
+        _ => {
+            let (number, rest) = number_at(text)?;
+            Some((number as i128, rest))
+        }
     }
 }
 
