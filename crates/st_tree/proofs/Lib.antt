@@ -1,4 +1,8 @@
 pub mod Cases
+pub mod DigitTexts
+pub mod DurationLemmas
+pub mod DurationTexts
+pub mod FractionLemmas
 pub mod Laid
 pub mod NumberLemmas
 pub mod RoundTrip

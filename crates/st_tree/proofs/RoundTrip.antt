@@ -1,53 +1,26 @@
 -- What is put is read back.
-use Rattle.std.proofs.Common.{◌≡◌, ◌≢◌, ℕ, zero, suc, ◌+◌, ◌<◌, ◌≤◌, ◌^◌, Bool, true, false, List, [], ◌∷◌, ◌++◌, length, take, refl, ap, ◌∙◌, arith, add-one, nat_lt, ◌==◌, ◌&&◌, ℤ, pos, negsuc, unsigned_abs, codes, slice_index, lit<, lit≤}
-use Rattle.std.proofs.lemmas.Fmt.{decimal_is_IsNumeral, digits_is_IsNumeral}
+use Rattle.std.proofs.Common.{◌≡◌, ℕ, zero, suc, ◌+◌, ◌<◌, ◌≤◌, ◌^◌, Bool, true, false, List, [], ◌∷◌, ◌++◌, length, take, refl, ap, ◌∙◌, arith, add-one, nat_lt, ◌==◌, ◌&&◌, ℤ, pos, negsuc, unsigned_abs, codes, slice_index, lit<, lit≤}
+use Rattle.std.proofs.lemmas.Fmt.{decimal_is_IsNumeral}
 use Rattle.std.proofs.lemmas.Grind.{common_steps}
-use Rattle.std.proofs.lemmas.Str.Parse.{digit_from_value}
 use Rattle.std.specs.Char.{digit_value, to_ascii_lowercase}
 use Rattle.std.specs.Fmt.{decimal, digits}
 use Rattle.std.specs.Prelude.{Some, option_map}
-use Rattle.std.specs.Str.Parse.{AllDigits, IsNumeral, digits_value}
+use Rattle.std.specs.Str.Parse.{AllDigits, IsNumeral}
 use Rattle.st_tree.specs.declared.elem.Class.{Class}
 use Rattle.st_tree.specs.declared.elem.Class.TheVariants.{Boolean, Integer, BitString, Duration}
 use Rattle.st_tree.specs.declared.elem.Elem.{Elem}
 use Rattle.st_tree.specs.declared.elem.Elem.TheVariants as E
 use Rattle.st_tree.specs.declared.value.Value.{Value}
-use Rattle.st_tree.specs.Numbers.{are_digits, begins_with, digits_read, number_read, without_underscores}
-use Rattle.st_tree.specs.Readings.{is_typed, is_word, number_in, reads, signed_read}
+use Rattle.st_tree.specs.Numbers.{number_read}
+use Rattle.st_tree.specs.Readings.{after_type, is_typed, literal_read, number_in, reads, signed_read}
+use Rattle.st_tree.specs.Words.{begins_with, is_word}
 use Rattle.st_tree.specs.Texts.{signed_text, text, text_in}
 use Rattle.st_tree.specs.Types.{class_of, is_signed, limit_of}
 use Rattle.st_tree.specs.Values.{in_range}
-use Rattle.st_tree.proofs.Cases.{below, both, is_below, differs}
-use Rattle.st_tree.proofs.NumberLemmas.{no_underscore}
+use Rattle.st_tree.proofs.Cases.{below, both}
+use Rattle.st_tree.proofs.DigitTexts.{digits_read-digits, digits_read-numeral, is_decimal}
+use Rattle.st_tree.proofs.DurationTexts.{duration_read-text}
 use Rattle.st_tree.proofs.SignLemmas.{limit_of-most, limit_of-signed, value_of-some}
-
--- digits of a base are read as digits
-are_digits-more : (base : ℕ) (ds : List ℕ) → base ≤ 16 → AllDigits base ds → are_digits base true ds ≡ true
-are_digits-more base [] high all = refl
-are_digits-more base (d ∷ ds) high all =
-    rw (differs d 95 (no_underscore d base all.0 high), is_below (digit_value d) base all.0) (are_digits-more base ds high all.1)
-
-are_digits-all : (base : ℕ) (ds : List ℕ) → base ≤ 16 → IsNumeral base ds → are_digits base false ds ≡ true
-are_digits-all base [] high numeral = absurd (omega arith)
-are_digits-all base (d ∷ ds) high numeral =
-    rw (differs d 95 (no_underscore d base numeral.1.0 high), is_below (digit_value d) base numeral.1.0) (are_digits-more base ds high numeral.1.1)
-
-pub without_underscores-digits : (base : ℕ) (ds : List ℕ) → base ≤ 16 → AllDigits base ds → without_underscores ds ≡ ds
-without_underscores-digits base [] high all = refl
-without_underscores-digits base (d ∷ ds) high all =
-    rw (differs d 95 (no_underscore d base all.0 high)) (ap (λ (rest : List ℕ). d ∷ rest) (without_underscores-digits base ds high all.1))
-
-digits_read-numeral : (base : ℕ) (ds : List ℕ) → base ≤ 16 → IsNumeral base ds → digits_read base ds ≡ Some (digits_value base ds)
-digits_read-numeral base ds high numeral =
-    rw (are_digits-all base ds high numeral, without_underscores-digits base ds high numeral.1) refl
-
-pub digits_read-digits : (base n : ℕ) (upper : Bool) → 2 ≤ base → base ≤ 16 → n < base ^ 64 → digits_read base (digits base upper n) ≡ Some n
-digits_read-digits base n upper low high small =
-    let made = digits_is_IsNumeral base upper low high n small in
-    digits_read-numeral base (digits base upper n) high made.0 ∙ ap Some made.1
-
-is_decimal : (c : ℕ) → digit_value c < 10 → (48 ≤ c) × (c ≤ 57)
-is_decimal c h = let r = digit_from_value c h in (omega (arith, r), omega (arith, r))
 
 no_hash : (c : ℕ) → digit_value c < 10 → (35 == c) ≡ false
 no_hash c h = let low = (is_decimal c h).0 in grind (arith, common_steps)
@@ -119,11 +92,13 @@ untyped E.Lword c cs first = rw (no_word c 76 cs (codes "WORD") first (lit≤ tt
 untyped E.Time c cs first = rw (no_word c 84 cs (codes "IME") first (lit≤ tt) (lit< tt)) refl
 
 -- and is read as it stands
-plain : (elem : Elem) (class : Class) (text : List ℕ) (number : ℤ) → class_of elem ≡ class → 0 < length text → slice_index text 0 < 65
-    → number_in class false text ≡ Some number → in_range elem number ≡ true → reads elem text ≡ Some (record { elem = elem; bits = number })
-plain elem class [] number is some first read within = absurd (omega arith)
-plain elem class (c ∷ cs) number is some first read within =
-    rw (untyped elem c cs first, is, read) (value_of-some elem number within)
+plain : (elem : Elem) (class : Class) (text : List ℕ) (number : ℤ) → class_of elem ≡ class
+    → ((t : List ℕ) → number_in class elem t ≡ literal_read class (is_typed elem t) (after_type elem t))
+    → 0 < length text → slice_index text 0 < 65 → literal_read class false text ≡ Some number → in_range elem number ≡ true
+    → reads elem text ≡ Some (record { elem = elem; bits = number })
+plain elem class [] number is literal some first read within = absurd (omega arith)
+plain elem class (c ∷ cs) number is literal some first read within =
+    rw (is, literal (c ∷ cs), untyped elem c cs first, read) (value_of-some elem number within)
 
 first_decimal : (ds : List ℕ) → IsNumeral 10 ds → slice_index ds 0 < 65
 first_decimal [] h = omega arith
@@ -165,18 +140,22 @@ truth_back (negsuc n) within = cc
 
 bits_back : (elem : Elem) (number : ℤ) → class_of elem ≡ BitString → in_range elem number ≡ true → reads elem (text_in BitString number) ≡ Some (record { elem = elem; bits = number })
 bits_back elem (pos n) is within =
-    plain elem BitString (codes "16#" ++ digits 16 true n) (pos n) is (omega arith) (lit< tt) (signed_read-bits n (in_range-small elem (pos n) within)) within
+    plain elem BitString (codes "16#" ++ digits 16 true n) (pos n) is (λ t. refl) (omega arith) (lit< tt) (signed_read-bits n (in_range-small elem (pos n) within)) within
 bits_back elem (negsuc n) is within = let no_sign = bits_have_no_sign elem is in let sign = (both (is_signed elem) (nat_lt n (limit_of elem)) within).0 in cc
 
-class_back : (elem : Elem) (class : Class) (number : ℤ) → class_of elem ≡ class → in_range elem number ≡ true → elem ≢ E.Time → reads elem (text_in class number) ≡ Some (record { elem = elem; bits = number })
-class_back elem Boolean number is within known = rw (boolean_is elem is) (truth_back number (rw (boolean_is elem is) at within))
-class_back elem Integer number is within known =
+time_back : (number : ℤ) → in_range E.Time number ≡ true → reads E.Time (text_in Duration number) ≡ Some (record { elem = E.Time; bits = number })
+time_back number within =
+    rw (duration_read-text number (in_range-small E.Time number within)) (value_of-some E.Time number within)
+
+class_back : (elem : Elem) (class : Class) (number : ℤ) → class_of elem ≡ class → in_range elem number ≡ true → reads elem (text_in class number) ≡ Some (record { elem = elem; bits = number })
+class_back elem Boolean number is within = rw (boolean_is elem is) (truth_back number (rw (boolean_is elem is) at within))
+class_back elem Integer number is within =
     let small = in_range-small elem number within in
     let first = signed_text-first number small in
-    plain elem Integer (signed_text number) number is first.0 first.1 (signed_read-signed_text number small) within
-class_back elem BitString number is within known = bits_back elem number is within
-class_back elem Duration number is within known = absurd (known (duration_is elem is))
+    plain elem Integer (signed_text number) number is (λ t. refl) first.0 first.1 (signed_read-signed_text number small) within
+class_back elem BitString number is within = bits_back elem number is within
+class_back elem Duration number is within = rw (duration_is elem is) (time_back number (rw (duration_is elem is) at within))
 
 -- what is put is read back
-pub reads-text : (value : Value) → in_range value.elem value.bits ≡ true → value.elem ≢ E.Time → reads value.elem (text value) ≡ Some value
-reads-text value within known = class_back value.elem (class_of value.elem) value.bits refl within known
+pub reads-text : (value : Value) → in_range value.elem value.bits ≡ true → reads value.elem (text value) ≡ Some value
+reads-text value within = class_back value.elem (class_of value.elem) value.bits refl within

@@ -5,8 +5,9 @@ use Rattle.std.specs.Prelude.{Option, Some, None, option_map, option_and_then, i
 use Rattle.std.specs.Option.{option_or}
 use Rattle.std.specs.Str.{byte}
 use Rattle.std.specs.Prelude.{codes, slice_index, drop, ◌==◌}
-use Rattle.st_tree.specs.Numbers.{capped, number_read, too_much}
-use Rattle.st_tree.specs.Readings.{after_sign, capped_signed, is_word, negative, signed_read, truth_read, value_of}
+use Rattle.st_tree.specs.Numbers.{capped, capped_signed, negative, number_read, too_much}
+use Rattle.st_tree.specs.Readings.{after_sign, signed_read, truth_read, value_of}
+use Rattle.st_tree.specs.Words.{is_word}
 use Rattle.st_tree.specs.Types.{is_signed, limit_of}
 use Rattle.st_tree.specs.Values.{in_range}
 use Rattle.st_tree.specs.declared.elem.Elem.{Elem}

@@ -4,7 +4,7 @@ use Rattle.std.proofs.lemmas.Grind.{common_steps}
 use Rattle.std.proofs.lemmas.Slice.Eq.{bytes_eq-Decides}
 use Rattle.std.specs.Char.{to_ascii_lowercase}
 use Rattle.st_tree.proofs.Cases.{not_true}
-use Rattle.st_tree.specs.Readings.{begins_with_word, is_word}
+use Rattle.st_tree.specs.Words.{begins_with_word, is_word}
 
 is_word-length : (word text : List ℕ) → is_word word text ≡ true → length text ≡ length word
 is_word-length word text h =

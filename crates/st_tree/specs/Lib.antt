@@ -1,6 +1,8 @@
+pub mod Durations
 pub mod Name
 pub mod Numbers
 pub mod Readings
 pub mod Texts
 pub mod Types
 pub mod Values
+pub mod Words

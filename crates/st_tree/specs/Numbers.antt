@@ -1,16 +1,9 @@
 -- Numbers in texts (IEC 61131-3:2003, 2.2.1, table 4).
-use Rattle.std.specs.Prelude.{ℕ, ◌^◌, Bool, true, false, ◌&&◌, ◌==◌, not, min, List, [], ◌∷◌, drop, length, filter, codes, nat_eq, if◌then◌else◌, Option, Some, None}
 use Rattle.std.specs.Char.{is_digit}
-use Rattle.std.specs.List.{starts_with}
+use Rattle.std.specs.Prelude.{ℕ, ◌+◌, ◌^◌, min, Bool, true, false, ◌&&◌, ◌==◌, not, if◌then◌else◌, List, [], ◌∷◌, codes, filter, ℤ, pos, negsuc, neg_ℤ, Option, Some, None}
 use Rattle.std.specs.Str.{byte}
 use Rattle.std.specs.Str.Parse.{digits_value}
-
-abbrev pub begins_with : List ℕ → List ℕ → Bool
-begins_with start text = starts_with nat_eq text start
-
--- what stands after these bytes, where a text begins with them
-abbrev pub after : List ℕ → List ℕ → List ℕ
-after start text = drop (length start) text
+use Rattle.st_tree.specs.Words.{after, begins_with}
 
 -- whether each byte is a digit of the base or a `_`, and each `_` stands between two digits;
 -- the flag says that a digit stands before the text
@@ -41,6 +34,15 @@ number_read text =
 abbrev pub too_much : ℕ
 too_much = 2 ^ 64
 
--- what a number counts as: all that no type holds counts as one
+-- what a number counts as: all that no type holds counts as the same
 abbrev pub capped : ℕ → ℕ
 capped number = min number too_much
+
+-- the number below zero, or 0
+abbrev pub negative : ℕ → ℤ
+negative n = neg_ℤ (pos n)
+
+-- what a number with a sign counts as
+abbrev pub capped_signed : ℤ → ℤ
+capped_signed (pos n) = pos (capped n)
+capped_signed (negsuc n) = negative (capped (n + 1))

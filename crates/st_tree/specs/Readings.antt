@@ -1,22 +1,16 @@
--- What a whole text is read as (IEC 61131-3:2003, 2.2.1).
-use Rattle.std.specs.Prelude.{ℕ, ◌+◌, Bool, ◌&&◌, ◌==◌, List, length, slice_index, take, drop, ℤ, pos, negsuc, neg_ℤ, codes, if◌then◌else◌, Option, Some, None, option_map, option_and_then}
+-- What a whole text is read as (IEC 61131-3:2003, 2.2).
 use Rattle.std.specs.Option.{option_or}
-use Rattle.std.specs.Str.{byte, str_eq_ignore_ascii_case}
-use Rattle.st_tree.specs.declared.elem.Class.{Class}
-use Rattle.st_tree.specs.declared.elem.Class.TheVariants.{Boolean, Integer, BitString, Duration}
-use Rattle.st_tree.specs.declared.elem.Elem.{Elem}
-use Rattle.st_tree.specs.declared.value.Value.{Value}
-use Rattle.st_tree.specs.Numbers.{after, begins_with, capped, digits_read, number_read}
+use Rattle.std.specs.Prelude.{ℕ, ◌+◌, Bool, ◌&&◌, ◌==◌, if◌then◌else◌, List, codes, drop, length, slice_index, ℤ, pos, Option, Some, None, option_and_then, option_map}
+use Rattle.std.specs.Str.{byte}
+use Rattle.st_tree.specs.Durations.{duration_read}
+use Rattle.st_tree.specs.Numbers.{digits_read, negative, number_read}
 use Rattle.st_tree.specs.Types.{class_of, name_of}
 use Rattle.st_tree.specs.Values.{in_range}
-
--- the same word, in any case
-abbrev pub is_word : List ℕ → List ℕ → Bool
-is_word word text = str_eq_ignore_ascii_case text word
-
--- whether a text begins with a word, in any case
-abbrev pub begins_with_word : List ℕ → List ℕ → Bool
-begins_with_word word text = is_word word (take (length word) text)
+use Rattle.st_tree.specs.Words.{after, begins_with, begins_with_word, is_word}
+use Rattle.st_tree.specs.declared.elem.Class.{Class}
+use Rattle.st_tree.specs.declared.elem.Class.TheVariants.{Boolean, Duration}
+use Rattle.st_tree.specs.declared.elem.Elem.{Elem}
+use Rattle.st_tree.specs.declared.value.Value.{Value}
 
 -- whether a text begins with the name of a type and `#`
 abbrev pub is_typed : Elem → List ℕ → Bool
@@ -25,15 +19,6 @@ is_typed elem text = begins_with_word (name_of elem) text && begins_with (codes 
 -- what stands after that name and `#`, where it begins so, else the text
 abbrev pub after_type : Elem → List ℕ → List ℕ
 after_type elem text = if is_typed elem text then drop (length (name_of elem) + 1) text else text
-
--- the number below zero, or 0
-abbrev pub negative : ℕ → ℤ
-negative n = neg_ℤ (pos n)
-
--- what a number with a sign counts as
-abbrev pub capped_signed : ℤ → ℤ
-capped_signed (pos n) = pos (capped n)
-capped_signed (negsuc n) = negative (capped (n + 1))
 
 -- a number with a sign before it: after the name of a type only a decimal number has one
 abbrev pub after_sign : Bool → List ℕ → Option ℕ
@@ -53,12 +38,15 @@ truth_read text =
     else if is_word (codes "FALSE") text then Some (pos 0)
     else None
 
--- what a whole text is as a number of a type, in range or not
-abbrev pub number_in : Class → Bool → List ℕ → Option ℤ
-number_in Boolean typed text = option_or (truth_read text) (signed_read typed text)
-number_in Integer typed text = signed_read typed text
-number_in BitString typed text = signed_read typed text
-number_in Duration typed text = None
+-- what a whole text is as a literal, after the name of a type or not
+abbrev pub literal_read : Class → Bool → List ℕ → Option ℤ
+literal_read Boolean typed text = option_or (truth_read text) (signed_read typed text)
+literal_read _ typed text = signed_read typed text
+
+-- what a whole text is as a number of a type of a class, in range or not
+abbrev pub number_in : Class → Elem → List ℕ → Option ℤ
+number_in Duration elem text = duration_read text
+number_in class elem text = literal_read class (is_typed elem text) (after_type elem text)
 
 -- a number as a value of a type, where it is in the type's range
 abbrev pub value_of : Elem → ℤ → Option Value
@@ -66,4 +54,4 @@ value_of elem number = if in_range elem number then Some (record { elem = elem; 
 
 -- the value of a type that a whole text is
 abbrev pub reads : Elem → List ℕ → Option Value
-reads elem text = option_and_then (value_of elem) (number_in (class_of elem) (is_typed elem text) (after_type elem text))
+reads elem text = option_and_then (value_of elem) (number_in (class_of elem) elem text)

@@ -1,6 +1,7 @@
 //! What all layers speak of: values of the elementary types and their texts, names, lists, and the leaves of a program.
 #![tactic(auto)]
 
+mod duration;
 mod elem;
 mod leaf;
 mod list;
@@ -9,6 +10,7 @@ mod number;
 mod put;
 mod read;
 mod value;
+mod word;
 
 pub use elem::{Class, Elem};
 pub use leaf::{Leaf, Role};

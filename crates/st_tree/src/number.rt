@@ -1,6 +1,6 @@
 //! Numbers in texts (IEC 61131-3:2003, 2.2.1, table 4).
-ghost use Rattle.std.specs.Prelude.{◌≡◌, ◌≤◌, ◌^◌, option_map, IfSome};
-ghost use Rattle.st_tree.specs.Numbers.{capped, digits_read, number_read};
+ghost use Rattle.std.specs.Prelude.{◌≡◌, ◌≤◌, ◌^◌, if◌then◌else◌, option_map, pos, IfSome};
+ghost use Rattle.st_tree.specs.Numbers.{capped, digits_read, negative, number_read};
 
 /// Above what any type holds.
 const TOO_MUCH: u128 = 1 << 64;
@@ -41,4 +41,13 @@ pub fn read_digits(base: u32, text: &[u8]) -> Option<u128>
         }
     }
     after_digit.then_some(number)
+}
+
+/// The number, below zero where there is a `-`.
+pub fn with_sign(is_negative: bool, size: Option<u128>) -> Option<i128>
+    requires { IfSome size (λ number. number ≤ 2 ^ 64) }
+    ensures { result ≡ option_map (if is_negative then negative else pos) size }
+{
+    let number = size? as i128;
+    Some(if is_negative { -number } else { number })
 }

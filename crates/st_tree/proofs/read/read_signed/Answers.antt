@@ -2,8 +2,8 @@ use Rattle.std.proofs.Common.{rules, arith, ◌≡◌, ◌∙◌, ap, drop, pos,
 use Rattle.std.proofs.lemmas.Grind.{common_steps}
 use Rattle.std.proofs.lemmas.List.{take_rest}
 use Rattle.std.specs.Prelude.{option_map}
-use Rattle.st_tree.specs.Numbers.{capped}
-use Rattle.st_tree.specs.Readings.{after_sign, negative}
+use Rattle.st_tree.specs.Numbers.{capped, negative}
+use Rattle.st_tree.specs.Readings.{after_sign}
 use Rattle.st_tree.proofs.SignLemmas.{signed_read-capped}
 use Rattle.st_tree.proofs.read.read_signed.Goals as goal
 

@@ -4,7 +4,7 @@ use Rattle.std.specs.Option.{option_and_then, ok_or}
 use Rattle.std.specs.Result.{MatchResult}
 use mir.Syntax.{w128}
 use Rattle.st_tree.proofs.SignLemmas.{read-capped}
-use Rattle.st_tree.specs.Readings.{after_type, is_typed, number_in, reads, value_of}
+use Rattle.st_tree.specs.Readings.{number_in, reads, value_of}
 use Rattle.st_tree.specs.Types.{class_of}
 use Rattle.st_tree.specs.declared.read.BadValue.{BadValue}
 use Rattle.st_tree.specs.declared.value.Value.{Value}
@@ -19,6 +19,6 @@ pub returns-in-Some : goal.returns-in-Some
 returns-in-Some c =
     let fits : FitsSigned w128 c.in-Some.number = search rules in
     let value : c.in_range.result ≡ value_of c.args.elem c.in-Some.number = simp to_z-of_z at c.in_range.ensures in
-    let number = number_in (class_of c.args.elem) (is_typed c.args.elem c.args.text.now) (after_type c.args.elem c.args.text.now) in
+    let number = number_in (class_of c.args.elem) c.args.elem c.args.text.now in
     rw c.ok_or.ensures.value (answered (reads c.args.elem c.args.text.now) c.in_range.result
     (sym (read-capped c.args.elem number) ∙ ap (option_and_then (value_of c.args.elem)) (sym c.in-Some.ensures) ∙ sym value))
