@@ -6,8 +6,9 @@ use Rattle.std.specs.Option.{option_or}
 use Rattle.std.proofs.lemmas.Slice.Eq.{bytes_eq-Decides}
 use Rattle.st_tree.specs.declared.elem.Class.{Class}
 use Rattle.st_tree.specs.declared.elem.Class.TheVariants.{Boolean, Integer, BitString, Duration}
-use Rattle.st_tree.specs.Numbers.{capped, digits_read, number_read}
-use Rattle.st_tree.specs.Readings.{is_word, negative, capped_signed, signed_read, truth_read, number_in}
+use Rattle.st_tree.specs.Numbers.{capped, capped_signed, digits_read, negative, number_read}
+use Rattle.st_tree.specs.Readings.{signed_read, truth_read}
+use Rattle.st_tree.specs.Words.{is_word}
 use Rattle.st_tokens.specs.Characters.{is_word_byte, AreWordBytes, BeginsWord}
 use Rattle.st_tokens.specs.Scanning.{run, behind, base_of, digits_at, number_at, signed_at, boolean_at, literal_at, positive_found, negative_found}
 use Rattle.st_tokens.specs.Words.{IsSame, IsWord}

@@ -2,7 +2,7 @@
 use Rattle.std.proofs.Common.{◌≡◌, ℕ, zero, suc, ◌+◌, ◌<◌, ◌≤◌, List, [], ◌∷◌, ◌++◌, length, refl, sym, ap, ◌∙◌, Bool, true, false, arith, subst, get_or, drop, append_assoc, append-nil, length-append, length-drop, take, ◌-◌}
 use Rattle.std.proofs.Math.Seq.{take-length}
 use mir.Val.{bool_byte}
-use Rattle.st_tree.specs.Numbers.{begins_with}
+use Rattle.st_tree.specs.Words.{begins_with}
 use Rattle.std.specs.Prelude.{nat_eq, Option, Some, None, ◌==◌, ◌&&◌, ◌||◌, codes}
 use Rattle.st_tokens.specs.declared.token.Kind.{Kind}
 use Rattle.st_tokens.specs.declared.token.Token.{Token}

@@ -1,5 +1,4 @@
 pub mod Characters
-pub mod Durations
 pub mod Forms
 pub mod Scanning
 pub mod Symbols

@@ -1,13 +1,14 @@
 -- The token at the front of a text, byte by byte.
-use Rattle.std.specs.Prelude.{◌≡◌, ℕ, ◌+◌, Bool, true, false, ◌&&◌, ◌||◌, not, ◌==◌, if◌then◌else◌, List, [], ◌∷◌, ◌++◌, drop, Option, Some, None, option_map, option_and_then, slice_index, codes, ℤ, pos, neg_ℤ}
+use Rattle.std.specs.Prelude.{◌≡◌, ℕ, ◌+◌, ◌-◌, Bool, true, false, ◌&&◌, ◌||◌, not, ◌==◌, if◌then◌else◌, List, [], ◌∷◌, ◌++◌, length, drop, Option, Some, None, option_map, option_and_then, slice_index, codes, ℤ, pos, neg_ℤ}
 use Rattle.std.specs.Borrow.{Bor}
 use Rattle.std.specs.Char.{is_ascii_digit}
 use Rattle.std.specs.Str.{byte, bytes_eq}
 use Rattle.st_tree.specs.declared.elem.Class.{Class}
 use Rattle.st_tree.specs.declared.elem.Class.TheVariants.{Boolean, Integer, BitString, Duration}
 use Rattle.st_tree.specs.declared.elem.Elem.{Elem}
-use Rattle.st_tree.specs.Numbers.{after, begins_with, capped, digits_read}
-use Rattle.st_tree.specs.Readings.{is_word, negative}
+use Rattle.st_tree.specs.Durations.{interval_read}
+use Rattle.st_tree.specs.Numbers.{capped, digits_read, negative}
+use Rattle.st_tree.specs.Words.{after, begins_with, is_word}
 use Rattle.st_tree.specs.Types.{class_of}
 use Rattle.st_tokens.specs.declared.keyword.Keyword.{Keyword}
 use Rattle.st_tokens.specs.declared.symbol.Symbol.{Symbol}
@@ -15,8 +16,7 @@ use Rattle.st_tokens.specs.declared.symbol.Symbol.TheVariants as S
 use Rattle.st_tokens.specs.declared.token.Kind.{Kind}
 use Rattle.st_tokens.specs.declared.token.Kind.TheVariants as K
 use Rattle.st_tokens.specs.Characters.{begins_word, is_word_byte, line_end}
-use Rattle.st_tokens.specs.Durations.{duration_read}
-use Rattle.st_tokens.specs.Forms.{value}
+use Rattle.st_tokens.specs.Forms.{value, time_of}
 use Rattle.st_tokens.specs.Words.{keyword_of, elem_of}
 
 -- what the code found, and what stands behind it
@@ -96,9 +96,40 @@ typed_at w text = option_and_then (λ elem. option_map (typed_found elem) (liter
 abbrev pub is_duration_word : List ℕ → Bool
 is_duration_word w = is_word (codes "T") w || is_word (codes "TIME") w
 
+-- the last byte is a digit
+abbrev pub ends_in_digit : List ℕ → Bool
+ends_in_digit w = is_ascii_digit (slice_index w (length w - 1))
+
+-- where a number is open and a `.` follows, the number goes on
+abbrev pub has_fraction : List ℕ → Bool
+has_fraction text = ends_in_digit (run text) && slice_index (behind text) 0 == byte "."
+
+abbrev pub fraction_of : List ℕ → List ℕ
+fraction_of text = drop 1 (behind text)
+
+-- the bytes that the parts of a duration may have, and what stands behind them
+abbrev pub interval_front : List ℕ → List ℕ
+interval_front text = if has_fraction text then run text ++ byte "." ∷ run (fraction_of text) else run text
+
+abbrev pub interval_behind : List ℕ → List ℕ
+interval_behind text = if has_fraction text then behind (fraction_of text) else behind text
+
+-- the parts of a duration
+unfoldable pub interval_at : List ℕ → Option (ℕ × List ℕ)
+interval_at text = option_map (λ n. (capped n, interval_behind text)) (interval_read (interval_front text))
+
+-- the same after an optional `-`
+unfoldable pub signed_interval_at : List ℕ → Option (ℤ × List ℕ)
+signed_interval_at text =
+    if slice_index text 0 == byte "-" then option_map negative_found (interval_at (drop 1 text))
+    else option_map positive_found (interval_at text)
+
+abbrev pub duration_found : ℤ × List ℕ → Kind × List ℕ
+duration_found found = (K.Duration (time_of found.0), found.1)
+
 -- a duration, behind its `#`
 unfoldable pub duration_at : List ℕ → Option (Kind × List ℕ)
-duration_at text = option_map (λ ms. (K.Duration ms, behind text)) (duration_read (run text))
+duration_at text = option_map duration_found (signed_interval_at text)
 
 -- a literal that begins with this word and `#`
 unfoldable pub prefixed_at : List ℕ → List ℕ → Option (Kind × List ℕ)

@@ -3,7 +3,7 @@ use Rattle.std.specs.Prelude.{◌≡◌, ℕ, Bool, true, false, ◌&&◌, not, 
 use Rattle.std.specs.Char.{to_ascii_lowercase}
 use Rattle.std.specs.List.{find}
 use Rattle.st_tree.specs.declared.elem.Elem.{Elem}
-use Rattle.st_tree.specs.Readings.{is_word}
+use Rattle.st_tree.specs.Words.{is_word}
 use Rattle.st_tree.specs.Types.{name_of}
 use Rattle.st_tokens.specs.declared.word.TheConstants.{ELEMS}
 use Rattle.st_tokens.specs.declared.keyword.TheConstants.{KEYWORDS}

@@ -1,6 +1,7 @@
 //! Cuts a text into tokens.
 ghost use Rattle.std.specs.Prelude.{◌≡◌, ◌≤◌, ◌<◌, ◌+◌, ◌^◌, [], length, take, drop, IfOk, IfErr, IfSome};
 ghost use Rattle.st_tokens.specs.Characters as characters;
+ghost use Rattle.st_tokens.specs.Forms as forms;
 ghost use Rattle.st_tokens.specs.Scanning as spec;
 ghost use Rattle.st_tokens.specs.Scanning.{seen};
 ghost use Rattle.st_tokens.specs.Text.{HasTokens, Explains};
@@ -9,7 +10,7 @@ use crate::fault::SyntaxFault;
 use crate::symbol::Symbol;
 use crate::token::{Kind, Token};
 use crate::word::{elem_of, is_clean, word_kind};
-use st_tree::{Class, Value, read_digits};
+use st_tree::{Class, Elem, Value, is_value, read_digits, read_interval};
 use std::alloc::Global;
 
 /// The most bytes of a text.
@@ -147,12 +148,73 @@ fn typed_at<'a>(word: &[u8], text: &'a [u8]) -> Option<(Kind<'a>, &'a [u8])>
     Some((Kind::Typed(Value { elem, bits }), rest))
 }
 
+/// Tests whether the last byte is a digit.
+fn ends_in_digit(text: &[u8]) -> bool
+    ensures { result ≡ spec.ends_in_digit text.now }
+{
+    !text.is_empty() && text[text.len() - 1].is_ascii_digit()
+}
+
+/// The bytes at the front that the parts of a duration may have, and what stands behind them.
+fn split_interval(text: &[u8]) -> (&[u8], &[u8])
+    ensures front { result.0.now ≡ spec.interval_front text.now }
+    ensures rest { result.1.now ≡ spec.interval_behind text.now }
+{
+    let (front, rest) = split_run(text);
+    match rest {
+        [b'.', fraction @ ..] if ends_in_digit(front) => {
+            text.split_at(front.len() + 1 + run_len(fraction))
+        }
+        _ => (front, rest),
+    }
+}
+
+/// Reads the parts of a duration at the front.
+#[tactic(auto, unfolding(crate::specs::Scanning::interval_at))]
+fn interval_at(text: &[u8]) -> Option<(u128, &[u8])>
+    ensures found { seen result ≡ spec.interval_at text.now }
+    ensures small { IfSome result (λ found. found.0 ≤ 2 ^ 64) }
+{
+    let (interval, rest) = split_interval(text);
+    Some((read_interval(interval)?, rest))
+}
+
+/// Reads an interval at the front that may have a `-`.
+#[tactic(auto, unfolding(crate::specs::Scanning::signed_interval_at))]
+fn signed_interval_at(text: &[u8]) -> Option<(i128, &[u8])>
+    ensures { seen result ≡ spec.signed_interval_at text.now }
+{
+    match text {
+        [b'-', interval @ ..] => {
+            let (number, rest) = interval_at(interval)?;
+            Some((-(number as i128), rest))
+        }
+        _ => {
+            let (number, rest) = interval_at(text)?;
+            Some((number as i128, rest))
+        }
+    }
+}
+
+/// What a duration counts as: what TIME doesn't hold counts as what no type holds.
+fn time_of(bits: i128) -> i128
+    ensures { result ≡ forms.time_of bits }
+{
+    let elem = Elem::Time;
+    if is_value(Value { elem, bits }) {
+        bits
+    } else {
+        1 << 64
+    }
+}
+
 /// Reads the rest of a duration, behind its `#`.
-#[tactic(auto, unfolding(crate::specs::Scanning::duration_at, crate::specs::Durations::duration_read))]
+#[tactic(auto, unfolding(crate::specs::Scanning::duration_at))]
 fn duration_at<'a>(text: &'a [u8]) -> Option<(Kind<'a>, &'a [u8])>
     ensures { seen result ≡ spec.duration_at text.now }
 {
-    None
+    let (bits, rest) = signed_interval_at(text)?;
+    Some((Kind::Duration(time_of(bits)), rest))
 }
 
 /// Reads the rest of a literal that begins with this word and `#`.

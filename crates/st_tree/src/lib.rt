@@ -12,6 +12,7 @@ mod read;
 mod value;
 mod word;
 
+pub use duration::read_interval;
 pub use elem::{Class, Elem};
 pub use leaf::{Leaf, Role};
 pub use list::List;
