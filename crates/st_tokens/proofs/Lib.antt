@@ -1,5 +1,7 @@
 pub mod Comments
+pub mod Durations
 pub mod Firsts
+pub mod Intervals
 pub mod Literals
 pub mod Longest
 pub mod Marks

@@ -48,13 +48,13 @@ digits_words base flag (c ∷ ds) high h = by_test (c == 95)
     (λ t. let h' : (is_digit c base && are_digits base true ds) ≡ true = rw t at h in let p = both (is_digit c base) _ h' in
         (digit_word base c high p.0, digits_words base true ds high p.1))
 
-digits_test : (base : ℕ) (ds : List ℕ) (n : ℕ) → digits_read base ds ≡ Some n → are_digits base false ds ≡ true
+pub digits_test : (base : ℕ) (ds : List ℕ) (n : ℕ) → digits_read base ds ≡ Some n → are_digits base false ds ≡ true
 digits_test base ds n h = by_test (are_digits base false ds) (λ t. t) (λ t. let h' : ◌≡◌ {A = Option ℕ} None (Some n) = rw t at h in absurd (cc))
 
 pub read_words : (base : ℕ) (ds : List ℕ) (n : ℕ) → base ≤ 16 → digits_read base ds ≡ Some n → AreWordBytes ds
 read_words base ds n high h = digits_words base false ds high (digits_test base ds n h)
 
-decimal_digit : (c : ℕ) → is_digit c 10 ≡ true → is_ascii_digit c ≡ true
+pub decimal_digit : (c : ℕ) → is_digit c 10 ≡ true → is_ascii_digit c ≡ true
 decimal_digit c h = grind (arith, nat_tests)
 
 -- decimal digits begin with one
