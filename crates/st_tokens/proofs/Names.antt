@@ -75,6 +75,11 @@ elem_same : (a b : List ℕ) → IsSame a b → elem_of a ≡ elem_of b
 unfolding elem_of
 elem_same a b e = ap (λ lower. find (λ elem. bytes_eq lower (map to_ascii_lowercase (name_of elem))) ELEMS) e
 
+-- `T` is no type
+pub short_no_elem : (w : List ℕ) → IsSame w (codes "T") → elem_of w ≡ None
+unfolding elem_of
+short_no_elem w h = elem_same w (codes "T") h ∙ refl
+
 pub keyword_in : (w : List ℕ) (x : Keyword) → IsSame w (spelling_of x) → keyword_of w ≡ Some x
 keyword_in w x e = keyword_same w (spelling_of x) e ∙ (keyword_facts x).0
 

@@ -155,7 +155,7 @@ pub hash_run : (text w more back : List ℕ) → AreWordBytes w → text ≡ (w 
     → (run text ≡ w) × (behind text ≡ 35 ∷ (more ++ back))
 hash_run text w more back words e = run_is text w (35 ∷ (more ++ back)) (e ∙ append_assoc w (35 ∷ more) back) words (λ (k : is_word_byte 35 ≡ true). cc)
 
-hash_test : (text more : List ℕ) → behind text ≡ 35 ∷ more → begins_with (codes "#") (behind text) ≡ true
+pub hash_test : (text more : List ℕ) → behind text ≡ 35 ∷ more → begins_with (codes "#") (behind text) ≡ true
 hash_test text more e = rw e refl
 
 pub no_hash_test : (text : List ℕ) → ((back : List ℕ) → behind text ≡ 35 ∷ back → ⊥) → begins_with (codes "#") (behind text) ≡ false

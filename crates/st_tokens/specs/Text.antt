@@ -1,7 +1,6 @@
 -- A text and its tokens.
-use Rattle.std.specs.Prelude.{◌≡◌, ℕ, ◌+◌, ◌<◌, ◌≤◌, true, List, [], ◌∷◌, ◌++◌, length, codes}
+use Rattle.std.specs.Prelude.{◌≡◌, ℕ, ◌+◌, ◌<◌, ◌≤◌, ◌⊎◌, true, List, [], ◌∷◌, ◌++◌, length, codes}
 use Rattle.st_tree.specs.declared.elem.Elem.TheVariants.{Time}
-use Rattle.st_tree.specs.declared.value.Value.{Value}
 use Rattle.st_tokens.specs.declared.fault.SyntaxFault.{SyntaxFault}
 use Rattle.st_tokens.specs.declared.fault.SyntaxFault.TheVariants as F
 use Rattle.st_tokens.specs.declared.scan.TheConstants.{MOST_BYTES}
@@ -18,10 +17,15 @@ pub record IsLongest (text front rest : List ℕ) (kind : Kind) : Type 0 where
   pub form : HasForm front kind
   pub longest : (other back : List ℕ) (k : Kind) → text ≡ other ++ back → HasForm other k → length other ≤ length front
 
--- there is no token, though this front has a form: a word has two '_' in a row or one at the end, a literal goes on,
--- or what begins as a duration is none
+-- a `#` comes first
+abbrev pub BeginsHash : List ℕ → Type 0
+BeginsHash rest = (back : List ℕ) × (rest ≡ codes "#" ++ back)
+
+-- there is no token, though this front has a form: a word has two '_' in a row or one at the end, what begins as a
+-- duration is none, or a letter, a digit or '_' follows a literal
 abbrev pub IsRefused : Kind → List ℕ → Type 0
-IsRefused (K.Word w) rest = IsUnclean w
+IsRefused (K.Word w) rest = IsUnclean w ⊎ (IsSame w (codes "T") × BeginsHash rest)
+IsRefused (K.Type elem) rest = (elem ≡ Time) × BeginsHash rest
 IsRefused (K.Number n) rest = BeginsWord rest
 IsRefused (K.Typed v) rest = BeginsWord rest
 IsRefused (K.Duration ms) rest = BeginsWord rest
