@@ -4,7 +4,7 @@ use Rattle.std.specs.Prelude.{Option, Some, None, option_map, option_and_then, c
 use Rattle.std.specs.Char.{is_digit, is_ascii_digit, is_ascii_alphabetic, to_ascii_lowercase}
 use Rattle.std.specs.List.{after_first, before_first, list_all, prefix_len, position_or_len}
 use Rattle.std.specs.Str.{byte}
-use Rattle.std.proofs.Math.Seq.{get_or-append_seam}
+use Rattle.std.proofs.Math.Seq.{get_or-append_seam, take-append-add, drop-append-add}
 use Rattle.std.proofs.lemmas.Bool.Decides.{nat_tests}
 use Rattle.std.proofs.lemmas.List.Sums.{split_at_first, passes_at_first}
 use Rattle.std.proofs.lemmas.Slice.Eq.{bytes_eq-Decides}
@@ -12,10 +12,10 @@ use Rattle.st_tree.specs.declared.duration.TimeUnit.{TimeUnit}
 use Rattle.st_tree.specs.declared.duration.TimeUnit.TheVariants.{Days, Hours, Minutes, Seconds, Milliseconds}
 use Rattle.st_tree.specs.Durations.{letters_of, milliseconds_of, units, part_number, part_letters, part_rest, sum_of, amount_read, fraction_read, last_amount_read, is_point, without_underscore, parts_read, interval_read}
 use Rattle.st_tree.specs.Numbers.{are_digits, capped, digits_read}
-use Rattle.st_tree.specs.Words.{after, is_word}
+use Rattle.st_tree.specs.Words.{after, begins_with, is_word}
 use Rattle.st_tokens.specs.Characters.{is_word_byte, AreWordBytes, BeginsWord}
 use Rattle.st_tokens.specs.Scanning.{run, behind, ends_in_digit, has_fraction, fraction_of, interval_front, interval_behind, interval_at}
-use Rattle.st_tokens.proofs.Numbers.{Found, digits_test, read_words, decimal_digit}
+use Rattle.st_tokens.proofs.Numbers.{Found, begins, digits_test, read_words, decimal_digit}
 use Rattle.st_tokens.proofs.Runs.{run_behind, run_words, behind_not, run_is, words_in_run, words_append}
 use Rattle.st_tokens.proofs.Tests.{by_test, both, is_equal, not_both, some_parts}
 
@@ -231,17 +231,14 @@ abbrev pub IntervalFound : List ℕ → List ℕ → ℕ → Type 0
 IntervalFound text rest v = Found interval_read capped text rest v
 
 fraction_test : (text : List ℕ) → has_fraction text ≡ true → behind text ≡ 46 ∷ fraction_of text
-fraction_test text h = first_is (behind text) (both (ends_in_digit (run text)) _ h).1 where
-  first_is : (xs : List ℕ) → (slice_index xs 0 == 46) ≡ true → xs ≡ 46 ∷ drop 1 xs
-  first_is [] g = absurd (cc)
-  first_is (x ∷ xs) g = ap (λ (y : ℕ). y ∷ xs) (is_equal x 46 g)
+fraction_test text h = begins (codes ".") (behind text) (both (ends_in_digit (run text)) (begins_with (codes ".") (behind text)) h).1
 
 -- a front with a `.` has it behind the run
 split_run : (text front back rest : List ℕ) → text ≡ (front ++ 46 ∷ back) ++ rest → AreWordBytes front → (run text ≡ front) × (behind text ≡ 46 ∷ (back ++ rest))
 split_run text front back rest e words = run_is text front (46 ∷ (back ++ rest)) (e ∙ append_assoc front (46 ∷ back) rest) words (λ (k : is_word_byte 46 ≡ true). cc)
 
 split_test : (text : List ℕ) (s : Ends is_ascii_digit (run text)) (more : List ℕ) → behind text ≡ 46 ∷ more → has_fraction text ≡ true
-split_test text s more e = rw (digit_ends (run text) s) (ap (λ (zs : List ℕ). slice_index zs 0 == 46) e)
+split_test text s more e = rw (digit_ends (run text) s) (ap (λ (zs : List ℕ). begins_with (codes ".") zs) e)
 
 option_parts : (text rest : List ℕ) (v : ℕ) (o : Option ℕ) → option_map {T = ℕ} {U = ℕ × List ℕ} (λ n. (capped n, interval_behind text)) o ≡ Some (v, rest)
     → (n : ℕ) × (o ≡ Some n) × (v ≡ capped n) × (rest ≡ interval_behind text)
@@ -275,7 +272,7 @@ interval_found text rest v h = by_test (has_fraction text)
         let le = words_in_run text other back g w.words in let l = length-append (run text) (46 ∷ run (fraction_of text)) in omega arith
     at other back g (inr s) =
         let u = split_run text s.front s.back back (g ∙ ap (λ (zs : List ℕ). zs ++ back) s.splits) s.front_words in
-        let tail : fraction_of text ≡ s.back ++ back = ap (λ (zs : List ℕ). drop 1 zs) u.1 in
+        let tail : fraction_of text ≡ s.back ++ back = ap (λ (zs : List ℕ). after (codes ".") zs) u.1 in
         let le = words_in_run (fraction_of text) s.back back tail s.back_words in
         let l = length-append (run text) (46 ∷ run (fraction_of text)) in let m = length-append s.front (46 ∷ s.back) in
         let same = ap length s.splits in let front = ap length u.0 in omega arith
@@ -310,6 +307,19 @@ interval_only text front rest n e h ends = at (interval_shape front n h) where
   at (inr s) =
       let u = split_run text s.front s.back rest (e ∙ ap (λ (zs : List ℕ). zs ++ rest) s.splits) s.front_words in
       let t = split_test text (subst (Ends is_ascii_digit) (sym u.0) s.ends) (s.back ++ rest) u.1 in
-      let tail : fraction_of text ≡ s.back ++ rest = ap (λ (zs : List ℕ). drop 1 zs) u.1 in
+      let tail : fraction_of text ≡ s.back ++ rest = ap (λ (zs : List ℕ). after (codes ".") zs) u.1 in
       let v = run_is (fraction_of text) s.back rest tail s.back_words ends in
       made (rw t (ap (λ (zs : List ℕ). run text ++ 46 ∷ zs) v.0 ∙ ap (λ (zs : List ℕ). zs ++ 46 ∷ s.back) u.0 ∙ sym s.splits)) (rw t v.1)
+
+-- a text split behind its run, a `.` and as many bytes more
+pub split_at_fraction : (text fraction front back : List ℕ) (n : ℕ) → has_fraction text ≡ true → fraction ≡ fraction_of text → take n fraction ≡ front → drop n fraction ≡ back → n ≤ length fraction
+    → (take (length (run text) + 1 + n) text ≡ run text ++ 46 ∷ front) × (drop (length (run text) + 1 + n) text ≡ back) × (length (run text) + 1 + n ≤ length text)
+split_at_fraction text fraction front back n h e f g le =
+    let split : text ≡ run text ++ 46 ∷ fraction = run_behind text ∙ ap (λ (zs : List ℕ). run text ++ zs) (fraction_test text h ∙ ap (λ (zs : List ℕ). 46 ∷ zs) (sym e)) in
+    let sum : length (run text) + 1 + n ≡ length (run text) + suc n = omega arith in
+    let size : length text ≡ length (run text) + suc (length fraction) = ap length split ∙ length-append (run text) (46 ∷ fraction) in
+    (ap (λ (m : ℕ). take m text) sum ∙ ap (λ (zs : List ℕ). take (length (run text) + suc n) zs) split
+        ∙ take-append-add (run text) (46 ∷ fraction) (suc n) ∙ ap (λ (zs : List ℕ). run text ++ 46 ∷ zs) f,
+     ap (λ (m : ℕ). drop m text) sum ∙ ap (λ (zs : List ℕ). drop (length (run text) + suc n) zs) split
+        ∙ drop-append-add (run text) (46 ∷ fraction) (suc n) ∙ g,
+     omega arith)

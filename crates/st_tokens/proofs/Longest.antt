@@ -22,7 +22,7 @@ use Rattle.st_tokens.specs.Symbols.{symbol_text}
 use Rattle.st_tokens.specs.Text.{IsLongest, IsRefused}
 use Rattle.st_tokens.specs.Words.{IsSame, IsWord, IsReserved, IsUnclean, keyword_of, elem_of}
 use Rattle.st_tokens.proofs.Durations.{signed_interval_found, signed_interval_only, time_of-capped}
-use Rattle.st_tokens.proofs.Firsts.{IsOpener, opens_text, only_number, only_symbol, only_word, Plain, Literal, Lasting, duration_name}
+use Rattle.st_tokens.proofs.Firsts.{IsOpener, form_begins, opens_text, only_number, only_symbol, only_word, Plain, Literal, Lasting, duration_name}
 use Rattle.st_tokens.proofs.Literals.{literal_found, literal_only, is_same, same_test}
 use Rattle.st_tokens.proofs.Marks.{IsDouble, IsSingle, symbol_cases, single_is, double_is}
 use Rattle.st_tokens.proofs.Names.{keyword_is, short_no_elem, elem_in, elem_is, elem_name, name_word, word_words, not_unclean, not_reserved, begins_word_byte, begins_no_digit, digit_word_byte}
@@ -307,8 +307,132 @@ token_found (b ∷ bs) kind rest h = by_test (is_ascii_digit b)
 
 -- ---- and no other
 
+pair_some : (f : Kind) (g : Kind) (rest : List ℕ) → f ≡ g → ◌≡◌ {A = Option (Kind × List ℕ)} (Some (f, rest)) (Some (g, rest))
+pair_some f g rest e = ap (λ (k : Kind). let r : Option (Kind × List ℕ) = Some (k, rest) in r) e
+
+number_is_only : (b : ℕ) (bs front rest : List ℕ) (kind : Kind) → IsToken (b ∷ bs) front rest kind → ((back : List ℕ) → rest ≡ 35 ∷ back → ⊥) → is_ascii_digit b ≡ true
+    → option_map number_found (number_at (b ∷ bs)) ≡ Some (kind, rest)
+number_is_only b bs front rest kind h alive d =
+    let n = only_number b front kind h.longest.form (opens_text b bs front rest kind h.longest.splits h.longest.form) d in
+    let allowed = subst (λ k. IsRefused k rest → ⊥) n.2 h.allowed in
+    let found = number_only (b ∷ bs) front rest n.0 h.longest.splits n.1 (record { ends = allowed; no_hash = alive }) in
+    ap (option_map number_found) found ∙ pair_some (K.Number (capped n.0)) kind rest (sym n.2)
+
+-- a word that is the longest form doesn't go on
+word_ends : (b : ℕ) (bs front rest : List ℕ) (kind : Kind) → IsToken (b ∷ bs) front rest kind → IsWord front → BeginsWord rest → ⊥
+word_ends b bs front [] kind h is ends = ends
+word_ends b bs front (c ∷ rest) kind h is ends =
+    let le = h.longest.longest (front ++ c ∷ []) rest (word_kind (front ++ c ∷ [])) (h.longest.splits ∙ sym (append_assoc front (c ∷ []) rest))
+        (kind_form (front ++ c ∷ []) (longer front is)) in
+    let l = length-append front (c ∷ []) in absurd (omega arith) where
+  longer : (w : List ℕ) → IsWord w → IsWord (w ++ c ∷ [])
+  longer [] k = absurd k
+  longer (x ∷ w) k = (k.0, words_append w (c ∷ []) k.1 (ends, tt))
+
+plain_only : (b : ℕ) (bs front rest : List ℕ) (kind : Kind) → IsToken (b ∷ bs) front rest kind → ((back : List ℕ) → rest ≡ 35 ∷ back → ⊥) → Plain front kind
+    → word_at (b ∷ bs) ≡ Some (kind, rest)
+unfolding word_at
+plain_only b bs front rest kind h alive p =
+    let u = run_is (b ∷ bs) front rest h.longest.splits (word_words front p.is_word) (word_ends b bs front rest kind h p.is_word) in
+    let t = no_hash_test (b ∷ bs) (λ back e. alive back (sym u.1 ∙ e)) in
+    let c = subst (λ zs. is_clean zs ≡ true) (sym u.0) (p.clean_where rest h.allowed) in
+    let kind_is : word_kind (run (b ∷ bs)) ≡ kind = ap word_kind u.0 ∙ p.kind_is in
+    rw (t, c) (pair_some (word_kind (run (b ∷ bs))) kind (behind (b ∷ bs)) kind_is ∙ ap (λ (zs : List ℕ). let r : Option (Kind × List ℕ) = Some (kind, zs) in r) u.1)
+
+no_duration_class : (elem : Elem) → (elem ≡ E.Time → ⊥) → class_of elem ≡ Duration → ⊥
+no_duration_class E.Time n h = n refl
+no_duration_class E.Bool n h = cc
+no_duration_class E.Sint n h = cc
+no_duration_class E.Int n h = cc
+no_duration_class E.Dint n h = cc
+no_duration_class E.Lint n h = cc
+no_duration_class E.Usint n h = cc
+no_duration_class E.Uint n h = cc
+no_duration_class E.Udint n h = cc
+no_duration_class E.Ulint n h = cc
+no_duration_class E.Byte n h = cc
+no_duration_class E.Word n h = cc
+no_duration_class E.Dword n h = cc
+no_duration_class E.Lword n h = cc
+
+literal_is_only : (b : ℕ) (bs front rest : List ℕ) (kind : Kind) → IsToken (b ∷ bs) front rest kind → ((back : List ℕ) → rest ≡ 35 ∷ back → ⊥) → (p : Literal front kind)
+    → word_at (b ∷ bs) ≡ Some (kind, rest)
+unfolding word_at prefixed_at typed_at
+literal_is_only b bs front rest kind h alive p =
+    let words = word_words p.name (name_word p.name (elem_name p.name p.elem p.named)) in
+    let k = behind_hash (b ∷ bs) front rest p.name p.literal words h.longest.splits p.splits in
+    let r = hash_run (b ∷ bs) p.name p.literal rest words (h.longest.splits ∙ ap (λ (zs : List ℕ). zs ++ rest) p.splits) in
+    let t = hash_test (b ∷ bs) (p.literal ++ rest) r.1 in
+    let named = subst (λ zs. IsSame zs (name_of p.elem)) (sym k.run_is) p.named in
+    let d : is_duration_word (run (b ∷ bs)) ≡ false = by_test (is_duration_word (run (b ∷ bs)))
+        (λ t. absurd (p.no_time (not_typed (run (b ∷ bs)) p.elem (duration_word (run (b ∷ bs)) t) named))) (λ t. t) in
+    let allowed = subst (λ j. IsRefused j rest → ⊥) p.kind_is h.allowed in
+    let found = literal_only (class_of p.elem) (tail_of (b ∷ bs)) p.literal rest p.number (no_duration_class p.elem p.no_time) k.tail_is p.reads (record { ends = allowed; no_hash = alive }) in
+    let i = elem_in (run (b ∷ bs)) p.elem named in
+    rw (t, d) (ap (λ (o : Option Elem). option_and_then (λ elem. option_map (typed_found elem) (literal_at (class_of elem) (tail_of (b ∷ bs)))) o) i
+      ∙ ap (option_map (typed_found p.elem)) found ∙ pair_some (K.Typed (value p.elem (capped_signed p.number))) kind rest (sym p.kind_is))
+
+lasting_is_only : (b : ℕ) (bs front rest : List ℕ) (kind : Kind) → IsToken (b ∷ bs) front rest kind → ((back : List ℕ) → rest ≡ 35 ∷ back → ⊥) → (p : Lasting front kind)
+    → word_at (b ∷ bs) ≡ Some (kind, rest)
+unfolding word_at prefixed_at duration_at
+lasting_is_only b bs front rest kind h alive p =
+    let words = word_words p.name (name_word p.name (duration_name p.name p.named)) in
+    let k = behind_hash (b ∷ bs) front rest p.name p.literal words h.longest.splits p.splits in
+    let r = hash_run (b ∷ bs) p.name p.literal rest words (h.longest.splits ∙ ap (λ (zs : List ℕ). zs ++ rest) p.splits) in
+    let t = hash_test (b ∷ bs) (p.literal ++ rest) r.1 in
+    let d = duration_test (run (b ∷ bs)) (subst IsDurationWord (sym k.run_is) p.named) in
+    let allowed = subst (λ j. IsRefused j rest → ⊥) p.kind_is h.allowed in
+    let found = signed_interval_only (tail_of (b ∷ bs)) p.literal rest p.number k.tail_is p.reads (record { ends = allowed; no_hash = alive }) in
+    rw (t, d) (ap (option_map duration_found) found
+      ∙ pair_some (K.Duration (time_of (capped_signed p.number))) kind rest (ap (λ (n : ℤ). K.Duration n) (time_of-capped p.number) ∙ sym p.kind_is))
+
+word_is_only : (b : ℕ) (bs front rest : List ℕ) (kind : Kind) → IsToken (b ∷ bs) front rest kind → ((back : List ℕ) → rest ≡ 35 ∷ back → ⊥) → begins_word b ≡ true
+    → word_at (b ∷ bs) ≡ Some (kind, rest)
+word_is_only b bs front rest kind h alive w = at (only_word b front kind h.longest.form (opens_text b bs front rest kind h.longest.splits h.longest.form) w) where
+  at : Plain front kind ⊎ (Literal front kind ⊎ Lasting front kind) → word_at (b ∷ bs) ≡ Some (kind, rest)
+  at (inl p) = plain_only b bs front rest kind h alive p
+  at (inr (inl p)) = literal_is_only b bs front rest kind h alive p
+  at (inr (inr p)) = lasting_is_only b bs front rest kind h alive p
+
+double_only : (x : Symbol) (b c : ℕ) (rest : List ℕ) → double b c ≡ Some x → symbol_at (b ∷ c ∷ rest) ≡ Some (K.Symbol x, rest)
+unfolding symbol_at
+double_only x b c rest h = ap (λ (o : Option Symbol). symbol_or o rest (symbol_or (single b) (c ∷ rest) None)) h
+
+single_only : (x : Symbol) (b : ℕ) (rest : List ℕ) → single b ≡ Some x → ((c : ℕ) (back : List ℕ) → rest ≡ c ∷ back → double b c ≡ None) → symbol_at (b ∷ rest) ≡ Some (K.Symbol x, rest)
+unfolding symbol_at
+single_only x b [] h none = ap (λ (o : Option Symbol). symbol_or o [] None) h
+single_only x b (c ∷ rest) h none = ap (λ (o : Option Symbol). symbol_or o rest (symbol_or (single b) (c ∷ rest) None)) (none c rest refl)
+    ∙ ap (λ (o : Option Symbol). symbol_or o (c ∷ rest) None) h
+
+symbol_is_only : (b : ℕ) (bs front rest : List ℕ) (kind : Kind) → IsToken (b ∷ bs) front rest kind → is_ascii_digit b ≡ false → begins_word b ≡ false
+    → symbol_at (b ∷ bs) ≡ Some (kind, rest)
+symbol_is_only b bs front rest kind h d w = at (only_symbol b front kind h.longest.form (opens_text b bs front rest kind h.longest.splits h.longest.form) d w) where
+  text_is : (x : Symbol) → front ≡ symbol_text x → (text : List ℕ) → symbol_text x ≡ text → b ∷ bs ≡ text ++ rest
+  text_is x e text f = h.longest.splits ∙ ap (λ (zs : List ℕ). zs ++ rest) (e ∙ f)
+  no_double : (x : Symbol) (s : IsSingle x) → front ≡ symbol_text x → (c : ℕ) (back : List ℕ) → rest ≡ c ∷ back → (o : Option Symbol) → double s.byte c ≡ o → o ≡ None
+  no_double x s e c back g None i = refl
+  no_double x s e c back g (Some y) i =
+      let t = double_is s.byte c y i in
+      let text = text_is x e (s.byte ∷ []) s.text ∙ ap (λ (zs : List ℕ). s.byte ∷ zs) g in
+      let le = h.longest.longest (symbol_text y) back (K.Symbol y) (text ∙ sym (ap (λ (zs : List ℕ). zs ++ back) t)) (symbol y) in
+      let l = ap length t in let m = ap length (e ∙ s.text) in absurd (omega arith)
+  by_case : (x : Symbol) → front ≡ symbol_text x → IsDouble x ⊎ IsSingle x → symbol_at (b ∷ bs) ≡ Some (K.Symbol x, rest)
+  by_case x e (inl s) = subst (λ zs. symbol_at zs ≡ Some (K.Symbol x, rest)) (sym (text_is x e (s.first ∷ s.second ∷ []) s.text)) (double_only x s.first s.second rest s.found)
+  by_case x e (inr s) = subst (λ zs. symbol_at zs ≡ Some (K.Symbol x, rest)) (sym (text_is x e (s.byte ∷ []) s.text))
+      (single_only x s.byte rest s.found (λ c back g. no_double x s e c back g (double s.byte c) refl))
+  at : (x : Symbol) × (front ≡ symbol_text x) × (kind ≡ K.Symbol x) → symbol_at (b ∷ bs) ≡ Some (kind, rest)
+  at o = by_case o.0 o.1 (symbol_cases o.0) ∙ pair_some (K.Symbol o.0) kind rest (sym o.2)
+
 pub only : (text front rest : List ℕ) (kind : Kind) → IsToken text front rest kind → ((back : List ℕ) → rest ≡ 35 ∷ back → ⊥) → token_at text ≡ Some (kind, rest)
-only text front rest kind h alive = ?
+unfolding token_at
+only [] front rest kind h alive =
+    let w = form_begins front kind h.longest.form in
+    let e : [] ≡ w.0 ∷ (w.1 ++ rest) = h.longest.splits ∙ ap (λ (zs : List ℕ). zs ++ rest) w.2 in absurd (cc)
+only (b ∷ bs) front rest kind h alive = by_test (is_ascii_digit b)
+    (λ d. rw d (number_is_only b bs front rest kind h alive d))
+    (λ d. by_test (begins_word b)
+      (λ w. rw (d, w) (word_is_only b bs front rest kind h alive w))
+      (λ w. rw (d, w) (symbol_is_only b bs front rest kind h d w)))
 
 pub token_at-empty : (text : List ℕ) → length text < 1 → token_at text ≡ None
 unfolding token_at symbol_at

@@ -1,6 +1,5 @@
 -- What is left of a text, while its tokens are read.
-use Rattle.std.proofs.Common.{◌≡◌, ℕ, zero, suc, ◌+◌, ◌<◌, ◌≤◌, List, [], ◌∷◌, ◌++◌, length, refl, sym, ap, ◌∙◌, Bool, true, false, arith, subst, get_or, drop, append_assoc, append-nil, length-append, length-drop, take, ◌-◌}
-use Rattle.std.proofs.Math.Seq.{take-length}
+use Rattle.std.proofs.Common.{◌≡◌, ℕ, zero, suc, ◌+◌, ◌<◌, ◌≤◌, List, [], ◌∷◌, ◌++◌, length, refl, sym, ap, ◌∙◌, Bool, true, false, arith, subst, get_or, drop, append_assoc, append-nil, length-append, ◌-◌}
 use mir.Val.{bool_byte}
 use Rattle.st_tree.specs.Words.{begins_with}
 use Rattle.std.specs.Prelude.{nat_eq, Option, Some, None, ◌==◌, ◌&&◌, ◌||◌, codes}
@@ -204,10 +203,6 @@ shorter_comment line line' rest behind h e =
     let joined : length (w.0 ++ 42 ∷ 41 ∷ behind) ≡ length w.0 + suc (suc (length behind)) = length-append w.0 (42 ∷ 41 ∷ behind) in
     let ends = line_ends-length w.0 in let line_is = w.2 in
     (omega arith, omega arith)
-
--- a slice from a place on
-pub take_rest : (n : ℕ) (xs : List ℕ) → take (length xs - n) (drop n xs) ≡ drop n xs
-take_rest n xs = rw (← length-drop n xs) (take-length (drop n xs))
 
 pub shorter_token : (rest behind : List ℕ) (kind : Kind) → token_at rest ≡ Some (kind, behind) → length behind < length rest
 shorter_token rest behind kind e =

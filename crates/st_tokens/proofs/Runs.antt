@@ -1,5 +1,6 @@
 -- Runs of bytes of words.
-use Rattle.std.proofs.Common.{◌≡◌, ℕ, zero, suc, ◌+◌, ◌<◌, ◌≤◌, List, [], ◌∷◌, ◌++◌, length, refl, sym, ap, ◌∙◌, Bool, true, false, arith, subst}
+use Rattle.std.proofs.Common.{◌≡◌, ℕ, zero, suc, ◌+◌, ◌<◌, ◌≤◌, List, [], ◌∷◌, ◌++◌, length, refl, sym, ap, ◌∙◌, Bool, true, false, arith, subst, take, drop, length-drop, ◌-◌}
+use Rattle.std.proofs.Math.Seq.{take-length}
 use Rattle.std.specs.Prelude.{◌==◌, ◌&&◌, ◌||◌, not}
 use Rattle.st_tokens.specs.Characters.{is_word_byte, AreWordBytes, BeginsWord}
 use Rattle.st_tokens.specs.Scanning.{run, behind}
@@ -38,3 +39,7 @@ words_in_run text other back e h = rw e (words_within other back h)
 pub words_append : (a b : List ℕ) → AreWordBytes a → AreWordBytes b → AreWordBytes (a ++ b)
 words_append [] b h k = k
 words_append (x ∷ a) b h k = (h.0, words_append a b h.1 k)
+
+-- a slice from a place on
+pub take_rest : (n : ℕ) (xs : List ℕ) → take (length xs - n) (drop n xs) ≡ drop n xs
+take_rest n xs = rw (← length-drop n xs) (take-length (drop n xs))

@@ -23,3 +23,6 @@ both false q h = cc
 
 pub some_parts : {A B : Type 0} {a b : A} {x y : B} → ◌≡◌ {A = Option (A × B)} (Some (a, x)) (Some (b, y)) → (a ≡ b) × (x ≡ y)
 some_parts {A} {B} {a} {b} {x} {y} h = let e : ◌≡◌ {A = A × B} (a, x) (b, y) = cc in (ap (λ z. z.0) e, ap (λ z. z.1) e)
+
+pub both_true : {p q : Bool} → p ≡ true → q ≡ true → (p && q) ≡ true
+both_true h k = rw (h, k) refl

@@ -102,10 +102,10 @@ ends_in_digit w = is_ascii_digit (slice_index w (length w - 1))
 
 -- where a number is open and a `.` follows, the number goes on
 abbrev pub has_fraction : List ℕ → Bool
-has_fraction text = ends_in_digit (run text) && slice_index (behind text) 0 == byte "."
+has_fraction text = ends_in_digit (run text) && begins_with (codes ".") (behind text)
 
 abbrev pub fraction_of : List ℕ → List ℕ
-fraction_of text = drop 1 (behind text)
+fraction_of text = after (codes ".") (behind text)
 
 -- the bytes that the parts of a duration may have, and what stands behind them
 abbrev pub interval_front : List ℕ → List ℕ

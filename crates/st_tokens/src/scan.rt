@@ -161,11 +161,10 @@ fn split_interval(text: &[u8]) -> (&[u8], &[u8])
     ensures rest { result.1.now ≡ spec.interval_behind text.now }
 {
     let (front, rest) = split_run(text);
-    match rest {
-        [b'.', fraction @ ..] if ends_in_digit(front) => {
-            text.split_at(front.len() + 1 + run_len(fraction))
-        }
-        _ => (front, rest),
+    if ends_in_digit(front) && rest.starts_with(b".") {
+        text.split_at(front.len() + 1 + run_len(&rest[1..]))
+    } else {
+        (front, rest)
     }
 }
 

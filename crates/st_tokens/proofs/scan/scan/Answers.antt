@@ -3,7 +3,8 @@ use Rattle.std.specs.Prelude.{Option, Some, None, codes}
 use Rattle.st_tree.specs.Words.{begins_with}
 use Rattle.st_tokens.specs.Characters.{line_end}
 use Rattle.st_tokens.specs.Scanning.{seen, comment_at, token_at}
-use Rattle.st_tokens.proofs.Reading.{Reads, reads_end, blank_step, comment_step, open_comment, token_step, stuck, shorter_comment, shorter_token, take_rest, line_end-bound, line_end-is, blank_room, nothing}
+use Rattle.st_tokens.proofs.Reading.{Reads, reads_end, blank_step, comment_step, open_comment, token_step, stuck, shorter_comment, shorter_token, line_end-bound, line_end-is, blank_room, nothing}
+use Rattle.st_tokens.proofs.Runs.{take_rest}
 use Rattle.st_tokens.proofs.scan.scan.Goals.{In-Some}
 use Rattle.st_tokens.proofs.scan.scan.Goals as goal
 
