@@ -3,6 +3,7 @@ pub mod DigitTexts
 pub mod DurationLemmas
 pub mod DurationTexts
 pub mod FractionLemmas
+pub mod Grammar
 pub mod Laid
 pub mod NumberLemmas
 pub mod RoundTrip

@@ -1,7 +1,7 @@
 -- Durations in texts (IEC 61131-3:2003, 2.2.3.1, table 7).
 use Rattle.std.specs.Char.{is_ascii_alphabetic, is_digit}
 use Rattle.std.specs.List.{after_first, before_first, list_all}
-use Rattle.std.specs.Prelude.{ℕ, ◌+◌, ◌*◌, ◌/◌, ◌%◌, ◌^◌, Bool, ◌&&◌, ◌==◌, not, nat_lt, if◌then◌else◌, List, [], ◌∷◌, codes, drop, length, slice_index, take_while, ℤ, pos, Option, Some, None, option_and_then, option_map, is_some, position}
+use Rattle.std.specs.Prelude.{◌≡◌, ◌++◌, true, ℕ, ◌+◌, ◌*◌, ◌/◌, ◌%◌, ◌^◌, Bool, ◌&&◌, ◌==◌, not, nat_lt, if◌then◌else◌, List, [], ◌∷◌, codes, drop, length, slice_index, take_while, ℤ, pos, Option, Some, None, option_and_then, option_map, is_some, position}
 use Rattle.std.specs.Str.{byte}
 use Rattle.std.specs.Str.Parse.{digits_value}
 use Rattle.st_tree.specs.Numbers.{digits_read, negative}
@@ -77,6 +77,26 @@ parts_read (unit ∷ smaller) text =
 -- the milliseconds of a whole text of parts
 unfoldable pub interval_read : List ℕ → Option ℕ
 interval_read text = parts_read units text
+
+-- the grammar of an interval: parts, each with a unit of these, from large to small, and the milliseconds that they are
+pub data IsInterval : List TimeUnit → List ℕ → ℕ → Type 0 where
+  -- the last part
+  last_part : {unit : TimeUnit} {smaller : List TimeUnit} {n : ℕ} (number letters : List ℕ)
+      → amount_read unit number ≡ Some n → is_word (letters_of unit) letters ≡ true
+      → IsInterval (unit ∷ smaller) (number ++ letters) n
+  -- the last part, with a fraction
+  last_part_with_fraction : {unit : TimeUnit} {smaller : List TimeUnit} {m n : ℕ} (number digits letters : List ℕ)
+      → amount_read unit number ≡ Some m → fraction_read unit digits ≡ Some n → is_word (letters_of unit) letters ≡ true
+      → IsInterval (unit ∷ smaller) (number ++ byte "." ∷ digits ++ letters) (m + n)
+  -- a part, and smaller ones directly after it or after a `_`
+  part : {unit : TimeUnit} {smaller : List TimeUnit} {m n : ℕ} (number letters rest : List ℕ)
+      → amount_read unit number ≡ Some m → is_word (letters_of unit) letters ≡ true → IsInterval smaller rest n
+      → IsInterval (unit ∷ smaller) (number ++ letters ++ rest) (m + n)
+  part_and_underscore : {unit : TimeUnit} {smaller : List TimeUnit} {m n : ℕ} (number letters rest : List ℕ)
+      → amount_read unit number ≡ Some m → is_word (letters_of unit) letters ≡ true → IsInterval smaller rest n
+      → IsInterval (unit ∷ smaller) (number ++ letters ++ byte "_" ∷ rest) (m + n)
+  -- no part of this unit
+  left_out : {unit : TimeUnit} {smaller : List TimeUnit} {text : List ℕ} {n : ℕ} → IsInterval smaller text n → IsInterval (unit ∷ smaller) text n
 
 -- the same after an optional `-`
 abbrev pub signed_interval_read : List ℕ → Option ℤ

@@ -1,15 +1,12 @@
 //! Durations in texts (IEC 61131-3:2003, 2.2.3.1, table 7).
 ghost use Rattle.std.specs.Char.{is_ascii_alphabetic};
 ghost use Rattle.std.specs.List.{prefix_len};
-ghost use Rattle.std.specs.Prelude.{◌≡◌, ◌≤◌, ◌<◌, ◌^◌, length, not, option_map, position, IfSome};
-ghost use Rattle.st_tree.specs.Durations.{amount_read, duration_read, fraction_read, interval_read, is_point, last_amount_read, letters_of, milliseconds_of, part_letters, part_number, part_rest, parts_read, signed_interval_read, sum_of as sum_where, without_underscore as no_underscore};
+ghost use Rattle.std.specs.Prelude.{◌≡◌, ℕ, ◌≤◌, ◌<◌, ◌^◌, ◌↔◌, Some, length, not, option_map, position, IfSome};
+ghost use Rattle.st_tree.specs.Durations.{IsInterval, amount_read, duration_read, fraction_read, interval_read, is_point, last_amount_read, letters_of, milliseconds_of, part_letters, part_number, part_rest, parts_read, signed_interval_read, sum_of as sum_where, units, without_underscore as no_underscore};
 ghost use Rattle.st_tree.specs.Numbers.{capped, capped_signed};
 
-use crate::number::{read_digits, with_sign};
+use crate::number::{TOO_MUCH, read_digits, with_sign};
 use crate::word::{begins_with_word, is_word};
-
-/// Above what any type holds.
-const TOO_MUCH: u128 = 1 << 64;
 
 /// A unit of a duration.
 #[derive(Clone, Copy, Debug, PartialEq, Eq)]
@@ -120,13 +117,13 @@ fn read_parts(units: &[TimeUnit], text: &[u8]) -> Option<u128>
 }
 
 /// The sum, where both are there.
-fn sum_of(a: Option<u128>, b: Option<u128>) -> Option<u128>
-    requires a { IfSome a (λ number. number ≤ 2 ^ 64) }
-    requires b { IfSome b (λ number. number ≤ 2 ^ 64) }
-    ensures value { result ≡ option_map capped (sum_where a b) }
+fn sum_of(first: Option<u128>, second: Option<u128>) -> Option<u128>
+    requires first { IfSome first (λ number. number ≤ 2 ^ 64) }
+    requires second { IfSome second (λ number. number ≤ 2 ^ 64) }
+    ensures value { result ≡ option_map capped (sum_where first second) }
     ensures bound { IfSome result (λ number. number ≤ 2 ^ 64) }
 {
-    Some((a? + b?).min(TOO_MUCH))
+    Some((first? + second?).min(TOO_MUCH))
 }
 
 /// The first part of a text: what stands before the first letter, the letters there, and what follows.
@@ -224,3 +221,8 @@ fn read_fraction(unit: TimeUnit, digits: &[u8]) -> Option<u128>
     }
     Some(share)
 }
+
+/// What is read as an interval is what the grammar of an interval says.
+pub fn interval_is_its_parts(text: &[u8])
+    ensures { (n : ℕ) → (interval_read text.now ≡ Some n) ↔ IsInterval units text.now n }
+{}

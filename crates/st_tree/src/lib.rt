@@ -9,15 +9,17 @@ mod name;
 mod number;
 mod put;
 mod read;
+#[cfg(test)]
+mod tests;
 mod value;
 mod word;
 
-pub use duration::read_interval;
+pub use duration::{interval_is_its_parts, read_interval};
 pub use elem::{Class, Elem};
 pub use leaf::{Leaf, Role};
 pub use list::List;
 pub use name::Name;
 pub use number::{read_digits, read_number};
 pub use put::put_value;
-pub use read::{BadValue, read_value};
-pub use value::{Value, is_value};
+pub use read::{BadValue, read_value, text_is_read_back};
+pub use value::{Value, is_value, wrap};

@@ -2,8 +2,8 @@
 ghost use Rattle.std.specs.Prelude.{◌≡◌, ◌≤◌, ◌^◌, if◌then◌else◌, option_map, pos, IfSome};
 ghost use Rattle.st_tree.specs.Numbers.{capped, digits_read, negative, number_read};
 
-/// Above what any type holds.
-const TOO_MUCH: u128 = 1 << 64;
+/// What a number above all types' ranges counts as.
+pub const TOO_MUCH: u128 = 1 << 64;
 
 /// Reads a whole text as a number with or without a base. What is above all types' ranges counts as 2^64.
 pub fn read_number(text: &[u8]) -> Option<u128>

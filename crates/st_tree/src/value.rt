@@ -1,6 +1,6 @@
 //! Values of the elementary types.
-ghost use Rattle.std.specs.Prelude.{◌≡◌};
-ghost use Rattle.st_tree.specs.Values.{is_value as is_in_range, wrapped, IsValue};
+ghost use Rattle.std.specs.Prelude.{◌≡◌, ◌≢◌};
+ghost use Rattle.st_tree.specs.Values.{is_value as is_in_range, residue, wrapped, IsValue};
 
 use crate::elem::Elem;
 
@@ -30,6 +30,7 @@ pub fn is_value(value: Value) -> bool
 pub fn wrap(elem: Elem, number: i128) -> Value
     ensures value { result ≡ wrapped elem number }
     ensures in_range { IsValue result }
+    ensures agrees { elem ≢ Elem.Bool → residue elem result.bits ≡ residue elem number }
 {
     if elem == Elem::Bool {
         return Value {
