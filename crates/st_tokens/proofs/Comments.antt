@@ -4,7 +4,7 @@ use Rattle.std.specs.Prelude.{Option, Some, None, ◌==◌, ◌&&◌}
 use Rattle.st_tokens.specs.Characters.{line_end, line_ends}
 use Rattle.st_tokens.specs.Scanning.{comment_at}
 use Rattle.st_tokens.specs.Text.{IsComment}
-use Rattle.st_tokens.proofs.Tests.{by_test, both, is_equal, some_parts}
+use Rattle.st_tokens.proofs.Cases.{by_test, both, is_equal, some_parts}
 
 -- behind `(*`, the first `*)` stands behind the body
 pub record Ends (text body rest : List ℕ) : Type 0 where

@@ -21,7 +21,7 @@ use Rattle.st_tokens.specs.Words.{IsSame, IsWord, IsReserved, spelling_of, keywo
 use Rattle.st_tokens.proofs.Marks.{Opens, IsDouble, IsSingle, symbol_cases}
 use Rattle.st_tokens.proofs.Names.{keyword_in, elem_in, elem_no_keyword, not_keyword, not_elem, keyword_name, elem_name, same_name, name_word, name_clean, is_name, clean, begins_no_digit}
 use Rattle.st_tokens.proofs.Numbers.{first_digit}
-use Rattle.st_tokens.proofs.Tests.{not_both}
+use Rattle.st_tokens.proofs.Cases.{not_both}
 
 -- how a token of this kind may begin
 abbrev pub IsOpener : Kind → ℕ → Type 0

@@ -17,7 +17,7 @@ use Rattle.st_tokens.specs.Characters.{is_word_byte, AreWordBytes, BeginsWord}
 use Rattle.st_tokens.specs.Scanning.{run, behind, ends_in_digit, has_fraction, fraction_of, interval_front, interval_behind, interval_at}
 use Rattle.st_tokens.proofs.Numbers.{Found, begins, digits_test, read_words, decimal_digit}
 use Rattle.st_tokens.proofs.Runs.{run_behind, run_words, behind_not, run_is, words_in_run, words_append}
-use Rattle.st_tokens.proofs.Tests.{by_test, both, is_equal, not_both, some_parts}
+use Rattle.st_tokens.proofs.Cases.{by_test, both, is_equal, not_both, some_parts}
 
 -- a text that ends in such a byte
 pub record Ends (test : ℕ → Bool) (text : List ℕ) : Type 0 where

@@ -1,5 +1,5 @@
+pub mod Cases
 pub mod Comments
-pub mod Durations
 pub mod Firsts
 pub mod Intervals
 pub mod Literals
@@ -9,4 +9,4 @@ pub mod Names
 pub mod Numbers
 pub mod Reading
 pub mod Runs
-pub mod Tests
+pub mod SignedIntervals

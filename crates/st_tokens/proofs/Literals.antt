@@ -15,7 +15,7 @@ use Rattle.st_tokens.specs.Words.{IsSame, IsWord}
 use Rattle.st_tokens.proofs.Names.{is_name, same_name, name_word, word_words}
 use Rattle.st_tokens.proofs.Numbers.{first_digit, Found, Alive, Based, read_words, digits_parts, digits_made, number_shape, base_cases, base_words, hash_run, number_found, number_only}
 use Rattle.st_tokens.proofs.Runs.{run_behind, run_words, behind_not, run_is, words_in_run}
-use Rattle.st_tokens.proofs.Tests.{by_test, both, is_equal, not_both, some_parts}
+use Rattle.st_tokens.proofs.Cases.{by_test, both, is_equal, not_both, some_parts}
 
 abbrev pub SignedFound : List ℕ → List ℕ → ℤ → Type 0
 SignedFound text rest v = Found (signed_read true) capped_signed text rest v

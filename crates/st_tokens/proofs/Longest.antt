@@ -21,14 +21,14 @@ use Rattle.st_tokens.specs.Scanning.{run, behind, is_clean, single, double, numb
 use Rattle.st_tokens.specs.Symbols.{symbol_text}
 use Rattle.st_tokens.specs.Text.{IsLongest, IsRefused}
 use Rattle.st_tokens.specs.Words.{IsSame, IsWord, IsReserved, IsUnclean, keyword_of, elem_of}
-use Rattle.st_tokens.proofs.Durations.{signed_interval_found, signed_interval_only, time_of-capped}
+use Rattle.st_tokens.proofs.SignedIntervals.{signed_interval_found, signed_interval_only, time_of-capped}
 use Rattle.st_tokens.proofs.Firsts.{IsOpener, form_begins, opens_text, only_number, only_symbol, only_word, Plain, Literal, Lasting, duration_name}
 use Rattle.st_tokens.proofs.Literals.{literal_found, literal_only, is_same, same_test}
 use Rattle.st_tokens.proofs.Marks.{IsDouble, IsSingle, symbol_cases, single_is, double_is}
 use Rattle.st_tokens.proofs.Names.{keyword_is, short_no_elem, elem_in, elem_is, elem_name, name_word, word_words, not_unclean, not_reserved, begins_word_byte, begins_no_digit, digit_word_byte}
 use Rattle.st_tokens.proofs.Numbers.{Found, Alive, begins, number_found as number_is_found, number_only, hash_split, hash_run, hash_test, no_hash_test, tail_of}
 use Rattle.st_tokens.proofs.Runs.{run_behind, run_words, behind_not, run_is, words_in_run, words_append}
-use Rattle.st_tokens.proofs.Tests.{by_test, not_both, some_parts}
+use Rattle.st_tokens.proofs.Cases.{by_test, not_both, some_parts}
 
 -- a token stands at the front of the text
 pub record IsToken (text front rest : List ℕ) (kind : Kind) : Type 0 where

@@ -7,7 +7,7 @@ use Rattle.st_tokens.specs.declared.symbol.Symbol.TheVariants as S
 use Rattle.st_tokens.specs.Characters.{begins_word}
 use Rattle.st_tokens.specs.Scanning.{double, single}
 use Rattle.st_tokens.specs.Symbols.{symbol_text}
-use Rattle.st_tokens.proofs.Tests.{by_test, both, is_equal, not_both}
+use Rattle.st_tokens.proofs.Cases.{by_test, both, is_equal, not_both}
 
 -- a symbol begins with a byte that is one too, and is no digit and no letter
 pub record Opens (b : ℕ) : Type 0 where

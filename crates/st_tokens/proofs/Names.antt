@@ -18,7 +18,7 @@ use Rattle.st_tokens.specs.declared.word.TheConstants.{ELEMS}
 use Rattle.st_tokens.specs.Characters.{begins_word, is_word_byte, AreWordBytes}
 use Rattle.st_tokens.specs.Scanning.{is_clean_after, is_clean}
 use Rattle.st_tokens.specs.Words.{spelling_of, keyword_of, elem_of, IsSame, IsWord, IsReserved, IsUnclean}
-use Rattle.st_tokens.proofs.Tests.{by_test, both, not_both, is_equal}
+use Rattle.st_tokens.proofs.Cases.{by_test, both, not_both, is_equal}
 
 lower_is : (b : ℕ) → (to_ascii_lowercase b ≡ b) ⊎ ((65 ≤ b) × (b ≤ 90) × (to_ascii_lowercase b ≡ b + 32))
 lower_is b = by_test (nat_lt b 65) (λ t. inl (rw t refl)) (λ t. by_test (nat_lt b 91)

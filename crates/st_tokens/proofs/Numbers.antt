@@ -11,7 +11,7 @@ use Rattle.st_tree.specs.Words.{after, begins_with}
 use Rattle.st_tokens.specs.Characters.{is_word_byte, AreWordBytes, BeginsWord}
 use Rattle.st_tokens.specs.Scanning.{run, behind, base_of, digits_at, number_at}
 use Rattle.st_tokens.proofs.Runs.{run_behind, run_words, behind_not, run_is, words_in_run}
-use Rattle.st_tokens.proofs.Tests.{by_test, both, not_both, is_equal, some_parts}
+use Rattle.st_tokens.proofs.Cases.{by_test, both, not_both, is_equal, some_parts}
 
 -- a text that begins so is this and what stands after it
 pub begins : (start text : List ℕ) → begins_with start text ≡ true → text ≡ start ++ after start text

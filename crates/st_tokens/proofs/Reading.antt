@@ -2,17 +2,21 @@
 use Rattle.std.proofs.Common.{◌≡◌, ℕ, zero, suc, ◌+◌, ◌<◌, ◌≤◌, List, [], ◌∷◌, ◌++◌, length, refl, sym, ap, ◌∙◌, Bool, true, false, arith, subst, get_or, drop, append_assoc, append-nil, length-append, ◌-◌}
 use mir.Val.{bool_byte}
 use Rattle.st_tree.specs.Words.{begins_with}
-use Rattle.std.specs.Prelude.{nat_eq, Option, Some, None, ◌==◌, ◌&&◌, ◌||◌, codes}
+use Rattle.std.specs.Global.{Vec}
+use Rattle.std.specs.Prelude.{nat_eq, Result, Ok, Err, IfOk, IfErr, MatchResult, Option, Some, None, ◌==◌, ◌&&◌, ◌||◌, codes}
+use Rattle.st_tokens.specs.declared.fault.SyntaxFault.{SyntaxFault}
+use Rattle.st_tokens.specs.declared.fault.SyntaxFault.TheVariants as F
+use Rattle.st_tokens.specs.declared.scan.TheConstants.{MOST_BYTES}
 use Rattle.st_tokens.specs.declared.token.Kind.{Kind}
 use Rattle.st_tokens.specs.declared.token.Token.{Token}
 use Rattle.st_tokens.specs.Characters.{is_blank, line_end, line_ends}
 use Rattle.st_tokens.specs.Forms.{HasForm}
 use Rattle.st_tokens.specs.Scanning.{token_at, comment_at}
-use Rattle.st_tokens.specs.Text.{IsLongest, IsRefused, IsComment, BeginsComment, HasTokens, done, blank, comment, next, token}
+use Rattle.st_tokens.specs.Text.{IsLongest, IsRefused, IsComment, BeginsComment, HasTokens, Explains, done, blank, comment, next, token}
 use Rattle.st_tokens.proofs.Firsts.{begins_token, form_first}
 use Rattle.st_tokens.proofs.Comments.{Ends, comment_found, comment_none, comment_of, ends_of, ends_once}
 use Rattle.st_tokens.proofs.Longest.{IsToken, token_found, only}
-use Rattle.st_tokens.proofs.Tests.{both, by_test, is_equal, not_both, some_parts}
+use Rattle.st_tokens.proofs.Cases.{both, by_test, is_equal, not_both, some_parts}
 
 -- the text has the tokens found and those that the rest, which begins on this line, has
 pub record Reads (text : List ℕ) (found : List Token) (line : ℕ) (rest : List ℕ) : Type 0 where
@@ -131,9 +135,35 @@ at_end (comment c d) = let e = c.splits in absurd (cc)
 at_end (next {front = front} {rest = rest} {kind = kind} w t r d) =
     let v = form_first front kind t.form in let e : [] ≡ v.0 ∷ (v.1 ++ rest) = t.splits ∙ ap (λ (zs : List ℕ). zs ++ rest) v.2 in absurd (cc)
 
--- with nothing left, there are no other tokens
-pub reads_all : (text : List ℕ) (found ts : List Token) (line : ℕ) → Reads text found line [] → HasTokens 1 text ts → ts ≡ found
-reads_all text found ts line r d = let w = r.back ts d in w.1 ∙ ap (λ (us : List Token). found ++ us) (at_end w.2) ∙ append-nil found
+-- ---- one list
+
+-- the same comment, and what stands behind it
+comment_same : (line : ℕ) (text body rest : List ℕ) (us : List Token) → IsComment text body rest → HasTokens line text us → HasTokens (line + line_ends body) rest us
+comment_same line text body rest us c e =
+    let bs : List ℕ = body ++ 42 ∷ 41 ∷ rest in
+    let v = as_comment (subst (λ zs. HasTokens line zs us) c.splits e) in
+    let same = ends_once bs v.0 body v.1 rest v.2 (ends_of bs body rest (subst (λ zs. IsComment zs body rest) c.splits c)) in
+    subst (λ zs. HasTokens (line + line_ends zs) rest us) same.0 (subst (λ zs. HasTokens (line + line_ends v.0) zs us) same.1 v.3)
+
+-- the same token, and what stands behind it
+token_same : (line : ℕ) (text front rest : List ℕ) (kind : Kind) (ts us : List Token) → (BeginsComment text → ⊥) → IsToken text front rest kind → HasTokens line rest ts
+    → HasTokens line text us → (more : List Token) × (us ≡ token line kind ∷ more) × HasTokens line rest more
+token_same line text front rest kind ts us n t d e =
+    let v = form_first front kind t.longest.form in
+    let first : text ≡ v.0 ∷ (v.1 ++ rest) = t.longest.splits ∙ ap (λ (zs : List ℕ). zs ++ rest) v.2 in
+    let h : is_blank v.0 ≡ false = by_test (is_blank v.0) (λ b. not_both v.3 (blank_never v.0 b)) (λ b. b) in
+    let f = first_token {bs = v.1 ++ rest} h (λ w. n (w.0, first ∙ w.1)) (subst (λ zs. HasTokens line zs us) first e) in
+    let own = subst (λ zs. token_at zs ≡ Some (kind, rest)) first (only text front rest kind t (λ back g. never_tokens refl refl (subst (λ zs. HasTokens line zs ts) g d))) in
+    let same = some_parts (sym (first_at line v.0 (v.1 ++ rest) us f) ∙ own) in
+    (f.more, f.same ∙ ap (λ (k : Kind). token line k ∷ f.more) same.0, subst (λ zs. HasTokens line zs f.more) same.1 f.behind)
+
+pub one_list : {line : ℕ} {text : List ℕ} {ts us : List Token} → HasTokens line text ts → HasTokens line text us → ts ≡ us
+one_list done e = sym (at_end e)
+one_list (blank w d) e = one_list d (behind_blank w e)
+one_list {us = us} (comment {line = line} {text = text} {body = body} {rest = rest} c d) e = one_list d (comment_same line text body rest us c e)
+one_list {us = us} (next {line = line} {text = text} {front = front} {rest = rest} {kind = kind} {ts = ts} w t r d) e =
+    let v = token_same line text front rest kind ts us w (record { longest = t; allowed = r }) d e in
+    ap (λ (more : List Token). token line kind ∷ more) (one_list d v.2) ∙ sym v.1
 
 -- ---- the steps of the loop
 
@@ -223,3 +253,13 @@ line_end-bound b = by_test (b == 10) (λ t. rw t (omega arith)) (λ t. rw t (ome
 -- a blank takes a byte away, and adds no more than a line
 pub blank_room : (line ends size size' bound : ℕ) → size' ≡ size - 1 → 1 ≤ size → ends ≤ 1 → line + size ≤ bound → line + ends + size' ≤ bound
 blank_room line ends size size' bound e h le room = omega arith
+
+-- a result that is the text's tokens or explains the fault is this list, or want of memory
+pub only_result : (text : List ℕ) (ts : List Token) (result : Result (Vec Token) SyntaxFault) → IfOk result (λ v. HasTokens 1 text v.items)
+    → IfErr result (λ fault. Explains fault text) → length text ≤ MOST_BYTES → HasTokens 1 text ts → MatchResult result (λ v. v.items ≡ ts) (λ fault. fault ≡ F.Memory)
+only_result text ts (Ok v) found fault short h = one_list found h
+only_result text ts (Err F.Memory) found fault short h = refl
+only_result text ts (Err (F.NoToken line)) found fault short h = absurd (fault ts h)
+only_result text ts (Err F.TooLong) found fault short h = absurd (omega arith)
+only_result text ts (Err (F.NotInGrammar line)) found fault short h = absurd fault
+only_result text ts (Err (F.TooDeep line)) found fault short h = absurd fault

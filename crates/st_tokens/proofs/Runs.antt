@@ -4,7 +4,7 @@ use Rattle.std.proofs.Math.Seq.{take-length}
 use Rattle.std.specs.Prelude.{◌==◌, ◌&&◌, ◌||◌, not}
 use Rattle.st_tokens.specs.Characters.{is_word_byte, AreWordBytes, BeginsWord}
 use Rattle.st_tokens.specs.Scanning.{run, behind}
-use Rattle.st_tokens.proofs.Tests.{by_test, not_both}
+use Rattle.st_tokens.proofs.Cases.{by_test, not_both}
 
 pub run_behind : (t : List ℕ) → t ≡ run t ++ behind t
 run_behind [] = refl

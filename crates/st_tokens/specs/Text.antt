@@ -39,6 +39,9 @@ pub record IsComment (text body rest : List ℕ) : Type 0 where
   pub splits : text ≡ codes "(*" ++ (body ++ (codes "*)" ++ rest))
   pub first : (other back : List ℕ) → text ≡ codes "(*" ++ (other ++ (codes "*)" ++ back)) → length body ≤ length other
 
+abbrev pub Tokens : Type 0
+Tokens = List Token
+
 abbrev pub token : ℕ → Kind → Token
 token line kind = record { kind = kind; line = line }
 

@@ -1,8 +1,11 @@
 //! The tokens of a text (IEC 61131-3:2003, 2.1 and 2.2).
 #![tactic(auto)]
 
+mod duration;
 mod fault;
 mod keyword;
+mod literal;
+mod run;
 mod scan;
 mod symbol;
 mod token;
@@ -10,6 +13,6 @@ mod word;
 
 pub use fault::SyntaxFault;
 pub use keyword::{KEYWORDS, Keyword};
-pub use scan::tokens;
+pub use scan::{MOST_BYTES, tokens, tokens_are_one_list};
 pub use symbol::Symbol;
 pub use token::{Kind, Spelling, Token};

@@ -1,6 +1,6 @@
 use Rattle.std.proofs.Common.{length, ◌-◌, ◌≡◌, ◌≤◌, ◌++◌, take, drop}
 use Rattle.st_tokens.specs.Scanning.{run, behind}
-use Rattle.st_tokens.proofs.scan.run_len.Given as goal
+use Rattle.st_tokens.proofs.run.run_len.Given as goal
 
 -- all bytes so far are a word's
 abbrev pub invariant-loop-len : goal.invariant-loop-len

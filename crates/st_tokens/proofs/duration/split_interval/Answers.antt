@@ -4,9 +4,9 @@ use Rattle.st_tree.specs.Words.{begins_with}
 use Rattle.st_tokens.specs.Scanning.{run, behind, ends_in_digit, has_fraction, fraction_of}
 use Rattle.st_tokens.proofs.Intervals.{split_at_fraction}
 use Rattle.st_tokens.proofs.Runs.{take_rest}
-use Rattle.st_tokens.proofs.Tests.{both_true}
-use Rattle.st_tokens.proofs.scan.split_interval.Goals.{After-run_len}
-use Rattle.st_tokens.proofs.scan.split_interval.Goals as goal
+use Rattle.st_tokens.proofs.Cases.{both_true}
+use Rattle.st_tokens.proofs.duration.split_interval.Goals.{After-run_len}
+use Rattle.st_tokens.proofs.duration.split_interval.Goals as goal
 
 -- where the text is split
 record Place (text : List ℕ) (at : ℕ) : Type 0 where

@@ -12,7 +12,7 @@ use Rattle.st_tokens.specs.Scanning.{run, interval_at, signed_interval_at, posit
 use Rattle.st_tokens.proofs.Intervals.{interval_found, interval_only}
 use Rattle.st_tokens.proofs.Literals.{capped_negative, first_is, no_start, mapped_parts, mapped_some}
 use Rattle.st_tokens.proofs.Numbers.{Found, Alive}
-use Rattle.st_tokens.proofs.Tests.{by_test, not_both, some_parts}
+use Rattle.st_tokens.proofs.Cases.{by_test, not_both, some_parts}
 
 abbrev pub DurationFound : List ℕ → List ℕ → ℤ → Type 0
 DurationFound text rest v = Found signed_interval_read capped_signed text rest v
