@@ -1,6 +1,6 @@
 -- Tests as `Bool`s, and parts of pairs in an `Option`.
-use Rattle.std.proofs.Common.{◌≡◌, ◌≢◌, ℕ, Bool, true, false, refl, ap, arith, cond}
-use Rattle.std.specs.Prelude.{Option, Some, None, ◌==◌, ◌&&◌}
+use Rattle.std.proofs.Common.{◌≡◌, ℕ, Bool, true, false, refl, ap, arith}
+use Rattle.std.specs.Prelude.{Option, Some, ◌==◌, ◌&&◌}
 use Rattle.std.proofs.lemmas.Grind.{common_steps}
 
 -- by a test, with how it went

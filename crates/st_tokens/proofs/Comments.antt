@@ -1,6 +1,6 @@
 -- Comments.
-use Rattle.std.proofs.Common.{◌≡◌, ℕ, zero, suc, ◌+◌, ◌<◌, ◌≤◌, List, [], ◌∷◌, ◌++◌, length, refl, sym, ap, ◌∙◌, Bool, true, false, arith, length-append, add_assoc}
-use Rattle.std.specs.Prelude.{Option, Some, None, ◌==◌, ◌&&◌}
+use Rattle.std.proofs.Common.{◌≡◌, ℕ, ◌+◌, ◌<◌, ◌≤◌, List, [], ◌∷◌, ◌++◌, length, refl, sym, ap, ◌∙◌, true, false, arith}
+use Rattle.std.specs.Prelude.{Some, None, ◌==◌, ◌&&◌}
 use Rattle.st_tokens.specs.Characters.{line_end, line_ends}
 use Rattle.st_tokens.specs.Scanning.{comment_at}
 use Rattle.st_tokens.specs.Text.{IsComment}
@@ -36,9 +36,9 @@ comment_found line line' [] rest h = absurd (cc)
 comment_found line line' (b ∷ []) rest h = absurd (cc)
 comment_found line line' (b ∷ c ∷ bs) rest h = by_test (b == 42 && c == 41)
     (λ t. let w = mark b c t in let e = some_parts (rw t at h) in
-        ([], record { splits = rw (w.0, w.1) (ap (λ (zs : List ℕ). 42 ∷ 41 ∷ zs) e.1); first = λ other back g. omega arith }, omega (arith, e.0)))
+    ([], record { splits = rw (w.0, w.1) (ap (λ (zs : List ℕ). 42 ∷ 41 ∷ zs) e.1); first = λ other back g. omega arith }, omega (arith, e.0)))
     (λ t. let w = comment_found (line + line_end b) line' (c ∷ bs) rest (rw t at h) in
-        (b ∷ w.0, one_more b c bs w.0 rest t w.1, longer line b (line_ends w.0) line' w.2))
+    (b ∷ w.0, one_more b c bs w.0 rest t w.1, longer line b (line_ends w.0) line' w.2))
 
 pub comment_none : (line : ℕ) (text : List ℕ) → comment_at line text ≡ None → (body rest : List ℕ) → text ≡ body ++ 42 ∷ 41 ∷ rest → ⊥
 comment_none line [] h [] rest e = cc

@@ -1,7 +1,7 @@
 -- With which bytes tokens begin, and what forms there are with such a byte.
-use Rattle.std.proofs.Common.{◌≡◌, ℕ, List, [], ◌∷◌, ◌++◌, refl, sym, ap, ◌∙◌, Bool, true, false, subst, ◌⊎◌, inl, inr, arith, map}
+use Rattle.std.proofs.Common.{◌≡◌, ℕ, List, [], ◌∷◌, ◌++◌, refl, sym, ap, ◌∙◌, Bool, true, false, subst, ◌⊎◌, inl, inr}
 use Rattle.std.specs.Prelude.{Option, Some, None, ◌||◌, is_some, ℤ, codes}
-use Rattle.std.specs.Char.{is_ascii_digit, to_ascii_lowercase}
+use Rattle.std.specs.Char.{is_ascii_digit}
 use Rattle.st_tree.specs.declared.elem.Elem.{Elem}
 use Rattle.st_tree.specs.declared.elem.Elem.TheVariants.{Time}
 use Rattle.st_tree.specs.Durations.{signed_interval_read}
@@ -12,12 +12,12 @@ use Rattle.st_tokens.specs.declared.keyword.Keyword.{Keyword}
 use Rattle.st_tokens.specs.declared.symbol.Symbol.{Symbol}
 use Rattle.st_tokens.specs.declared.token.Kind.{Kind}
 use Rattle.st_tokens.specs.declared.token.Kind.TheVariants as K
-use Rattle.st_tokens.specs.Characters.{begins_word, AreWordBytes}
+use Rattle.st_tokens.specs.Characters.{begins_word}
 use Rattle.st_tokens.specs.Forms.{HasForm, word, keyword, type_name, number, typed, duration, symbol, IsDurationWord, time_of, value}
 use Rattle.st_tokens.specs.Scanning.{is_clean, single, word_kind, kind_by}
 use Rattle.st_tokens.specs.Symbols.{symbol_text}
 use Rattle.st_tokens.specs.Text.{IsRefused}
-use Rattle.st_tokens.specs.Words.{IsSame, IsWord, IsReserved, spelling_of, keyword_of, elem_of}
+use Rattle.st_tokens.specs.Words.{IsSame, IsWord, keyword_of, elem_of}
 use Rattle.st_tokens.proofs.Marks.{Opens, IsDouble, IsSingle, symbol_cases}
 use Rattle.st_tokens.proofs.Names.{keyword_in, elem_in, elem_no_keyword, not_keyword, not_elem, keyword_name, elem_name, same_name, name_word, name_clean, is_name, clean, begins_no_digit}
 use Rattle.st_tokens.proofs.Numbers.{first_digit}

@@ -1,13 +1,11 @@
 -- Durations at the front of a text: what is read there is the longest front that is one.
-use Rattle.std.proofs.Common.{◌≡◌, ℕ, zero, suc, ◌+◌, ◌-◌, ◌*◌, ◌<◌, ◌≤◌, List, [], ◌∷◌, ◌++◌, length, get_or, take, drop, refl, sym, ap, ◌∙◌, Bool, true, false, cond, arith, ◌⊎◌, inl, inr, subst, append_assoc, append-nil, length-append, one-add, nat_lt}
-use Rattle.std.specs.Prelude.{Option, Some, None, option_map, option_and_then, codes, ◌==◌, ◌&&◌, not, slice_index, is_some, position, take_while, map}
-use Rattle.std.specs.Char.{is_digit, is_ascii_digit, is_ascii_alphabetic, to_ascii_lowercase}
-use Rattle.std.specs.List.{after_first, before_first, list_all, prefix_len, position_or_len}
-use Rattle.std.specs.Str.{byte}
+use Rattle.std.proofs.Common.{◌≡◌, ℕ, suc, ◌+◌, ◌-◌, ◌*◌, ◌<◌, ◌≤◌, List, [], ◌∷◌, ◌++◌, length, get_or, take, drop, refl, sym, ap, ◌∙◌, Bool, true, false, arith, ◌⊎◌, inl, inr, subst, append_assoc, append-nil, length-append, one-add, nat_lt}
+use Rattle.std.specs.Prelude.{Option, Some, None, option_map, codes, ◌==◌, ◌&&◌, not, slice_index, is_some, position, take_while}
+use Rattle.std.specs.Char.{is_digit, is_ascii_digit, is_ascii_alphabetic}
+use Rattle.std.specs.List.{after_first, before_first, list_all, position_or_len}
 use Rattle.std.proofs.Math.Seq.{get_or-append_seam, take-append-add, drop-append-add}
 use Rattle.std.proofs.lemmas.Bool.Decides.{nat_tests}
 use Rattle.std.proofs.lemmas.List.Sums.{split_at_first, passes_at_first}
-use Rattle.std.proofs.lemmas.Slice.Eq.{bytes_eq-Decides}
 use Rattle.st_tree.specs.declared.duration.TimeUnit.{TimeUnit}
 use Rattle.st_tree.specs.declared.duration.TimeUnit.TheVariants.{Days, Hours, Minutes, Seconds, Milliseconds}
 use Rattle.st_tree.specs.Durations.{letters_of, milliseconds_of, units, part_number, part_letters, part_rest, sum_of, amount_read, fraction_read, last_amount_read, is_point, without_underscore, parts_read, interval_read}
@@ -16,7 +14,7 @@ use Rattle.st_tree.specs.Words.{after, begins_with, is_word}
 use Rattle.st_tokens.specs.Characters.{is_word_byte, AreWordBytes, BeginsWord}
 use Rattle.st_tokens.specs.Scanning.{run, behind, ends_in_digit, has_fraction, fraction_of, interval_front, interval_behind, interval_at}
 use Rattle.st_tokens.proofs.Numbers.{Found, begins, digits_test, read_words, decimal_digit}
-use Rattle.st_tokens.proofs.Runs.{run_behind, run_words, behind_not, run_is, words_in_run, words_append}
+use Rattle.st_tokens.proofs.Runs.{run_behind, behind_not, run_is, words_in_run, words_append}
 use Rattle.st_tokens.proofs.Cases.{by_test, both, is_equal, not_both, some_parts}
 
 -- a text that ends in such a byte
@@ -77,9 +75,9 @@ digits_end flag c [] h = by_test (c == 95)
     (λ t. let h' : (is_digit c 10 && true) ≡ true = rw t at h in ends_one is_ascii_digit c (decimal_digit c (both (is_digit c 10) true h').0))
 digits_end flag c (d ∷ ds) h = by_test (c == 95)
     (λ t. let h' : (flag && are_digits 10 false (d ∷ ds)) ≡ true = rw t at h in
-        ends_more is_ascii_digit (c ∷ []) (d ∷ ds) (digits_end false d ds (both flag (are_digits 10 false (d ∷ ds)) h').1))
+    ends_more is_ascii_digit (c ∷ []) (d ∷ ds) (digits_end false d ds (both flag (are_digits 10 false (d ∷ ds)) h').1))
     (λ t. let h' : (is_digit c 10 && are_digits 10 true (d ∷ ds)) ≡ true = rw t at h in
-        ends_more is_ascii_digit (c ∷ []) (d ∷ ds) (digits_end true d ds (both (is_digit c 10) (are_digits 10 true (d ∷ ds)) h').1))
+    ends_more is_ascii_digit (c ∷ []) (d ∷ ds) (digits_end true d ds (both (is_digit c 10) (are_digits 10 true (d ∷ ds)) h').1))
 
 decimal_ends : (ds : List ℕ) (n : ℕ) → digits_read 10 ds ≡ Some n → Ends is_ascii_digit ds
 decimal_ends [] n h = let t = digits_test 10 [] n h in absurd (cc)
@@ -140,8 +138,8 @@ fraction_digits : (unit : TimeUnit) (digits : List ℕ) (n : ℕ) → fraction_r
 fraction_digits unit digits n h = by_test (list_all (λ c. is_digit c 10) digits)
     (λ t. digits_words digits t)
     (λ t. by_test (nat_lt 0 (length digits))
-      (λ u. let h' : ◌≡◌ {A = Option ℕ} None (Some n) = rw (u, t) at h in absurd (cc))
-      (λ u. let h' : ◌≡◌ {A = Option ℕ} None (Some n) = rw u at h in absurd (cc)))
+    (λ u. let h' : ◌≡◌ {A = Option ℕ} None (Some n) = rw (u, t) at h in absurd (cc))
+    (λ u. let h' : ◌≡◌ {A = Option ℕ} None (Some n) = rw u at h in absurd (cc)))
 
 below : (a b : ℕ) → nat_lt a b ≡ true → a < b
 below a b h = grind (arith, nat_tests)
@@ -149,8 +147,8 @@ below a b h = grind (arith, nat_tests)
 point_splits : (number : List ℕ) → is_some (position is_point number) ≡ true → number ≡ before_first is_point number ++ 46 ∷ after_first is_point number
 point_splits number h = by_test (nat_lt (position_or_len is_point number) (length number))
     (λ t. let lt : position_or_len is_point number < length number = below _ _ t in
-        let passes = is_equal (get_or number (position_or_len is_point number) 0) 46 (passes_at_first is_point number 0 lt) in
-        split_at_first is_point number 0 lt ∙ ap (λ (c : ℕ). before_first is_point number ++ c ∷ after_first is_point number) passes)
+    let passes = is_equal (get_or number (position_or_len is_point number) 0) 46 (passes_at_first is_point number 0 lt) in
+    split_at_first is_point number 0 lt ∙ ap (λ (c : ℕ). before_first is_point number ++ c ∷ after_first is_point number) passes)
     (λ t. let h' : false ≡ true = rw t at h in absurd (cc))
 
 -- a prefix of bytes of a word before it
@@ -173,19 +171,19 @@ last_shape : (unit : TimeUnit) (number letters : List ℕ) (n : ℕ) → last_am
     → list_all is_ascii_alphabetic letters ≡ true → 0 < length letters → Whole (number ++ letters) ⊎ Split (number ++ letters)
 last_shape unit number letters n h l some = by_test (is_some (position is_point number))
     (λ t. let s = sum_parts _ _ n (rw t at h) in let d = amount_digits unit (before_first is_point number) s.0 s.2 in
-        inr (record {
-          front = before_first is_point number;
-          back = after_first is_point number ++ letters;
-          splits = ap (λ (zs : List ℕ). zs ++ letters) (point_splits number t) ∙ append_assoc (before_first is_point number) (46 ∷ after_first is_point number) letters;
-          front_words = read_words 10 (before_first is_point number) d.0 (omega arith) d.1;
-          back_words = words_append (after_first is_point number) letters (fraction_digits unit (after_first is_point number) s.1 s.3) (letters_words letters l);
-          ends = decimal_ends (before_first is_point number) d.0 d.1;
-        }))
+    inr (record {
+      front = before_first is_point number;
+      back = after_first is_point number ++ letters;
+      splits = ap (λ (zs : List ℕ). zs ++ letters) (point_splits number t) ∙ append_assoc (before_first is_point number) (46 ∷ after_first is_point number) letters;
+      front_words = read_words 10 (before_first is_point number) d.0 (omega arith) d.1;
+      back_words = words_append (after_first is_point number) letters (fraction_digits unit (after_first is_point number) s.1 s.3) (letters_words letters l);
+      ends = decimal_ends (before_first is_point number) d.0 d.1;
+    }))
     (λ t. let d = amount_digits unit number n (rw t at h) in
-        inl (record {
-          words = words_append number letters (read_words 10 number d.0 (omega arith) d.1) (letters_words letters l);
-          ends = ends_more is_ascii_alphabetic number letters (ends_all is_ascii_alphabetic letters l some);
-        }))
+    inl (record {
+      words = words_append number letters (read_words 10 number d.0 (omega arith) d.1) (letters_words letters l);
+      ends = ends_more is_ascii_alphabetic number letters (ends_all is_ascii_alphabetic letters l some);
+    }))
 
 underscore_splits : (text : List ℕ) → (text ≡ without_underscore text) ⊎ (text ≡ 95 ∷ without_underscore text)
 underscore_splits [] = inl refl
@@ -197,29 +195,30 @@ parts_shape : (us : List TimeUnit) (text : List ℕ) (n : ℕ) → parts_read us
 parts_shape [] text n h = absurd (cc)
 parts_shape (unit ∷ smaller) text n h = by_test (is_word (letters_of unit) (part_letters text))
     (λ t. by_test (length (part_rest text) == 0)
-      (λ u. let e : part_rest text ≡ [] = nothing (part_rest text) u in
-          let f : text ≡ part_number text ++ part_letters text =
-              part_splits text ∙ ap (λ (zs : List ℕ). part_number text ++ (part_letters text ++ zs)) e
-              ∙ ap (λ (zs : List ℕ). part_number text ++ zs) (append-nil (part_letters text)) in
-          subst (λ zs. Whole zs ⊎ Split zs) (sym f)
-            (last_shape unit (part_number text) (part_letters text) n (rw (t, u) at h) (taken_pass is_ascii_alphabetic (after (part_number text) text))
-              (letters_some unit (part_letters text) t)))
-      (λ u. let s = sum_parts (amount_read unit (part_number text)) (parts_read smaller (without_underscore (part_rest text))) n (rw (t, u) at h) in
-          let d = amount_digits unit (part_number text) s.0 s.2 in
-          let words : AreWordBytes (part_number text ++ part_letters text) =
-              words_append (part_number text) (part_letters text) (read_words 10 (part_number text) d.0 (omega arith) d.1)
-                (letters_words (part_letters text) (taken_pass is_ascii_alphabetic (after (part_number text) text))) in
-          let f : text ≡ (part_number text ++ part_letters text) ++ part_rest text = part_splits text ∙ sym (append_assoc (part_number text) (part_letters text) (part_rest text)) in
-          grown (part_number text ++ part_letters text) text (part_rest text) f words
-            (behind_line (underscore_splits (part_rest text)) (parts_shape smaller (without_underscore (part_rest text)) s.1 s.3))))
+    (λ u. let e : part_rest text ≡ [] = nothing (part_rest text) u in
+    let f : text ≡ part_number text ++ part_letters text =
+    part_splits text ∙ ap (λ (zs : List ℕ). part_number text ++ (part_letters text ++ zs)) e
+    ∙ ap (λ (zs : List ℕ). part_number text ++ zs) (append-nil (part_letters text)) in
+    subst (λ zs. Whole zs ⊎ Split zs) (sym f)
+    (last_shape unit (part_number text) (part_letters text) n (rw (t, u) at h) (taken_pass is_ascii_alphabetic (after (part_number text) text))
+    (letters_some unit (part_letters text) t)))
+    (λ u. let s = sum_parts (amount_read unit (part_number text)) (parts_read smaller (without_underscore (part_rest text))) n (rw (t, u) at h) in
+    let d = amount_digits unit (part_number text) s.0 s.2 in
+    let words : AreWordBytes (part_number text ++ part_letters text) =
+    words_append (part_number text) (part_letters text) (read_words 10 (part_number text) d.0 (omega arith) d.1)
+    (letters_words (part_letters text) (taken_pass is_ascii_alphabetic (after (part_number text) text))) in
+    let f : text ≡ (part_number text ++ part_letters text) ++ part_rest text = part_splits text ∙ sym (append_assoc (part_number text) (part_letters text) (part_rest text)) in
+    grown (part_number text ++ part_letters text) text (part_rest text) f words
+    (behind_line (underscore_splits (part_rest text)) (parts_shape smaller (without_underscore (part_rest text)) s.1 s.3))))
     (λ t. parts_shape smaller text n (rw t at h)) where
-  nothing : (xs : List ℕ) → (length xs == 0) ≡ true → xs ≡ []
-  nothing [] g = refl
-  nothing (x ∷ xs) g = let e = is_equal (length (x ∷ xs)) 0 g in absurd (omega arith)
-  behind_line : (part_rest text ≡ without_underscore (part_rest text)) ⊎ (part_rest text ≡ 95 ∷ without_underscore (part_rest text))
-      → Whole (without_underscore (part_rest text)) ⊎ Split (without_underscore (part_rest text)) → Whole (part_rest text) ⊎ Split (part_rest text)
-  behind_line (inl e) s = subst (λ zs. Whole zs ⊎ Split zs) (sym e) s
-  behind_line (inr e) s = grown (95 ∷ []) (part_rest text) (without_underscore (part_rest text)) e (refl, tt) s
+      nothing : (xs : List ℕ) → (length xs == 0) ≡ true → xs ≡ []
+      nothing [] g = refl
+      nothing (x ∷ xs) g = let e = is_equal (length (x ∷ xs)) 0 g in absurd (omega arith)
+
+      behind_line : (part_rest text ≡ without_underscore (part_rest text)) ⊎ (part_rest text ≡ 95 ∷ without_underscore (part_rest text))
+          → Whole (without_underscore (part_rest text)) ⊎ Split (without_underscore (part_rest text)) → Whole (part_rest text) ⊎ Split (part_rest text)
+      behind_line (inl e) s = subst (λ zs. Whole zs ⊎ Split zs) (sym e) s
+      behind_line (inr e) s = grown (95 ∷ []) (part_rest text) (without_underscore (part_rest text)) e (refl, tt) s
 
 pub interval_shape : (text : List ℕ) (n : ℕ) → interval_read text ≡ Some n → Whole text ⊎ Split text
 unfolding interval_read
@@ -254,44 +253,45 @@ pub interval_found : (text rest : List ℕ) (v : ℕ) → interval_at text ≡ S
 interval_found text rest v h = by_test (has_fraction text)
     (λ t. let p = interval_parts text rest v h in with_fraction t p.0 (rw t at p.1) p.2 (rw t at p.3))
     (λ t. let p = interval_parts text rest v h in without t p.0 (rw t at p.1) p.2 (rw t at p.3)) where
-  with_fraction : has_fraction text ≡ true → (n : ℕ) → interval_read (run text ++ 46 ∷ run (fraction_of text)) ≡ Some n → v ≡ capped n
-      → rest ≡ behind (fraction_of text) → IntervalFound text rest v
-  with_fraction t n r e f = record {
-    front = run text ++ 46 ∷ run (fraction_of text);
-    value = n;
-    same = e;
-    splits = run_behind text ∙ ap (λ (zs : List ℕ). run text ++ zs) (fraction_test text t ∙ ap (λ (zs : List ℕ). 46 ∷ zs) (run_behind (fraction_of text) ∙ ap (λ (zs : List ℕ). run (fraction_of text) ++ zs) (sym f)))
-        ∙ sym (append_assoc (run text) (46 ∷ run (fraction_of text)) rest);
-    reads = r;
-    ends = subst (λ zs. BeginsWord zs → ⊥) (sym f) (behind_not (fraction_of text));
-    covers = let l = length-append (run text) (46 ∷ run (fraction_of text)) in omega arith;
-    longest = λ other back w g k. at other back g (interval_shape other w k);
-  } where
-    at : (other back : List ℕ) → text ≡ other ++ back → Whole other ⊎ Split other → length other ≤ length (run text ++ 46 ∷ run (fraction_of text))
-    at other back g (inl w) =
-        let le = words_in_run text other back g w.words in let l = length-append (run text) (46 ∷ run (fraction_of text)) in omega arith
-    at other back g (inr s) =
-        let u = split_run text s.front s.back back (g ∙ ap (λ (zs : List ℕ). zs ++ back) s.splits) s.front_words in
-        let tail : fraction_of text ≡ s.back ++ back = ap (λ (zs : List ℕ). after (codes ".") zs) u.1 in
-        let le = words_in_run (fraction_of text) s.back back tail s.back_words in
-        let l = length-append (run text) (46 ∷ run (fraction_of text)) in let m = length-append s.front (46 ∷ s.back) in
-        let same = ap length s.splits in let front = ap length u.0 in omega arith
-  without : has_fraction text ≡ false → (n : ℕ) → interval_read (run text) ≡ Some n → v ≡ capped n → rest ≡ behind text → IntervalFound text rest v
-  without t n r e f = record {
-    front = run text;
-    value = n;
-    same = e;
-    splits = run_behind text ∙ ap (λ (zs : List ℕ). run text ++ zs) (sym f);
-    reads = r;
-    ends = subst (λ zs. BeginsWord zs → ⊥) (sym f) (behind_not text);
-    covers = omega arith;
-    longest = λ other back w g k. at other back g (interval_shape other w k);
-  } where
-    at : (other back : List ℕ) → text ≡ other ++ back → Whole other ⊎ Split other → length other ≤ length (run text)
-    at other back g (inl w) = words_in_run text other back g w.words
-    at other back g (inr s) =
-        let u = split_run text s.front s.back back (g ∙ ap (λ (zs : List ℕ). zs ++ back) s.splits) s.front_words in
-        not_both (split_test text (subst (Ends is_ascii_digit) (sym u.0) s.ends) (s.back ++ back) u.1) t
+      with_fraction : has_fraction text ≡ true → (n : ℕ) → interval_read (run text ++ 46 ∷ run (fraction_of text)) ≡ Some n → v ≡ capped n
+          → rest ≡ behind (fraction_of text) → IntervalFound text rest v
+      with_fraction t n r e f = record {
+        front = run text ++ 46 ∷ run (fraction_of text);
+        value = n;
+        same = e;
+        splits = run_behind text ∙ ap (λ (zs : List ℕ). run text ++ zs) (fraction_test text t ∙ ap (λ (zs : List ℕ). 46 ∷ zs) (run_behind (fraction_of text) ∙ ap (λ (zs : List ℕ). run (fraction_of text) ++ zs) (sym f)))
+            ∙ sym (append_assoc (run text) (46 ∷ run (fraction_of text)) rest);
+        reads = r;
+        ends = subst (λ zs. BeginsWord zs → ⊥) (sym f) (behind_not (fraction_of text));
+        covers = let l = length-append (run text) (46 ∷ run (fraction_of text)) in omega arith;
+        longest = λ other back w g k. at other back g (interval_shape other w k);
+      } where
+        at : (other back : List ℕ) → text ≡ other ++ back → Whole other ⊎ Split other → length other ≤ length (run text ++ 46 ∷ run (fraction_of text))
+        at other back g (inl w) =
+            let le = words_in_run text other back g w.words in let l = length-append (run text) (46 ∷ run (fraction_of text)) in omega arith
+        at other back g (inr s) =
+            let u = split_run text s.front s.back back (g ∙ ap (λ (zs : List ℕ). zs ++ back) s.splits) s.front_words in
+            let tail : fraction_of text ≡ s.back ++ back = ap (λ (zs : List ℕ). after (codes ".") zs) u.1 in
+            let le = words_in_run (fraction_of text) s.back back tail s.back_words in
+            let l = length-append (run text) (46 ∷ run (fraction_of text)) in let m = length-append s.front (46 ∷ s.back) in
+            let same = ap length s.splits in let front = ap length u.0 in omega arith
+
+      without : has_fraction text ≡ false → (n : ℕ) → interval_read (run text) ≡ Some n → v ≡ capped n → rest ≡ behind text → IntervalFound text rest v
+      without t n r e f = record {
+        front = run text;
+        value = n;
+        same = e;
+        splits = run_behind text ∙ ap (λ (zs : List ℕ). run text ++ zs) (sym f);
+        reads = r;
+        ends = subst (λ zs. BeginsWord zs → ⊥) (sym f) (behind_not text);
+        covers = omega arith;
+        longest = λ other back w g k. at other back g (interval_shape other w k);
+      } where
+        at : (other back : List ℕ) → text ≡ other ++ back → Whole other ⊎ Split other → length other ≤ length (run text)
+        at other back g (inl w) = words_in_run text other back g w.words
+        at other back g (inr s) =
+            let u = split_run text s.front s.back back (g ∙ ap (λ (zs : List ℕ). zs ++ back) s.splits) s.front_words in
+            not_both (split_test text (subst (Ends is_ascii_digit) (sym u.0) s.ends) (s.back ++ back) u.1) t
 
 pub interval_only : (text front rest : List ℕ) (n : ℕ) → text ≡ front ++ rest → interval_read front ≡ Some n → (BeginsWord rest → ⊥) → interval_at text ≡ Some (capped n, rest)
 unfolding interval_at
@@ -299,6 +299,7 @@ interval_only text front rest n e h ends = at (interval_shape front n h) where
   made : interval_front text ≡ front → interval_behind text ≡ rest → option_map {T = ℕ} {U = ℕ × List ℕ} (λ m. (capped m, interval_behind text)) (interval_read (interval_front text)) ≡ Some (capped n, rest)
   made f g = ap (λ (zs : List ℕ). option_map {T = ℕ} {U = ℕ × List ℕ} (λ m. (capped m, zs)) (interval_read (interval_front text))) g
       ∙ ap (λ (o : Option ℕ). option_map {T = ℕ} {U = ℕ × List ℕ} (λ m. (capped m, rest)) o) (ap interval_read f ∙ h)
+
   at : Whole front ⊎ Split front → option_map {T = ℕ} {U = ℕ × List ℕ} (λ m. (capped m, interval_behind text)) (interval_read (interval_front text)) ≡ Some (capped n, rest)
   at (inl w) =
       let u = run_is text front rest e w.words ends in
@@ -317,9 +318,10 @@ pub split_at_fraction : (text fraction front back : List ℕ) (n : ℕ) → has_
 split_at_fraction text fraction front back n h e f g le =
     let split : text ≡ run text ++ 46 ∷ fraction = run_behind text ∙ ap (λ (zs : List ℕ). run text ++ zs) (fraction_test text h ∙ ap (λ (zs : List ℕ). 46 ∷ zs) (sym e)) in
     let sum : length (run text) + 1 + n ≡ length (run text) + suc n = omega arith in
-    let size : length text ≡ length (run text) + suc (length fraction) = ap length split ∙ length-append (run text) (46 ∷ fraction) in
-    (ap (λ (m : ℕ). take m text) sum ∙ ap (λ (zs : List ℕ). take (length (run text) + suc n) zs) split
-        ∙ take-append-add (run text) (46 ∷ fraction) (suc n) ∙ ap (λ (zs : List ℕ). run text ++ 46 ∷ zs) f,
-     ap (λ (m : ℕ). drop m text) sum ∙ ap (λ (zs : List ℕ). drop (length (run text) + suc n) zs) split
-        ∙ drop-append-add (run text) (46 ∷ fraction) (suc n) ∙ g,
-     omega arith)
+    let size : length text ≡ length (run text) + suc (length fraction) = ap length split ∙ length-append (run text) (46 ∷ fraction) in (
+      ap (λ (m : ℕ). take m text) sum ∙ ap (λ (zs : List ℕ). take (length (run text) + suc n) zs) split
+          ∙ take-append-add (run text) (46 ∷ fraction) (suc n) ∙ ap (λ (zs : List ℕ). run text ++ 46 ∷ zs) f,
+      ap (λ (m : ℕ). drop m text) sum ∙ ap (λ (zs : List ℕ). drop (length (run text) + suc n) zs) split
+          ∙ drop-append-add (run text) (46 ∷ fraction) (suc n) ∙ g,
+      omega arith,
+    )

@@ -1,21 +1,20 @@
 -- What stands behind the `#` of a typed literal: what is read there is the longest front that reads as a number of the type.
-use Rattle.std.proofs.Common.{◌≡◌, ℕ, zero, suc, ◌+◌, ◌<◌, ◌≤◌, List, [], ◌∷◌, ◌++◌, length, refl, sym, ap, ◌∙◌, Bool, true, false, cond, arith, ◌⊎◌, inl, inr, subst, map, add-one, drop, slice_index}
-use Rattle.std.specs.Prelude.{Option, Some, None, option_map, codes, ◌&&◌, ◌==◌, ℤ, pos, negsuc, neg_ℤ}
-use Rattle.std.specs.Char.{to_ascii_lowercase, is_ascii_digit}
-use Rattle.std.specs.Option.{option_or}
+use Rattle.std.proofs.Common.{◌≡◌, ℕ, zero, suc, ◌≤◌, List, [], ◌∷◌, ◌++◌, length, refl, sym, ap, ◌∙◌, Bool, true, false, cond, arith, ◌⊎◌, inl, inr, subst, map, add-one, drop, slice_index}
+use Rattle.std.specs.Prelude.{Option, Some, None, option_map, codes, ◌==◌, ℤ, pos}
+use Rattle.std.specs.Char.{to_ascii_lowercase}
 use Rattle.std.proofs.lemmas.Slice.Eq.{bytes_eq-Decides}
 use Rattle.st_tree.specs.declared.elem.Class.{Class}
 use Rattle.st_tree.specs.declared.elem.Class.TheVariants.{Boolean, Integer, BitString, Duration}
 use Rattle.st_tree.specs.Numbers.{capped, capped_signed, digits_read, negative, number_read}
-use Rattle.st_tree.specs.Readings.{literal_read, signed_read, truth_read}
+use Rattle.st_tree.specs.Readings.{literal_read, signed_read}
 use Rattle.st_tree.specs.Words.{is_word}
 use Rattle.st_tokens.specs.Characters.{is_word_byte, AreWordBytes, BeginsWord}
-use Rattle.st_tokens.specs.Scanning.{run, behind, base_of, digits_at, number_at, signed_at, boolean_at, literal_at, positive_found, negative_found}
-use Rattle.st_tokens.specs.Words.{IsSame, IsWord}
+use Rattle.st_tokens.specs.Scanning.{run, behind, base_of, digits_at, number_at, signed_at, boolean_at, literal_at, positive_found}
+use Rattle.st_tokens.specs.Words.{IsSame}
 use Rattle.st_tokens.proofs.Names.{is_name, same_name, name_word, word_words}
 use Rattle.st_tokens.proofs.Numbers.{first_digit, Found, Alive, Based, read_words, digits_parts, digits_made, number_shape, base_cases, base_words, hash_run, number_found, number_only}
-use Rattle.st_tokens.proofs.Runs.{run_behind, run_words, behind_not, run_is, words_in_run}
-use Rattle.st_tokens.proofs.Cases.{by_test, both, is_equal, not_both, some_parts}
+use Rattle.st_tokens.proofs.Runs.{run_behind, behind_not, run_is, words_in_run}
+use Rattle.st_tokens.proofs.Cases.{by_test, is_equal, not_both, some_parts}
 
 abbrev pub SignedFound : List ℕ → List ℕ → ℤ → Type 0
 SignedFound text rest v = Found (signed_read true) capped_signed text rest v
@@ -67,14 +66,14 @@ sign_found sign means is text tail rest v e h =
       covers = let r : run text ≡ [] = rw e (rw is.no_word refl) in rw r (omega arith);
       longest = longest;
     } where
-  longest : (other back : List ℕ) (w : ℤ) → text ≡ other ++ back → signed_read true other ≡ Some w → length other ≤ length (sign ∷ run tail)
-  longest [] back w f r = omega arith
-  longest (c ∷ other) back w f r =
-      let g : sign ∷ tail ≡ c ∷ (other ++ back) = sym e ∙ f in
-      let head : c ≡ sign = cc in let split : tail ≡ other ++ back = cc in
-      let k : option_map means (digits_read 10 other) ≡ Some w = sym (is.reads other) ∙ subst (λ x. signed_read true (x ∷ other) ≡ Some w) head r in
-      let n = mapped_some means (digits_read 10 other) w k in
-      let le = words_in_run tail other back split (read_words 10 other n.0 (omega arith) n.1) in omega arith
+      longest : (other back : List ℕ) (w : ℤ) → text ≡ other ++ back → signed_read true other ≡ Some w → length other ≤ length (sign ∷ run tail)
+      longest [] back w f r = omega arith
+      longest (c ∷ other) back w f r =
+          let g : sign ∷ tail ≡ c ∷ (other ++ back) = sym e ∙ f in
+          let head : c ≡ sign = cc in let split : tail ≡ other ++ back = cc in
+          let k : option_map means (digits_read 10 other) ≡ Some w = sym (is.reads other) ∙ subst (λ x. signed_read true (x ∷ other) ≡ Some w) head r in
+          let n = mapped_some means (digits_read 10 other) w k in
+          let le = words_in_run tail other back split (read_words 10 other n.0 (omega arith) n.1) in omega arith
 
 -- a text that doesn't begin so has no front that does
 pub no_start : (sign : ℕ) (text front back : List ℕ) → (0 == sign) ≡ false → text ≡ front ++ back → (slice_index text 0 == sign) ≡ false → (slice_index front 0 == sign) ≡ false
@@ -116,8 +115,8 @@ unfolding signed_at
 signed_found text rest v h = by_test ((slice_index text 0 == 45))
     (λ t. sign_found 45 negative minus text (drop 1 text) rest v (first_is 45 text refl t) (rw t at h))
     (λ t. by_test ((slice_index text 0 == 43))
-      (λ u. sign_found 43 pos plus text (drop 1 text) rest v (first_is 43 text refl u) (rw (t, u) at h))
-      (λ u. unsigned_found text rest v t u (rw (t, u) at h)))
+    (λ u. sign_found 43 pos plus text (drop 1 text) rest v (first_is 43 text refl u) (rw (t, u) at h))
+    (λ u. unsigned_found text rest v t u (rw (t, u) at h)))
 
 sign_only : (sign : ℕ) (means : ℕ → ℤ) → Sign sign means → (more rest : List ℕ) (z : ℤ) → signed_read true (sign ∷ more) ≡ Some z → Alive rest
     → option_map {T = ℕ × List ℕ} {U = ℤ × List ℕ} (λ p. (means p.0, p.1)) (digits_at 10 (more ++ rest)) ≡ Some (capped_signed z, rest)
@@ -131,20 +130,21 @@ pub signed_only : (text front rest : List ℕ) (z : ℤ) → text ≡ front ++ r
 unfolding signed_at
 signed_only text front rest z e h alive = by_test ((slice_index front 0 == 45))
     (λ t. let f = first_is 45 front refl t in let g : text ≡ 45 ∷ (drop 1 front ++ rest) = e ∙ ap (λ (zs : List ℕ). zs ++ rest) f in
-        rw g (sign_only 45 negative minus (drop 1 front) rest z (subst (λ zs. signed_read true zs ≡ Some z) f h) alive))
+    rw g (sign_only 45 negative minus (drop 1 front) rest z (subst (λ zs. signed_read true zs ≡ Some z) f h) alive))
     (λ t. by_test ((slice_index front 0 == 43))
-      (λ u. let f = first_is 43 front refl u in let g : text ≡ 43 ∷ (drop 1 front ++ rest) = e ∙ ap (λ (zs : List ℕ). zs ++ rest) f in
-          rw g (sign_only 43 pos plus (drop 1 front) rest z (subst (λ zs. signed_read true zs ≡ Some z) f h) alive))
-      (λ u. at t u (mapped_some pos (number_read front) z (sym (signed_tests front false false t u) ∙ h)))) where
-  same_start : (sign : ℕ) → (slice_index front 0 == sign) ≡ false → (n : ℕ) → number_read front ≡ Some n → (slice_index text 0 == sign) ≡ false
-  same_start sign f n k = let d = first_digit front n k in
-      let g : text ≡ d.0 ∷ (d.1 ++ rest) = e ∙ ap (λ (zs : List ℕ). zs ++ rest) d.2 in
-      subst (λ zs. (slice_index zs 0 == sign) ≡ false) (sym g) (subst (λ zs. (slice_index zs 0 == sign) ≡ false) d.2 f)
-  at : (slice_index front 0 == 45) ≡ false → (slice_index front 0 == 43) ≡ false
-      → (n : ℕ) × (number_read front ≡ Some n) × (z ≡ pos n) → signed_at text ≡ Some (capped_signed z, rest)
-  at t u n = let w = number_only text front rest n.0 e n.1 alive in
-      rw (same_start 45 t n.0 n.1, same_start 43 u n.0 n.1) (ap (option_map positive_found) w
-        ∙ ap (λ (x : ℤ). let r : Option (ℤ × List ℕ) = Some (capped_signed x, rest) in r) (sym n.2))
+    (λ u. let f = first_is 43 front refl u in let g : text ≡ 43 ∷ (drop 1 front ++ rest) = e ∙ ap (λ (zs : List ℕ). zs ++ rest) f in
+    rw g (sign_only 43 pos plus (drop 1 front) rest z (subst (λ zs. signed_read true zs ≡ Some z) f h) alive))
+    (λ u. at t u (mapped_some pos (number_read front) z (sym (signed_tests front false false t u) ∙ h)))) where
+      same_start : (sign : ℕ) → (slice_index front 0 == sign) ≡ false → (n : ℕ) → number_read front ≡ Some n → (slice_index text 0 == sign) ≡ false
+      same_start sign f n k = let d = first_digit front n k in
+          let g : text ≡ d.0 ∷ (d.1 ++ rest) = e ∙ ap (λ (zs : List ℕ). zs ++ rest) d.2 in
+          subst (λ zs. (slice_index zs 0 == sign) ≡ false) (sym g) (subst (λ zs. (slice_index zs 0 == sign) ≡ false) d.2 f)
+
+      at : (slice_index front 0 == 45) ≡ false → (slice_index front 0 == 43) ≡ false
+          → (n : ℕ) × (number_read front ≡ Some n) × (z ≡ pos n) → signed_at text ≡ Some (capped_signed z, rest)
+      at t u n = let w = number_only text front rest n.0 e n.1 alive in
+          rw (same_start 45 t n.0 n.1, same_start 43 u n.0 n.1) (ap (option_map positive_found) w
+          ∙ ap (λ (x : ℤ). let r : Option (ℤ × List ℕ) = Some (capped_signed x, rest) in r) (sym n.2))
 
 -- ---- truth values
 
@@ -183,19 +183,20 @@ signed_truth : (word text other back : List ℕ) (z : ℤ) → Truth word → te
 signed_truth word text other back z is e h t = by_test (slice_index other 0 == 45)
     (λ m. absurd (sign 45 refl refl m))
     (λ m. by_test (slice_index other 0 == 43)
-      (λ p. absurd (sign 43 refl refl p))
-      (λ p. let n = mapped_some pos (number_read other) z (sym (signed_tests other false false m p) ∙ h) in at n.0 (number_shape other n.0 n.1))) where
-  sign : (byte : ℕ) → (0 == byte) ≡ false → is_word_byte byte ≡ false → (slice_index other 0 == byte) ≡ true → ⊥
-  sign byte never other_byte m =
-      let f = first_is byte other never m in
-      let g : text ≡ byte ∷ (drop 1 other ++ back) = e ∙ ap (λ (zs : List ℕ). zs ++ back) f in
-      let r : run text ≡ [] = rw g (rw other_byte refl) in
-      not_both (subst (λ zs. is_word word zs ≡ true) r t) is.not_empty
-  at : (n : ℕ) → (digits_read 10 other ≡ Some n) ⊎ Based other n → AreWordBytes other
-  at n (inl k) = read_words 10 other n (omega arith) k
-  at n (inr b) =
-      let r = hash_run text b.word b.more back (base_words b.word b.base b.named) (e ∙ ap (λ (zs : List ℕ). zs ++ back) b.splits) in
-      absurd (is.no_base b.word b.base b.named (subst (λ zs. is_word word zs ≡ true) r.0 t))
+    (λ p. absurd (sign 43 refl refl p))
+    (λ p. let n = mapped_some pos (number_read other) z (sym (signed_tests other false false m p) ∙ h) in at n.0 (number_shape other n.0 n.1))) where
+      sign : (byte : ℕ) → (0 == byte) ≡ false → is_word_byte byte ≡ false → (slice_index other 0 == byte) ≡ true → ⊥
+      sign byte never other_byte m =
+          let f = first_is byte other never m in
+          let g : text ≡ byte ∷ (drop 1 other ++ back) = e ∙ ap (λ (zs : List ℕ). zs ++ back) f in
+          let r : run text ≡ [] = rw g (rw other_byte refl) in
+          not_both (subst (λ zs. is_word word zs ≡ true) r t) is.not_empty
+
+      at : (n : ℕ) → (digits_read 10 other ≡ Some n) ⊎ Based other n → AreWordBytes other
+      at n (inl k) = read_words 10 other n (omega arith) k
+      at n (inr b) =
+          let r = hash_run text b.word b.more back (base_words b.word b.base b.named) (e ∙ ap (λ (zs : List ℕ). zs ++ back) b.splits) in
+          absurd (is.no_base b.word b.base b.named (subst (λ zs. is_word word zs ≡ true) r.0 t))
 
 -- a number, and no truth value
 record Numeric (text : List ℕ) (z : ℤ) : Type 0 where
@@ -209,8 +210,8 @@ boolean_cases : (text : List ℕ) (z : ℤ) → literal_read Boolean true text �
 boolean_cases text z h = by_test (is_word (codes "TRUE") text)
     (λ t. let h' : ◌≡◌ {A = Option ℤ} (Some (pos 1)) (Some z) = rw t at h in inl (t, let e : pos 1 ≡ z = cc in sym e))
     (λ t. by_test (is_word (codes "FALSE") text)
-      (λ u. let h' : ◌≡◌ {A = Option ℤ} (Some (pos 0)) (Some z) = rw (t, u) at h in inr (inl (u, let e : pos 0 ≡ z = cc in sym e)))
-      (λ u. inr (inr (record { no_true = t; no_false = u; reads = rw (t, u) at h }))))
+    (λ u. let h' : ◌≡◌ {A = Option ℤ} (Some (pos 0)) (Some z) = rw (t, u) at h in inr (inl (u, let e : pos 0 ≡ z = cc in sym e)))
+    (λ u. inr (inr (record { no_true = t; no_false = u; reads = rw (t, u) at h }))))
 
 abbrev pub LiteralFound : Class → List ℕ → List ℕ → ℤ → Type 0
 LiteralFound class text rest v = Found (literal_read class true) capped_signed text rest v
@@ -262,11 +263,11 @@ pub boolean_found : (text rest : List ℕ) (v : ℤ) → boolean_at text ≡ Som
 unfolding boolean_at
 boolean_found text rest v h = by_test (is_word (codes "TRUE") (run text))
     (λ t. let p = some_parts (rw t at h) in
-        truth_found (codes "TRUE") text rest v truth t (rw t (let e : ◌≡◌ {A = Option ℤ} (Some (pos 1)) (Some v) = ap (λ (x : ℤ). Some x) p.0 in e)) (sym p.0 ∙ ap capped_signed p.0) (sym p.1))
+    truth_found (codes "TRUE") text rest v truth t (rw t (let e : ◌≡◌ {A = Option ℤ} (Some (pos 1)) (Some v) = ap (λ (x : ℤ). Some x) p.0 in e)) (sym p.0 ∙ ap capped_signed p.0) (sym p.1))
     (λ t. by_test (is_word (codes "FALSE") (run text))
-      (λ u. let p = some_parts (rw (t, u) at h) in
-          truth_found (codes "FALSE") text rest v falsity u (rw (t, u) (let e : ◌≡◌ {A = Option ℤ} (Some (pos 0)) (Some v) = ap (λ (x : ℤ). Some x) p.0 in e)) (sym p.0 ∙ ap capped_signed p.0) (sym p.1))
-      (λ u. number_of_boolean text rest v t u (signed_found text rest v (rw (t, u) at h))))
+    (λ u. let p = some_parts (rw (t, u) at h) in
+    truth_found (codes "FALSE") text rest v falsity u (rw (t, u) (let e : ◌≡◌ {A = Option ℤ} (Some (pos 0)) (Some v) = ap (λ (x : ℤ). Some x) p.0 in e)) (sym p.0 ∙ ap capped_signed p.0) (sym p.1))
+    (λ u. number_of_boolean text rest v t u (signed_found text rest v (rw (t, u) at h))))
 
 pub boolean_only : (text front rest : List ℕ) (z : ℤ) → text ≡ front ++ rest → literal_read Boolean true front ≡ Some z → Alive rest → boolean_at text ≡ Some (capped_signed z, rest)
 unfolding boolean_at
@@ -275,8 +276,10 @@ boolean_only text front rest z e h alive = at (boolean_cases front z h) where
   not_true_false w t = by_test (is_word (codes "TRUE") w)
       (λ u. let f = sym (is_same (codes "TRUE") w u) ∙ is_same (codes "FALSE") w t in absurd (cc))
       (λ u. u)
+
   with_rest : (v : ℤ) → v ≡ capped_signed z → behind text ≡ rest → ◌≡◌ {A = Option (ℤ × List ℕ)} (Some (v, behind text)) (Some (capped_signed z, rest))
   with_rest v f g = rw (f, g) refl
+
   at : ((is_word (codes "TRUE") front ≡ true) × (z ≡ pos 1)) ⊎ (((is_word (codes "FALSE") front ≡ true) × (z ≡ pos 0)) ⊎ Numeric front z)
       → boolean_at text ≡ Some (capped_signed z, rest)
   at (inl k) =
@@ -286,13 +289,13 @@ boolean_only text front rest z e h alive = at (boolean_cases front z h) where
       let u = run_is text front rest e (truth_words (codes "FALSE") front falsity k.0) alive.ends in
       let t = subst (λ zs. is_word (codes "FALSE") zs ≡ true) (sym u.0) k.0 in
       rw (not_true_false (run text) t, t) (with_rest (pos 0) (sym (ap capped_signed k.1)) u.1)
-  at (inr (inr k)) = 
+  at (inr (inr k)) =
       rw (none (codes "TRUE") truth k.no_true, none (codes "FALSE") falsity k.no_false) (signed_only text front rest z e k.reads alive) where
-    none : (word : List ℕ) → Truth word → is_word word front ≡ false → is_word word (run text) ≡ false
-    none word is no_front = by_test (is_word word (run text))
-        (λ t. let u = run_is text front rest e (signed_truth word text front rest z is e k.reads t) alive.ends in
+        none : (word : List ℕ) → Truth word → is_word word front ≡ false → is_word word (run text) ≡ false
+        none word is no_front = by_test (is_word word (run text))
+            (λ t. let u = run_is text front rest e (signed_truth word text front rest z is e k.reads t) alive.ends in
             not_both (subst (λ zs. is_word word zs ≡ true) u.0 t) no_front)
-        (λ t. t)
+            (λ t. t)
 
 -- ---- by the class of the type
 

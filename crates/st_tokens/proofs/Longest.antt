@@ -1,13 +1,12 @@
 -- The token that is read at the front of a text is its longest front with a form, and no other is.
-use Rattle.std.proofs.Common.{◌≡◌, ℕ, suc, ◌+◌, ◌<◌, ◌≤◌, List, [], ◌∷◌, ◌++◌, length, refl, sym, ap, ◌∙◌, Bool, true, false, subst, ◌⊎◌, inl, inr, arith, append_assoc, length-append, map}
-use Rattle.std.specs.Prelude.{Option, Some, None, option_map, option_and_then, codes, ◌||◌, ℤ, pos}
-use Rattle.std.specs.Char.{is_ascii_digit, to_ascii_lowercase}
-use Rattle.st_tree.specs.declared.elem.Class.{Class}
+use Rattle.std.proofs.Common.{◌≡◌, ℕ, suc, ◌+◌, ◌<◌, ◌≤◌, List, [], ◌∷◌, ◌++◌, length, refl, sym, ap, ◌∙◌, true, false, subst, ◌⊎◌, inl, inr, arith, append_assoc, length-append}
+use Rattle.std.specs.Prelude.{Option, Some, None, option_map, option_and_then, codes, ℤ}
+use Rattle.std.specs.Char.{is_ascii_digit}
 use Rattle.st_tree.specs.declared.elem.Class.TheVariants.{Duration}
 use Rattle.st_tree.specs.declared.elem.Elem.{Elem}
 use Rattle.st_tree.specs.declared.elem.Elem.TheVariants as E
 use Rattle.st_tree.specs.Durations.{signed_interval_read}
-use Rattle.st_tree.specs.Numbers.{capped, capped_signed, number_read}
+use Rattle.st_tree.specs.Numbers.{capped, capped_signed}
 use Rattle.st_tree.specs.Readings.{literal_read}
 use Rattle.st_tree.specs.Types.{class_of, name_of}
 use Rattle.st_tree.specs.Words.{after, begins_with, is_word}
@@ -15,19 +14,19 @@ use Rattle.st_tokens.specs.declared.keyword.Keyword.{Keyword}
 use Rattle.st_tokens.specs.declared.symbol.Symbol.{Symbol}
 use Rattle.st_tokens.specs.declared.token.Kind.{Kind}
 use Rattle.st_tokens.specs.declared.token.Kind.TheVariants as K
-use Rattle.st_tokens.specs.Characters.{begins_word, is_word_byte, AreWordBytes, BeginsWord}
+use Rattle.st_tokens.specs.Characters.{begins_word, AreWordBytes, BeginsWord}
 use Rattle.st_tokens.specs.Forms.{HasForm, word, keyword, type_name, number, typed, duration, symbol, IsDurationWord, time_of, value}
 use Rattle.st_tokens.specs.Scanning.{run, behind, is_clean, single, double, number_at, signed_interval_at, number_found, literal_at, typed_at, typed_found, duration_at, duration_found, is_duration_word, prefixed_at, word_at, word_kind, kind_by, symbol_or, symbol_at, token_at}
 use Rattle.st_tokens.specs.Symbols.{symbol_text}
 use Rattle.st_tokens.specs.Text.{IsLongest, IsRefused}
-use Rattle.st_tokens.specs.Words.{IsSame, IsWord, IsReserved, IsUnclean, keyword_of, elem_of}
+use Rattle.st_tokens.specs.Words.{IsSame, IsWord, keyword_of, elem_of}
 use Rattle.st_tokens.proofs.SignedIntervals.{signed_interval_found, signed_interval_only, time_of-capped}
-use Rattle.st_tokens.proofs.Firsts.{IsOpener, form_begins, opens_text, only_number, only_symbol, only_word, Plain, Literal, Lasting, duration_name}
+use Rattle.st_tokens.proofs.Firsts.{form_begins, opens_text, only_number, only_symbol, only_word, Plain, Literal, Lasting, duration_name}
 use Rattle.st_tokens.proofs.Literals.{literal_found, literal_only, is_same, same_test}
 use Rattle.st_tokens.proofs.Marks.{IsDouble, IsSingle, symbol_cases, single_is, double_is}
-use Rattle.st_tokens.proofs.Names.{keyword_is, short_no_elem, elem_in, elem_is, elem_name, name_word, word_words, not_unclean, not_reserved, begins_word_byte, begins_no_digit, digit_word_byte}
-use Rattle.st_tokens.proofs.Numbers.{Found, Alive, begins, number_found as number_is_found, number_only, hash_split, hash_run, hash_test, no_hash_test, tail_of}
-use Rattle.st_tokens.proofs.Runs.{run_behind, run_words, behind_not, run_is, words_in_run, words_append}
+use Rattle.st_tokens.proofs.Names.{keyword_is, short_no_elem, elem_in, elem_is, elem_name, name_word, word_words, not_unclean, not_reserved, begins_word_byte}
+use Rattle.st_tokens.proofs.Numbers.{Found, number_found as number_is_found, number_only, hash_split, hash_run, hash_test, no_hash_test, tail_of}
+use Rattle.st_tokens.proofs.Runs.{run_behind, run_words, run_is, words_in_run, words_append}
 use Rattle.st_tokens.proofs.Cases.{by_test, not_both, some_parts}
 
 -- a token stands at the front of the text
@@ -51,8 +50,9 @@ number_token b bs rest kind d h =
     let f = number_is_found (b ∷ bs) m.0.1 m.0.0 m.1 in
     let kind_is : K.Number (capped f.value) ≡ kind = sym (ap (λ (n : ℕ). K.Number n) f.same) ∙ ap (λ (p : Kind × List ℕ). p.0) m.2 in
     let rest_is : m.0.1 ≡ rest = ap (λ (p : Kind × List ℕ). p.1) m.2 in
-    subst (λ k. TokenFound (b ∷ bs) k rest) kind_is (subst (λ zs. TokenFound (b ∷ bs) (K.Number (capped f.value)) zs) rest_is
-      (f.front, record {
+    subst (λ k. TokenFound (b ∷ bs) k rest) kind_is (subst (λ zs. TokenFound (b ∷ bs) (K.Number (capped f.value)) zs) rest_is (
+      f.front,
+      record {
         longest = record {
           splits = f.splits;
           form = number f.value f.reads;
@@ -60,7 +60,8 @@ number_token b bs rest kind d h =
               let n = only_number b other k form (opens_text b bs other back k e form) d in f.longest other back n.0 e n.1;
         };
         allowed = f.ends;
-      }))
+      },
+    ))
 
 -- ---- words
 
@@ -96,6 +97,7 @@ plain_longest b bs other back k w t e form = at (only_word b other k form (opens
   hash name literal words f =
       let r = hash_run (b ∷ bs) name literal back words (e ∙ ap (λ (zs : List ℕ). zs ++ back) f) in
       not_both (hash_test (b ∷ bs) (literal ++ back) r.1) t
+
   at : Plain other k ⊎ (Literal other k ⊎ Lasting other k) → length other ≤ length (run (b ∷ bs))
   at (inl p) = words_in_run (b ∷ bs) other back e (word_words other p.is_word)
   at (inr (inl p)) = hash p.name p.literal (word_words p.name (name_word p.name (elem_name p.name p.elem p.named))) p.splits
@@ -103,15 +105,18 @@ plain_longest b bs other back k w t e form = at (only_word b other k form (opens
 
 plain_token : (b : ℕ) (bs : List ℕ) → begins_word b ≡ true → begins_with (codes "#") (behind (b ∷ bs)) ≡ false → is_clean (run (b ∷ bs)) ≡ true
     → TokenFound (b ∷ bs) (word_kind (run (b ∷ bs))) (behind (b ∷ bs))
-plain_token b bs w t c = (run (b ∷ bs), record {
-  longest = record {
-    splits = run_behind (b ∷ bs);
-    form = kind_form (run (b ∷ bs)) (run_word b bs w);
-    longest = λ other back k e form. plain_longest b bs other back k w t e form;
-  };
-  allowed = kind_allowed (run (b ∷ bs)) (behind (b ∷ bs)) c
-    (λ back e. not_both (hash_test (b ∷ bs) back e) t);
-})
+plain_token b bs w t c = (
+  run (b ∷ bs),
+  record {
+    longest = record {
+      splits = run_behind (b ∷ bs);
+      form = kind_form (run (b ∷ bs)) (run_word b bs w);
+      longest = λ other back k e form. plain_longest b bs other back k w t e form;
+    };
+    allowed = kind_allowed (run (b ∷ bs)) (behind (b ∷ bs)) c
+        (λ back e. not_both (hash_test (b ∷ bs) back e) t);
+  },
+)
 
 -- ---- literals that begin with a word
 
@@ -136,6 +141,7 @@ prefixed_longest : {A B : Type 0} (read : List ℕ → Option A) (counts : A →
 prefixed_longest read counts v b bs rest w f typed_reads lasting_reads other back k e form = at (only_word b other k form (opens_text b bs other back k e form) w) where
   whole : length (run (b ∷ bs) ++ 35 ∷ f.front) ≡ length (run (b ∷ bs)) + suc (length f.front)
   whole = length-append (run (b ∷ bs)) (35 ∷ f.front)
+
   at : Plain other k ⊎ (Literal other k ⊎ Lasting other k) → length other ≤ length (run (b ∷ bs) ++ 35 ∷ f.front)
   at (inl p) = let le = words_in_run (b ∷ bs) other back e (word_words other p.is_word) in let l = whole in omega arith
   at (inr (inl p)) =
@@ -175,19 +181,21 @@ duration_token b bs rest kind w t d h =
     let f = signed_interval_found (tail_of (b ∷ bs)) m.0.1 m.0.0 m.1 in
     let is = duration_word (run (b ∷ bs)) d in
     let kind_is : K.Duration (time_of f.value) ≡ kind =
-        ap (λ (n : ℤ). K.Duration n) (sym (time_of-capped f.value) ∙ ap time_of (sym f.same)) ∙ ap (λ (p : Kind × List ℕ). p.0) m.2 in
+    ap (λ (n : ℤ). K.Duration n) (sym (time_of-capped f.value) ∙ ap time_of (sym f.same)) ∙ ap (λ (p : Kind × List ℕ). p.0) m.2 in
     let rest_is : m.0.1 ≡ rest = ap (λ (p : Kind × List ℕ). p.1) m.2 in
-    subst (λ k. TokenFound (b ∷ bs) k rest) kind_is (subst (λ zs. TokenFound (b ∷ bs) (K.Duration (time_of f.value)) zs) rest_is
-      (run (b ∷ bs) ++ 35 ∷ f.front, record {
+    subst (λ k. TokenFound (b ∷ bs) k rest) kind_is (subst (λ zs. TokenFound (b ∷ bs) (K.Duration (time_of f.value)) zs) rest_is (
+      run (b ∷ bs) ++ 35 ∷ f.front,
+      record {
         longest = record {
           splits = prefixed_splits (b ∷ bs) f.front m.0.1 t f.splits;
           form = duration (run (b ∷ bs)) f.front f.value is f.reads;
           longest = λ other back k e form. prefixed_longest signed_interval_read capped_signed m.0.0 b bs m.0.1 w f
-            (λ o j p e. absurd (p.no_time (not_typed (run (b ∷ bs)) p.elem is (subst (λ zs. IsSame zs (name_of p.elem)) e p.named))))
-            (λ o j p e. (p.number, p.reads)) other back k e form;
+              (λ o j p e. absurd (p.no_time (not_typed (run (b ∷ bs)) p.elem is (subst (λ zs. IsSame zs (name_of p.elem)) e p.named))))
+              (λ o j p e. (p.number, p.reads)) other back k e form;
         };
         allowed = f.ends;
-      }))
+      },
+    ))
 
 typed_token : (b : ℕ) (bs rest : List ℕ) (kind : Kind) (elem : Elem) → begins_word b ≡ true → begins_with (codes "#") (behind (b ∷ bs)) ≡ true
     → is_duration_word (run (b ∷ bs)) ≡ false → elem_of (run (b ∷ bs)) ≡ Some elem
@@ -196,28 +204,33 @@ typed_token b bs rest kind elem w t d i h =
     let m = mapped (typed_found elem) (literal_at (class_of elem) (tail_of (b ∷ bs))) (kind, rest) h in
     let f = literal_found (class_of elem) (tail_of (b ∷ bs)) m.0.1 m.0.0 m.1 in
     let kind_is : K.Typed (value elem (capped_signed f.value)) ≡ kind =
-        ap (λ (n : ℤ). K.Typed (value elem n)) (sym f.same) ∙ ap (λ (p : Kind × List ℕ). p.0) m.2 in
+    ap (λ (n : ℤ). K.Typed (value elem n)) (sym f.same) ∙ ap (λ (p : Kind × List ℕ). p.0) m.2 in
     let rest_is : m.0.1 ≡ rest = ap (λ (p : Kind × List ℕ). p.1) m.2 in
-    subst (λ k. TokenFound (b ∷ bs) k rest) kind_is (subst (λ zs. TokenFound (b ∷ bs) (K.Typed (value elem (capped_signed f.value))) zs) rest_is
-      (run (b ∷ bs) ++ 35 ∷ f.front, record {
+    subst (λ k. TokenFound (b ∷ bs) k rest) kind_is (subst (λ zs. TokenFound (b ∷ bs) (K.Typed (value elem (capped_signed f.value))) zs) rest_is (
+      run (b ∷ bs) ++ 35 ∷ f.front,
+      record {
         longest = record {
           splits = prefixed_splits (b ∷ bs) f.front m.0.1 t f.splits;
           form = typed (run (b ∷ bs)) f.front elem f.value named no_time f.reads;
           longest = λ other back k e form. prefixed_longest (literal_read (class_of elem) true) capped_signed m.0.0 b bs m.0.1 w f
-            (λ o j p e. (p.number, reads o j p e)) (λ o j p e. absurd (no_duration (subst IsDurationWord e p.named))) other back k e form;
+              (λ o j p e. (p.number, reads o j p e)) (λ o j p e. absurd (no_duration (subst IsDurationWord e p.named))) other back k e form;
         };
         allowed = f.ends;
-      })) where
-  named : IsSame (run (b ∷ bs)) (name_of elem)
-  named = elem_is (run (b ∷ bs)) elem i
-  no_duration : IsDurationWord (run (b ∷ bs)) → ⊥
-  no_duration k = not_both (duration_test (run (b ∷ bs)) k) d
-  no_time : elem ≡ E.Time → ⊥
-  no_time e = no_duration (inr (subst (λ x. IsSame (run (b ∷ bs)) (name_of x)) e named))
-  reads : (other : List ℕ) (k : Kind) (p : Literal other k) → p.name ≡ run (b ∷ bs) → literal_read (class_of elem) true p.literal ≡ Some p.number
-  reads other k p e =
-      let one = elem_in (run (b ∷ bs)) p.elem (subst (λ zs. IsSame zs (name_of p.elem)) e p.named) in
-      let same : p.elem ≡ elem = cc in subst (λ x. literal_read (class_of x) true p.literal ≡ Some p.number) same p.reads
+      },
+    )) where
+      named : IsSame (run (b ∷ bs)) (name_of elem)
+      named = elem_is (run (b ∷ bs)) elem i
+
+      no_duration : IsDurationWord (run (b ∷ bs)) → ⊥
+      no_duration k = not_both (duration_test (run (b ∷ bs)) k) d
+
+      no_time : elem ≡ E.Time → ⊥
+      no_time e = no_duration (inr (subst (λ x. IsSame (run (b ∷ bs)) (name_of x)) e named))
+
+      reads : (other : List ℕ) (k : Kind) (p : Literal other k) → p.name ≡ run (b ∷ bs) → literal_read (class_of elem) true p.literal ≡ Some p.number
+      reads other k p e =
+          let one = elem_in (run (b ∷ bs)) p.elem (subst (λ zs. IsSame zs (name_of p.elem)) e p.named) in
+          let same : p.elem ≡ elem = cc in subst (λ x. literal_read (class_of x) true p.literal ≡ Some p.number) same p.reads
 
 prefixed_token : (b : ℕ) (bs rest : List ℕ) (kind : Kind) → begins_word b ≡ true → begins_with (codes "#") (behind (b ∷ bs)) ≡ true
     → prefixed_at (run (b ∷ bs)) (tail_of (b ∷ bs)) ≡ Some (kind, rest) → TokenFound (b ∷ bs) kind rest
@@ -225,19 +238,19 @@ unfolding prefixed_at typed_at
 prefixed_token b bs rest kind w t h = by_test (is_duration_word (run (b ∷ bs)))
     (λ d. duration_token b bs rest kind w t d (rw d at h))
     (λ d. by_elem d (elem_of (run (b ∷ bs))) refl (rw d at h)) where
-  by_elem : is_duration_word (run (b ∷ bs)) ≡ false → (o : Option Elem) → elem_of (run (b ∷ bs)) ≡ o
-      → option_and_then (λ elem. option_map (typed_found elem) (literal_at (class_of elem) (tail_of (b ∷ bs)))) o ≡ Some (kind, rest) → TokenFound (b ∷ bs) kind rest
-  by_elem d None i g = absurd (cc)
-  by_elem d (Some elem) i g = typed_token b bs rest kind elem w t d i g
+      by_elem : is_duration_word (run (b ∷ bs)) ≡ false → (o : Option Elem) → elem_of (run (b ∷ bs)) ≡ o
+          → option_and_then (λ elem. option_map (typed_found elem) (literal_at (class_of elem) (tail_of (b ∷ bs)))) o ≡ Some (kind, rest) → TokenFound (b ∷ bs) kind rest
+      by_elem d None i g = absurd (cc)
+      by_elem d (Some elem) i g = typed_token b bs rest kind elem w t d i g
 
 word_token : (b : ℕ) (bs rest : List ℕ) (kind : Kind) → begins_word b ≡ true → word_at (b ∷ bs) ≡ Some (kind, rest) → TokenFound (b ∷ bs) kind rest
 unfolding word_at
 word_token b bs rest kind w h = by_test (begins_with (codes "#") (behind (b ∷ bs)))
     (λ t. prefixed_token b bs rest kind w t (rw t at h))
     (λ t. by_test (is_clean (run (b ∷ bs)))
-      (λ c. let p = some_parts (rw (t, c) at h) in
-          subst (λ k. TokenFound (b ∷ bs) k rest) p.0 (subst (λ zs. TokenFound (b ∷ bs) (word_kind (run (b ∷ bs))) zs) p.1 (plain_token b bs w t c)))
-      (λ c. let h' : ◌≡◌ {A = Option (Kind × List ℕ)} None (Some (kind, rest)) = rw (t, c) at h in absurd (cc)))
+    (λ c. let p = some_parts (rw (t, c) at h) in
+    subst (λ k. TokenFound (b ∷ bs) k rest) p.0 (subst (λ zs. TokenFound (b ∷ bs) (word_kind (run (b ∷ bs))) zs) p.1 (plain_token b bs w t c)))
+    (λ c. let h' : ◌≡◌ {A = Option (Kind × List ℕ)} None (Some (kind, rest)) = rw (t, c) at h in absurd (cc)))
 
 -- ---- symbols
 
@@ -262,23 +275,26 @@ single_size b bs back x none e = at (symbol_cases x) where
 
 symbol_token : (b : ℕ) (bs rest : List ℕ) (x : Symbol) → is_ascii_digit b ≡ false → begins_word b ≡ false → b ∷ bs ≡ symbol_text x ++ rest
     → ((back : List ℕ) (y : Symbol) → b ∷ bs ≡ symbol_text y ++ back → length (symbol_text y) ≤ length (symbol_text x)) → TokenFound (b ∷ bs) (K.Symbol x) rest
-symbol_token b bs rest x d w e longest = (symbol_text x, record {
-  longest = record {
-    splits = e;
-    form = symbol x;
-    longest = λ other back k f form. let o = only_symbol b other k form (opens_text b bs other back k f form) d w in
-        let le = longest back o.0 (f ∙ ap (λ (zs : List ℕ). zs ++ back) o.1) in let l = ap length o.1 in omega arith;
-  };
-  allowed = λ h. h;
-})
+symbol_token b bs rest x d w e longest = (
+  symbol_text x,
+  record {
+    longest = record {
+      splits = e;
+      form = symbol x;
+      longest = λ other back k f form. let o = only_symbol b other k form (opens_text b bs other back k f form) d w in
+          let le = longest back o.0 (f ∙ ap (λ (zs : List ℕ). zs ++ back) o.1) in let l = ap length o.1 in omega arith;
+    };
+    allowed = λ h. h;
+  },
+)
 
 single_token : (b : ℕ) (bs rest : List ℕ) (kind : Kind) (o : Option Symbol) → is_ascii_digit b ≡ false → begins_word b ≡ false → NoDouble b bs
     → single b ≡ o → symbol_or o bs None ≡ Some (kind, rest) → TokenFound (b ∷ bs) kind rest
 single_token b bs rest kind None d w none e h = absurd (cc)
 single_token b bs rest kind (Some x) d w none e h = let p = some_parts h in let t = single_is b x e in
     subst (λ k. TokenFound (b ∷ bs) k rest) p.0 (subst (λ zs. TokenFound (b ∷ bs) (K.Symbol x) zs) p.1
-      (symbol_token b bs bs x d w (sym (ap (λ (zs : List ℕ). zs ++ bs) t))
-        (λ back y f. let le = single_size b bs back y none f in let l = ap length t in omega arith)))
+    (symbol_token b bs bs x d w (sym (ap (λ (zs : List ℕ). zs ++ bs) t))
+    (λ back y f. let le = single_size b bs back y none f in let l = ap length t in omega arith)))
 
 double_token : (b c : ℕ) (bs rest : List ℕ) (kind : Kind) (o : Option Symbol) → is_ascii_digit b ≡ false → begins_word b ≡ false
     → double b c ≡ o → symbol_or o bs (symbol_or (single b) (c ∷ bs) None) ≡ Some (kind, rest) → TokenFound (b ∷ c ∷ bs) kind rest
@@ -286,8 +302,8 @@ double_token b c bs rest kind None d w e h = single_token b (c ∷ bs) rest kind
     (λ a back y f g. let same : c ≡ a = cc in let g' = subst (λ z. double b z ≡ Some y) (sym same) g in cc) refl h
 double_token b c bs rest kind (Some x) d w e h = let p = some_parts h in let t = double_is b c x e in
     subst (λ k. TokenFound (b ∷ c ∷ bs) k rest) p.0 (subst (λ zs. TokenFound (b ∷ c ∷ bs) (K.Symbol x) zs) p.1
-      (symbol_token b (c ∷ bs) bs x d w (sym (ap (λ (zs : List ℕ). zs ++ bs) t))
-        (λ back y f. let le = symbol_size b (c ∷ bs) back y f in let l = ap length t in omega arith)))
+    (symbol_token b (c ∷ bs) bs x d w (sym (ap (λ (zs : List ℕ). zs ++ bs) t))
+    (λ back y f. let le = symbol_size b (c ∷ bs) back y f in let l = ap length t in omega arith)))
 
 symbols_token : (b : ℕ) (bs rest : List ℕ) (kind : Kind) → is_ascii_digit b ≡ false → begins_word b ≡ false → symbol_at (b ∷ bs) ≡ Some (kind, rest) → TokenFound (b ∷ bs) kind rest
 unfolding symbol_at
@@ -302,8 +318,8 @@ token_found [] kind rest h = absurd (cc)
 token_found (b ∷ bs) kind rest h = by_test (is_ascii_digit b)
     (λ d. number_token b bs rest kind d (rw d at h))
     (λ d. by_test (begins_word b)
-      (λ w. word_token b bs rest kind w (rw (d, w) at h))
-      (λ w. symbols_token b bs rest kind d w (rw (d, w) at h)))
+    (λ w. word_token b bs rest kind w (rw (d, w) at h))
+    (λ w. symbols_token b bs rest kind d w (rw (d, w) at h)))
 
 -- ---- and no other
 
@@ -323,11 +339,11 @@ word_ends : (b : ℕ) (bs front rest : List ℕ) (kind : Kind) → IsToken (b �
 word_ends b bs front [] kind h is ends = ends
 word_ends b bs front (c ∷ rest) kind h is ends =
     let le = h.longest.longest (front ++ c ∷ []) rest (word_kind (front ++ c ∷ [])) (h.longest.splits ∙ sym (append_assoc front (c ∷ []) rest))
-        (kind_form (front ++ c ∷ []) (longer front is)) in
+    (kind_form (front ++ c ∷ []) (longer front is)) in
     let l = length-append front (c ∷ []) in absurd (omega arith) where
-  longer : (w : List ℕ) → IsWord w → IsWord (w ++ c ∷ [])
-  longer [] k = absurd k
-  longer (x ∷ w) k = (k.0, words_append w (c ∷ []) k.1 (ends, tt))
+      longer : (w : List ℕ) → IsWord w → IsWord (w ++ c ∷ [])
+      longer [] k = absurd k
+      longer (x ∷ w) k = (k.0, words_append w (c ∷ []) k.1 (ends, tt))
 
 plain_only : (b : ℕ) (bs front rest : List ℕ) (kind : Kind) → IsToken (b ∷ bs) front rest kind → ((back : List ℕ) → rest ≡ 35 ∷ back → ⊥) → Plain front kind
     → word_at (b ∷ bs) ≡ Some (kind, rest)
@@ -365,12 +381,12 @@ literal_is_only b bs front rest kind h alive p =
     let t = hash_test (b ∷ bs) (p.literal ++ rest) r.1 in
     let named = subst (λ zs. IsSame zs (name_of p.elem)) (sym k.run_is) p.named in
     let d : is_duration_word (run (b ∷ bs)) ≡ false = by_test (is_duration_word (run (b ∷ bs)))
-        (λ t. absurd (p.no_time (not_typed (run (b ∷ bs)) p.elem (duration_word (run (b ∷ bs)) t) named))) (λ t. t) in
+    (λ t. absurd (p.no_time (not_typed (run (b ∷ bs)) p.elem (duration_word (run (b ∷ bs)) t) named))) (λ t. t) in
     let allowed = subst (λ j. IsRefused j rest → ⊥) p.kind_is h.allowed in
     let found = literal_only (class_of p.elem) (tail_of (b ∷ bs)) p.literal rest p.number (no_duration_class p.elem p.no_time) k.tail_is p.reads (record { ends = allowed; no_hash = alive }) in
     let i = elem_in (run (b ∷ bs)) p.elem named in
     rw (t, d) (ap (λ (o : Option Elem). option_and_then (λ elem. option_map (typed_found elem) (literal_at (class_of elem) (tail_of (b ∷ bs)))) o) i
-      ∙ ap (option_map (typed_found p.elem)) found ∙ pair_some (K.Typed (value p.elem (capped_signed p.number))) kind rest (sym p.kind_is))
+    ∙ ap (option_map (typed_found p.elem)) found ∙ pair_some (K.Typed (value p.elem (capped_signed p.number))) kind rest (sym p.kind_is))
 
 lasting_is_only : (b : ℕ) (bs front rest : List ℕ) (kind : Kind) → IsToken (b ∷ bs) front rest kind → ((back : List ℕ) → rest ≡ 35 ∷ back → ⊥) → (p : Lasting front kind)
     → word_at (b ∷ bs) ≡ Some (kind, rest)
@@ -384,7 +400,7 @@ lasting_is_only b bs front rest kind h alive p =
     let allowed = subst (λ j. IsRefused j rest → ⊥) p.kind_is h.allowed in
     let found = signed_interval_only (tail_of (b ∷ bs)) p.literal rest p.number k.tail_is p.reads (record { ends = allowed; no_hash = alive }) in
     rw (t, d) (ap (option_map duration_found) found
-      ∙ pair_some (K.Duration (time_of (capped_signed p.number))) kind rest (ap (λ (n : ℤ). K.Duration n) (time_of-capped p.number) ∙ sym p.kind_is))
+    ∙ pair_some (K.Duration (time_of (capped_signed p.number))) kind rest (ap (λ (n : ℤ). K.Duration n) (time_of-capped p.number) ∙ sym p.kind_is))
 
 word_is_only : (b : ℕ) (bs front rest : List ℕ) (kind : Kind) → IsToken (b ∷ bs) front rest kind → ((back : List ℕ) → rest ≡ 35 ∷ back → ⊥) → begins_word b ≡ true
     → word_at (b ∷ bs) ≡ Some (kind, rest)
@@ -409,6 +425,7 @@ symbol_is_only : (b : ℕ) (bs front rest : List ℕ) (kind : Kind) → IsToken 
 symbol_is_only b bs front rest kind h d w = at (only_symbol b front kind h.longest.form (opens_text b bs front rest kind h.longest.splits h.longest.form) d w) where
   text_is : (x : Symbol) → front ≡ symbol_text x → (text : List ℕ) → symbol_text x ≡ text → b ∷ bs ≡ text ++ rest
   text_is x e text f = h.longest.splits ∙ ap (λ (zs : List ℕ). zs ++ rest) (e ∙ f)
+
   no_double : (x : Symbol) (s : IsSingle x) → front ≡ symbol_text x → (c : ℕ) (back : List ℕ) → rest ≡ c ∷ back → (o : Option Symbol) → double s.byte c ≡ o → o ≡ None
   no_double x s e c back g None i = refl
   no_double x s e c back g (Some y) i =
@@ -416,10 +433,12 @@ symbol_is_only b bs front rest kind h d w = at (only_symbol b front kind h.longe
       let text = text_is x e (s.byte ∷ []) s.text ∙ ap (λ (zs : List ℕ). s.byte ∷ zs) g in
       let le = h.longest.longest (symbol_text y) back (K.Symbol y) (text ∙ sym (ap (λ (zs : List ℕ). zs ++ back) t)) (symbol y) in
       let l = ap length t in let m = ap length (e ∙ s.text) in absurd (omega arith)
+
   by_case : (x : Symbol) → front ≡ symbol_text x → IsDouble x ⊎ IsSingle x → symbol_at (b ∷ bs) ≡ Some (K.Symbol x, rest)
   by_case x e (inl s) = subst (λ zs. symbol_at zs ≡ Some (K.Symbol x, rest)) (sym (text_is x e (s.first ∷ s.second ∷ []) s.text)) (double_only x s.first s.second rest s.found)
   by_case x e (inr s) = subst (λ zs. symbol_at zs ≡ Some (K.Symbol x, rest)) (sym (text_is x e (s.byte ∷ []) s.text))
       (single_only x s.byte rest s.found (λ c back g. no_double x s e c back g (double s.byte c) refl))
+
   at : (x : Symbol) × (front ≡ symbol_text x) × (kind ≡ K.Symbol x) → symbol_at (b ∷ bs) ≡ Some (kind, rest)
   at o = by_case o.0 o.1 (symbol_cases o.0) ∙ pair_some (K.Symbol o.0) kind rest (sym o.2)
 
@@ -431,8 +450,8 @@ only [] front rest kind h alive =
 only (b ∷ bs) front rest kind h alive = by_test (is_ascii_digit b)
     (λ d. rw d (number_is_only b bs front rest kind h alive d))
     (λ d. by_test (begins_word b)
-      (λ w. rw (d, w) (word_is_only b bs front rest kind h alive w))
-      (λ w. rw (d, w) (symbol_is_only b bs front rest kind h d w)))
+    (λ w. rw (d, w) (word_is_only b bs front rest kind h alive w))
+    (λ w. rw (d, w) (symbol_is_only b bs front rest kind h d w)))
 
 pub token_at-empty : (text : List ℕ) → length text < 1 → token_at text ≡ None
 unfolding token_at symbol_at

@@ -1,13 +1,13 @@
 -- Symbols.
-use Rattle.std.proofs.Common.{◌≡◌, ℕ, ◌≤◌, List, [], ◌∷◌, ◌++◌, length, refl, sym, ap, ◌∙◌, Bool, true, false, cond, arith, ◌⊎◌, inl, inr, subst}
-use Rattle.std.specs.Prelude.{Option, Some, None, ◌==◌, ◌&&◌, ◌||◌, not, is_some}
+use Rattle.std.proofs.Common.{◌≡◌, ℕ, [], ◌∷◌, refl, sym, ap, ◌∙◌, true, false, cond, ◌⊎◌, inl, inr, subst}
+use Rattle.std.specs.Prelude.{Option, Some, None, ◌==◌, ◌&&◌, is_some}
 use Rattle.std.specs.Char.{is_ascii_digit}
 use Rattle.st_tokens.specs.declared.symbol.Symbol.{Symbol}
 use Rattle.st_tokens.specs.declared.symbol.Symbol.TheVariants as S
 use Rattle.st_tokens.specs.Characters.{begins_word}
 use Rattle.st_tokens.specs.Scanning.{double, single}
 use Rattle.st_tokens.specs.Symbols.{symbol_text}
-use Rattle.st_tokens.proofs.Cases.{by_test, both, is_equal, not_both}
+use Rattle.st_tokens.proofs.Cases.{by_test, both, is_equal}
 
 -- a symbol begins with a byte that is one too, and is no digit and no letter
 pub record Opens (b : ℕ) : Type 0 where
@@ -68,7 +68,7 @@ rule : (b m : ℕ) (x y : Symbol) (other : Option Symbol) → symbol_text x ≡ 
     → cond (b == m) (Some x) other ≡ Some y → symbol_text y ≡ b ∷ []
 rule b m x y other e go h = by_test (b == m)
     (λ t. let h' : ◌≡◌ {A = Option Symbol} (Some x) (Some y) = rw t at h in let same : x ≡ y = cc in
-        subst (λ z. symbol_text z ≡ b ∷ []) same (e ∙ ap (λ (n : ℕ). n ∷ []) (sym (is_equal b m t))))
+    subst (λ z. symbol_text z ≡ b ∷ []) same (e ∙ ap (λ (n : ℕ). n ∷ []) (sym (is_equal b m t))))
     (λ t. go (rw t at h))
 
 pub single_is : (b : ℕ) (y : Symbol) → single b ≡ Some y → symbol_text y ≡ b ∷ []
@@ -83,17 +83,17 @@ rule2 : (b c m n : ℕ) (x y : Symbol) (other : Option Symbol) → symbol_text x
     → cond (b == m) (Some x) other ≡ Some y → symbol_text y ≡ b ∷ c ∷ []
 rule2 b c m n x y other e same_second go h = by_test (b == m)
     (λ t. let h' : ◌≡◌ {A = Option Symbol} (Some x) (Some y) = rw t at h in let same : x ≡ y = cc in
-        subst (λ z. symbol_text z ≡ b ∷ c ∷ []) same (e ∙ sym (ap (λ (i : ℕ). i ∷ n ∷ []) (is_equal b m t)) ∙ sym (ap (λ (i : ℕ). b ∷ i ∷ []) same_second)))
+    subst (λ z. symbol_text z ≡ b ∷ c ∷ []) same (e ∙ sym (ap (λ (i : ℕ). i ∷ n ∷ []) (is_equal b m t)) ∙ sym (ap (λ (i : ℕ). b ∷ i ∷ []) same_second)))
     (λ t. go (rw t at h))
 
 pub double_is : (b c : ℕ) (y : Symbol) → double b c ≡ Some y → symbol_text y ≡ b ∷ c ∷ []
 double_is b c y h = by_test (c == 61)
     (λ t. let e = is_equal c 61 t in
-        rule2 b c 58 61 S.Assign y _ refl e (rule2 b c 60 61 S.LessEqual y _ refl e (rule2 b c 62 61 S.GreaterEqual y _ refl e (λ g. absurd (cc)))) (rw t at h))
+    rule2 b c 58 61 S.Assign y _ refl e (rule2 b c 60 61 S.LessEqual y _ refl e (rule2 b c 62 61 S.GreaterEqual y _ refl e (λ g. absurd (cc)))) (rw t at h))
     (λ t. by_test (c == 62)
-      (λ u. let e = is_equal c 62 u in
-          rule2 b c 60 62 S.NotEqual y _ refl e (rule2 b c 61 62 S.Output y _ refl e (λ g. absurd (cc))) (rw (t, u) at h))
-      (λ u. by_test (b == 46 && c == 46)
-          (λ v. let p = both (b == 46) (c == 46) v in let h' : ◌≡◌ {A = Option Symbol} (Some S.Range) (Some y) = rw (t, u, v) at h in let same : S.Range ≡ y = cc in
-              subst (λ z. symbol_text z ≡ b ∷ c ∷ []) same (rw (is_equal b 46 p.0, is_equal c 46 p.1) refl))
-          (λ v. let h' : ◌≡◌ {A = Option Symbol} None (Some y) = rw (t, u, v) at h in absurd (cc))))
+    (λ u. let e = is_equal c 62 u in
+    rule2 b c 60 62 S.NotEqual y _ refl e (rule2 b c 61 62 S.Output y _ refl e (λ g. absurd (cc))) (rw (t, u) at h))
+    (λ u. by_test (b == 46 && c == 46)
+    (λ v. let p = both (b == 46) (c == 46) v in let h' : ◌≡◌ {A = Option Symbol} (Some S.Range) (Some y) = rw (t, u, v) at h in let same : S.Range ≡ y = cc in
+    subst (λ z. symbol_text z ≡ b ∷ c ∷ []) same (rw (is_equal b 46 p.0, is_equal c 46 p.1) refl))
+    (λ v. let h' : ◌≡◌ {A = Option Symbol} None (Some y) = rw (t, u, v) at h in absurd (cc))))

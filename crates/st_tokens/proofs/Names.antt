@@ -1,7 +1,7 @@
 -- Words, reserved words and names of types.
-use Rattle.std.proofs.Common.{◌≡◌, ℕ, ◌+◌, ◌<◌, ◌≤◌, List, [], ◌∷◌, ◌++◌, length, refl, sym, ap, ◌∙◌, Bool, true, false, arith, subst, map, nat_lt}
-use Rattle.std.specs.Prelude.{Option, Some, None, ◌==◌, ◌&&◌, ◌||◌, not, codes, ◌⊎◌}
-use Rattle.std.specs.Char.{to_ascii_lowercase, is_ascii_alphabetic, is_ascii_alphanumeric, is_ascii_digit}
+use Rattle.std.proofs.Common.{◌≡◌, ℕ, ◌+◌, ◌≤◌, List, [], ◌∷◌, ◌++◌, refl, sym, ap, ◌∙◌, Bool, true, false, arith, subst, map, nat_lt}
+use Rattle.std.specs.Prelude.{Option, Some, None, ◌==◌, ◌&&◌, not, codes, ◌⊎◌}
+use Rattle.std.specs.Char.{to_ascii_lowercase, is_ascii_digit}
 use Rattle.std.specs.List.{find, list_all}
 use Rattle.std.specs.Str.{bytes_eq}
 use Rattle.std.proofs.lemmas.Bool.Decides.{nat_tests}
@@ -18,7 +18,7 @@ use Rattle.st_tokens.specs.declared.word.TheConstants.{ELEMS}
 use Rattle.st_tokens.specs.Characters.{begins_word, is_word_byte, AreWordBytes}
 use Rattle.st_tokens.specs.Scanning.{is_clean_after, is_clean}
 use Rattle.st_tokens.specs.Words.{spelling_of, keyword_of, elem_of, IsSame, IsWord, IsReserved, IsUnclean}
-use Rattle.st_tokens.proofs.Cases.{by_test, both, not_both, is_equal}
+use Rattle.st_tokens.proofs.Cases.{by_test, both, is_equal}
 
 lower_is : (b : ℕ) → (to_ascii_lowercase b ≡ b) ⊎ ((65 ≤ b) × (b ≤ 90) × (to_ascii_lowercase b ≡ b + 32))
 lower_is b = by_test (nat_lt b 65) (λ t. inl (rw t refl)) (λ t. by_test (nat_lt b 91)
@@ -196,18 +196,21 @@ unclean_after false [] h = absurd (cc)
 unclean_after underscore (b ∷ bs) h = by_test (b == 95)
     (λ t. by_flag (λ g. unclean_after true bs g) underscore t (rw t at h))
     (λ t. by_rest (unclean_after false bs (by_false underscore (rw t at h)))) where
-  by_false : (flag : Bool) → (not (flag && false) && is_clean_after false bs) ≡ false → is_clean_after false bs ≡ false
-  by_false true g = g
-  by_false false g = g
-  by_rest : ((false ≡ true) × LineNext bs) ⊎ IsUnclean bs → ((underscore ≡ true) × LineNext (b ∷ bs)) ⊎ IsUnclean (b ∷ bs)
-  by_rest (inl v) = let e = v.0 in absurd (cc)
-  by_rest (inr u) = inr (unclean_more b bs u)
-  by_line : b ≡ 95 → ((true ≡ true) × LineNext bs) ⊎ IsUnclean bs → IsUnclean (b ∷ bs)
-  by_line e (inl v) = subst (λ x. IsUnclean (x ∷ bs)) (sym e) (unclean_line bs v.1)
-  by_line e (inr u) = unclean_more b bs u
-  by_flag : (is_clean_after true bs ≡ false → ((true ≡ true) × LineNext bs) ⊎ IsUnclean bs) → (flag : Bool) → (b == 95) ≡ true → (not (flag && true) && is_clean_after true bs) ≡ false → ((flag ≡ true) × LineNext (b ∷ bs)) ⊎ IsUnclean (b ∷ bs)
-  by_flag ih true t g = inl (refl, is_equal b 95 t)
-  by_flag ih false t g = inr (by_line (is_equal b 95 t) (ih g))
+      by_false : (flag : Bool) → (not (flag && false) && is_clean_after false bs) ≡ false → is_clean_after false bs ≡ false
+      by_false true g = g
+      by_false false g = g
+
+      by_rest : ((false ≡ true) × LineNext bs) ⊎ IsUnclean bs → ((underscore ≡ true) × LineNext (b ∷ bs)) ⊎ IsUnclean (b ∷ bs)
+      by_rest (inl v) = let e = v.0 in absurd (cc)
+      by_rest (inr u) = inr (unclean_more b bs u)
+
+      by_line : b ≡ 95 → ((true ≡ true) × LineNext bs) ⊎ IsUnclean bs → IsUnclean (b ∷ bs)
+      by_line e (inl v) = subst (λ x. IsUnclean (x ∷ bs)) (sym e) (unclean_line bs v.1)
+      by_line e (inr u) = unclean_more b bs u
+
+      by_flag : (is_clean_after true bs ≡ false → ((true ≡ true) × LineNext bs) ⊎ IsUnclean bs) → (flag : Bool) → (b == 95) ≡ true → (not (flag && true) && is_clean_after true bs) ≡ false → ((flag ≡ true) × LineNext (b ∷ bs)) ⊎ IsUnclean (b ∷ bs)
+      by_flag ih true t g = inl (refl, is_equal b 95 t)
+      by_flag ih false t g = inr (by_line (is_equal b 95 t) (ih g))
 
 pub unclean : (w : List ℕ) → is_clean w ≡ false → IsUnclean w
 unclean w h = at (unclean_after false w h) where

@@ -1,8 +1,8 @@
 -- Numbers at the front of a text: what is read there is the longest front that is a number.
-use Rattle.std.proofs.Common.{◌≡◌, ℕ, zero, suc, ◌+◌, ◌<◌, ◌≤◌, List, [], ◌∷◌, ◌++◌, length, take, drop, refl, sym, ap, ◌∙◌, Bool, true, false, cond, arith, ◌⊎◌, inl, inr, subst, append_assoc, length-append, nat_lt}
-use Rattle.std.specs.Prelude.{Option, Some, None, option_map, option_and_then, codes, ◌==◌, ◌&&◌, nat_eq}
-use Rattle.std.specs.Char.{is_digit, is_ascii_digit, digit_value}
-use Rattle.std.specs.Str.{byte, bytes_eq}
+use Rattle.std.proofs.Common.{◌≡◌, ℕ, ◌≤◌, List, [], ◌∷◌, ◌++◌, length, take, drop, refl, sym, ap, ◌∙◌, Bool, true, false, arith, ◌⊎◌, inl, inr, subst, append_assoc, length-append}
+use Rattle.std.specs.Prelude.{Option, Some, None, option_map, option_and_then, codes, ◌==◌, ◌&&◌}
+use Rattle.std.specs.Char.{is_digit, is_ascii_digit}
+use Rattle.std.specs.Str.{bytes_eq}
 use Rattle.std.proofs.lemmas.Bool.Decides.{nat_tests}
 use Rattle.std.proofs.lemmas.List.{take-append-drop}
 use Rattle.std.proofs.lemmas.Slice.Eq.{bytes_eq-Decides}
@@ -44,9 +44,9 @@ digits_words : (base : ℕ) (flag : Bool) (ds : List ℕ) → base ≤ 16 → ar
 digits_words base flag [] high h = tt
 digits_words base flag (c ∷ ds) high h = by_test (c == 95)
     (λ t. let h' : (flag && are_digits base false ds) ≡ true = rw t at h in
-        (subst (λ x. is_word_byte x ≡ true) (sym (is_equal c 95 t)) refl, digits_words base false ds high (both flag _ h').1))
+    (subst (λ x. is_word_byte x ≡ true) (sym (is_equal c 95 t)) refl, digits_words base false ds high (both flag _ h').1))
     (λ t. let h' : (is_digit c base && are_digits base true ds) ≡ true = rw t at h in let p = both (is_digit c base) _ h' in
-        (digit_word base c high p.0, digits_words base true ds high p.1))
+    (digit_word base c high p.0, digits_words base true ds high p.1))
 
 pub digits_test : (base : ℕ) (ds : List ℕ) (n : ℕ) → digits_read base ds ≡ Some n → are_digits base false ds ≡ true
 digits_test base ds n h = by_test (are_digits base false ds) (λ t. t) (λ t. let h' : ◌≡◌ {A = Option ℕ} None (Some n) = rw t at h in absurd (cc))
@@ -61,10 +61,14 @@ decimal_digit c h = grind (arith, nat_tests)
 pub first_decimal : (ds : List ℕ) (n : ℕ) → digits_read 10 ds ≡ Some n → (d : ℕ) × (more : List ℕ) × (ds ≡ d ∷ more) × (is_ascii_digit d ≡ true)
 first_decimal [] n h = let t = digits_test 10 [] n h in absurd (cc)
 first_decimal (d ∷ more) n h =
-    let t = digits_test 10 (d ∷ more) n h in
-    (d, more, refl, by_test (d == 95)
-      (λ u. let t' : (false && are_digits 10 false more) ≡ true = rw u at t in absurd (cc))
-      (λ u. let t' : (is_digit d 10 && are_digits 10 true more) ≡ true = rw u at t in decimal_digit d (both (is_digit d 10) _ t').0))
+    let t = digits_test 10 (d ∷ more) n h in (
+      d,
+      more,
+      refl,
+      by_test (d == 95)
+          (λ u. let t' : (false && are_digits 10 false more) ≡ true = rw u at t in absurd (cc))
+          (λ u. let t' : (is_digit d 10 && are_digits 10 true more) ≡ true = rw u at t in decimal_digit d (both (is_digit d 10) _ t').0),
+    )
 
 -- ---- numbers
 
@@ -82,12 +86,12 @@ pub base_cases : (P : ℕ → List ℕ → Type 0) (w : List ℕ) (base : ℕ) �
 base_cases P w base h p q r = by_test (bytes_eq w (codes "16"))
     (λ t. made 16 (codes "16") t (let h' : ◌≡◌ {A = Option ℕ} (Some 16) (Some base) = rw t at h in let e : 16 ≡ base = cc in e) p)
     (λ t. by_test (bytes_eq w (codes "8"))
-      (λ u. made 8 (codes "8") u (let h' : ◌≡◌ {A = Option ℕ} (Some 8) (Some base) = rw (t, u) at h in let e : 8 ≡ base = cc in e) q)
-      (λ u. by_test (bytes_eq w (codes "2"))
-        (λ v. made 2 (codes "2") v (let h' : ◌≡◌ {A = Option ℕ} (Some 2) (Some base) = rw (t, u, v) at h in let e : 2 ≡ base = cc in e) r)
-        (λ v. let h' : ◌≡◌ {A = Option ℕ} None (Some base) = rw (t, u, v) at h in absurd (cc)))) where
-  made : (m : ℕ) (name : List ℕ) → bytes_eq w name ≡ true → m ≡ base → P m name → P base w
-  made m name t e x = subst (λ zs. P base zs) (sym ((bytes_eq-Decides w name).0 t)) (subst (λ k. P k name) e x)
+    (λ u. made 8 (codes "8") u (let h' : ◌≡◌ {A = Option ℕ} (Some 8) (Some base) = rw (t, u) at h in let e : 8 ≡ base = cc in e) q)
+    (λ u. by_test (bytes_eq w (codes "2"))
+    (λ v. made 2 (codes "2") v (let h' : ◌≡◌ {A = Option ℕ} (Some 2) (Some base) = rw (t, u, v) at h in let e : 2 ≡ base = cc in e) r)
+    (λ v. let h' : ◌≡◌ {A = Option ℕ} None (Some base) = rw (t, u, v) at h in absurd (cc)))) where
+      made : (m : ℕ) (name : List ℕ) → bytes_eq w name ≡ true → m ≡ base → P m name → P base w
+      made m name t e x = subst (λ zs. P base zs) (sym ((bytes_eq-Decides w name).0 t)) (subst (λ k. P k name) e x)
 
 base_high : (w : List ℕ) (base : ℕ) → base_of w ≡ Some base → base ≤ 16
 base_high w base h = base_cases (λ m zs. m ≤ 16) w base h (omega arith) (omega arith) (omega arith)
@@ -100,10 +104,10 @@ pub number_shape : (ds : List ℕ) (n : ℕ) → number_read ds ≡ Some n → (
 number_shape ds n h = by_test (begins_with (codes "16#") ds)
     (λ t. inr (record { word = codes "16"; more = after (codes "16#") ds; base = 16; splits = begins (codes "16#") ds t; named = refl; reads = rw t at h }))
     (λ t. by_test (begins_with (codes "8#") ds)
-      (λ u. inr (record { word = codes "8"; more = after (codes "8#") ds; base = 8; splits = begins (codes "8#") ds u; named = refl; reads = rw (t, u) at h }))
-      (λ u. by_test (begins_with (codes "2#") ds)
-        (λ v. inr (record { word = codes "2"; more = after (codes "2#") ds; base = 2; splits = begins (codes "2#") ds v; named = refl; reads = rw (t, u, v) at h }))
-        (λ v. inl (rw (t, u, v) at h))))
+    (λ u. inr (record { word = codes "8"; more = after (codes "8#") ds; base = 8; splits = begins (codes "8#") ds u; named = refl; reads = rw (t, u) at h }))
+    (λ u. by_test (begins_with (codes "2#") ds)
+    (λ v. inr (record { word = codes "2"; more = after (codes "2#") ds; base = 2; splits = begins (codes "2#") ds v; named = refl; reads = rw (t, u, v) at h }))
+    (λ v. inl (rw (t, u, v) at h))))
 
 pub number_based : (w more : List ℕ) (base n : ℕ) → base_of w ≡ Some base → digits_read base more ≡ Some n → number_read (w ++ 35 ∷ more) ≡ Some n
 number_based w more base n h reads = base_cases (λ m zs. digits_read m more ≡ Some n → number_read (zs ++ 35 ∷ more) ≡ Some n) w base h (λ k. k) (λ k. k) (λ k. k) reads
@@ -213,10 +217,10 @@ unfolding number_at
 number_found text rest v h = by_test (begins_with (codes "#") (behind text))
     (λ t. at t (base_of (run text)) refl (rw t at h))
     (λ t. number_plain_found text rest v t (rw t at h)) where
-  at : begins_with (codes "#") (behind text) ≡ true → (o : Option ℕ) → base_of (run text) ≡ o
-      → option_and_then (λ base. digits_at base (after (codes "#") (behind text))) o ≡ Some (v, rest) → NumberFound text rest v
-  at t None e g = absurd (cc)
-  at t (Some base) e g = number_based_found text rest v base t e g
+      at : begins_with (codes "#") (behind text) ≡ true → (o : Option ℕ) → base_of (run text) ≡ o
+          → option_and_then (λ base. digits_at base (after (codes "#") (behind text))) o ≡ Some (v, rest) → NumberFound text rest v
+      at t None e g = absurd (cc)
+      at t (Some base) e g = number_based_found text rest v base t e g
 
 pub number_only : (text front rest : List ℕ) (n : ℕ) → text ≡ front ++ rest → number_read front ≡ Some n → Alive rest → number_at text ≡ Some (capped n, rest)
 unfolding number_at
@@ -230,5 +234,5 @@ number_only text front rest n e h alive = at (number_shape front n h) where
       let tail : after (codes "#") (behind text) ≡ b.more ++ rest = ap (λ (zs : List ℕ). after (codes "#") zs) r.1 in
       let m = digits_made b.base (b.more ++ rest) b.more rest n (base_high b.word b.base b.named) refl b.reads alive.ends in
       rw (hash_test text (b.more ++ rest) r.1) (ap (λ (zs : List ℕ). option_and_then (λ base. digits_at base zs) (base_of (run text))) tail
-        ∙ ap (λ (zs : List ℕ). option_and_then (λ base. digits_at base (b.more ++ rest)) (base_of zs)) r.0
-        ∙ ap (λ (o : Option ℕ). option_and_then (λ base. digits_at base (b.more ++ rest)) o) b.named ∙ m)
+      ∙ ap (λ (zs : List ℕ). option_and_then (λ base. digits_at base (b.more ++ rest)) (base_of zs)) r.0
+      ∙ ap (λ (o : Option ℕ). option_and_then (λ base. digits_at base (b.more ++ rest)) o) b.named ∙ m)

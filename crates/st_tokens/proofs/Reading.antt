@@ -1,9 +1,9 @@
 -- What is left of a text, while its tokens are read.
-use Rattle.std.proofs.Common.{◌≡◌, ℕ, zero, suc, ◌+◌, ◌<◌, ◌≤◌, List, [], ◌∷◌, ◌++◌, length, refl, sym, ap, ◌∙◌, Bool, true, false, arith, subst, get_or, drop, append_assoc, append-nil, length-append, ◌-◌}
+use Rattle.std.proofs.Common.{◌≡◌, ℕ, suc, ◌+◌, ◌<◌, ◌≤◌, List, [], ◌∷◌, ◌++◌, length, refl, sym, ap, ◌∙◌, true, false, arith, subst, get_or, drop, append_assoc, append-nil, length-append, ◌-◌}
 use mir.Val.{bool_byte}
 use Rattle.st_tree.specs.Words.{begins_with}
 use Rattle.std.specs.Global.{Vec}
-use Rattle.std.specs.Prelude.{nat_eq, Result, Ok, Err, IfOk, IfErr, MatchResult, Option, Some, None, ◌==◌, ◌&&◌, ◌||◌, codes}
+use Rattle.std.specs.Prelude.{nat_eq, Result, Ok, Err, IfOk, IfErr, MatchResult, Some, None, ◌==◌, ◌&&◌, codes}
 use Rattle.st_tokens.specs.declared.fault.SyntaxFault.{SyntaxFault}
 use Rattle.st_tokens.specs.declared.fault.SyntaxFault.TheVariants as F
 use Rattle.st_tokens.specs.declared.scan.TheConstants.{MOST_BYTES}
@@ -12,7 +12,7 @@ use Rattle.st_tokens.specs.declared.token.Token.{Token}
 use Rattle.st_tokens.specs.Characters.{is_blank, line_end, line_ends}
 use Rattle.st_tokens.specs.Forms.{HasForm}
 use Rattle.st_tokens.specs.Scanning.{token_at, comment_at}
-use Rattle.st_tokens.specs.Text.{IsLongest, IsRefused, IsComment, BeginsComment, HasTokens, Explains, done, blank, comment, next, token}
+use Rattle.st_tokens.specs.Text.{IsComment, BeginsComment, HasTokens, Explains, done, blank, comment, next, token}
 use Rattle.st_tokens.proofs.Firsts.{begins_token, form_first}
 use Rattle.st_tokens.proofs.Comments.{Ends, comment_found, comment_none, comment_of, ends_of, ends_once}
 use Rattle.st_tokens.proofs.Longest.{IsToken, token_found, only}
@@ -75,10 +75,10 @@ pub reads_comment : (text : List ℕ) (found : List Token) (line line' : ℕ) (b
 reads_comment text found line line' bs rest r h =
     let w = comment_found line line' bs rest h in
     reads_past text found line line' (40 ∷ 42 ∷ bs) rest r
-      (λ ts d. comment (comment_of bs w.0 rest w.1) (rw w.2 at d))
-      (λ ts d. let v = as_comment d in let same = ends_once bs v.0 w.0 v.1 rest v.2 w.1 in
-          subst (λ n. HasTokens n rest ts) (sym w.2) (subst (λ zs. HasTokens (line + line_ends w.0) zs ts) same.1
-            (subst (λ zs. HasTokens (line + line_ends zs) v.1 ts) same.0 v.3)))
+    (λ ts d. comment (comment_of bs w.0 rest w.1) (rw w.2 at d))
+    (λ ts d. let v = as_comment d in let same = ends_once bs v.0 w.0 v.1 rest v.2 w.1 in
+    subst (λ n. HasTokens n rest ts) (sym w.2) (subst (λ zs. HasTokens (line + line_ends w.0) zs ts) same.1
+    (subst (λ zs. HasTokens (line + line_ends zs) v.1 ts) same.0 v.3)))
 
 pub no_comment : (line : ℕ) (bs : List ℕ) (ts : List Token) → comment_at line bs ≡ None → HasTokens line (40 ∷ 42 ∷ bs) ts → ⊥
 no_comment line bs ts h d = let v = as_comment d in comment_none line bs h v.0 v.1 v.2.splits
@@ -118,13 +118,16 @@ reads_token text found line b bs rest kind r h n e = record { forth = forth; bac
   forth : (ts : List Token) → HasTokens line rest ts → HasTokens 1 text ((found ++ token line kind ∷ []) ++ ts)
   forth ts d = let w = token_found (b ∷ bs) kind rest e in
       rw append_assoc (r.forth (token line kind ∷ ts) (next n w.1.longest w.1.allowed d))
+
   back : (ts : List Token) → HasTokens 1 text ts → (us : List Token) × (ts ≡ (found ++ token line kind ∷ []) ++ us) × HasTokens line rest us
   back ts d =
       let w = r.back ts d in
       let f = first_token h n w.2 in
-      let same = some_parts (sym (first_at line b bs w.0 f) ∙ e) in
-      (f.more, w.1 ∙ ap (λ (us : List Token). found ++ us) (f.same ∙ ap (λ (k : Kind). token line k ∷ f.more) same.0) ∙ sym (append_assoc found (token line kind ∷ []) f.more),
-        subst (λ zs. HasTokens line zs f.more) same.1 f.behind)
+      let same = some_parts (sym (first_at line b bs w.0 f) ∙ e) in (
+        f.more,
+        w.1 ∙ ap (λ (us : List Token). found ++ us) (f.same ∙ ap (λ (k : Kind). token line k ∷ f.more) same.0) ∙ sym (append_assoc found (token line kind ∷ []) f.more),
+        subst (λ zs. HasTokens line zs f.more) same.1 f.behind,
+      )
 
 pub reads_end : (text : List ℕ) (found : List Token) (line : ℕ) → Reads text found line [] → HasTokens 1 text found
 reads_end text found line r = let d : HasTokens 1 text (found ++ []) = r.forth [] done in rw append-nil at d
@@ -208,14 +211,14 @@ pub token_step : (text rest behind : List ℕ) (found : List Token) (line : ℕ)
 token_step text rest behind found line kind h r t m e =
     let f = first_byte rest h in
     reads_token text found line (get_or rest 0 0) (drop 1 rest) behind kind (subst (λ zs. Reads text found line zs) f r) t
-      (λ w. no_mark rest m (w.0, f ∙ w.1)) (subst (λ zs. token_at zs ≡ Some (kind, behind)) f e)
+    (λ w. no_mark rest m (w.0, f ∙ w.1)) (subst (λ zs. token_at zs ≡ Some (kind, behind)) f e)
 
 pub stuck : (text rest : List ℕ) (found : List Token) (line : ℕ) → 1 ≤ length rest → Reads text found line rest
     → is_blank (get_or rest 0 0) ≡ false → begins_with (codes "(*") rest ≡ false → token_at rest ≡ None → (ts : List Token) → HasTokens 1 text ts → ⊥
 stuck text rest found line h r t m e ts d =
     let f = first_byte rest h in let w = r.back ts d in
     no_token line (get_or rest 0 0) (drop 1 rest) w.0 t (λ v. no_mark rest m (v.0, f ∙ v.1)) (subst (λ zs. token_at zs ≡ None) f e)
-      (subst (λ zs. HasTokens line zs w.0) f w.2)
+    (subst (λ zs. HasTokens line zs w.0) f w.2)
 
 -- a comment has no more line ends than bytes
 line_ends-length : (body : List ℕ) → line_ends body ≤ length body

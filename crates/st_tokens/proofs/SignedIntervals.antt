@@ -1,18 +1,15 @@
 -- What stands behind the `#` of a duration, at the front of a text.
-use Rattle.std.proofs.Common.{◌≡◌, ℕ, zero, suc, ◌+◌, ◌-◌, ◌<◌, ◌≤◌, min, List, [], ◌∷◌, ◌++◌, length, drop, refl, sym, ap, ◌∙◌, Bool, true, false, cond, arith, subst, slice_index, add-one, nat_lt}
-use Rattle.std.specs.Prelude.{Option, Some, None, option_map, ◌==◌, ◌&&◌, ℤ, pos, negsuc, neg_ℤ, ◌^◌}
+use Rattle.std.proofs.Common.{◌≡◌, ℕ, suc, ◌+◌, ◌-◌, ◌<◌, ◌≤◌, List, [], ◌∷◌, ◌++◌, length, drop, refl, sym, ap, ◌∙◌, Bool, true, false, cond, arith, subst, slice_index, nat_lt}
+use Rattle.std.specs.Prelude.{Option, Some, option_map, ◌==◌, ℤ, pos, negsuc, neg_ℤ, ◌^◌}
 use Rattle.std.proofs.lemmas.Bool.Decides.{nat_tests}
-use Rattle.st_tree.specs.declared.elem.Elem.TheVariants.{Time}
 use Rattle.st_tree.specs.Durations.{interval_read, signed_interval_read}
-use Rattle.st_tree.specs.Numbers.{capped, capped_signed, negative, too_much}
-use Rattle.st_tree.specs.Values.{in_range}
-use Rattle.st_tokens.specs.Characters.{is_word_byte}
+use Rattle.st_tree.specs.Numbers.{capped, capped_signed, negative}
 use Rattle.st_tokens.specs.Forms.{time_of}
 use Rattle.st_tokens.specs.Scanning.{run, interval_at, signed_interval_at, positive_found, negative_found}
 use Rattle.st_tokens.proofs.Intervals.{interval_found, interval_only}
 use Rattle.st_tokens.proofs.Literals.{capped_negative, first_is, no_start, mapped_parts, mapped_some}
 use Rattle.st_tokens.proofs.Numbers.{Found, Alive}
-use Rattle.st_tokens.proofs.Cases.{by_test, not_both, some_parts}
+use Rattle.st_tokens.proofs.Cases.{by_test}
 
 abbrev pub DurationFound : List ℕ → List ℕ → ℤ → Type 0
 DurationFound text rest v = Found signed_interval_read capped_signed text rest v
@@ -31,15 +28,15 @@ minus_found text tail rest v e h =
       covers = let r : run text ≡ [] = rw e refl in rw r (omega arith);
       longest = λ other back w g r. longest f other back w g r;
     } where
-  longest : (f : Found interval_read capped tail rest (mapped_parts negative (interval_at tail) v rest h).0) (other back : List ℕ) (w : ℤ)
-      → text ≡ other ++ back → signed_interval_read other ≡ Some w → length other ≤ length (45 ∷ f.front)
-  longest f [] back w g r = omega arith
-  longest f (c ∷ other) back w g r =
-      let k : 45 ∷ tail ≡ c ∷ (other ++ back) = sym e ∙ g in
-      let head : c ≡ 45 = cc in let split : tail ≡ other ++ back = cc in
-      let read : option_map negative (interval_read other) ≡ Some w = subst (λ x. signed_interval_read (x ∷ other) ≡ Some w) head r in
-      let n = mapped_some negative (interval_read other) w read in
-      let le = f.longest other back n.0 split n.1 in omega arith
+      longest : (f : Found interval_read capped tail rest (mapped_parts negative (interval_at tail) v rest h).0) (other back : List ℕ) (w : ℤ)
+          → text ≡ other ++ back → signed_interval_read other ≡ Some w → length other ≤ length (45 ∷ f.front)
+      longest f [] back w g r = omega arith
+      longest f (c ∷ other) back w g r =
+          let k : 45 ∷ tail ≡ c ∷ (other ++ back) = sym e ∙ g in
+          let head : c ≡ 45 = cc in let split : tail ≡ other ++ back = cc in
+          let read : option_map negative (interval_read other) ≡ Some w = subst (λ x. signed_interval_read (x ∷ other) ≡ Some w) head r in
+          let n = mapped_some negative (interval_read other) w read in
+          let le = f.longest other back n.0 split n.1 in omega arith
 
 -- without a sign
 abbrev signed_by : Bool → List ℕ → Option ℤ
@@ -82,18 +79,18 @@ pub signed_interval_only : (text front rest : List ℕ) (z : ℤ) → text ≡ f
 unfolding signed_interval_at
 signed_interval_only text front rest z e h alive = by_test (slice_index front 0 == 45)
     (λ t. let f = first_is 45 front refl t in let g : text ≡ 45 ∷ (drop 1 front ++ rest) = e ∙ ap (λ (zs : List ℕ). zs ++ rest) f in
-        let n = mapped_some negative (interval_read (drop 1 front)) z (sym (signed_test front true t) ∙ h) in
-        let d = interval_only (drop 1 front ++ rest) (drop 1 front) rest n.0 refl n.1 alive.ends in
-        rw g (ap (option_map negative_found) d ∙ ap (λ (x : ℤ). let r : Option (ℤ × List ℕ) = Some (x, rest) in r) (capped_negative n.0 ∙ ap capped_signed (sym n.2))))
+    let n = mapped_some negative (interval_read (drop 1 front)) z (sym (signed_test front true t) ∙ h) in
+    let d = interval_only (drop 1 front ++ rest) (drop 1 front) rest n.0 refl n.1 alive.ends in
+    rw g (ap (option_map negative_found) d ∙ ap (λ (x : ℤ). let r : Option (ℤ × List ℕ) = Some (x, rest) in r) (capped_negative n.0 ∙ ap capped_signed (sym n.2))))
     (λ t. let n = mapped_some pos (interval_read front) z (sym (signed_test front false t) ∙ h) in
-        let d = interval_only text front rest n.0 e n.1 alive.ends in
-        rw (same_start t n.0 n.1) (ap (option_map positive_found) d ∙ ap (λ (x : ℤ). let r : Option (ℤ × List ℕ) = Some (capped_signed x, rest) in r) (sym n.2))) where
-  same_start : (slice_index front 0 == 45) ≡ false → (n : ℕ) → interval_read front ≡ Some n → (slice_index text 0 == 45) ≡ false
-  same_start t n k = by_front front refl k where
-    by_front : (f : List ℕ) → front ≡ f → interval_read f ≡ Some n → (slice_index text 0 == 45) ≡ false
-    by_front [] g r = absurd (empty_interval n r)
-    by_front (c ∷ f) g r = let same = e ∙ ap (λ (zs : List ℕ). zs ++ rest) g in
-        subst (λ zs. (slice_index zs 0 == 45) ≡ false) (sym same) (subst (λ zs. (slice_index zs 0 == 45) ≡ false) g t)
+    let d = interval_only text front rest n.0 e n.1 alive.ends in
+    rw (same_start t n.0 n.1) (ap (option_map positive_found) d ∙ ap (λ (x : ℤ). let r : Option (ℤ × List ℕ) = Some (capped_signed x, rest) in r) (sym n.2))) where
+      same_start : (slice_index front 0 == 45) ≡ false → (n : ℕ) → interval_read front ≡ Some n → (slice_index text 0 == 45) ≡ false
+      same_start t n k = by_front front refl k where
+        by_front : (f : List ℕ) → front ≡ f → interval_read f ≡ Some n → (slice_index text 0 == 45) ≡ false
+        by_front [] g r = absurd (empty_interval n r)
+        by_front (c ∷ f) g r = let same = e ∙ ap (λ (zs : List ℕ). zs ++ rest) g in
+            subst (λ zs. (slice_index zs 0 == 45) ≡ false) (sym same) (subst (λ zs. (slice_index zs 0 == 45) ≡ false) g t)
 
 -- ---- what a duration counts as
 
@@ -113,5 +110,5 @@ time_of-capped (pos n) = by_test (nat_lt n (2 ^ 63))
 time_of-capped (negsuc n) = by_test (nat_lt n (2 ^ 63))
     (λ t. let small = below n (2 ^ 63) t in let e : capped (n + 1) ≡ suc n = omega arith in ap (λ (m : ℕ). time_of (neg_ℤ (pos m))) e)
     (λ t. let big = not_below n (2 ^ 63) t in let e : capped (n + 1) ≡ suc (capped (n + 1) - 1) = omega arith in
-        let u = at_least (capped (n + 1) - 1) (2 ^ 63) (omega arith) in
-        ap (λ (m : ℕ). time_of (neg_ℤ (pos m))) e ∙ rw (t, u) refl)
+    let u = at_least (capped (n + 1) - 1) (2 ^ 63) (omega arith) in
+    ap (λ (m : ℕ). time_of (neg_ℤ (pos m))) e ∙ rw (t, u) refl)

@@ -1,5 +1,5 @@
 -- The forms of tokens (IEC 61131-3:2003, 2.1.2, 2.1.3, 2.2).
-use Rattle.std.specs.Prelude.{◌≡◌, ◌≢◌, ℕ, true, ◌⊎◌, List, [], ◌∷◌, ◌++◌, ℤ, pos, codes, Some, if◌then◌else◌}
+use Rattle.std.specs.Prelude.{◌≡◌, ◌≢◌, ℕ, true, ◌⊎◌, List, ◌∷◌, ◌++◌, ℤ, pos, codes, Some, if◌then◌else◌}
 use Rattle.st_tree.specs.declared.elem.Elem.{Elem}
 use Rattle.st_tree.specs.declared.elem.Elem.TheVariants.{Time}
 use Rattle.st_tree.specs.declared.value.Value.{Value}

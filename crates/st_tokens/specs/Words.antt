@@ -1,5 +1,5 @@
 -- Words (IEC 61131-3:2003, 2.1.2) and reserved words (2.1.3 and annex C).
-use Rattle.std.specs.Prelude.{◌≡◌, ℕ, Bool, true, false, ◌&&◌, not, ◌==◌, ◌⊎◌, List, [], ◌∷◌, ◌++◌, codes, map, Option, Some, None}
+use Rattle.std.specs.Prelude.{◌≡◌, ℕ, true, ◌⊎◌, List, [], ◌∷◌, ◌++◌, codes, map, Option}
 use Rattle.std.specs.Char.{to_ascii_lowercase}
 use Rattle.std.specs.List.{find}
 use Rattle.st_tree.specs.declared.elem.Elem.{Elem}

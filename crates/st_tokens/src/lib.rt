@@ -8,6 +8,8 @@ mod literal;
 mod run;
 mod scan;
 mod symbol;
+#[cfg(test)]
+mod tests;
 mod token;
 mod word;
 

@@ -171,5 +171,4 @@ pub fn tokens<'a>(alloc: Global, text: &'a [u8]) -> Result<Vec<Token<'a>>, Synta
 /// A text has at most one list of tokens.
 pub fn tokens_are_one_list(text: &[u8])
     ensures { (a b : Tokens) → HasTokens 1 text.now a → HasTokens 1 text.now b → a ≡ b }
-{
-}
+{}

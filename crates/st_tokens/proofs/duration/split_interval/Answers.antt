@@ -18,18 +18,21 @@ place c =
     let rest = c.split_run.result.1.now in
     let ends = sym (ap ends_in_digit c.split_run.ensures.front) ∙ sym c.ends_in_digit.ensures ∙ c.if-ends_in_digit.true in
     let point : begins_with (codes ".") (behind c.args.text.now) ≡ true =
-        subst (λ zs. begins_with (codes ".") zs ≡ true) c.split_run.ensures.rest (sym c.starts_with.ensures.value ∙ c.if-starts_with.true) in
+    subst (λ zs. begins_with (codes ".") zs ≡ true) c.split_run.ensures.rest (sym c.starts_with.ensures.value ∙ c.if-starts_with.true) in
     let has : has_fraction c.args.text.now ≡ true = both_true ends point in
     let tail : take (length rest - 1) (drop 1 rest) ≡ fraction_of c.args.text.now =
-        take_rest 1 rest ∙ ap (λ (zs : List ℕ). drop 1 zs) c.split_run.ensures.rest in
+    take_rest 1 rest ∙ ap (λ (zs : List ℕ). drop 1 zs) c.split_run.ensures.rest in
     let parts = split_at_fraction c.args.text.now (take (length rest - 1) (drop 1 rest)) _ _ c.run_len.result has tail
-        c.run_len.ensures.front c.run_len.ensures.rest c.run_len.ensures.within in
+    c.run_len.ensures.front c.run_len.ensures.rest c.run_len.ensures.within in
     let size : length c.split_run.result.0.now + 1 + c.run_len.result ≡ length (run c.args.text.now) + 1 + c.run_len.result =
-        ap (λ (zs : List ℕ). length zs + 1 + c.run_len.result) c.split_run.ensures.front in
+    ap (λ (zs : List ℕ). length zs + 1 + c.run_len.result) c.split_run.ensures.front in
     record {
       has = has;
-      parts = (rw size (parts.0 ∙ ap (λ (zs : List ℕ). run c.args.text.now ++ 46 ∷ run zs) tail),
-        rw size (parts.1 ∙ ap behind tail), rw size parts.2);
+      parts = (
+        rw size (parts.0 ∙ ap (λ (zs : List ℕ). run c.args.text.now ++ 46 ∷ run zs) tail),
+        rw size (parts.1 ∙ ap behind tail),
+        rw size parts.2,
+      );
     }
 
 pub split_at-requires : goal.split_at-requires
