@@ -1,6 +1,7 @@
 //! The tokens of a text (IEC 61131-3:2003, 2.1 and 2.2).
 #![tactic(auto)]
 
+mod comment;
 mod duration;
 mod fault;
 mod keyword;

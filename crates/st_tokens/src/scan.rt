@@ -5,6 +5,7 @@ ghost use Rattle.st_tokens.specs.Scanning as spec;
 ghost use Rattle.st_tokens.specs.Scanning.{seen};
 ghost use Rattle.st_tokens.specs.Text.{HasTokens, Explains, Tokens};
 
+use crate::comment::comment_at;
 use crate::duration::{signed_interval_at, time_of};
 use crate::fault::SyntaxFault;
 use crate::literal::{literal_at, number_at};
@@ -94,22 +95,6 @@ fn token_at<'a>(text: &'a [u8]) -> Option<(Kind<'a>, &'a [u8])>
     } else {
         symbol_at(text)
     }
-}
-
-/// Finds what stands behind the first `*)`, and the line there.
-fn comment_at(mut line: u32, text: &[u8]) -> Option<(u32, &[u8])>
-    requires { line + length text.now < 2 ^ 32 }
-    ensures { seen result ≡ spec.comment_at line text.now }
-{
-    let mut rest = text;
-    while let [first, second, behind @ ..] = rest {
-        if *first == b'*' && *second == b')' {
-            return Some((line, behind));
-        }
-        line += u32::from(*first == b'\n');
-        rest = &rest[1..];
-    }
-    None
 }
 
 /// Tests whether a byte is a blank (2.1.4).

@@ -1,6 +1,6 @@
 use Rattle.std.proofs.Common.{length, ◌≡◌, ◌<◌, ◌+◌, ◌^◌}
 use Rattle.st_tokens.specs.Scanning as spec
-use Rattle.st_tokens.proofs.scan.comment_at.Given as goal
+use Rattle.st_tokens.proofs.comment.comment_at.Given as goal
 
 -- no `*)` has come so far
 abbrev pub invariant-loop-rest : goal.invariant-loop-rest
