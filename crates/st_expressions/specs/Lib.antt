@@ -1,5 +1,6 @@
 pub mod Grammar
 pub mod Levels
+pub mod Lists
 pub mod Parsers
 pub mod Reading
 pub mod Tokens
