@@ -1,1 +1,3 @@
+pub mod Initials
 pub mod Members
+pub mod Specifications

@@ -27,7 +27,7 @@ use Rattle.st_tree.specs.declared.tree.unit.TypeDeclaration.{TypeDeclaration}
 use Rattle.st_expressions.specs.Tokens.{Tok, place}
 use Rattle.st_expressions.specs.Parsers.{identifier}
 use Rattle.st_expressions.specs.Grammar.{IsSignedInteger, IsConstant}
-use Rattle.st_declarations.specs.Lists.{IsSeveral, IsListed}
+use Rattle.st_expressions.specs.Lists.{IsMany, IsListed}
 
 -- ---- what the nodes are made of
 
@@ -125,12 +125,12 @@ pub data IsSection : List Tok → Section → List Tok → Type 0 where
 -- section { declaration } END_VAR
 pub data IsVarBlock : List Tok → VarBlock → List Tok → Type 0 where
   block : {q : Place} {ts mid rest : List Tok} {x : Section} {ds : List Declaration}
-      → IsSection ts x mid → IsSeveral IsDeclaration mid ds ((q, k.Keyword w.EndVar) ∷ rest)
+      → IsSection ts x mid → IsMany IsDeclaration mid ds ((q, k.Keyword w.EndVar) ∷ rest)
       → IsVarBlock ts (block_of (place ts) x ds) rest
 
 -- { block of variables }
 abbrev pub IsVarBlocks : List Tok → List VarBlock → List Tok → Type 0
-IsVarBlocks = IsSeveral IsVarBlock
+IsVarBlocks = IsMany IsVarBlock
 
 -- ---- declared types
 
@@ -139,7 +139,7 @@ pub data IsDeclaredType : List Tok → DeclaredType → List Tok → Type 0 wher
   derived : {ts mid rest : List Tok} {x : Specification} {value : Option Initial} → IsSpecification ts x mid
       → IsOptionalInitial mid value rest → IsDeclaredType ts (declared_types.Derived x value) rest
   structure : {p q : Place} {ts mid rest : List Tok} {x : Declaration} {xs : List Declaration} → IsMember ts x mid
-      → IsSeveral IsMember mid xs ((q, k.Keyword w.EndStruct) ∷ rest)
+      → IsMany IsMember mid xs ((q, k.Keyword w.EndStruct) ∷ rest)
       → IsDeclaredType ((p, k.Keyword w.Struct) ∷ ts) (declared_types.Structure p (x ∷ xs)) rest
 
 -- word ':' declared type ';'
@@ -150,7 +150,7 @@ pub data IsTypeDeclaration : List Tok → TypeDeclaration → List Tok → Type 
 
 -- { type declaration }
 abbrev pub IsTypeDeclarations : List Tok → List TypeDeclaration → List Tok → Type 0
-IsTypeDeclarations = IsSeveral IsTypeDeclaration
+IsTypeDeclarations = IsMany IsTypeDeclaration
 
 -- TYPE { type declaration } END_TYPE
 pub data IsTypeBlock : List Tok → List TypeDeclaration → List Tok → Type 0 where

@@ -1,3 +1,2 @@
 pub mod Grammar
-pub mod Lists
 pub mod Reading

@@ -47,12 +47,6 @@ abbrev pub is_open_bracket : Option Kind → Bool
 is_open_bracket (Some (k.Symbol s.OpenBracket)) = true
 is_open_bracket _ = false
 
--- RETAIN or NON_RETAIN
-abbrev pub is_retention : Option Kind → Bool
-is_retention (Some (k.Keyword w.Retain)) = true
-is_retention (Some (k.Keyword w.NonRetain)) = true
-is_retention _ = false
-
 -- VAR, VAR_INPUT or VAR_OUTPUT
 abbrev pub begins_block : Option Kind → Bool
 begins_block (Some (k.Keyword w.Var)) = true
@@ -116,10 +110,10 @@ value = do
   t ← peek
   value_by (is_close t)
 
-unfoldable pub repeated : ℕ → Parser ArrayElement
-repeated room = do
-  p ← here
-  n ← number
+-- a number, '(', what is repeated, ')'
+unfoldable pub repeated : ℕ → ℕ → Parser ArrayElement
+repeated room n = do
+  p ← skip
   enter room
   x ← value
   symbol s.Close
@@ -132,7 +126,7 @@ single = do
 
 -- how an element begins: with a number, and with what behind it
 abbrev pub element_by : ℕ → Option Kind → Option Kind → Parser ArrayElement
-element_by room (Some (k.Number n)) (Some (k.Symbol s.Open)) = repeated room
+element_by room (Some (k.Number n)) (Some (k.Symbol s.Open)) = repeated room n
 element_by room _ _ = single
 
 unfoldable pub array_element : ℕ → Parser ArrayElement
@@ -184,15 +178,14 @@ member room = do
   name ← word
   typed room (name ∷ [])
 
-abbrev pub retained_by : Section → Bool → Parser Section
-retained_by x true = do skip; pure x
-retained_by x false = pure x
+abbrev pub retained_by : Section → Option Kind → Parser Section
+retained_by x (Some (k.Keyword w.Retain)) = do skip; pure x
+retained_by x (Some (k.Keyword w.NonRetain)) = do skip; pure x
+retained_by x _ = pure x
 
 -- [RETAIN | NON_RETAIN], behind the word of this section
 unfoldable pub retained : Section → Parser Section
-retained x = do
-  t ← peek
-  retained_by x (is_retention t)
+retained x = peek >>= retained_by x
 
 abbrev pub internal_by : Option Kind → Parser Section
 internal_by (Some (k.Keyword w.Constant)) = do skip; pure sections.Constant

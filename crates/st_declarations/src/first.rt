@@ -34,16 +34,6 @@ pub fn is_open_bracket(ts: &Cursor<'_>) -> bool
     matches!(ts.kind(), Some(Kind::Symbol(Symbol::OpenBracket)))
 }
 
-/// Whether the first token is RETAIN or NON_RETAIN.
-pub fn is_retention(ts: &Cursor<'_>) -> bool
-    ensures { result ≡ spec.is_retention (kind ts.now) }
-{
-    matches!(
-        ts.kind(),
-        Some(Kind::Keyword(Keyword::Retain | Keyword::NonRetain))
-    )
-}
-
 /// Whether the first token is VAR, VAR_INPUT or VAR_OUTPUT.
 pub fn begins_block(ts: &Cursor<'_>) -> bool
     ensures { result ≡ spec.begins_block (kind ts.now) }

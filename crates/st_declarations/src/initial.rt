@@ -7,7 +7,7 @@ ghost use Rattle.st_expressions.specs.Parsers.{Reads};
 use crate::first::{is_assign, is_close};
 use st_expressions::constant::constant;
 use st_expressions::cursor::Cursor;
-use st_expressions::token::{enter, is_comma, number, symbol};
+use st_expressions::token::{enter, is_comma, symbol};
 use st_tokens::{Kind, Symbol, SyntaxFault};
 use st_tree::List;
 use st_tree::tree::{ArrayElement, Constant, Initial};
@@ -25,13 +25,13 @@ fn value(ts: &mut Cursor<'_>) -> Result<Option<Constant>, SyntaxFault>
     Ok(Some(constant(ts)?))
 }
 
+/// Takes a number, which is `count`, and the parentheses behind it.
 #[tactic(auto, unfolding(crate::specs::Reading::repeated))]
-fn repeated(ts: &mut Cursor<'_>, room: u8) -> Result<ArrayElement, SyntaxFault>
-    ensures read { Reads (spec.repeated room ts.old) result ts.new }
+fn repeated(ts: &mut Cursor<'_>, room: u8, count: u128) -> Result<ArrayElement, SyntaxFault>
+    ensures read { Reads (spec.repeated room count ts.old) result ts.new }
     ensures shorter { OnOk result (length ts.new < length ts.old) }
 {
-    let place = ts.place();
-    let count = number(ts)?;
+    let place = ts.skip();
     enter(ts, room)?;
     let value = value(ts)?;
     symbol(ts, Symbol::Close)?;
@@ -53,8 +53,8 @@ pub fn array_element(ts: &mut Cursor<'_>, room: u8) -> Result<ArrayElement, Synt
     ensures shorter { OnOk result (length ts.new < length ts.old) }
 {
     match ts.kind() {
-        Some(Kind::Number(_)) => match ts.second() {
-            Some(Kind::Symbol(Symbol::Open)) => repeated(ts, room),
+        Some(Kind::Number(count)) => match ts.second() {
+            Some(Kind::Symbol(Symbol::Open)) => repeated(ts, room, count),
             _ => single(ts),
         },
         _ => single(ts),

@@ -4,7 +4,7 @@ ghost use Rattle.st_declarations.specs.Reading as spec;
 ghost use Rattle.st_expressions.specs.Parsers as parser;
 ghost use Rattle.st_expressions.specs.Parsers.{Reads};
 
-use crate::first::{begins_block, is_retention, is_word};
+use crate::first::{begins_block, is_word};
 use crate::initial::optional_initial;
 use crate::specification::specification;
 use st_expressions::cursor::Cursor;
@@ -80,10 +80,13 @@ fn retained(ts: &mut Cursor<'_>, section: Section) -> Result<Section, SyntaxFaul
     ensures read { Reads (spec.retained section ts.old) result ts.new }
     ensures shorter { OnOk result (length ts.new ≤ length ts.old) }
 {
-    if is_retention(ts) {
-        ts.skip();
+    match ts.kind() {
+        Some(Kind::Keyword(Keyword::Retain | Keyword::NonRetain)) => {
+            ts.skip();
+            Ok(section)
+        }
+        _ => Ok(section),
     }
-    Ok(section)
 }
 
 /// What may stand behind VAR.
