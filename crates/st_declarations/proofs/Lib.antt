@@ -1,3 +1,4 @@
+pub mod Blocks
 pub mod Initials
 pub mod Members
 pub mod Specifications

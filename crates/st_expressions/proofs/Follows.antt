@@ -1,0 +1,195 @@
+-- What may follow an expression, and how its parts begin.
+use Rattle.std.proofs.Common.{◌≡◌, ℕ, zero, suc, ◌<◌, ◌≤◌, List, [], ◌∷◌, refl, sym, ap, subst, ◌∙◌, Bool, true, false, arith}
+use lib.Dec.{eqb→eq, T}
+use Rattle.std.proofs.Math.Dec.{eqb_refl}
+use Rattle.std.specs.Prelude.{Option, Some, None, ◌==◌}
+use Rattle.st_tokens.specs.declared.keyword.Keyword.TheVariants as w
+use Rattle.st_tokens.specs.declared.symbol.Symbol.TheVariants as s
+use Rattle.st_tokens.specs.declared.token.Kind.{Kind}
+use Rattle.st_tokens.specs.declared.token.Kind.TheVariants as k
+use Rattle.st_tree.specs.declared.operator.BinOp.{BinOp}
+use Rattle.st_tree.specs.declared.tree.constant.SignedInteger.{SignedInteger}
+use Rattle.st_tree.specs.declared.tree.constant.Constant.{Constant}
+use Rattle.st_tree.specs.declared.tree.expression.Expression.{Expression}
+use Rattle.st_tree.specs.declared.tree.expression.Operation.{Operation}
+use Rattle.st_tree.specs.declared.tree.expression.Variable.{Variable}
+use Rattle.st_tree.specs.declared.tree.expression.Part.{Part}
+use Rattle.st_tree.specs.declared.tree.expression.Call.{Call}
+use Rattle.st_tree.specs.declared.tree.expression.Argument.{Argument}
+use Rattle.st_tree.specs.declared.tree.place.Place.{Place}
+use Rattle.st_expressions.specs.Grammar.{IsSignedInteger, unsigned, plus, minus, IsConstant, integer, typed, duration, truth, falsehood, IsRank, unary, alone, chain, IsOperations, no_operation, operations, IsOperation, operation, IsUnary, negation, complement, primary, IsPrimary, constant, variable, call, group, IsVariable, named, IsParts, no_part, parts, IsPart, field, subscripts, IsCall, called, IsArguments, no_arguments, arguments, IsArgument, positional, input, output, operator_of, rank_of}
+use Rattle.st_expressions.specs.Reading.{begins_part, is_operator, has_rank, operator_at}
+use Rattle.st_expressions.specs.Tokens.{Tok, kind}
+
+-- the next operator has a rank above n
+abbrev pub Above : ℕ → Option BinOp → Type 0
+Above n (Some op) = n < rank_of op
+Above n None = Unit {0}
+
+-- an expression of rank n can't go on here
+abbrev pub Stops : ℕ → Option Kind → Type 0
+Stops n (Some (k.Symbol s.Dot)) = ⊥
+Stops n (Some (k.Symbol s.OpenBracket)) = ⊥
+Stops n (Some (k.Symbol s.Open)) = ⊥
+Stops n t = Above n (operator_at t)
+
+above_less : (n : ℕ) (op : Option BinOp) → Above (suc n) op → Above n op
+above_less n (Some op) h = omega arith
+above_less n None h = tt
+
+pub stops_less : (n : ℕ) (t : Option Kind) → Stops (suc n) t → Stops n t
+stops_less n (Some (k.Symbol s.Dot)) h = h
+stops_less n (Some (k.Symbol s.OpenBracket)) h = h
+stops_less n (Some (k.Symbol s.Open)) h = h
+stops_less n t h = above_less n (operator_at t) h
+
+above_is : (n : ℕ) (t : Kind) (op : BinOp) → operator_of t ≡ Some op → n < rank_of op → Above n (operator_of t)
+above_is n t op is above = subst (λ x. Above n x) (sym is) above
+
+-- an operator of rank n+1 may follow an expression of rank n
+pub stops_at : (n : ℕ) (t : Kind) (op : BinOp) → operator_of t ≡ Some op → n < rank_of op → Stops n (Some t)
+stops_at n (k.Symbol s.Dot) op is above = absurd (cc)
+stops_at n (k.Symbol s.OpenBracket) op is above = absurd (cc)
+stops_at n (k.Symbol s.Open) op is above = absurd (cc)
+stops_at n t op is above = above_is n t op is above
+
+pub stops_part : (n : ℕ) (t : Option Kind) → Stops n t → begins_part t ≡ false
+stops_part n (Some (k.Symbol s.Dot)) h = absurd h
+stops_part n (Some (k.Symbol s.OpenBracket)) h = absurd h
+stops_part n _ h = refl
+
+other_rank : (a b : ℕ) → (a ≡ b → ⊥) → (a == b) ≡ false
+other_rank a b differ = by (a == b) refl where
+  by : (v : Bool) → (a == b) ≡ v → v ≡ false
+  by false h = refl
+  by true h = absurd (differ (eqb→eq a b (subst T (sym h) tt)))
+
+pub same_rank : (a b : ℕ) → a ≡ b → (a == b) ≡ true
+same_rank a b h = subst (λ c. (a == c) ≡ true) h (by (a == a) refl) where
+  by : (v : Bool) → (a == a) ≡ v → v ≡ true
+  by true g = refl
+  by false g = absurd (subst T g (eqb_refl a))
+
+pub rank_is : (a b : ℕ) → (a == b) ≡ true → a ≡ b
+rank_is a b h = eqb→eq a b (subst T (sym h) tt)
+
+above_none : (n : ℕ) (op : Option BinOp) → Above (suc n) op → has_rank (suc n) op ≡ false
+above_none n (Some op) h = other_rank (rank_of op) (suc n) (λ e. omega (arith, e, h))
+above_none n None h = refl
+
+pub stops_operator : (n : ℕ) (t : Option Kind) → Stops (suc n) t → is_operator n t ≡ false
+stops_operator n (Some (k.Symbol s.Dot)) h = absurd h
+stops_operator n (Some (k.Symbol s.OpenBracket)) h = absurd h
+stops_operator n (Some (k.Symbol s.Open)) h = absurd h
+stops_operator n t h = above_none n (operator_at t) h
+
+-- ---- first tokens
+
+-- an integer begins so
+abbrev pub begins_integer : Option Kind → Bool
+begins_integer (Some (k.Number n)) = true
+begins_integer (Some (k.Symbol s.Plus)) = true
+begins_integer (Some (k.Symbol s.Minus)) = true
+begins_integer _ = false
+
+pub integer_begins : {ts rest : List Tok} {x : SignedInteger} → IsSignedInteger ts x rest → begins_integer (kind ts) ≡ true
+integer_begins unsigned = refl
+integer_begins plus = refl
+integer_begins minus = refl
+
+-- a literal begins so
+abbrev pub begins_constant : Option Kind → Bool
+begins_constant (Some (k.Typed v)) = true
+begins_constant (Some (k.Duration d)) = true
+begins_constant (Some (k.Keyword w.True)) = true
+begins_constant (Some (k.Keyword w.False)) = true
+begins_constant t = begins_integer t
+
+from_integer : (t : Option Kind) → begins_integer t ≡ true → begins_constant t ≡ true
+from_integer (Some (k.Typed v)) h = refl
+from_integer (Some (k.Duration d)) h = refl
+from_integer (Some (k.Keyword w.True)) h = refl
+from_integer (Some (k.Keyword w.False)) h = refl
+from_integer _ h = h
+
+pub constant_begins : {ts rest : List Tok} {x : Constant} → IsConstant ts x rest → begins_constant (kind ts) ≡ true
+constant_begins {ts} (integer d) = from_integer (kind ts) (integer_begins d)
+constant_begins typed = refl
+constant_begins duration = refl
+constant_begins truth = refl
+constant_begins falsehood = refl
+
+-- a primary expression begins so
+abbrev pub begins_primary : Option Kind → Bool
+begins_primary (Some (k.Word n)) = true
+begins_primary (Some (k.Symbol s.Open)) = true
+begins_primary t = begins_constant t
+
+from_constant : (t : Option Kind) → begins_constant t ≡ true → begins_primary t ≡ true
+from_constant (Some (k.Word n)) h = refl
+from_constant (Some (k.Symbol s.Open)) h = refl
+from_constant _ h = h
+
+pub primary_begins : {ts rest : List Tok} {x : Expression} → IsPrimary ts x rest → begins_primary (kind ts) ≡ true
+primary_begins {ts} (constant d) = from_constant (kind ts) (constant_begins d)
+primary_begins (variable (named d)) = refl
+primary_begins (call (called d)) = refl
+primary_begins (group d) = refl
+
+-- an expression begins so
+abbrev pub begins_expression : Option Kind → Bool
+begins_expression (Some (k.Keyword w.Not)) = true
+begins_expression t = begins_primary t
+
+from_primary : (t : Option Kind) → begins_primary t ≡ true → begins_expression t ≡ true
+from_primary (Some (k.Keyword w.Not)) h = refl
+from_primary _ h = h
+
+pub rank_begins : {n : ℕ} {ts rest : List Tok} {x : Expression} → IsRank n ts x rest → begins_expression (kind ts) ≡ true
+rank_begins (unary (negation h d)) = refl
+rank_begins (unary (complement d)) = refl
+rank_begins {ts = ts} (unary (primary d)) = from_primary (kind ts) (primary_begins d)
+rank_begins (alone d) = rank_begins d
+rank_begins (chain d m) = rank_begins d
+
+pub part_begins : (ts : List Tok) (x : Part) (rest : List Tok) → IsPart ts x rest → begins_part (kind ts) ≡ true
+part_begins ts x rest field = refl
+part_begins ts x rest (subscripts d m) = refl
+
+pub argument_begins : {ts rest : List Tok} {x : Argument} → IsArgument ts x rest → begins_expression (kind ts) ≡ true
+argument_begins (positional d) = rank_begins d
+argument_begins (input d) = refl
+argument_begins (output d) = refl
+
+operation_by : (n : ℕ) (t : Kind) (op : BinOp) → operator_of t ≡ Some op → rank_of op ≡ suc n → is_operator n (Some t) ≡ true
+operation_by n t op is rank = subst (λ x. has_rank (suc n) x ≡ true) (sym is) (same_rank (rank_of op) (suc n) rank)
+
+pub operation_begins : (n : ℕ) (ts : List Tok) (x : Operation) (rest : List Tok) → IsOperation n ts x rest → is_operator n (kind ts) ≡ true
+operation_begins n ts x rest (operation {t = t} {op = op} is rank d) = operation_by n t op is rank
+
+-- ---- a word, and a token that no expression has behind one
+
+-- such a token
+abbrev pub Ending : Kind → Type 0
+Ending t = (Stops 7 (Some t)) × (operator_of t ≡ None)
+
+operation_not : {n : ℕ} {t : Kind} {ts rest : List Tok} {l : Operation} {ls : List Operation} → kind ts ≡ Some t → operator_of t ≡ None → IsOperations n ts (l ∷ ls) rest → ⊥
+operation_not {t = t} first nothing (operations (operation {t = u} {op = op} is rank d) m) =
+    let same : u ≡ t = cc (first) in let e = ap operator_of same in absurd (cc (e, is, nothing))
+
+primary_word : {p q : Place} {n : List ℕ} {t : Kind} {us rest : List Tok} {x : Expression} → Stops 7 (Some t) → IsPrimary ((p, k.Word n) ∷ (q, t) ∷ us) x rest → kind rest ≡ Some t
+primary_word stops (constant (integer d)) = absurd (let e = integer_begins d in cc)
+primary_word stops (variable (named no_part)) = refl
+primary_word stops (variable (named (parts field m))) = absurd stops
+primary_word stops (variable (named (parts (subscripts d e) m))) = absurd stops
+primary_word stops (call (called no_arguments)) = absurd stops
+primary_word stops (call (called (arguments d m))) = absurd stops
+
+unary_word : {p q : Place} {n : List ℕ} {t : Kind} {us rest : List Tok} {x : Expression} → Stops 7 (Some t) → IsUnary ((p, k.Word n) ∷ (q, t) ∷ us) x rest → kind rest ≡ Some t
+unary_word stops (primary d) = primary_word stops d
+
+-- where such a token comes behind a word, an expression ends before it
+pub rank_word : {r : ℕ} {p q : Place} {n : List ℕ} {t : Kind} {us rest : List Tok} {x : Expression} → Ending t → IsRank r ((p, k.Word n) ∷ (q, t) ∷ us) x rest → kind rest ≡ Some t
+rank_word e (unary d) = unary_word e.0 d
+rank_word e (alone d) = rank_word e d
+rank_word e (chain d m) = absurd (operation_not (rank_word e d) e.1 m)
