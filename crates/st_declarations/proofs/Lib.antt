@@ -1,4 +1,5 @@
 pub mod Blocks
+pub mod DeclaredTypes
 pub mod Initials
 pub mod Members
 pub mod Specifications

@@ -76,32 +76,39 @@ bind_err : {A B : Type 0} (o : Outcome A) (f : A → Parser B) (r : Refusal) →
 bind_err (Ok z) f r h = inr (z, refl, h)
 bind_err (Err s) f r h = inl (cc)
 
-module _ {A B : Type 0} {c d : ℕ} {P : Parser A} {f : A → Parser B} {pre : List Tok → Type 0} {R : Relation A} {S : A → Relation B}
-    {F G : Option Kind → Type 0} {Q Q' Q'' : List Tok → Type 0} (a : Exact c P pre R F Q Q') (b : (x : A) → Exact d (f x) Always (S x) G Q' Q'')
+module _ {A B : Type 0} {c d : ℕ} {P : Parser A} {f : A → Parser B} {pre pre' : List Tok → Type 0} {R : Relation A} {S : A → Relation B}
+    {F G : Option Kind → Type 0} {Q Q' Q'' : List Tok → Type 0} (a : Exact c P pre R F Q Q') (b : (x : A) → Exact d (f x) pre' (S x) G Q' Q'')
+    (carry : (ts : List Tok) (x : A) (mid : List Tok) → pre ts → R ts x mid → pre' mid)
     (follow : (x : A) (mid rest : List Tok) (y : B) → S x mid y rest → G (kind rest) → F (kind mid)) where
   bind_deep : (ts : List Tok) → pre ts → (P ts ≡ Err Deep) ⊎ ((z : A × List Tok) × (P ts ≡ Ok z) × (f z.0 z.1 ≡ Err Deep)) → Q ts → ⊥
   bind_deep ts p (inl h) q = a.deep ts p h q
-  bind_deep ts p (inr z) q = (b z.0.0).deep z.0.1 tt z.2 ((a.reads ts z.0.0 z.0.1 p z.1).after q)
+  bind_deep ts p (inr z) q = let u = a.reads ts z.0.0 z.0.1 p z.1 in (b z.0.0).deep z.0.1 (carry ts z.0.0 z.0.1 p u.is) z.2 (u.after q)
 
   bind_reads : (ts : List Tok) (y : B) (rest : List Tok) → pre ts → (z : A × List Tok) × (P ts ≡ Ok z) × (f z.0 z.1 ≡ Ok (y, rest)) → Found c (Then R S) Q Q'' ts y rest
   bind_reads ts y rest p z =
       let u = a.reads ts z.0.0 z.0.1 p z.1 in
-      let v = (b z.0.0).reads z.0.1 y rest tt z.2 in
+      let v = (b z.0.0).reads z.0.1 y rest (carry ts z.0.0 z.0.1 p u.is) z.2 in
       record { is = seq u.is v.is; takes = omega (arith, u.takes, v.takes); after = λ q. v.after (u.after q); before = λ q. u.before (v.before q) }
 
   bind_read : {ts rest : List Tok} {y : B} → pre ts → Then R S ts y rest → G (kind rest) → Q ts → and_then (P ts) f ≡ Ok (y, rest)
   bind_read {ts} {rest} {y} p (seq {mid = mid} {x = x} r t) g q =
       let e = a.read ts x mid p r (follow x mid rest y t g) q in
       let u = a.reads ts x mid p e in
-      rw e ((b x).read mid y rest tt t g (u.after q))
+      rw e ((b x).read mid y rest (carry ts x mid p r) t g (u.after q))
 
-  -- P, and then f
-  pub exact_bind : Exact c (λ ts. and_then (P ts) f) pre (Then R S) G Q Q''
-  exact_bind = record {
+  -- P, and then f, whose premise P carries over
+  pub exact_bind_if : Exact c (λ ts. and_then (P ts) f) pre (Then R S) G Q Q''
+  exact_bind_if = record {
     reads = λ ts y rest p h. bind_reads ts y rest p (bind_ok (P ts) f (y, rest) h);
     deep = λ ts p h. bind_deep ts p (bind_err (P ts) f Deep h);
     read = λ ts y rest p d g q. bind_read p d g q;
   }
+
+-- P, and then f
+pub exact_bind : {A B : Type 0} {c d : ℕ} {P : Parser A} {f : A → Parser B} {pre : List Tok → Type 0} {R : Relation A} {S : A → Relation B}
+    {F G : Option Kind → Type 0} {Q Q' Q'' : List Tok → Type 0} → Exact c P pre R F Q Q' → ((x : A) → Exact d (f x) Always (S x) G Q' Q'')
+    → ((x : A) (mid rest : List Tok) (y : B) → S x mid y rest → G (kind rest) → F (kind mid)) → Exact c (λ ts. and_then (P ts) f) pre (Then R S) G Q Q''
+exact_bind a b follow = exact_bind_if a b (λ ts x mid p r. tt) follow
 
 -- the same parser for another relation, under other premises
 pub exact_as : {A : Type 0} {c : ℕ} {P : Parser A} {pre pre' : List Tok → Type 0} {R R' : Relation A} {F F' : Option Kind → Type 0} {Q Q' : List Tok → Type 0}
@@ -133,6 +140,16 @@ exact_pure {A} a pre F Q = record { reads = λ ts x rest p h. reads ts x rest h;
 
   read : {ts rest : List Tok} {x : A} → IsPure a ts x rest → ◌≡◌ {A = Outcome A} (Ok (a, ts)) (Ok (x, rest))
   read done = refl
+
+-- P, and what is made of it
+pub exact_last : {A B : Type 0} {c : ℕ} {P : Parser A} {pre : List Tok → Type 0} {R : Relation A} {F : Option Kind → Type 0} {Q Q' : List Tok → Type 0}
+    → Exact c P pre R F Q Q' → (g : A → B) → Exact c (λ ts. and_then (P ts) (λ x. parser.pure (g x))) pre (Then R (λ x. IsPure (g x))) F Q Q'
+exact_last {F = F} {Q' = Q'} a g = exact_bind a (λ x. exact_pure (g x) Always F Q') (λ x mid rest y d h. made d (λ z us. F (kind us) → F (kind mid)) (λ f. f) h)
+
+-- the same, under other premises
+pub exact_under : {A : Type 0} {c : ℕ} {P : Parser A} {pre pre' : List Tok → Type 0} {R : Relation A} {F F' : Option Kind → Type 0} {Q Q' : List Tok → Type 0}
+    → Exact c P pre R F Q Q' → ((ts : List Tok) → pre' ts → pre ts) → ((t : Option Kind) → F' t → F t) → Exact c P pre' R F' Q Q'
+exact_under a premise follow = exact_as a premise (λ ts x rest p d. d) (λ ts x rest p g d. d) follow
 
 -- what can't be in the relation is refused
 pub exact_refuse : {A : Type 0} (c : ℕ) (pre : List Tok → Type 0) (R : Relation A) (F : Option Kind → Type 0) (Q Q' : List Tok → Type 0)

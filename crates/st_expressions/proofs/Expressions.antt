@@ -130,3 +130,527 @@ module _ (r : ℕ) where
   unfolding spec.constant
   constant_exact = exact_on kind spec.constant_by Always IsConstant Any (At r) (At r) constant_by
 
+-- ---- variables
+
+-- what is read behind one more open level is read exactly
+abbrev pub ExactInside : ℕ → Inside → Type 0
+ExactInside zero i = Unit {0}
+ExactInside (suc r) i = (Exact 1 i.expression Always (IsRank 7) (Stops 7) (At r) (At r)) × (Exact 1 i.variable Always IsVariable (Stops 0) (At r) (At r))
+
+field_exact : (r : ℕ) → Exact 1 spec.field (IsFirst (k.Symbol s.Dot)) IsPart Any (At r) (At r)
+unfolding spec.field
+field_exact r = exact_token (k.Symbol s.Dot) refl {R = IsPart} (λ p. exact_iff (exact_last (exact_word r) part.Field) (to p) (from p)) where
+  to : (p : Place) (ts : List Tok) (x : Part) (rest : List Tok) → Then IsWord (λ n. IsPure (part.Field n)) ts x rest → IsPart ((p, k.Symbol s.Dot) ∷ ts) x rest
+  to p ts x rest (seq a_word d) = made d (λ y us. IsPart ((p, k.Symbol s.Dot) ∷ ts) y us) field
+
+  from : (p : Place) (ts : List Tok) (x : Part) (rest : List Tok) → IsPart ((p, k.Symbol s.Dot) ∷ ts) x rest → Then IsWord (λ n. IsPure (part.Field n)) ts x rest
+  from p ts x rest field = seq a_word done
+
+to_expressions : {ts rest : List Tok} {xs : List Expression} → IsMany (IsNext (IsRank 7)) ts xs rest → IsNextExpressions ts xs rest
+to_expressions none = no_expression
+to_expressions (more (comma d) m) = next_expressions d (to_expressions m)
+
+from_expressions : {ts rest : List Tok} {xs : List Expression} → IsNextExpressions ts xs rest → IsMany (IsNext (IsRank 7)) ts xs rest
+from_expressions no_expression = none
+from_expressions (next_expressions d m) = more (comma d) (from_expressions m)
+
+abbrev AreSubscripts : Place → Relation Part
+AreSubscripts p = Then (IsListed (IsRank 7)) (λ xs. Then (IsOne (k.Symbol s.CloseBracket)) (λ q. IsPure (part.Subscripts p xs)))
+
+subscripts_to : (p : Place) (ts : List Tok) (x : Part) (rest : List Tok) → AreSubscripts p ts x rest → IsPart ((p, k.Symbol s.OpenBracket) ∷ ts) x rest
+subscripts_to p ts x rest (seq (listed d m) (seq one e)) = made e (λ y us. IsPart ((p, k.Symbol s.OpenBracket) ∷ ts) y us) (subscripts d (to_expressions m))
+
+subscripts_from : (p : Place) (ts : List Tok) (x : Part) (rest : List Tok) → IsPart ((p, k.Symbol s.OpenBracket) ∷ ts) x rest → AreSubscripts p ts x rest
+subscripts_from p ts x rest (subscripts d m) = seq (listed d (from_expressions m)) (seq one done)
+
+subscripts_behind : (r : ℕ) (i : Inside) → ExactInside r i
+    → Behind 1 r (λ p ts. and_then (parser.listed i.expression ts) (λ xs us. and_then (parser.symbol s.CloseBracket us) (λ q. parser.pure (part.Subscripts p xs)))) (k.Symbol s.OpenBracket) IsPart Any
+subscripts_behind zero i e = tt
+subscripts_behind (suc r) i e = λ p. exact_iff
+    (exact_before (k.Symbol s.CloseBracket) (exact_listed i.expression (IsRank 7) (Stops 7) r e.0 tt) (refl, tt) (exact_symbol s.CloseBracket r refl) (λ xs q. exact_pure (part.Subscripts p xs) Always Any (At (suc r))))
+    (subscripts_to p) (subscripts_from p)
+
+module _ (r : ℕ) (i : Inside) (e : ExactInside r i) where
+  subscripts_exact : Exact 1 (spec.subscripts r i) (IsFirst (k.Symbol s.OpenBracket)) IsPart Any (At r) (At r)
+  unfolding spec.subscripts
+  subscripts_exact = exact_enter 1 r _ (k.Symbol s.OpenBracket) refl (subscripts_behind r i e)
+
+  part_by : (t : Option Kind) → Exact 1 (spec.part_by r i t) (λ ts. (kind ts ≡ t) × (begins_part (kind ts) ≡ true)) IsPart Any (At r) (At r)
+  part_by (Some (k.Symbol s.Dot)) = exact_under (field_exact r) (λ ts p. p.0) (λ t g. g)
+  part_by (Some (k.Symbol s.OpenBracket)) = exact_under subscripts_exact (λ ts p. p.0) (λ t g. g)
+  part_by _ = exact_under subscripts_exact (λ ts p. let wrong = subst (λ t. begins_part t ≡ true) p.0 p.1 in absurd (cc)) (λ t g. g)
+
+  part_exact : Exact 1 (spec.part_of r i) (λ ts. begins_part (kind ts) ≡ true) IsPart Any (At r) (At r)
+  unfolding spec.part_of
+  part_exact = exact_on kind (spec.part_by r i) (λ ts. begins_part (kind ts) ≡ true) IsPart Any (At r) (At r) part_by
+
+to_parts : {ts rest : List Tok} {xs : List Part} → IsMany IsPart ts xs rest → IsParts ts xs rest
+to_parts none = no_part
+to_parts (more d m) = parts d (to_parts m)
+
+from_parts : {ts rest : List Tok} {xs : List Part} → IsParts ts xs rest → IsMany IsPart ts xs rest
+from_parts no_part = none
+from_parts (parts d m) = more d (from_parts m)
+
+variable_to : (ts : List Tok) (x : Variable) (rest : List Tok) → Then IsWord (λ n. Then (IsMany IsPart) (λ ps. IsPure (variable_of n ps))) ts x rest → IsVariable ts x rest
+variable_to ts x rest (seq a_word (seq m e)) = made e (λ y us. IsVariable ts y us) (named (to_parts m))
+
+variable_from : (ts : List Tok) (x : Variable) (rest : List Tok) → IsVariable ts x rest → Then IsWord (λ n. Then (IsMany IsPart) (λ ps. IsPure (variable_of n ps))) ts x rest
+variable_from ts x rest (named m) = seq a_word (seq (from_parts m) done)
+
+pub variable_exact : (r : ℕ) (i : Inside) → ExactInside r i → Exact 1 (spec.variable r i) Always IsVariable (Stops 0) (At r) (At r)
+unfolding spec.variable
+variable_exact r i e = exact_as
+    (exact_bind (exact_word r) (λ n. exact_last (exact_many begins_part (spec.part_of r i) IsPart Any (At r) (part_exact r i e) part_begins (λ t h. tt)) (λ ps. variable_of n ps)) (λ n mid rest y d g. tt))
+    (λ ts u. u) (λ ts x rest u d. variable_to ts x rest d) (λ ts x rest u g d. variable_from ts x rest d) (λ t g. (stops_part 0 t g, tt))
+
+-- ---- calls
+
+-- what may follow an argument
+abbrev pub Closes : Option Kind → Type 0
+Closes (Some (k.Symbol s.Comma)) = Unit {0}
+Closes (Some (k.Symbol s.Close)) = Unit {0}
+Closes _ = ⊥
+
+closes_stops : (n : ℕ) (t : Option Kind) → Closes t → Stops n t
+closes_stops n (Some (k.Symbol s.Comma)) g = tt
+closes_stops n (Some (k.Symbol s.Close)) g = tt
+closes_stops n _ g = absurd g
+
+-- an expression before a closing token doesn't begin with a word and such a token
+no_name : (u : Kind) → Ending u → (Closes (Some u) → ⊥) → (ts : List Tok) (n : List ℕ) (x : Expression) (rest : List Tok) → kind ts ≡ Some (k.Word n) → kind (next ts) ≡ Some u
+    → Closes (kind rest) → IsRank 7 ts x rest → ⊥
+no_name u ending never [] n x rest first second g d = cc
+no_name u ending never (t ∷ []) n x rest first second g d = cc
+no_name u ending never (t ∷ v ∷ ts) n x rest first second g d =
+    let word : t.1 ≡ k.Word n = cc in
+    let ends : v.1 ≡ u = cc in
+    let d' : IsRank 7 ((t.0, k.Word n) ∷ (v.0, u) ∷ ts) x rest = subst (λ y. IsRank 7 ((t.0, y) ∷ (v.0, u) ∷ ts) x rest) word (subst (λ y. IsRank 7 (t ∷ (v.0, y) ∷ ts) x rest) ends d) in
+    never (subst Closes (rank_word ending d') g)
+
+module _ (r : ℕ) (i : Inside) (e : ExactInside (suc r) i) where
+  abbrev IsInput : Relation Argument
+  IsInput = Then IsWord (λ n. Then (IsOne (k.Symbol s.Assign)) (λ q. Then (IsRank 7) (λ x. IsPure (a.Input n x))))
+
+  input_to : (ts : List Tok) (x : Argument) (rest : List Tok) → IsInput ts x rest → IsArgument ts x rest
+  input_to ts x rest (seq a_word (seq one (seq d p))) = made p (λ y us. IsArgument ts y us) (input d)
+
+  input_from : (n : List ℕ) (ts : List Tok) (x : Argument) (rest : List Tok) → kind ts ≡ Some (k.Word n) → kind (next ts) ≡ Some (k.Symbol s.Assign) → Closes (kind rest) → IsArgument ts x rest → IsInput ts x rest
+  input_from n ts x rest first second g (positional {x = y} d) = absurd (no_name (k.Symbol s.Assign) (tt, refl) (λ u. u) ts n y rest first second g d)
+  input_from n ts x rest first second g (input d) = seq a_word (seq one (seq d done))
+  input_from n ts x rest first second g (output d) = absurd (cc)
+
+  input_exact : (n : List ℕ) → Exact 1 (spec.input i) (λ ts. (kind (next ts) ≡ Some (k.Symbol s.Assign)) × ((kind ts ≡ Some (k.Word n)) × Always ts)) IsArgument Closes (At r) (At r)
+  unfolding spec.input
+  input_exact n = exact_as
+      (exact_bind (exact_word r) (λ m. exact_bind (exact_symbol s.Assign r refl) (λ q. exact_last e.0 (λ x. a.Input m x)) (λ q mid rest y d g. tt)) (λ m mid rest y d g. tt))
+      (λ ts p. tt) (λ ts x rest p d. input_to ts x rest d) (λ ts x rest p g d. input_from n ts x rest p.1.0 p.0 g d) (λ t g. closes_stops 7 t g)
+
+  abbrev IsOutput : Relation Argument
+  IsOutput = Then IsWord (λ n. Then (IsOne (k.Symbol s.Output)) (λ q. Then IsVariable (λ x. IsPure (a.Output n x))))
+
+  output_to : (ts : List Tok) (x : Argument) (rest : List Tok) → IsOutput ts x rest → IsArgument ts x rest
+  output_to ts x rest (seq a_word (seq one (seq d p))) = made p (λ y us. IsArgument ts y us) (output d)
+
+  output_from : (n : List ℕ) (ts : List Tok) (x : Argument) (rest : List Tok) → kind ts ≡ Some (k.Word n) → kind (next ts) ≡ Some (k.Symbol s.Output) → Closes (kind rest) → IsArgument ts x rest → IsOutput ts x rest
+  output_from n ts x rest first second g (positional {x = y} d) = absurd (no_name (k.Symbol s.Output) (tt, refl) (λ u. u) ts n y rest first second g d)
+  output_from n ts x rest first second g (output d) = seq a_word (seq one (seq d done))
+  output_from n ts x rest first second g (input d) = absurd (cc)
+
+  output_exact : (n : List ℕ) → Exact 1 (spec.output i) (λ ts. (kind (next ts) ≡ Some (k.Symbol s.Output)) × ((kind ts ≡ Some (k.Word n)) × Always ts)) IsArgument Closes (At r) (At r)
+  unfolding spec.output
+  output_exact n = exact_as
+      (exact_bind (exact_word r) (λ m. exact_bind (exact_symbol s.Output r refl) (λ q. exact_last e.1 (λ x. a.Output m x)) (λ q mid rest y d g. tt)) (λ m mid rest y d g. tt))
+      (λ ts p. tt) (λ ts x rest p d. output_to ts x rest d) (λ ts x rest p g d. output_from n ts x rest p.1.0 p.0 g d) (λ t g. closes_stops 0 t g)
+
+  -- the first two tokens don't name a parameter
+  abbrev is_plain : Option Kind → Option Kind → Bool
+  is_plain (Some (k.Word n)) (Some (k.Symbol s.Assign)) = false
+  is_plain (Some (k.Word n)) (Some (k.Symbol s.Output)) = false
+  is_plain _ _ = true
+
+  positional_from : (ts : List Tok) (x : Argument) (rest : List Tok) → is_plain (kind ts) (kind (next ts)) ≡ true → IsArgument ts x rest → Then (IsRank 7) (λ y. IsPure (a.Positional y)) ts x rest
+  positional_from ts x rest h (positional d) = seq d done
+  positional_from ts x rest h (input d) = absurd (cc)
+  positional_from ts x rest h (output d) = absurd (cc)
+
+  positional_to : (ts : List Tok) (x : Argument) (rest : List Tok) → Then (IsRank 7) (λ y. IsPure (a.Positional y)) ts x rest → IsArgument ts x rest
+  positional_to ts x rest (seq d p) = made p (λ y us. IsArgument ts y us) (positional d)
+
+  positional_exact : (t u : Option Kind) → is_plain t u ≡ true → Exact 1 (spec.positional i) (λ ts. (kind (next ts) ≡ u) × ((kind ts ≡ t) × Always ts)) IsArgument Closes (At r) (At r)
+  unfolding spec.positional
+  positional_exact t u h = exact_as (exact_last e.0 a.Positional) (λ ts p. tt) (λ ts x rest p d. positional_to ts x rest d)
+      (λ ts x rest p g d. positional_from ts x rest (subst (λ y. is_plain (kind ts) y ≡ true) (sym p.0) (subst (λ y. is_plain y u ≡ true) (sym p.1.0) h)) d) (λ t g. closes_stops 7 t g)
+
+  argument_by : (t u : Option Kind) → Exact 1 (spec.argument_by i t u) (λ ts. (kind (next ts) ≡ u) × ((kind ts ≡ t) × Always ts)) IsArgument Closes (At r) (At r)
+  argument_by (Some (k.Word n)) (Some (k.Symbol s.Assign)) = input_exact n
+  argument_by (Some (k.Word n)) (Some (k.Symbol s.Output)) = output_exact n
+  argument_by t u = positional_exact t u refl
+
+  argument_exact : Exact 1 (spec.argument i) Always IsArgument Closes (At r) (At r)
+  unfolding spec.argument
+  argument_exact = exact_on kind (λ t ts. spec.argument_by i t (kind (next ts)) ts) Always IsArgument Closes (At r) (At r)
+      (λ t. exact_on (λ ts. kind (next ts)) (spec.argument_by i t) (λ ts. (kind ts ≡ t) × Always ts) IsArgument Closes (At r) (At r) (λ u. argument_by t u))
+
+to_arguments : {ts rest : List Tok} {xs : List Argument} → IsMany (IsNext IsArgument) ts xs rest → IsNextArguments ts xs rest
+to_arguments none = no_argument
+to_arguments (more (comma d) m) = next_arguments d (to_arguments m)
+
+from_arguments : {ts rest : List Tok} {xs : List Argument} → IsNextArguments ts xs rest → IsMany (IsNext IsArgument) ts xs rest
+from_arguments no_argument = none
+from_arguments (next_arguments d m) = more (comma d) (from_arguments m)
+
+close_is : (t : Option Kind) → spec.is_close t ≡ true → t ≡ Some (k.Symbol s.Close)
+close_is (Some (k.Symbol s.Close)) h = refl
+close_is _ h = absurd (cc)
+
+module _ (r : ℕ) (i : Inside) (e : ExactInside (suc r) i) (p : Place) where
+  -- behind the '('
+  abbrev IsRest : Relation (List Argument)
+  IsRest ts xs rest = IsArguments ((p, k.Symbol s.Open) ∷ ts) xs rest
+
+  empty_to : (q : Place) (ts : List Tok) (x : List Argument) (rest : List Tok) → IsPure [] ts x rest → IsRest ((q, k.Symbol s.Close) ∷ ts) x rest
+  empty_to q ts x rest d = made d (λ y us. IsRest ((q, k.Symbol s.Close) ∷ ts) y us) no_arguments
+
+  empty_from : (q : Place) (ts : List Tok) (x : List Argument) (rest : List Tok) → IsRest ((q, k.Symbol s.Close) ∷ ts) x rest → IsPure [] ts x rest
+  empty_from q ts x rest no_arguments = done
+  empty_from q ts x rest (arguments d m) = absurd (let wrong = argument_begins d in cc)
+
+  abbrev AreArguments : Relation (List Argument)
+  AreArguments = Then (IsListed IsArgument) (λ xs. Then (IsOne (k.Symbol s.Close)) (λ q. IsPure xs))
+
+  full_to : (ts : List Tok) (x : List Argument) (rest : List Tok) → AreArguments ts x rest → IsRest ts x rest
+  full_to ts x rest (seq (listed d m) (seq one c)) = made c (λ y us. IsRest ts y us) (arguments d (to_arguments m))
+
+  full_from : (ts : List Tok) (x : List Argument) (rest : List Tok) → spec.is_close (kind ts) ≡ false → IsRest ts x rest → AreArguments ts x rest
+  full_from ts x rest h no_arguments = absurd (cc)
+  full_from ts x rest h (arguments d m) = seq (listed d (from_arguments m)) (seq one done)
+
+  arguments_by : (b : Bool) → Exact 1 (spec.arguments_by i b) (λ ts. (spec.is_close (kind ts) ≡ b) × Always ts) IsRest Any (At r) (At (suc r))
+  arguments_by true = exact_under (exact_token (k.Symbol s.Close) refl {R = IsRest} (λ q. exact_iff (exact_pure [] Always Any (At (suc r))) (empty_to q) (empty_from q))) (λ ts h. close_is (kind ts) h.0) (λ t g. g)
+  arguments_by false = exact_as
+      (exact_before (k.Symbol s.Close) (exact_listed (spec.argument i) IsArgument Closes r (argument_exact r i e) tt) (refl, tt) (exact_symbol s.Close r refl) (λ xs q. exact_pure xs Always Any (At (suc r))))
+      (λ ts h. tt) (λ ts x rest h d. full_to ts x rest d) (λ ts x rest h g d. full_from ts x rest h.0 d) (λ t g. g)
+
+  arguments_exact : Exact 1 (spec.arguments i) Always IsRest Any (At r) (At (suc r))
+  unfolding spec.arguments
+  arguments_exact = exact_on (λ ts. spec.is_close (kind ts)) (spec.arguments_by i) Always IsRest Any (At r) (At (suc r)) arguments_by
+
+-- '(' arguments ')', and what is made of it
+abbrev Called : Identifier → Relation Call
+Called n = Then IsArguments (λ xs. IsPure (call_of n xs))
+
+called_to : (n : Identifier) (p : Place) (ts : List Tok) (x : Call) (rest : List Tok) → Then (λ us. IsArguments ((p, k.Symbol s.Open) ∷ us)) (λ xs. IsPure (call_of n xs)) ts x rest → Called n ((p, k.Symbol s.Open) ∷ ts) x rest
+called_to n p ts x rest (seq d m) = seq d m
+
+called_from : (n : Identifier) (p : Place) (ts : List Tok) (x : Call) (rest : List Tok) → Called n ((p, k.Symbol s.Open) ∷ ts) x rest → Then (λ us. IsArguments ((p, k.Symbol s.Open) ∷ us)) (λ xs. IsPure (call_of n xs)) ts x rest
+called_from n p ts x rest (seq d m) = seq d m
+
+called_behind : (r : ℕ) (i : Inside) → ExactInside r i → (n : Identifier)
+    → Behind 1 r (λ p ts. and_then (spec.arguments i ts) (λ xs. parser.pure (call_of n xs))) (k.Symbol s.Open) (Called n) Any
+called_behind zero i e n = tt
+called_behind (suc r) i e n = λ p. exact_iff (exact_last (arguments_exact r i e p) (call_of n)) (called_to n p) (called_from n p)
+
+call_to : (ts : List Tok) (x : Call) (rest : List Tok) → Then IsWord Called ts x rest → IsCall ts x rest
+call_to ts x rest (seq a_word (seq d p)) = made p (λ y us. IsCall ts y us) (called d)
+
+call_from : (ts : List Tok) (x : Call) (rest : List Tok) → IsCall ts x rest → Then IsWord Called ts x rest
+call_from ts x rest (called d) = seq a_word (seq d done)
+
+word_carries : (t : Option Kind) (ts : List Tok) (n : Identifier) (mid : List Tok) → kind (next ts) ≡ t → IsWord ts n mid → kind mid ≡ t
+word_carries t ts n mid h a_word = h
+
+-- where a word and '(' come first
+pub call_exact : (r : ℕ) (i : Inside) → ExactInside r i → Exact 1 (spec.call r i) (λ ts. kind (next ts) ≡ Some (k.Symbol s.Open)) IsCall Any (At r) (At r)
+unfolding spec.call
+call_exact r i e = exact_iff
+    (exact_bind_if (exact_under (exact_word r) (λ ts p. tt) (λ t g. g)) (λ n. exact_enter 1 r _ (k.Symbol s.Open) refl (called_behind r i e n)) (word_carries (Some (k.Symbol s.Open))) (λ n mid rest y d g. tt))
+    call_to call_from
+
+-- ---- operands
+
+group_to : (p : Place) (ts : List Tok) (x : Expression) (rest : List Tok) → Then (IsRank 7) (λ y. Then (IsOne (k.Symbol s.Close)) (λ q. IsPure (e.Group p y))) ts x rest
+    → IsPrimary ((p, k.Symbol s.Open) ∷ ts) x rest
+group_to p ts x rest (seq d (seq one m)) = made m (λ y us. IsPrimary ((p, k.Symbol s.Open) ∷ ts) y us) (group d)
+
+group_from : (p : Place) (ts : List Tok) (x : Expression) (rest : List Tok) → IsPrimary ((p, k.Symbol s.Open) ∷ ts) x rest
+    → Then (IsRank 7) (λ y. Then (IsOne (k.Symbol s.Close)) (λ q. IsPure (e.Group p y))) ts x rest
+group_from p ts x rest (group d) = seq d (seq one done)
+group_from p ts x rest (variable d) = elim d [ ]
+group_from p ts x rest (call d) = elim d [ ]
+group_from p ts x rest (constant d) = absurd (let wrong = constant_begins d in cc)
+
+group_behind : (r : ℕ) (i : Inside) → ExactInside r i
+    → Behind 1 r (λ p ts. and_then (i.expression ts) (λ x us. and_then (parser.symbol s.Close us) (λ q. parser.pure (e.Group p x)))) (k.Symbol s.Open) IsPrimary Any
+group_behind zero i h = tt
+group_behind (suc r) i h = λ p. exact_iff
+    (exact_before (k.Symbol s.Close) h.0 tt (exact_symbol s.Close r refl) (λ x q. exact_pure (e.Group p x) Always Any (At (suc r)))) (group_to p) (group_from p)
+
+open_is : (t : Option Kind) → spec.is_open t ≡ true → t ≡ Some (k.Symbol s.Open)
+open_is (Some (k.Symbol s.Open)) h = refl
+open_is _ h = absurd (cc)
+
+call_as : (ts : List Tok) (x : Expression) (rest : List Tok) → Then IsCall (λ y. IsPure (e.Call y)) ts x rest → IsPrimary ts x rest
+call_as ts x rest (seq d m) = made m (λ y us. IsPrimary ts y us) (call d)
+
+call_back : (n : List ℕ) (ts : List Tok) (x : Expression) (rest : List Tok) → spec.is_open (kind (next ts)) ≡ true → kind ts ≡ Some (k.Word n) → Stops 0 (kind rest) → IsPrimary ts x rest
+    → Then IsCall (λ y. IsPure (e.Call y)) ts x rest
+call_back n ts x rest second first g (call d) = seq d done
+call_back n ts x rest second first g (constant d) = absurd (let wrong = subst (λ t. begins_constant t ≡ true) first (constant_begins d) in cc)
+call_back n ts x rest second first g (variable (named {ts = us} no_part)) = absurd (subst (Stops 0) (open_is (kind us) second) g)
+call_back n ts x rest second first g (variable (named (parts field m))) = absurd (cc)
+call_back n ts x rest second first g (variable (named (parts (subscripts d k) m))) = absurd (cc)
+call_back n ts x rest second first g (group d) = absurd (cc)
+
+variable_as : (ts : List Tok) (x : Expression) (rest : List Tok) → Then IsVariable (λ y. IsPure (e.Variable y)) ts x rest → IsPrimary ts x rest
+variable_as ts x rest (seq d m) = made m (λ y us. IsPrimary ts y us) (variable d)
+
+variable_back : (n : List ℕ) (ts : List Tok) (x : Expression) (rest : List Tok) → spec.is_open (kind (next ts)) ≡ false → kind ts ≡ Some (k.Word n) → IsPrimary ts x rest
+    → Then IsVariable (λ y. IsPure (e.Variable y)) ts x rest
+variable_back n ts x rest second first (variable d) = seq d done
+variable_back n ts x rest second first (constant d) = absurd (let wrong = subst (λ t. begins_constant t ≡ true) first (constant_begins d) in cc)
+variable_back n ts x rest second first (call (called no_arguments)) = absurd (cc)
+variable_back n ts x rest second first (call (called (arguments d m))) = absurd (cc)
+variable_back n ts x rest second first (group d) = absurd (cc)
+
+constant_as : (ts : List Tok) (x : Expression) (rest : List Tok) → Then IsConstant (λ y. IsPure (e.Constant y)) ts x rest → IsPrimary ts x rest
+constant_as ts x rest (seq d m) = made m (λ y us. IsPrimary ts y us) (constant d)
+
+-- no word, and no bracket
+abbrev is_literal_first : Option Kind → Bool
+is_literal_first (Some (k.Word n)) = false
+is_literal_first (Some (k.Symbol s.Open)) = false
+is_literal_first _ = true
+
+constant_back : (ts : List Tok) (x : Expression) (rest : List Tok) → is_literal_first (kind ts) ≡ true → IsPrimary ts x rest → Then IsConstant (λ y. IsPure (e.Constant y)) ts x rest
+constant_back ts x rest h (constant d) = seq d done
+constant_back ts x rest h (variable (named d)) = absurd (cc)
+constant_back ts x rest h (call (called d)) = absurd (cc)
+constant_back ts x rest h (group d) = absurd (cc)
+
+is_number_is : (ts : List Tok) → spec.is_number (kind ts) ≡ false → IsNumberFirst (kind ts) → ⊥
+is_number_is ((p, k.Number n) ∷ ts) h d = cc
+is_number_is [] h d = d
+is_number_is ((p, _) ∷ ts) h d = d
+
+number_is : (ts : List Tok) → spec.is_number (kind ts) ≡ true → IsNumberFirst (kind ts)
+number_is ((p, k.Number n) ∷ ts) h = tt
+number_is [] h = absurd (cc)
+number_is ((p, _) ∷ ts) h = absurd (cc)
+
+module _ (r : ℕ) (i : Inside) (h : ExactInside r i) where
+  group_exact : Exact 1 (spec.group r i) (IsFirst (k.Symbol s.Open)) IsPrimary Any (At r) (At r)
+  unfolding spec.group
+  group_exact = exact_enter 1 r _ (k.Symbol s.Open) refl (group_behind r i h)
+
+  named_by : (n : List ℕ) (b : Bool) → Exact 1 (spec.named_by r i b) (λ ts. (spec.is_open (kind (next ts)) ≡ b) × (kind ts ≡ Some (k.Word n))) IsPrimary (Stops 0) (At r) (At r)
+  named_by n true = exact_as (exact_last (call_exact r i h) e.Call) (λ ts p. open_is (kind (next ts)) p.0) (λ ts x rest p d. call_as ts x rest d)
+      (λ ts x rest p g d. call_back n ts x rest p.0 p.1 g d) (λ t g. tt)
+  named_by n false = exact_as (exact_last (variable_exact r i h) e.Variable) (λ ts p. tt) (λ ts x rest p d. variable_as ts x rest d)
+      (λ ts x rest p g d. variable_back n ts x rest p.0 p.1 d) (λ t g. g)
+
+  named_exact : (n : List ℕ) → Exact 1 (spec.named r i) (IsFirst (k.Word n)) IsPrimary (Stops 0) (At r) (At r)
+  unfolding spec.named
+  named_exact n = exact_on (λ ts. spec.is_open (kind (next ts))) (spec.named_by r i) (IsFirst (k.Word n)) IsPrimary (Stops 0) (At r) (At r) (named_by n)
+
+  literal_exact : (t : Option Kind) → is_literal_first t ≡ true → Exact 1 (λ ts. and_then (spec.constant ts) (λ x. parser.pure (e.Constant x))) (λ ts. (kind ts ≡ t) × Always ts) IsPrimary (Stops 0) (At r) (At r)
+  literal_exact t l = exact_as (exact_last (constant_exact r) e.Constant) (λ ts p. tt) (λ ts x rest p d. constant_as ts x rest d)
+      (λ ts x rest p g d. constant_back ts x rest (subst (λ u. is_literal_first u ≡ true) (sym p.0) l) d) (λ t g. tt)
+
+  primary_by : (t : Option Kind) → Exact 1 (spec.primary_by r i t) (λ ts. (kind ts ≡ t) × Always ts) IsPrimary (Stops 0) (At r) (At r)
+  primary_by (Some (k.Word n)) = exact_under (named_exact n) (λ ts p. p.0) (λ t g. g)
+  primary_by (Some (k.Symbol s.Open)) = exact_under group_exact (λ ts p. p.0) (λ t g. tt)
+  primary_by t = literal_exact t refl
+
+  primary_exact : Exact 1 (spec.primary r i) Always IsPrimary (Stops 0) (At r) (At r)
+  unfolding spec.primary
+  primary_exact = exact_on kind (spec.primary_by r i) Always IsPrimary (Stops 0) (At r) (At r) primary_by
+
+  complement_to : (p : Place) (ts : List Tok) (x : Expression) (rest : List Tok) → Then IsPrimary (λ y. IsPure (e.Complement p y)) ts x rest → IsUnary ((p, k.Keyword w.Not) ∷ ts) x rest
+  complement_to p ts x rest (seq d m) = made m (λ y us. IsUnary ((p, k.Keyword w.Not) ∷ ts) y us) (complement d)
+
+  complement_from : (p : Place) (ts : List Tok) (x : Expression) (rest : List Tok) → IsUnary ((p, k.Keyword w.Not) ∷ ts) x rest → Then IsPrimary (λ y. IsPure (e.Complement p y)) ts x rest
+  complement_from p ts x rest (complement d) = seq d done
+  complement_from p ts x rest (primary d) = absurd (let wrong = primary_begins d in cc)
+
+  complement_exact : Exact 1 (spec.complement r i) (IsFirst (k.Keyword w.Not)) IsUnary (Stops 0) (At r) (At r)
+  unfolding spec.complement
+  complement_exact = exact_token (k.Keyword w.Not) refl {R = IsUnary} (λ p. exact_iff (exact_last primary_exact (e.Complement p)) (complement_to p) (complement_from p))
+
+  negation_to : (p : Place) (ts : List Tok) (x : Expression) (rest : List Tok) → spec.is_number (kind ts) ≡ false → Then IsPrimary (λ y. IsPure (e.Negation p y)) ts x rest → IsUnary ((p, k.Symbol s.Minus) ∷ ts) x rest
+  negation_to p ts x rest apart (seq d m) = made m (λ y us. IsUnary ((p, k.Symbol s.Minus) ∷ ts) y us) (negation (is_number_is ts apart) d)
+
+  negation_from : (p : Place) (ts : List Tok) (x : Expression) (rest : List Tok) → spec.is_number (kind ts) ≡ false → IsUnary ((p, k.Symbol s.Minus) ∷ ts) x rest → Then IsPrimary (λ y. IsPure (e.Negation p y)) ts x rest
+  negation_from p ts x rest apart (negation n d) = seq d done
+  negation_from p ts x rest apart (primary (constant (integer minus))) = absurd (cc)
+  negation_from p ts x rest apart (primary (variable d)) = elim d [ ]
+  negation_from p ts x rest apart (primary (call d)) = elim d [ ]
+
+  negation_exact : Exact 1 (spec.negation r i) (λ ts. IsFirst (k.Symbol s.Minus) ts × (spec.is_number (kind (next ts)) ≡ false)) IsUnary (Stops 0) (At r) (At r)
+  unfolding spec.negation
+  negation_exact = exact_token_if (k.Symbol s.Minus) (λ ts. spec.is_number (kind (next ts)) ≡ false) IsUnary (Stops 0) (At r) (At r) (At r) (leads (k.Symbol s.Minus) r refl)
+      (λ p. exact_as (exact_last primary_exact (e.Negation p)) (λ ts a. tt) (λ ts x rest a d. negation_to p ts x rest a d) (λ ts x rest a g d. negation_from p ts x rest a d) (λ t g. g))
+
+  -- neither NOT nor a '-' before what is no number
+  abbrev is_primary_first : Option Kind → Option Kind → Bool
+  is_primary_first (Some (k.Keyword w.Not)) u = false
+  is_primary_first (Some (k.Symbol s.Minus)) u = spec.is_number u
+  is_primary_first _ u = true
+
+  primary_back : (ts : List Tok) (x : Expression) (rest : List Tok) → is_primary_first (kind ts) (kind (next ts)) ≡ true → IsUnary ts x rest → IsPrimary ts x rest
+  primary_back ts x rest a (primary d) = d
+  primary_back ts x rest a (complement d) = absurd (cc)
+  primary_back ts x rest a (negation {ts = us} n d) = absurd (n (number_is us a))
+
+  plain_exact : (t u : Option Kind) → is_primary_first t u ≡ true → Exact 1 (spec.primary r i) (λ ts. (kind (next ts) ≡ u) × ((kind ts ≡ t) × Always ts)) IsUnary (Stops 0) (At r) (At r)
+  plain_exact t u a = exact_as primary_exact (λ ts p. tt) (λ ts x rest p d. primary d)
+      (λ ts x rest p g d. primary_back ts x rest (subst (λ y. is_primary_first (kind ts) y ≡ true) (sym p.0) (subst (λ y. is_primary_first y u ≡ true) (sym p.1.0) a)) d) (λ t g. g)
+
+  minus_by : (u : Option Kind) (b : Bool) → spec.is_number u ≡ b
+      → Exact 1 (spec.minus_by r i b) (λ ts. (kind (next ts) ≡ u) × ((kind ts ≡ Some (k.Symbol s.Minus)) × Always ts)) IsUnary (Stops 0) (At r) (At r)
+  minus_by u true a = plain_exact (Some (k.Symbol s.Minus)) u a
+  minus_by u false a = exact_under negation_exact (λ ts p. (p.1.0, ap spec.is_number p.0 ∙ a)) (λ t g. g)
+
+  unary_by : (t u : Option Kind) → Exact 1 (spec.unary_by r i t u) (λ ts. (kind (next ts) ≡ u) × ((kind ts ≡ t) × Always ts)) IsUnary (Stops 0) (At r) (At r)
+  unary_by (Some (k.Keyword w.Not)) u = exact_under complement_exact (λ ts p. p.1.0) (λ t g. g)
+  unary_by (Some (k.Symbol s.Minus)) u = minus_by u (spec.is_number u) refl
+  unary_by t u = plain_exact t u refl
+
+  unary_exact : Exact 1 (spec.unary r i) Always IsUnary (Stops 0) (At r) (At r)
+  unfolding spec.unary
+  unary_exact = exact_on kind (λ t ts. spec.unary_by r i t (kind (next ts)) ts) Always IsUnary (Stops 0) (At r) (At r)
+      (λ t. exact_on (λ ts. kind (next ts)) (spec.unary_by r i t) (λ ts. (kind ts ≡ t) × Always ts) IsUnary (Stops 0) (At r) (At r) (λ u. unary_by t u))
+
+-- ---- the ranks
+
+to_operations : {n : ℕ} {ts rest : List Tok} {xs : List Operation} → IsMany (IsOperation n) ts xs rest → IsOperations n ts xs rest
+to_operations none = no_operation
+to_operations (more d m) = operations d (to_operations m)
+
+from_operations : {n : ℕ} {ts rest : List Tok} {xs : List Operation} → IsOperations n ts xs rest → IsMany (IsOperation n) ts xs rest
+from_operations no_operation = none
+from_operations (operations d m) = more d (from_operations m)
+
+has_rank_is : (n : ℕ) (op : BinOp) → spec.has_rank n (Some op) ≡ true → rank_of op ≡ n
+has_rank_is n op h = rank_is (rank_of op) n h
+
+module _ (r n : ℕ) (P : Parser Expression) (a : Exact 1 P Always (IsRank n) (Stops n) (At r) (At r)) where
+  operation_to : (p : Place) (t : Kind) (op : BinOp) → operator_of t ≡ Some op → rank_of op ≡ suc n → (ts : List Tok) (x : Operation) (rest : List Tok)
+      → Then (IsRank n) (λ y. IsPure (operation_of p op y)) ts x rest → IsOperation n ((p, t) ∷ ts) x rest
+  operation_to p t op is rank ts x rest (seq d m) = made m (λ y us. IsOperation n ((p, t) ∷ ts) y us) (operation is rank d)
+
+  same_some : {x y : BinOp} → ◌≡◌ {A = Option BinOp} (Some x) (Some y) → x ≡ y
+  same_some h = cc
+
+  operation_from : (p : Place) (t : Kind) (op : BinOp) → operator_of t ≡ Some op → (ts : List Tok) (x : Operation) (rest : List Tok) → IsOperation n ((p, t) ∷ ts) x rest
+      → Then (IsRank n) (λ y. IsPure (operation_of p op y)) ts x rest
+  operation_from p t op is ts x rest (operation {op = other} {x = y} its rank d) =
+      subst (λ o. Then (IsRank n) (λ y. IsPure (operation_of p o y)) ts (operation_of p other y) rest) (same_some (sym its ∙ is)) (seq d done)
+
+  behind_operator : (p : Place) (t : Kind) (op : Option BinOp) → operator_of t ≡ op → spec.has_rank (suc n) op ≡ true
+      → Exact 1 (spec.operation_by P p op) Always (λ us. IsOperation n ((p, t) ∷ us)) (Stops n) (At r) (At r)
+  behind_operator p t (Some op) is rank = exact_iff (exact_last a (operation_of p op)) (operation_to p t op is (has_rank_is (suc n) op rank)) (operation_from p t op is)
+  behind_operator p t None is rank = absurd (cc)
+
+  -- no operator opens a level
+  plain_operator : (t : Kind) (op : BinOp) → operator_of t ≡ Some op → opens t ≡ 0
+  plain_operator (k.Symbol s.Open) op is = absurd (cc)
+  plain_operator (k.Symbol s.OpenBracket) op is = absurd (cc)
+  plain_operator (k.Keyword w.If) op is = absurd (cc)
+  plain_operator (k.Keyword w.Case) op is = absurd (cc)
+  plain_operator (k.Keyword w.For) op is = absurd (cc)
+  plain_operator (k.Keyword w.While) op is = absurd (cc)
+  plain_operator (k.Keyword w.Repeat) op is = absurd (cc)
+  plain_operator t op is = refl
+
+  -- nor closes one
+  level_operator : (t : Kind) (op : BinOp) → operator_of t ≡ Some op → closes t ≡ 0
+  level_operator (k.Symbol s.Close) op is = absurd (cc)
+  level_operator (k.Symbol s.CloseBracket) op is = absurd (cc)
+  level_operator (k.Keyword w.EndIf) op is = absurd (cc)
+  level_operator (k.Keyword w.EndCase) op is = absurd (cc)
+  level_operator (k.Keyword w.EndFor) op is = absurd (cc)
+  level_operator (k.Keyword w.EndWhile) op is = absurd (cc)
+  level_operator (k.Keyword w.EndRepeat) op is = absurd (cc)
+  level_operator t op is = refl
+
+  operator_leads : (t : Kind) (op : Option BinOp) → operator_of t ≡ op → spec.has_rank (suc n) op ≡ true → Leads (At r) (At r) t
+  operator_leads t (Some op) is rank = subst (λ c. Leads (At r) (At (past c r)) t) (level_operator t op is) (leads t r (plain_operator t op is))
+  operator_leads t None is rank = absurd (cc)
+
+  operator_of_kind : (t : Option Kind) → Exact 1 (λ ts. and_then (parser.skip ts) (λ p. spec.operation_by P p (spec.operator_at t))) (λ ts. (kind ts ≡ t) × (spec.is_operator n (kind ts) ≡ true)) (IsOperation n) (Stops n) (At r) (At r)
+  operator_of_kind (Some t) = by (spec.has_rank (suc n) (operator_of t)) refl where
+    by : (b : Bool) → spec.has_rank (suc n) (operator_of t) ≡ b
+        → Exact 1 (λ ts. and_then (parser.skip ts) (λ p. spec.operation_by P p (operator_of t))) (λ ts. (kind ts ≡ Some t) × (spec.is_operator n (kind ts) ≡ true)) (IsOperation n) (Stops n) (At r) (At r)
+    by true rank = exact_under
+        (exact_token_if t Always (IsOperation n) (Stops n) (At r) (At r) (At r) (operator_leads t (operator_of t) refl rank) (λ p. behind_operator p t (operator_of t) refl rank))
+        (λ ts p. (p.0, tt)) (λ t g. g)
+    by false rank = record {
+      reads = λ ts x rest p h. absurd (let wrong = subst (λ u. spec.is_operator n u ≡ true) p.0 p.1 in cc);
+      deep = λ ts p h q. let wrong = subst (λ u. spec.is_operator n u ≡ true) p.0 p.1 in cc;
+      read = λ ts x rest p d g q. absurd (let wrong = subst (λ u. spec.is_operator n u ≡ true) p.0 p.1 in cc);
+    }
+  operator_of_kind None = record {
+    reads = λ ts x rest p h. absurd (let wrong = subst (λ u. spec.is_operator n u ≡ true) p.0 p.1 in cc);
+    deep = λ ts p h q. let wrong = subst (λ u. spec.is_operator n u ≡ true) p.0 p.1 in cc;
+    read = λ ts x rest p d g q. absurd (let wrong = subst (λ u. spec.is_operator n u ≡ true) p.0 p.1 in cc);
+  }
+
+  operation_exact : Exact 1 (spec.operation P) (λ ts. spec.is_operator n (kind ts) ≡ true) (IsOperation n) (Stops n) (At r) (At r)
+  unfolding spec.operation
+  operation_exact = exact_on kind (λ t ts. and_then (parser.skip ts) (λ p. spec.operation_by P p (spec.operator_at t))) (λ ts. spec.is_operator n (kind ts) ≡ true) (IsOperation n) (Stops n) (At r) (At r) operator_of_kind
+
+  operator_stops : (t : Option Kind) → spec.is_operator n t ≡ true → Stops n t
+  operator_stops (Some t) h = by (operator_of t) refl h where
+    by : (op : Option BinOp) → operator_of t ≡ op → spec.has_rank (suc n) op ≡ true → Stops n (Some t)
+    by (Some op) is rank = stops_at n t op is (let e = has_rank_is (suc n) op rank in omega (arith, e))
+    by None is rank = absurd (cc)
+  operator_stops None h = tt
+
+  operations_exact : Exact 0 (spec.operations P n) Always (IsMany (IsOperation n)) (Ends (spec.is_operator n) (Stops n)) (At r) (At r)
+  operations_exact = exact_many (spec.is_operator n) (spec.operation P) (IsOperation n) (Stops n) (At r) operation_exact (operation_begins n) operator_stops
+
+  abbrev IsLevel : Place → Relation Expression
+  IsLevel p = Then (IsRank n) (λ x. Then (IsMany (IsOperation n)) (λ ls. IsPure (spec.chain p x ls)))
+
+  level_is : (ts mid : List Tok) (x : Expression) (rest : List Tok) (ls : List Operation) → IsRank n ts x mid → IsMany (IsOperation n) mid ls rest → IsRank (suc n) ts (spec.chain (place ts) x ls) rest
+  unfolding spec.chain
+  level_is ts mid x rest [] d none = alone d
+  level_is ts mid x rest (l ∷ ls) d m = chain d (to_operations m)
+
+  level_to : (p : Place) (ts : List Tok) (x : Expression) (rest : List Tok) → p ≡ place ts → IsLevel p ts x rest → IsRank (suc n) ts x rest
+  level_to p ts x rest here (seq {mid = mid} {x = y} d (seq {mid = last} {x = ls} m c)) =
+      made c (λ z us. IsRank (suc n) ts z us) (subst (λ q. IsRank (suc n) ts (spec.chain q y ls) last) (sym here) (level_is ts mid y last ls d m))
+
+  level_from : (p : Place) (ts : List Tok) (x : Expression) (rest : List Tok) → p ≡ place ts → IsRank (suc n) ts x rest → IsLevel p ts x rest
+  unfolding spec.chain
+  level_from p ts x rest here (alone d) = seq d (seq none done)
+  level_from p ts x rest here (chain {x = y} {l = l} {ls = ls} d m) =
+      subst (λ q. IsLevel p ts (e.Chain q y (l ∷ ls)) rest) here (seq d (seq (from_operations m) done))
+
+  level_follow : (p : Place) (x : Expression) (mid rest : List Tok) (y : Expression) → Then (IsMany (IsOperation n)) (λ ls. IsPure (spec.chain p x ls)) mid y rest → Ends (spec.is_operator n) (Stops n) (kind rest) → Stops n (kind mid)
+  level_follow p x mid rest y (seq none c) g = made c (λ z us. Ends (spec.is_operator n) (Stops n) (kind us) → Stops n (kind mid)) (λ f. f.1) g
+  level_follow p x mid rest y (seq (more {mid = next'} {x = l} d m) c) g = operator_stops (kind mid) (operation_begins n mid l next' d)
+
+  level_exact : (p : Place) → Exact 1 (λ ts. and_then (P ts) (λ x us. and_then (spec.operations P n us) (λ ls. parser.pure (spec.chain p x ls)))) (λ ts. (place ts ≡ p) × Always ts) (IsRank (suc n)) (Stops (suc n)) (At r) (At r)
+  level_exact p = exact_as (exact_bind a (λ x. exact_last operations_exact (spec.chain p x)) (level_follow p)) (λ ts h. tt)
+      (λ ts x rest h d. level_to p ts x rest (sym h.0) d) (λ ts x rest h g d. level_from p ts x rest (sym h.0) d) (λ t g. (stops_operator n t g, stops_less n t g))
+
+pub rank_exact : (r : ℕ) (i : Inside) → ExactInside r i → (n : ℕ) → Exact 1 (spec.rank r i n) Always (IsRank n) (Stops n) (At r) (At r)
+unfolding spec.rank
+rank_exact r i h zero = exact_iff (unary_exact r i h) (λ ts x rest d. unary d) (λ ts x rest d. unary_back ts x rest d) where
+  unary_back : (ts : List Tok) (x : Expression) (rest : List Tok) → IsRank 0 ts x rest → IsUnary ts x rest
+  unary_back ts x rest (unary d) = d
+rank_exact r i h (suc n) = exact_on place (λ p ts. and_then (spec.rank r i n ts) (λ x us. and_then (spec.operations (spec.rank r i n) n us) (λ ls. parser.pure (spec.chain p x ls)))) Always (IsRank (suc n)) (Stops (suc n)) (At r) (At r)
+    (λ p. level_exact r n (spec.rank r i n) (rank_exact r i h n) p)
+
+-- what stands in brackets is read exactly
+pub inside_exact : (r : ℕ) → ExactInside r (spec.inside_of r)
+unfolding spec.inside_of
+inside_exact zero = tt
+inside_exact (suc r) = (rank_exact r (spec.inside_of r) (inside_exact r) 7, variable_exact r (spec.inside_of r) (inside_exact r))
+
+-- an expression is read exactly
+pub expression_exact : (r : ℕ) → Exact 1 (spec.expression r) Always (IsRank 7) (Stops 7) (At r) (At r)
+unfolding spec.expression
+expression_exact r = rank_exact r (spec.inside_of r) (inside_exact r) 7

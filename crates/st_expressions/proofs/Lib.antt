@@ -1,4 +1,6 @@
 pub mod Exact
+pub mod Expressions
+pub mod Follows
 pub mod Loops
 pub mod ReadingLemmas
 pub mod Room

@@ -162,13 +162,17 @@ mutual
     next_expressions : {p : Place} {ts mid rest : List Tok} {x : Expression} {xs : List Expression} → IsRank 7 ts x mid
         → IsNextExpressions mid xs rest → IsNextExpressions ((p, k.Symbol s.Comma) ∷ ts) (x ∷ xs) rest
 
-  -- word '(' [ argument { ',' argument } ] ')'
+  -- word arguments
   pub data IsCall : List Tok → Call → List Tok → Type 0 where
-    call_plain : {p q r : Place} {n : List ℕ} {rest : List Tok}
-        → IsCall ((p, k.Word n) ∷ (q, k.Symbol s.Open) ∷ (r, k.Symbol s.Close) ∷ rest) (call_of (identifier p n) []) rest
-    call_with : {p q r : Place} {n : List ℕ} {ts mid rest : List Tok} {x : Argument} {xs : List Argument}
-        → IsArgument ts x mid → IsNextArguments mid xs ((r, k.Symbol s.Close) ∷ rest)
-        → IsCall ((p, k.Word n) ∷ (q, k.Symbol s.Open) ∷ ts) (call_of (identifier p n) (x ∷ xs)) rest
+    called : {p : Place} {n : List ℕ} {ts rest : List Tok} {xs : List Argument} → IsArguments ts xs rest
+        → IsCall ((p, k.Word n) ∷ ts) (call_of (identifier p n) xs) rest
+
+  -- '(' [ argument { ',' argument } ] ')'
+  pub data IsArguments : List Tok → List Argument → List Tok → Type 0 where
+    no_arguments : {p q : Place} {rest : List Tok} → IsArguments ((p, k.Symbol s.Open) ∷ (q, k.Symbol s.Close) ∷ rest) [] rest
+    arguments : {p q : Place} {ts mid rest : List Tok} {x : Argument} {xs : List Argument}
+        → IsArgument ts x mid → IsNextArguments mid xs ((q, k.Symbol s.Close) ∷ rest)
+        → IsArguments ((p, k.Symbol s.Open) ∷ ts) (x ∷ xs) rest
 
   -- { ',' argument }
   pub data IsNextArguments : List Tok → List Argument → List Tok → Type 0 where
