@@ -94,7 +94,7 @@ retention_of yes p rest = retain
 retention_of no p rest = non_retain
 
 retained_to : {u : Keyword} → IsRetaining u → (x : Section) (p : Place) (ts : List Tok) (y : Section) (rest : List Tok) → IsPure x ts y rest → IsRetained x ((p, k.Keyword u) ∷ ts) y rest
-retained_to u x p ts y rest d = made d (λ z us. IsRetained x ((p, k.Keyword _) ∷ ts) z us) (kept (retention_of u p ts))
+retained_to {u = word} u x p ts y rest d = made d (λ z us. IsRetained x ((p, k.Keyword word) ∷ ts) z us) (kept (retention_of u p ts))
 
 retained_from : {u : Keyword} → IsRetaining u → (x : Section) (p : Place) (ts : List Tok) (y : Section) (rest : List Tok) → IsUnqualified (kind rest)
     → IsRetained x ((p, k.Keyword u) ∷ ts) y rest → IsPure x ts y rest
@@ -219,9 +219,11 @@ module _ (r : ℕ) where
 abbrev IsBlock : Place → Relation VarBlock
 IsBlock p = Then IsSection (λ x. Then (IsMany IsDeclaration) (λ ds. Then (IsOne (k.Keyword w.EndVar)) (λ q. IsPure (block_of p x ds))))
 
+block_here : (ts : List Tok) (x : VarBlock) (rest : List Tok) → IsBlock (place ts) ts x rest → IsVarBlock ts x rest
+block_here ts x rest (seq d (seq e (seq one m))) = made m (λ y us. IsVarBlock ts y us) (block d e)
+
 block_to : (p : Place) (ts : List Tok) (x : VarBlock) (rest : List Tok) → place ts ≡ p → IsBlock p ts x rest → IsVarBlock ts x rest
-block_to p ts x rest h (seq {x = section} d (seq {x = ds} e (seq one m))) =
-    made m (λ y us. IsVarBlock ts y us) (subst (λ q. IsVarBlock ts (block_of q section ds) _) h (block d e))
+block_to p ts x rest h d = block_here ts x rest (subst (λ q. IsBlock q ts x rest) (sym h) d)
 
 block_from : (p : Place) (ts : List Tok) (x : VarBlock) (rest : List Tok) → place ts ≡ p → IsVarBlock ts x rest → IsBlock p ts x rest
 block_from p ts x rest h (block d e) = subst (λ q. IsBlock q ts x rest) h (seq d (seq e (seq one done)))
