@@ -1,5 +1,6 @@
 pub mod Blocks
 pub mod DeclaredTypes
+pub mod Exactness
 pub mod Initials
 pub mod Members
 pub mod Specifications

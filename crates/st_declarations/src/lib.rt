@@ -2,6 +2,7 @@
 #![tactic(auto)]
 
 pub mod first;
+pub mod laws;
 pub mod specification;
 pub mod initial;
 pub mod variables;
