@@ -1,6 +1,6 @@
 -- Declarations of variables, and blocks of them, are read exactly.
-use Rattle.std.proofs.Common.{◌≡◌, ℕ, ◌+◌, ◌≤◌, List, [], ◌∷◌, refl, sym, subst, ◌∙◌, Bool, true, false, arith}
-use Rattle.std.specs.Prelude.{Option, Some, None}
+use Rattle.std.proofs.Common.{◌≡◌, ℕ, List, [], ◌∷◌, refl, sym, subst, Bool, true, false}
+use Rattle.std.specs.Prelude.{Option, Some}
 use Rattle.st_tokens.specs.declared.keyword.Keyword.{Keyword}
 use Rattle.st_tokens.specs.declared.keyword.Keyword.TheVariants as w
 use Rattle.st_tokens.specs.declared.symbol.Symbol.TheVariants as s
@@ -16,12 +16,12 @@ use Rattle.st_expressions.specs.Lists.{IsMany, none, more, IsListed, listed}
 use Rattle.st_expressions.specs.Parsers as parser
 use Rattle.st_expressions.specs.Parsers.{Parser, and_then, identifier}
 use Rattle.st_expressions.specs.Tokens.{Tok, kind, place}
-use Rattle.st_expressions.proofs.Exact.{Relation, Exact, Always, Any, Then, seq, IsOne, one, IsPure, done, made, IsWord, a_word, exact_as, exact_iff, exact_under, exact_on, exact_pure, exact_last, exact_bind, exact_before, before_token, exact_refuse, exact_token, exact_symbol, exact_keyword, exact_word, exact_many, exact_listed, Ends, IsFirst}
+use Rattle.st_expressions.proofs.Exact.{Relation, Exact, Always, Any, Then, seq, IsOne, one, IsPure, done, made, IsWord, a_word, exact_as, exact_iff, exact_under, exact_on, exact_pure, exact_bind, exact_before, before_token, exact_refuse, exact_token, exact_symbol, exact_keyword, exact_word, exact_many, exact_listed, Ends}
 use Rattle.st_expressions.proofs.Room.{At}
 use Rattle.st_declarations.specs.Grammar.{declaration_of, block_of, IsName, name, IsSpecification, IsOptionalInitial, IsDeclaration, declaration, IsMember, member, IsRetention, unsaid, retain, non_retain, IsSection, internal, constants, input, output, IsVarBlock, block, IsVarBlocks}
 use Rattle.st_declarations.specs.Reading as spec
 use Rattle.st_declarations.proofs.Specifications.{exact_loose, name_exact, specification_exact}
-use Rattle.st_declarations.proofs.Initials.{IsUnassigned, optional_initial_exact}
+use Rattle.st_declarations.proofs.Initials.{optional_initial_exact}
 
 -- ---- declarations
 
@@ -34,8 +34,8 @@ typed_exact : (r : ℕ) (names : List Identifier) → Exact 1 (spec.typed r name
 unfolding spec.typed
 typed_exact r names = exact_bind (exact_symbol s.Colon r refl)
     (λ c. exact_bind (specification_exact r)
-        (λ x. exact_before (k.Symbol s.Semicolon) (optional_initial_exact r) refl (exact_symbol s.Semicolon r refl) (λ value q. exact_pure (declaration_of names x value) Always Any (At r)))
-        (λ x mid rest y d g. tt))
+    (λ x. exact_before (k.Symbol s.Semicolon) (optional_initial_exact r) refl (exact_symbol s.Semicolon r refl) (λ value q. exact_pure (declaration_of names x value) Always Any (At r)))
+    (λ x mid rest y d g. tt))
     (λ c mid rest y d g. tt)
 
 declaration_to : (ts : List Tok) (x : Declaration) (rest : List Tok) → Then (IsListed IsName) IsTyped ts x rest → IsDeclaration ts x rest
@@ -61,7 +61,7 @@ module _ (r : ℕ) where
   unfolding spec.declaration
   declaration_exact = exact_iff
       (exact_bind (exact_listed parser.word IsName Any r (name_exact r) tt) (λ names. typed_exact r names)
-          (λ names mid rest y d g. before_token (Ends parser.is_comma Any) (refl, tt) d))
+      (λ names mid rest y d g. before_token (Ends parser.is_comma Any) (refl, tt) d))
       declaration_to declaration_from
 
   pub member_exact : Exact 1 (spec.member r) Always IsMember Any (At r) (At r)
@@ -121,11 +121,11 @@ module _ (r : ℕ) (x : Section) where
   said_exact : (u : Keyword) → IsRetaining u → Exact 0 (λ ts. and_then (parser.skip ts) (λ p. parser.pure x)) (λ ts. (kind ts ≡ Some (k.Keyword u)) × Always ts) (IsRetained x) IsUnqualified (At r) (At r)
   said_exact w.Retain u = exact_under
       (exact_loose (exact_token (k.Keyword w.Retain) refl {R = IsRetained x}
-          (λ p. exact_as (exact_pure x Always Any (At r)) (λ ts i. i) (λ ts y rest i d. retained_to yes x p ts y rest d) (λ ts y rest i g d. retained_from yes x p ts y rest g d) (λ t g. tt))))
+      (λ p. exact_as (exact_pure x Always Any (At r)) (λ ts i. i) (λ ts y rest i d. retained_to yes x p ts y rest d) (λ ts y rest i g d. retained_from yes x p ts y rest g d) (λ t g. tt))))
       (λ ts p. p.0) (λ t g. g)
   said_exact w.NonRetain u = exact_under
       (exact_loose (exact_token (k.Keyword w.NonRetain) refl {R = IsRetained x}
-          (λ p. exact_as (exact_pure x Always Any (At r)) (λ ts i. i) (λ ts y rest i d. retained_to no x p ts y rest d) (λ ts y rest i g d. retained_from no x p ts y rest g d) (λ t g. tt))))
+      (λ p. exact_as (exact_pure x Always Any (At r)) (λ ts i. i) (λ ts y rest i d. retained_to no x p ts y rest d) (λ ts y rest i g d. retained_from no x p ts y rest g d) (λ t g. tt))))
       (λ ts p. p.0) (λ t g. g)
   said_exact _ u = elim u [ ]
 
@@ -193,7 +193,7 @@ module _ (r : ℕ) where
     internal_by : (t : Option Kind) → Exact 0 (spec.internal_by t) (λ ts. (kind ts ≡ t) × Always ts) (IsBehindVar p) IsUnqualified (At r) (At r)
     internal_by (Some (k.Keyword w.Constant)) = exact_under
         (exact_loose (exact_token (k.Keyword w.Constant) refl {R = IsBehindVar p}
-            (λ q. exact_as (exact_pure sections.Constant Always Any (At r)) (λ ts i. i) (λ ts x rest i d. constants_to p q ts x rest d) (λ ts x rest i g d. constants_from p q ts x rest g d) (λ t g. tt))))
+        (λ q. exact_as (exact_pure sections.Constant Always Any (At r)) (λ ts i. i) (λ ts x rest i d. constants_to p q ts x rest d) (λ ts x rest i g d. constants_from p q ts x rest g d) (λ t g. tt))))
         (λ ts b. b.0) (λ t g. g)
     internal_by t = variable_exact t refl
 
@@ -246,8 +246,8 @@ module _ (r : ℕ) where
       (λ ts. (place ts ≡ p) × Always ts) IsVarBlock Any (At r) (At r)
   block_at p = exact_as
       (exact_bind (section_exact r)
-          (λ x. exact_before (k.Keyword w.EndVar) (declarations_exact r) (refl, tt) (exact_keyword w.EndVar r refl) (λ ds q. exact_pure (block_of p x ds) Always Any (At r)))
-          (λ x mid rest y d g. block_follow p x mid rest y d))
+      (λ x. exact_before (k.Keyword w.EndVar) (declarations_exact r) (refl, tt) (exact_keyword w.EndVar r refl) (λ ds q. exact_pure (block_of p x ds) Always Any (At r)))
+      (λ x mid rest y d g. block_follow p x mid rest y d))
       (λ ts b. tt) (λ ts x rest b d. block_to p ts x rest b.0 d) (λ ts x rest b g d. block_from p ts x rest b.0 d) (λ t g. g)
 
   -- a block of declarations is read exactly

@@ -1,6 +1,6 @@
 -- Declarations of types are read exactly.
-use Rattle.std.proofs.Common.{◌≡◌, ℕ, ◌+◌, ◌≤◌, List, [], ◌∷◌, refl, sym, subst, Bool, true, false}
-use Rattle.std.specs.Prelude.{Option, Some, None}
+use Rattle.std.proofs.Common.{◌≡◌, ℕ, List, ◌∷◌, refl, sym, subst, Bool, true, false}
+use Rattle.std.specs.Prelude.{Option, Some}
 use Rattle.st_tokens.specs.declared.keyword.Keyword.TheVariants as w
 use Rattle.st_tokens.specs.declared.symbol.Symbol.TheVariants as s
 use Rattle.st_tokens.specs.declared.token.Kind.{Kind}
@@ -11,11 +11,9 @@ use Rattle.st_tree.specs.declared.tree.declaration.Specification.{Specification}
 use Rattle.st_tree.specs.declared.tree.declaration.DeclaredType.{DeclaredType}
 use Rattle.st_tree.specs.declared.tree.declaration.DeclaredType.TheVariants as declared_types
 use Rattle.st_tree.specs.declared.tree.unit.TypeDeclaration.{TypeDeclaration}
-use Rattle.st_expressions.specs.Lists.{IsMany, none, more}
-use Rattle.st_expressions.specs.Parsers as parser
-use Rattle.st_expressions.specs.Parsers.{Parser, and_then}
+use Rattle.st_expressions.specs.Lists.{IsMany}
 use Rattle.st_expressions.specs.Tokens.{Tok, kind}
-use Rattle.st_expressions.proofs.Exact.{Relation, Exact, Always, Any, Then, seq, IsOne, one, IsPure, done, made, IsWord, a_word, exact_as, exact_iff, exact_under, exact_on, exact_pure, exact_last, exact_bind, exact_before, before_token, exact_token, exact_symbol, exact_keyword, exact_word, exact_many, Ends, IsFirst}
+use Rattle.st_expressions.proofs.Exact.{Relation, Exact, Always, Any, Then, seq, IsOne, one, IsPure, done, made, IsWord, a_word, exact_as, exact_iff, exact_under, exact_on, exact_pure, exact_last, exact_bind, exact_before, exact_token, exact_symbol, exact_keyword, exact_word, exact_many, Ends, IsFirst}
 use Rattle.st_expressions.proofs.Room.{At}
 use Rattle.st_declarations.specs.Grammar.{type_of, IsSpecification, simple, array, elementary, named, IsOptionalInitial, IsMember, IsDeclaredType, derived, structure, IsTypeDeclaration, type_declaration, IsTypeDeclarations, IsTypeBlock, types}
 use Rattle.st_declarations.specs.Reading as spec
@@ -83,8 +81,8 @@ module _ (r : ℕ) where
   unfolding spec.structure
   structure_exact = exact_token (k.Keyword w.Struct) refl {R = IsDeclaredType}
       (λ p. exact_iff
-          (exact_before (k.Keyword w.EndStruct) (members_exact r) (refl, tt) (exact_keyword w.EndStruct r refl) (λ xs q. exact_pure (declared_types.Structure p xs) Always Any (At r)))
-          (structure_to p) (structure_from p))
+      (exact_before (k.Keyword w.EndStruct) (members_exact r) (refl, tt) (exact_keyword w.EndStruct r refl) (λ xs q. exact_pure (declared_types.Structure p xs) Always Any (At r)))
+      (structure_to p) (structure_from p))
 
   derived_exact : (t : Option Kind) → is_derived t ≡ true → Exact 1 (spec.derived r) (λ ts. (kind ts ≡ t) × Always ts) IsDeclaredType IsUnassigned (At r) (At r)
   unfolding spec.derived
@@ -130,10 +128,10 @@ module _ (r : ℕ) where
   unfolding spec.type_declaration
   type_declaration_exact = exact_iff
       (exact_bind (exact_word r)
-          (λ n. exact_bind (exact_symbol s.Colon r refl)
-              (λ c. exact_before (k.Symbol s.Semicolon) (declared_type_exact r) refl (exact_symbol s.Semicolon r refl) (λ x q. exact_pure (type_of n x) Always Any (At r)))
-              (λ c mid rest y d g. tt))
-          (λ n mid rest y d g. tt))
+      (λ n. exact_bind (exact_symbol s.Colon r refl)
+      (λ c. exact_before (k.Symbol s.Semicolon) (declared_type_exact r) refl (exact_symbol s.Semicolon r refl) (λ x q. exact_pure (type_of n x) Always Any (At r)))
+      (λ c mid rest y d g. tt))
+      (λ n mid rest y d g. tt))
       named_to named_from
 
   -- and so are several
@@ -146,6 +144,6 @@ module _ (r : ℕ) where
   unfolding spec.type_block
   type_block_exact = exact_iff
       (exact_bind (exact_keyword w.Type r refl)
-          (λ p. exact_before (k.Keyword w.EndType) type_declarations_exact (refl, tt) (exact_keyword w.EndType r refl) (λ xs q. exact_pure xs Always Any (At r)))
-          (λ p mid rest y d g. tt))
+      (λ p. exact_before (k.Keyword w.EndType) type_declarations_exact (refl, tt) (exact_keyword w.EndType r refl) (λ xs q. exact_pure xs Always Any (At r)))
+      (λ p mid rest y d g. tt))
       enclosed_to enclosed_from

@@ -1,5 +1,5 @@
 -- From parsers that read exactly, to what is said of them.
-use Rattle.std.proofs.Common.{◌≡◌, ℕ, List}
+use Rattle.std.proofs.Common.{ℕ}
 use Rattle.std.specs.Prelude.{Option}
 use Rattle.st_tokens.specs.declared.token.Kind.{Kind}
 use Rattle.st_expressions.specs.Parsers.{Parser}

@@ -1,7 +1,6 @@
 -- Initial values are read exactly.
-use Rattle.std.proofs.Common.{◌≡◌, ℕ, zero, suc, ◌+◌, ◌-◌, ◌≤◌, List, [], ◌∷◌, refl, sym, subst, Bool, true, false, sub-one, arith}
+use Rattle.std.proofs.Common.{◌≡◌, ℕ, zero, suc, ◌-◌, List, ◌∷◌, refl, sym, subst, Bool, true, false, sub-one}
 use Rattle.std.specs.Prelude.{Option, Some, None}
-use Rattle.st_tokens.specs.declared.keyword.Keyword.TheVariants as w
 use Rattle.st_tokens.specs.declared.symbol.Symbol.TheVariants as s
 use Rattle.st_tokens.specs.declared.token.Kind.{Kind}
 use Rattle.st_tokens.specs.declared.token.Kind.TheVariants as k
@@ -81,7 +80,7 @@ repeated_from p q n ts x rest apart (single (integer unsigned)) = absurd apart
 
 repeated_behind : (r : ℕ) (p : Place) (n : ℕ)
     → Behind 0 r (λ q ts. and_then (spec.value ts) (λ x us. and_then (parser.symbol s.Close us) (λ c. parser.pure (elements.Repeated p n x))))
-        (k.Symbol s.Open) (λ us. IsArrayElement ((p, k.Number n) ∷ us)) IsApart
+    (k.Symbol s.Open) (λ us. IsArrayElement ((p, k.Number n) ∷ us)) IsApart
 repeated_behind zero p n = tt
 repeated_behind (suc r) p n = λ q. exact_as
     (exact_before (k.Symbol s.Close) (value_exact r) refl (exact_symbol s.Close r refl) (λ x c. exact_pure (elements.Repeated p n x) Always Any (At (suc r))))
@@ -108,7 +107,7 @@ module _ (r : ℕ) where
   unfolding spec.repeated
   repeated_exact n = exact_under
       (exact_token_if (k.Number n) (λ ts. kind (next ts) ≡ Some (k.Symbol s.Open)) IsArrayElement IsApart (At r) (At r) (At r) (leads (k.Number n) r refl)
-          (λ p. exact_enter 0 r _ (k.Symbol s.Open) refl (repeated_behind r p n)))
+      (λ p. exact_enter 0 r _ (k.Symbol s.Open) refl (repeated_behind r p n)))
       (λ ts b. (b.1.0, b.0)) (λ t g. g)
 
   single_exact : (t u : Option Kind) → is_single t u ≡ true → Exact 1 spec.single (Before t u) IsArrayElement IsApart (At r) (At r)
@@ -140,11 +139,11 @@ elements_from p ts x rest (literal d) = absurd (let wrong = constant_begins d in
 
 elements_behind : (r : ℕ)
     → Behind 1 r (λ p ts. and_then (parser.listed (spec.array_element (r - 1)) ts) (λ xs us. and_then (parser.symbol s.CloseBracket us) (λ c. parser.pure (initials.Array p xs))))
-        (k.Symbol s.OpenBracket) IsInitial Any
+    (k.Symbol s.OpenBracket) IsInitial Any
 elements_behind zero = tt
 elements_behind (suc r) = λ p. rw sub-one (exact_iff
     (exact_before (k.Symbol s.CloseBracket) (exact_listed (spec.array_element r) IsArrayElement IsApart r (array_element_exact r) tt) (refl, tt) (exact_symbol s.CloseBracket r refl)
-        (λ xs c. exact_pure (initials.Array p xs) Always Any (At (suc r))))
+    (λ xs c. exact_pure (initials.Array p xs) Always Any (At (suc r))))
     (elements_to p) (elements_from p))
 
 -- no '[' comes first

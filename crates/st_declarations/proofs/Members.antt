@@ -1,6 +1,6 @@
 -- The loop that reads the members of a structure behind the first.
 use Rattle.std.proofs.Common.{◌≡◌, ℕ, List, [], ◌∷◌, ◌++◌, refl, sym, ap, ◌∙◌, true, false}
-use Rattle.std.specs.Prelude.{Result, Ok, Err}
+use Rattle.std.specs.Prelude.{Ok, Err}
 use Rattle.st_tokens.specs.declared.fault.SyntaxFault.{SyntaxFault}
 use Rattle.st_tree.specs.declared.tree.declaration.Declaration.{Declaration}
 use Rattle.st_expressions.specs.Tokens.{Tok, kind}

@@ -1,6 +1,6 @@
 -- Types, as they are written in declarations, are read exactly.
-use Rattle.std.proofs.Common.{◌≡◌, ℕ, zero, suc, ◌+◌, ◌≤◌, List, [], ◌∷◌, refl, sym, subst, Bool, true, false, arith}
-use Rattle.std.specs.Prelude.{Option, Some, None}
+use Rattle.std.proofs.Common.{◌≡◌, ℕ, zero, suc, List, ◌∷◌, refl, sym, subst, Bool, true, false, arith}
+use Rattle.std.specs.Prelude.{Option, Some}
 use Rattle.st_tokens.specs.declared.keyword.Keyword.TheVariants as w
 use Rattle.st_tokens.specs.declared.symbol.Symbol.TheVariants as s
 use Rattle.st_tokens.specs.declared.token.Kind.{Kind}
@@ -18,7 +18,7 @@ use Rattle.st_expressions.specs.Lists.{IsListed}
 use Rattle.st_expressions.specs.Parsers as parser
 use Rattle.st_expressions.specs.Parsers.{Parser, and_then}
 use Rattle.st_expressions.specs.Tokens.{Tok, kind}
-use Rattle.st_expressions.proofs.Exact.{Relation, Exact, Found, Always, Any, Then, seq, IsOne, one, IsPure, done, made, IsWord, a_word, exact_as, exact_iff, exact_under, exact_on, exact_pure, exact_last, exact_bind, exact_before, exact_refuse, exact_token, exact_enter, Behind, exact_symbol, exact_keyword, exact_word, exact_listed, IsFirst}
+use Rattle.st_expressions.proofs.Exact.{Relation, Exact, Always, Any, Then, seq, IsOne, one, IsPure, done, made, IsWord, a_word, exact_as, exact_iff, exact_under, exact_on, exact_pure, exact_last, exact_bind, exact_before, exact_refuse, exact_token, exact_enter, Behind, exact_symbol, exact_keyword, exact_word, exact_listed, IsFirst}
 use Rattle.st_expressions.proofs.Expressions.{signed_integer_exact}
 use Rattle.st_expressions.proofs.Room.{At}
 use Rattle.st_declarations.specs.Grammar.{subrange_of, IsName, name, IsTypeName, elementary, named, IsSubrange, subrange, IsSpecification, simple, array}
@@ -118,8 +118,8 @@ pub subrange_exact : (r : ℕ) → Exact 1 spec.subrange Always IsSubrange Any (
 unfolding spec.subrange
 subrange_exact r = exact_iff
     (exact_bind (signed_integer_exact r)
-        (λ lower. exact_bind (exact_symbol s.Range r refl) (λ q. exact_last (signed_integer_exact r) (λ upper. subrange_of lower upper)) (λ q mid rest y d g. tt))
-        (λ lower mid rest y d g. tt))
+    (λ lower. exact_bind (exact_symbol s.Range r refl) (λ q. exact_last (signed_integer_exact r) (λ upper. subrange_of lower upper)) (λ q mid rest y d g. tt))
+    (λ lower mid rest y d g. tt))
     subrange_to subrange_from
 
 -- behind '['
@@ -157,12 +157,12 @@ simple_from ts x rest h (array d e) = absurd (cc)
 
 array_behind : (r : ℕ) (p : Place)
     → Behind 1 r (λ q ts. and_then (parser.listed spec.subrange ts) (λ ranges us. and_then (parser.symbol s.CloseBracket us) (λ c vs.
-        and_then (parser.keyword w.Of vs) (λ o zs. and_then (spec.type_name zs) (λ x. parser.pure (specifications.Array p ranges x))))))
-        (k.Symbol s.OpenBracket) (λ us. IsSpecification ((p, k.Keyword w.Array) ∷ us)) Any
+    and_then (parser.keyword w.Of vs) (λ o zs. and_then (spec.type_name zs) (λ x. parser.pure (specifications.Array p ranges x))))))
+    (k.Symbol s.OpenBracket) (λ us. IsSpecification ((p, k.Keyword w.Array) ∷ us)) Any
 array_behind zero p = tt
 array_behind (suc r) p = λ q. exact_iff
     (exact_before (k.Symbol s.CloseBracket) (exact_listed spec.subrange IsSubrange Any r (subrange_exact r) tt) (refl, tt) (exact_symbol s.CloseBracket r refl)
-        (λ ranges c. exact_bind (exact_keyword w.Of (suc r) refl) (λ o. exact_last (type_name_exact (suc r)) (λ x. specifications.Array p ranges x)) (λ o mid rest y d g. tt)))
+    (λ ranges c. exact_bind (exact_keyword w.Of (suc r) refl) (λ o. exact_last (type_name_exact (suc r)) (λ x. specifications.Array p ranges x)) (λ o mid rest y d g. tt)))
     (array_to p q) (array_from p q)
 
 module _ (r : ℕ) where

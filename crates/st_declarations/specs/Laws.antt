@@ -1,5 +1,5 @@
 -- What is said of a reading function and a line of the grammar.
-use Rattle.std.specs.Prelude.{◌≡◌, ◌↔◌, ℕ, List, Option, Result, Ok, Err}
+use Rattle.std.specs.Prelude.{◌≡◌, ◌↔◌, ℕ, List, Option, Ok, Err}
 use Rattle.st_tokens.specs.declared.token.Kind.{Kind}
 use Rattle.st_expressions.specs.Levels.{IsWithin}
 use Rattle.st_expressions.specs.Parsers.{Deep, Parser}

@@ -71,7 +71,11 @@ fn next_element(ts: &mut Cursor<'_>, room: u8) -> Result<ArrayElement, SyntaxFau
 }
 
 #[tactic(auto, unfolding(st_expressions::specs::Parsers::listed))]
-fn array_elements(alloc: Global, ts: &mut Cursor<'_>, room: u8) -> Result<List<ArrayElement>, SyntaxFault>
+fn array_elements(
+    alloc: Global,
+    ts: &mut Cursor<'_>,
+    room: u8,
+) -> Result<List<ArrayElement>, SyntaxFault>
     ensures read { Reads (parser.listed (spec.array_element room) ts.old) result ts.new }
     ensures shorter { OnOk result (length ts.new < length ts.old) }
 {
@@ -110,7 +114,11 @@ pub fn initial(alloc: Global, ts: &mut Cursor<'_>, room: u8) -> Result<Initial, 
 
 /// Takes `:=` and an initial value, or nothing where no `:=` stands here. `room` more levels may be opened.
 #[tactic(auto, unfolding(crate::specs::Reading::optional_initial))]
-pub fn optional_initial(alloc: Global, ts: &mut Cursor<'_>, room: u8) -> Result<Option<Initial>, SyntaxFault>
+pub fn optional_initial(
+    alloc: Global,
+    ts: &mut Cursor<'_>,
+    room: u8,
+) -> Result<Option<Initial>, SyntaxFault>
     ensures read { Reads (spec.optional_initial room ts.old) result ts.new }
     ensures shorter { OnOk result (length ts.new ≤ length ts.old) }
 {

@@ -8,16 +8,14 @@ ghost use Rattle.st_declarations.specs.Reading as spec;
 pub fn types_and_values()
     ensures specification { (room : ℕ) → ReadsExactly room (spec.specification room) IsSpecification Anything }
     ensures initial { (room : ℕ) → ReadsExactly room (spec.initial room) IsInitial Anything }
-{
-}
+{}
 
 /// Declarations of variables are read exactly. Blocks of them end where no further one begins.
 pub fn variables()
     ensures declaration { (room : ℕ) → ReadsExactly room (spec.declaration room) IsDeclaration Anything }
     ensures block { (room : ℕ) → ReadsExactly room (spec.var_block room) IsVarBlock Anything }
     ensures blocks { (room : ℕ) → ReadsExactly room (spec.var_blocks room) IsVarBlocks (λ token. spec.begins_block token ≡ false) }
-{
-}
+{}
 
 /// Declarations of types are read exactly. They end where no further one begins.
 pub fn declared_types()
@@ -25,5 +23,4 @@ pub fn declared_types()
     ensures declaration { (room : ℕ) → ReadsExactly room (spec.type_declaration room) IsTypeDeclaration Anything }
     ensures declarations { (room : ℕ) → ReadsExactly room (spec.type_declarations room) IsTypeDeclarations (λ token. spec.is_word token ≡ false) }
     ensures block { (room : ℕ) → ReadsExactly room (spec.type_block room) IsTypeBlock Anything }
-{
-}
+{}

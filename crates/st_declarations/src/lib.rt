@@ -2,8 +2,8 @@
 #![tactic(auto)]
 
 pub mod first;
+pub mod initial;
 pub mod laws;
 pub mod specification;
-pub mod initial;
-pub mod variables;
 pub mod types;
+pub mod variables;

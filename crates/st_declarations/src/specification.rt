@@ -90,7 +90,11 @@ fn array(alloc: Global, ts: &mut Cursor<'_>, room: u8) -> Result<Specification, 
 
 /// Takes a type. `room` more levels may be opened.
 #[tactic(auto, unfolding(crate::specs::Reading::specification))]
-pub fn specification(alloc: Global, ts: &mut Cursor<'_>, room: u8) -> Result<Specification, SyntaxFault>
+pub fn specification(
+    alloc: Global,
+    ts: &mut Cursor<'_>,
+    room: u8,
+) -> Result<Specification, SyntaxFault>
     ensures read { Reads (spec.specification room ts.old) result ts.new }
     ensures shorter { OnOk result (length ts.new < length ts.old) }
 {

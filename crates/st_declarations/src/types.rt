@@ -65,7 +65,11 @@ fn declared_type(alloc: Global, ts: &mut Cursor<'_>, room: u8) -> Result<Declare
 
 /// Takes a declaration of a type. `room` more levels may be opened.
 #[tactic(auto, unfolding(crate::specs::Reading::type_declaration))]
-pub fn type_declaration(alloc: Global, ts: &mut Cursor<'_>, room: u8) -> Result<TypeDeclaration, SyntaxFault>
+pub fn type_declaration(
+    alloc: Global,
+    ts: &mut Cursor<'_>,
+    room: u8,
+) -> Result<TypeDeclaration, SyntaxFault>
     ensures read { Reads (spec.type_declaration room ts.old) result ts.new }
     ensures shorter { OnOk result (length ts.new < length ts.old) }
 {
@@ -77,7 +81,11 @@ pub fn type_declaration(alloc: Global, ts: &mut Cursor<'_>, room: u8) -> Result<
 }
 
 /// Takes as many declarations of types as stand here. `room` more levels may be opened.
-pub fn type_declarations(alloc: Global, ts: &mut Cursor<'_>, room: u8) -> Result<List<TypeDeclaration>, SyntaxFault>
+pub fn type_declarations(
+    alloc: Global,
+    ts: &mut Cursor<'_>,
+    room: u8,
+) -> Result<List<TypeDeclaration>, SyntaxFault>
     ensures read { Reads (spec.type_declarations room ts.old) result ts.new }
     ensures shorter { OnOk result (length ts.new ≤ length ts.old) }
 {
@@ -91,7 +99,11 @@ pub fn type_declarations(alloc: Global, ts: &mut Cursor<'_>, room: u8) -> Result
 
 /// Takes TYPE, declarations of types, and END_TYPE. `room` more levels may be opened.
 #[tactic(auto, unfolding(crate::specs::Reading::type_block))]
-pub fn type_block(alloc: Global, ts: &mut Cursor<'_>, room: u8) -> Result<List<TypeDeclaration>, SyntaxFault>
+pub fn type_block(
+    alloc: Global,
+    ts: &mut Cursor<'_>,
+    room: u8,
+) -> Result<List<TypeDeclaration>, SyntaxFault>
     ensures read { Reads (spec.type_block room ts.old) result ts.new }
     ensures shorter { OnOk result (length ts.new < length ts.old) }
 {

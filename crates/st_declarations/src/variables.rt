@@ -41,7 +41,12 @@ fn names(alloc: Global, ts: &mut Cursor<'_>) -> Result<List<Identifier>, SyntaxF
 
 /// What stands behind the names of a declaration.
 #[tactic(auto, unfolding(crate::specs::Reading::typed))]
-fn typed(alloc: Global, ts: &mut Cursor<'_>, room: u8, names: List<Identifier>) -> Result<Declaration, SyntaxFault>
+fn typed(
+    alloc: Global,
+    ts: &mut Cursor<'_>,
+    room: u8,
+    names: List<Identifier>,
+) -> Result<Declaration, SyntaxFault>
     ensures read { Reads (spec.typed room names ts.old) result ts.new }
     ensures shorter { OnOk result (length ts.new < length ts.old) }
 {
@@ -49,7 +54,11 @@ fn typed(alloc: Global, ts: &mut Cursor<'_>, room: u8, names: List<Identifier>) 
     let specification = specification(alloc, ts, room)?;
     let initial = optional_initial(alloc, ts, room)?;
     symbol(ts, Symbol::Semicolon)?;
-    Ok(Declaration { names, specification, initial })
+    Ok(Declaration {
+        names,
+        specification,
+        initial,
+    })
 }
 
 /// Takes a declaration of variables. `room` more levels may be opened.
@@ -127,7 +136,11 @@ fn section(ts: &mut Cursor<'_>) -> Result<Section, SyntaxFault>
     }
 }
 
-fn declarations(alloc: Global, ts: &mut Cursor<'_>, room: u8) -> Result<List<Declaration>, SyntaxFault>
+fn declarations(
+    alloc: Global,
+    ts: &mut Cursor<'_>,
+    room: u8,
+) -> Result<List<Declaration>, SyntaxFault>
     ensures read { Reads (spec.declarations room ts.old) result ts.new }
     ensures shorter { OnOk result (length ts.new ≤ length ts.old) }
 {
@@ -149,11 +162,19 @@ pub fn var_block(alloc: Global, ts: &mut Cursor<'_>, room: u8) -> Result<VarBloc
     let section = section(ts)?;
     let declarations = declarations(alloc, ts, room)?;
     keyword(ts, Keyword::EndVar)?;
-    Ok(VarBlock { place, section, declarations })
+    Ok(VarBlock {
+        place,
+        section,
+        declarations,
+    })
 }
 
 /// Takes as many blocks of declarations as stand here. `room` more levels may be opened.
-pub fn var_blocks(alloc: Global, ts: &mut Cursor<'_>, room: u8) -> Result<List<VarBlock>, SyntaxFault>
+pub fn var_blocks(
+    alloc: Global,
+    ts: &mut Cursor<'_>,
+    room: u8,
+) -> Result<List<VarBlock>, SyntaxFault>
     ensures read { Reads (spec.var_blocks room ts.old) result ts.new }
     ensures shorter { OnOk result (length ts.new ≤ length ts.old) }
 {

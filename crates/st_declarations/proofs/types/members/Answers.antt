@@ -1,8 +1,8 @@
-use Rattle.std.proofs.Common.{◌≡◌, ◌<◌, ◌≤◌, length, refl, sym, ◌∙◌, arith}
+use Rattle.std.proofs.Common.{refl, sym, ◌∙◌, arith}
 use Rattle.std.proofs.lemmas.Result.{err_from_is_err_and}
 use Rattle.st_declarations.proofs.Members.{members_end, members_err}
 use Rattle.st_declarations.specs.Reading as spec
-use Rattle.st_expressions.proofs.Loops.{Left, left_init, left_step}
+use Rattle.st_expressions.proofs.Loops.{left_init, left_step}
 use Rattle.st_declarations.proofs.types.members.Goals as goal
 
 pub items-init : goal.items-init

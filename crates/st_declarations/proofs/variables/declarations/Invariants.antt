@@ -1,4 +1,4 @@
-use Rattle.std.proofs.Common.{◌≤◌, [], length, ℕ}
+use Rattle.std.proofs.Common.{◌≤◌, [], length}
 use Rattle.st_declarations.specs.Reading as spec
 use Rattle.st_expressions.proofs.Loops.{Left}
 use Rattle.st_declarations.proofs.variables.declarations.Given as goal

@@ -1,7 +1,6 @@
-use Rattle.std.proofs.Common.{◌≡◌, ◌<◌, ◌≤◌, length, refl, sym, ◌∙◌, arith}
+use Rattle.std.proofs.Common.{refl, sym, ◌∙◌, arith}
 use Rattle.std.proofs.lemmas.Result.{err_from_is_err_and}
-use Rattle.st_declarations.specs.Reading as spec
-use Rattle.st_expressions.proofs.Loops.{Left, left_init, left_step, listed_end, listed_err}
+use Rattle.st_expressions.proofs.Loops.{left_init, left_step, listed_end, listed_err}
 use Rattle.st_expressions.specs.Parsers as parser
 use Rattle.st_declarations.proofs.variables.names.Goals as goal
 

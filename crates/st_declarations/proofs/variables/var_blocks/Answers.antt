@@ -1,7 +1,7 @@
-use Rattle.std.proofs.Common.{◌≡◌, ◌<◌, ◌≤◌, [], length, sym, ◌∙◌, arith}
+use Rattle.std.proofs.Common.{[], sym, ◌∙◌, arith}
 use Rattle.std.proofs.lemmas.Result.{err_from_is_err_and}
 use Rattle.st_declarations.specs.Reading as spec
-use Rattle.st_expressions.proofs.Loops.{Left, left_init, left_step, loop_end, loop_err}
+use Rattle.st_expressions.proofs.Loops.{left_init, left_step, loop_end, loop_err}
 use Rattle.st_declarations.proofs.variables.var_blocks.Goals as goal
 
 pub items-init : goal.items-init
