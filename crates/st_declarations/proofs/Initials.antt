@@ -14,6 +14,8 @@ use Rattle.st_expressions.specs.Grammar.{IsConstant, integer, unsigned}
 use Rattle.st_expressions.specs.Lists.{IsListed}
 use Rattle.st_expressions.specs.Parsers as parser
 use Rattle.st_expressions.specs.Parsers.{Parser, and_then}
+use Rattle.st_expressions.specs.Reading as expressions
+use Rattle.st_expressions.specs.Reading.{is_close}
 use Rattle.st_expressions.specs.Tokens.{Tok, kind, next}
 use Rattle.st_expressions.proofs.Exact.{Relation, Exact, Always, Any, Then, seq, IsOne, one, IsPure, done, made, exact_as, exact_iff, exact_under, exact_on, exact_pure, exact_last, exact_before, exact_token, exact_token_if, exact_enter, Behind, exact_symbol, exact_listed, IsFirst}
 use Rattle.st_expressions.proofs.Expressions.{constant_exact}
@@ -27,36 +29,36 @@ use Rattle.st_declarations.proofs.Specifications.{exact_loose}
 
 -- ')' comes next
 abbrev pub IsClosed : Option Kind → Type 0
-IsClosed t = spec.is_close t ≡ true
+IsClosed t = is_close t ≡ true
 
-constant_not_closed : (t : Option Kind) → begins_constant t ≡ true → spec.is_close t ≡ false
+constant_not_closed : (t : Option Kind) → begins_constant t ≡ true → is_close t ≡ false
 constant_not_closed (Some (k.Symbol s.Close)) h = absurd (cc)
 constant_not_closed _ h = refl
 
 nothing_to : (ts : List Tok) (x : Option Constant) (rest : List Tok) → IsPure None ts x rest → IsOptionalConstant ts x rest
 nothing_to ts x rest d = made d (λ y us. IsOptionalConstant ts y us) no_constant
 
-nothing_from : (ts : List Tok) (x : Option Constant) (rest : List Tok) → spec.is_close (kind ts) ≡ true → IsOptionalConstant ts x rest → IsPure None ts x rest
+nothing_from : (ts : List Tok) (x : Option Constant) (rest : List Tok) → is_close (kind ts) ≡ true → IsOptionalConstant ts x rest → IsPure None ts x rest
 nothing_from ts x rest h no_constant = done
 nothing_from ts x rest h (constant d) = absurd (let no = constant_not_closed (kind ts) (constant_begins d) in cc)
 
 constant_to : (ts : List Tok) (x : Option Constant) (rest : List Tok) → Then IsConstant (λ y. IsPure (Some y)) ts x rest → IsOptionalConstant ts x rest
 constant_to ts x rest (seq d m) = made m (λ y us. IsOptionalConstant ts y us) (constant d)
 
-constant_from : (ts : List Tok) (x : Option Constant) (rest : List Tok) → spec.is_close (kind ts) ≡ false → IsClosed (kind rest) → IsOptionalConstant ts x rest
+constant_from : (ts : List Tok) (x : Option Constant) (rest : List Tok) → is_close (kind ts) ≡ false → IsClosed (kind rest) → IsOptionalConstant ts x rest
     → Then IsConstant (λ y. IsPure (Some y)) ts x rest
 constant_from ts x rest h g (constant d) = seq d done
 constant_from ts x rest h g no_constant = absurd (cc)
 
 module _ (r : ℕ) where
-  value_by : (b : Bool) → Exact 0 (spec.value_by b) (λ ts. (spec.is_close (kind ts) ≡ b) × Always ts) IsOptionalConstant IsClosed (At r) (At r)
+  value_by : (b : Bool) → Exact 0 (spec.value_by b) (λ ts. (is_close (kind ts) ≡ b) × Always ts) IsOptionalConstant IsClosed (At r) (At r)
   value_by true = exact_as (exact_pure None Always Any (At r)) (λ ts p. tt) (λ ts x rest p d. nothing_to ts x rest d) (λ ts x rest p g d. nothing_from ts x rest p.0 d) (λ t g. tt)
   value_by false = exact_as (exact_loose (exact_last (constant_exact r) (λ y. Some y))) (λ ts p. tt) (λ ts x rest p d. constant_to ts x rest d)
       (λ ts x rest p g d. constant_from ts x rest p.0 g d) (λ t g. tt)
 
   pub value_exact : Exact 0 spec.value Always IsOptionalConstant IsClosed (At r) (At r)
   unfolding spec.value
-  value_exact = exact_on (λ ts. spec.is_close (kind ts)) spec.value_by Always IsOptionalConstant IsClosed (At r) (At r) value_by
+  value_exact = exact_on (λ ts. is_close (kind ts)) spec.value_by Always IsOptionalConstant IsClosed (At r) (At r) value_by
 
 -- ---- elements
 
@@ -187,7 +189,7 @@ module _ (r : ℕ) where
   initial_list_exact = exact_enter 1 r _ (k.Symbol s.OpenBracket) refl (elements_behind r)
 
   literal_exact : (t : Option Kind) → is_literal t ≡ true
-      → Exact 1 (λ ts. and_then (Rattle.st_expressions.specs.Reading.constant ts) (λ y. parser.pure (initials.Constant y))) (λ ts. (kind ts ≡ t) × Always ts) IsInitial Any (At r) (At r)
+      → Exact 1 (λ ts. and_then (expressions.constant ts) (λ y. parser.pure (initials.Constant y))) (λ ts. (kind ts ≡ t) × Always ts) IsInitial Any (At r) (At r)
   literal_exact t h = exact_as (exact_last (constant_exact r) initials.Constant) (λ ts p. tt) (λ ts x rest p d. literal_to ts x rest d)
       (λ ts x rest p g d. literal_from ts x rest (subst (λ u. is_literal u ≡ true) (sym p.0) h) d) (λ t g. g)
 

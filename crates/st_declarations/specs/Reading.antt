@@ -24,7 +24,7 @@ use Rattle.st_tree.specs.declared.tree.declaration.DeclaredType.{DeclaredType}
 use Rattle.st_tree.specs.declared.tree.declaration.DeclaredType.TheVariants as declared_types
 use Rattle.st_tree.specs.declared.tree.unit.TypeDeclaration.{TypeDeclaration}
 use Rattle.st_expressions.specs.Parsers.{Parser, ◌>>=◌, ◌>>◌, pure, refuse, skip, peek, peek_second, here, symbol, keyword, enter, word, many, listed}
-use Rattle.st_expressions.specs.Reading.{signed_integer, constant}
+use Rattle.st_expressions.specs.Reading.{constant, is_close, signed_integer}
 use Rattle.st_declarations.specs.Grammar.{subrange_of, declaration_of, block_of, type_of}
 
 -- ---- tests of the first token
@@ -36,10 +36,6 @@ is_word _ = false
 abbrev pub is_assign : Option Kind → Bool
 is_assign (Some (k.Symbol s.Assign)) = true
 is_assign _ = false
-
-abbrev pub is_close : Option Kind → Bool
-is_close (Some (k.Symbol s.Close)) = true
-is_close _ = false
 
 abbrev pub is_open_bracket : Option Kind → Bool
 is_open_bracket (Some (k.Symbol s.OpenBracket)) = true

@@ -20,13 +20,6 @@ pub fn is_assign(ts: &Cursor<'_>) -> bool
     matches!(ts.kind(), Some(Kind::Symbol(Symbol::Assign)))
 }
 
-/// Whether the first token is `)`.
-pub fn is_close(ts: &Cursor<'_>) -> bool
-    ensures { result ≡ spec.is_close (kind ts.now) }
-{
-    matches!(ts.kind(), Some(Kind::Symbol(Symbol::Close)))
-}
-
 /// Whether the first token is `[`.
 pub fn is_open_bracket(ts: &Cursor<'_>) -> bool
     ensures { result ≡ spec.is_open_bracket (kind ts.now) }

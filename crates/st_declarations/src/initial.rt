@@ -4,9 +4,10 @@ ghost use Rattle.st_declarations.specs.Reading as spec;
 ghost use Rattle.st_expressions.specs.Parsers as parser;
 ghost use Rattle.st_expressions.specs.Parsers.{Reads};
 
-use crate::first::{is_assign, is_close};
+use crate::first::is_assign;
 use st_expressions::constant::constant;
 use st_expressions::cursor::Cursor;
+use st_expressions::expression::is_close;
 use st_expressions::token::{enter, is_comma, symbol};
 use st_tokens::{Kind, Symbol, SyntaxFault};
 use st_tree::List;
@@ -46,9 +47,9 @@ fn single(ts: &mut Cursor<'_>) -> Result<ArrayElement, SyntaxFault>
     Ok(ArrayElement::Single(constant(ts)?))
 }
 
-/// Takes a part of an array's initial values. `room` more levels may be opened.
+/// A part of an array's initial values.
 #[tactic(auto, unfolding(crate::specs::Reading::array_element))]
-pub fn array_element(ts: &mut Cursor<'_>, room: u8) -> Result<ArrayElement, SyntaxFault>
+fn array_element(ts: &mut Cursor<'_>, room: u8) -> Result<ArrayElement, SyntaxFault>
     ensures read { Reads (spec.array_element room ts.old) result ts.new }
     ensures shorter { OnOk result (length ts.new < length ts.old) }
 {

@@ -1,9 +1,12 @@
 //! Declarations of variables and types, read from tokens.
 #![tactic(auto)]
 
-pub mod first;
+mod first;
 pub mod initial;
 pub mod laws;
 pub mod specification;
 pub mod types;
 pub mod variables;
+
+#[cfg(test)]
+mod tests;

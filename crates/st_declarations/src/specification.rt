@@ -13,9 +13,9 @@ use st_tree::List;
 use st_tree::tree::{Place, Specification, Subrange, TypeName};
 use std::alloc::Global;
 
-/// Takes the name of a type.
+/// The name of a type.
 #[tactic(auto, unfolding(crate::specs::Reading::type_name))]
-pub fn type_name(alloc: Global, ts: &mut Cursor<'_>) -> Result<TypeName, SyntaxFault>
+fn type_name(alloc: Global, ts: &mut Cursor<'_>) -> Result<TypeName, SyntaxFault>
     ensures read { Reads (spec.type_name ts.old) result ts.new }
     ensures shorter { OnOk result (length ts.new < length ts.old) }
 {
@@ -25,9 +25,9 @@ pub fn type_name(alloc: Global, ts: &mut Cursor<'_>) -> Result<TypeName, SyntaxF
     }
 }
 
-/// Takes the bounds of a subscript.
+/// The bounds of a subscript.
 #[tactic(auto, unfolding(crate::specs::Reading::subrange))]
-pub fn subrange(ts: &mut Cursor<'_>) -> Result<Subrange, SyntaxFault>
+fn subrange(ts: &mut Cursor<'_>) -> Result<Subrange, SyntaxFault>
     ensures read { Reads (spec.subrange ts.old) result ts.new }
     ensures shorter { OnOk result (length ts.new < length ts.old) }
 {
