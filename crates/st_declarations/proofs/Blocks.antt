@@ -16,11 +16,11 @@ use Rattle.st_expressions.specs.Lists.{IsMany, none, more, IsListed, listed}
 use Rattle.st_expressions.specs.Parsers as parser
 use Rattle.st_expressions.specs.Parsers.{Parser, and_then, identifier}
 use Rattle.st_expressions.specs.Tokens.{Tok, kind, place}
-use Rattle.st_expressions.proofs.Exact.{Relation, Exact, Always, Any, Then, seq, IsOne, one, IsPure, done, made, IsWord, a_word, exact_as, exact_iff, exact_under, exact_on, exact_pure, exact_bind, exact_before, before_token, exact_refuse, exact_token, exact_symbol, exact_keyword, exact_word, exact_many, exact_listed, Ends}
+use Rattle.st_expressions.proofs.Exact.{Relation, Exact, Always, Any, Then, seq, IsOne, one, IsPure, done, made, IsWord, a_word, exact_as, exact_iff, exact_under, exact_zero, exact_on, exact_pure, exact_bind, exact_before, before_token, exact_refuse, exact_token, exact_symbol, exact_keyword, exact_word, exact_many, exact_listed, Ends}
 use Rattle.st_expressions.proofs.Room.{At}
 use Rattle.st_declarations.specs.Grammar.{declaration_of, block_of, IsName, name, IsSpecification, IsOptionalInitial, IsDeclaration, declaration, IsMember, member, IsRetention, unsaid, retain, non_retain, IsSection, internal, constants, input, output, IsVarBlock, block, IsVarBlocks}
 use Rattle.st_declarations.specs.Reading as spec
-use Rattle.st_declarations.proofs.Specifications.{exact_loose, name_exact, specification_exact}
+use Rattle.st_declarations.proofs.Specifications.{name_exact, specification_exact}
 use Rattle.st_declarations.proofs.Initials.{optional_initial_exact}
 
 -- ---- declarations
@@ -120,11 +120,11 @@ unsaid_from x ts y rest h (kept non_retain) = absurd (cc)
 module _ (r : ℕ) (x : Section) where
   said_exact : (u : Keyword) → IsRetaining u → Exact 0 (λ ts. and_then (parser.skip ts) (λ p. parser.pure x)) (λ ts. (kind ts ≡ Some (k.Keyword u)) × Always ts) (IsRetained x) IsUnqualified (At r) (At r)
   said_exact w.Retain u = exact_under
-      (exact_loose (exact_token (k.Keyword w.Retain) refl {R = IsRetained x}
+      (exact_zero (exact_token (k.Keyword w.Retain) refl {R = IsRetained x}
       (λ p. exact_as (exact_pure x Always Any (At r)) (λ ts i. i) (λ ts y rest i d. retained_to yes x p ts y rest d) (λ ts y rest i g d. retained_from yes x p ts y rest g d) (λ t g. tt))))
       (λ ts p. p.0) (λ t g. g)
   said_exact w.NonRetain u = exact_under
-      (exact_loose (exact_token (k.Keyword w.NonRetain) refl {R = IsRetained x}
+      (exact_zero (exact_token (k.Keyword w.NonRetain) refl {R = IsRetained x}
       (λ p. exact_as (exact_pure x Always Any (At r)) (λ ts i. i) (λ ts y rest i d. retained_to no x p ts y rest d) (λ ts y rest i g d. retained_from no x p ts y rest g d) (λ t g. tt))))
       (λ ts p. p.0) (λ t g. g)
   said_exact _ u = elim u [ ]
@@ -192,7 +192,7 @@ module _ (r : ℕ) where
 
     internal_by : (t : Option Kind) → Exact 0 (spec.internal_by t) (λ ts. (kind ts ≡ t) × Always ts) (IsBehindVar p) IsUnqualified (At r) (At r)
     internal_by (Some (k.Keyword w.Constant)) = exact_under
-        (exact_loose (exact_token (k.Keyword w.Constant) refl {R = IsBehindVar p}
+        (exact_zero (exact_token (k.Keyword w.Constant) refl {R = IsBehindVar p}
         (λ q. exact_as (exact_pure sections.Constant Always Any (At r)) (λ ts i. i) (λ ts x rest i d. constants_to p q ts x rest d) (λ ts x rest i g d. constants_from p q ts x rest g d) (λ t g. tt))))
         (λ ts b. b.0) (λ t g. g)
     internal_by t = variable_exact t refl

@@ -12,6 +12,7 @@ use Rattle.st_tree.specs.declared.tree.declaration.DeclaredType.{DeclaredType}
 use Rattle.st_tree.specs.declared.tree.declaration.DeclaredType.TheVariants as declared_types
 use Rattle.st_tree.specs.declared.tree.unit.TypeDeclaration.{TypeDeclaration}
 use Rattle.st_expressions.specs.Lists.{IsMany}
+use Rattle.st_expressions.specs.Parsers.{leading}
 use Rattle.st_expressions.specs.Tokens.{Tok, kind}
 use Rattle.st_expressions.proofs.Exact.{Relation, Exact, Always, Any, Then, seq, IsOne, one, IsPure, done, made, IsWord, a_word, exact_as, exact_iff, exact_under, exact_on, exact_pure, exact_last, exact_bind, exact_before, exact_token, exact_symbol, exact_keyword, exact_word, exact_many, Ends, IsFirst}
 use Rattle.st_expressions.proofs.Room.{At}
@@ -28,7 +29,7 @@ abbrev AreMembers : Relation (List Declaration)
 AreMembers = Then IsMember (λ x. Then (IsMany IsMember) (λ xs. IsPure (x ∷ xs)))
 
 members_exact : (r : ℕ) → Exact 1 (spec.members r) Always AreMembers (Ends spec.is_word Any) (At r) (At r)
-unfolding spec.members
+unfolding leading
 members_exact r = exact_bind (member_exact r)
     (λ x. exact_last (exact_many spec.is_word (spec.member r) IsMember Any (At r) (exact_under (member_exact r) (λ ts h. tt) (λ t g. g)) member_begins (λ t h. tt)) (λ xs. x ∷ xs))
     (λ x mid rest y d g. tt)

@@ -17,13 +17,12 @@ use Rattle.st_expressions.specs.Parsers.{Parser, and_then}
 use Rattle.st_expressions.specs.Reading as expressions
 use Rattle.st_expressions.specs.Reading.{is_close}
 use Rattle.st_expressions.specs.Tokens.{Tok, kind, next}
-use Rattle.st_expressions.proofs.Exact.{Relation, Exact, Always, Any, Then, seq, IsOne, one, IsPure, done, made, exact_as, exact_iff, exact_under, exact_on, exact_pure, exact_last, exact_before, exact_token, exact_token_if, exact_enter, Behind, exact_symbol, exact_listed, IsFirst}
+use Rattle.st_expressions.proofs.Exact.{Relation, Exact, Always, Any, Then, seq, IsOne, one, IsPure, done, made, exact_as, exact_iff, exact_under, exact_zero, exact_on, exact_pure, exact_last, exact_before, exact_token, exact_token_if, exact_enter, Behind, exact_symbol, exact_listed, IsFirst}
 use Rattle.st_expressions.proofs.Expressions.{constant_exact}
 use Rattle.st_expressions.proofs.Follows.{begins_constant, constant_begins}
 use Rattle.st_expressions.proofs.Room.{At, leads}
 use Rattle.st_declarations.specs.Grammar.{IsOptionalConstant, no_constant, constant, IsArrayElement, single, repeated, IsInitial, literal, initial_list, IsOptionalInitial, no_initial, initial}
 use Rattle.st_declarations.specs.Reading as spec
-use Rattle.st_declarations.proofs.Specifications.{exact_loose}
 
 -- ---- what is repeated
 
@@ -53,7 +52,7 @@ constant_from ts x rest h g no_constant = absurd (cc)
 module _ (r : ℕ) where
   value_by : (b : Bool) → Exact 0 (spec.value_by b) (λ ts. (is_close (kind ts) ≡ b) × Always ts) IsOptionalConstant IsClosed (At r) (At r)
   value_by true = exact_as (exact_pure None Always Any (At r)) (λ ts p. tt) (λ ts x rest p d. nothing_to ts x rest d) (λ ts x rest p g d. nothing_from ts x rest p.0 d) (λ t g. tt)
-  value_by false = exact_as (exact_loose (exact_last (constant_exact r) (λ y. Some y))) (λ ts p. tt) (λ ts x rest p d. constant_to ts x rest d)
+  value_by false = exact_as (exact_zero (exact_last (constant_exact r) (λ y. Some y))) (λ ts p. tt) (λ ts x rest p d. constant_to ts x rest d)
       (λ ts x rest p g d. constant_from ts x rest p.0 g d) (λ t g. tt)
 
   pub value_exact : Exact 0 spec.value Always IsOptionalConstant IsClosed (At r) (At r)
@@ -206,7 +205,7 @@ module _ (r : ℕ) where
   present_exact p = exact_as (exact_last initial_exact (λ y. Some y)) (λ ts u. u) (λ ts x rest u d. present_to p ts x rest d) (λ ts x rest u g d. present_from p ts x rest g d) (λ t g. tt)
 
   optional_initial_by : (b : Bool) → Exact 0 (spec.optional_initial_by r b) (λ ts. (spec.is_assign (kind ts) ≡ b) × Always ts) IsOptionalInitial IsUnassigned (At r) (At r)
-  optional_initial_by true = exact_under (exact_loose (exact_token (k.Symbol s.Assign) refl {R = IsOptionalInitial} present_exact)) (λ ts p. assign_is (kind ts) p.0) (λ t g. g)
+  optional_initial_by true = exact_under (exact_zero (exact_token (k.Symbol s.Assign) refl {R = IsOptionalInitial} present_exact)) (λ ts p. assign_is (kind ts) p.0) (λ t g. g)
   optional_initial_by false = exact_as (exact_pure None Always Any (At r)) (λ ts p. tt) (λ ts x rest p d. absent_to ts x rest d) (λ ts x rest p g d. absent_from ts x rest p.0 d) (λ t g. tt)
 
   pub optional_initial_exact : Exact 0 (spec.optional_initial r) Always IsOptionalInitial IsUnassigned (At r) (At r)

@@ -2,5 +2,4 @@ pub mod Blocks
 pub mod DeclaredTypes
 pub mod Exactness
 pub mod Initials
-pub mod Members
 pub mod Specifications

@@ -1,5 +1,5 @@
 -- Types, as they are written in declarations, are read exactly.
-use Rattle.std.proofs.Common.{◌≡◌, ℕ, zero, suc, List, ◌∷◌, refl, sym, subst, Bool, true, false, arith}
+use Rattle.std.proofs.Common.{◌≡◌, ℕ, zero, suc, List, ◌∷◌, refl, sym, subst, Bool, true, false}
 use Rattle.std.specs.Prelude.{Option, Some}
 use Rattle.st_tokens.specs.declared.keyword.Keyword.TheVariants as w
 use Rattle.st_tokens.specs.declared.symbol.Symbol.TheVariants as s
@@ -23,15 +23,6 @@ use Rattle.st_expressions.proofs.Expressions.{signed_integer_exact}
 use Rattle.st_expressions.proofs.Room.{At}
 use Rattle.st_declarations.specs.Grammar.{subrange_of, IsName, name, IsTypeName, elementary, named, IsSubrange, subrange, IsSpecification, simple, array}
 use Rattle.st_declarations.specs.Reading as spec
-
--- fewer tokens are promised
-pub exact_loose : {A : Type 0} {P : Parser A} {pre : List Tok → Type 0} {R : Relation A} {F : Option Kind → Type 0} {Q Q' : List Tok → Type 0}
-    → Exact 1 P pre R F Q Q' → Exact 0 P pre R F Q Q'
-exact_loose a = record {
-  reads = λ ts x rest p h. let u = a.reads ts x rest p h in record { is = u.is; takes = omega (arith, u.takes); after = u.after; before = u.before };
-  deep = a.deep;
-  read = a.read;
-}
 
 -- ---- '['
 

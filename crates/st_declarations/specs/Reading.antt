@@ -23,7 +23,7 @@ use Rattle.st_tree.specs.declared.tree.declaration.VarBlock.{VarBlock}
 use Rattle.st_tree.specs.declared.tree.declaration.DeclaredType.{DeclaredType}
 use Rattle.st_tree.specs.declared.tree.declaration.DeclaredType.TheVariants as declared_types
 use Rattle.st_tree.specs.declared.tree.unit.TypeDeclaration.{TypeDeclaration}
-use Rattle.st_expressions.specs.Parsers.{Parser, ◌>>=◌, ◌>>◌, pure, refuse, skip, peek, peek_second, here, symbol, keyword, enter, word, many, listed}
+use Rattle.st_expressions.specs.Parsers.{Parser, ◌>>=◌, ◌>>◌, pure, refuse, skip, peek, peek_second, here, symbol, keyword, enter, word, many, listed, leading}
 use Rattle.st_expressions.specs.Reading.{constant, is_close, signed_integer}
 use Rattle.st_declarations.specs.Grammar.{subrange_of, declaration_of, block_of, type_of}
 
@@ -215,11 +215,8 @@ var_blocks room = many begins_block (var_block room)
 -- ---- declared types
 
 -- member { member }
-unfoldable pub members : ℕ → Parser (List Declaration)
-members room = do
-  x ← member room
-  xs ← many is_word (member room)
-  pure (x ∷ xs)
+abbrev pub members : ℕ → Parser (List Declaration)
+members room = leading (member room) is_word (member room)
 
 unfoldable pub structure : ℕ → Parser DeclaredType
 structure room = do

@@ -71,7 +71,7 @@ fn next_element(ts: &mut Cursor<'_>, room: u8) -> Result<ArrayElement, SyntaxFau
     array_element(ts, room)
 }
 
-#[tactic(auto, unfolding(st_expressions::specs::Parsers::listed))]
+#[tactic(auto, unfolding(st_expressions::specs::Parsers::leading))]
 fn array_elements(
     alloc: Global,
     ts: &mut Cursor<'_>,

@@ -5,8 +5,7 @@ mod first;
 pub mod initial;
 pub mod laws;
 pub mod specification;
-pub mod types;
-pub mod variables;
-
 #[cfg(test)]
 mod tests;
+pub mod types;
+pub mod variables;

@@ -46,7 +46,7 @@ fn next_subrange(ts: &mut Cursor<'_>) -> Result<Subrange, SyntaxFault>
     subrange(ts)
 }
 
-#[tactic(auto, unfolding(st_expressions::specs::Parsers::listed))]
+#[tactic(auto, unfolding(st_expressions::specs::Parsers::leading))]
 fn subranges(alloc: Global, ts: &mut Cursor<'_>) -> Result<List<Subrange>, SyntaxFault>
     ensures read { Reads (parser.listed spec.subrange ts.old) result ts.new }
     ensures shorter { OnOk result (length ts.new < length ts.old) }

@@ -15,7 +15,7 @@ use st_tree::tree::{Declaration, DeclaredType, TypeDeclaration};
 use std::alloc::Global;
 
 /// The members of a structure, of which there is at least one.
-#[tactic(auto, unfolding(crate::specs::Reading::members))]
+#[tactic(auto, unfolding(st_expressions::specs::Parsers::leading))]
 fn members(alloc: Global, ts: &mut Cursor<'_>, room: u8) -> Result<List<Declaration>, SyntaxFault>
     ensures read { Reads (spec.members room ts.old) result ts.new }
     ensures shorter { OnOk result (length ts.new < length ts.old) }

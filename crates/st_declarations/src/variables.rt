@@ -24,7 +24,7 @@ fn next_name(alloc: Global, ts: &mut Cursor<'_>) -> Result<Identifier, SyntaxFau
 }
 
 /// The names that are declared together.
-#[tactic(auto, unfolding(st_expressions::specs::Parsers::listed))]
+#[tactic(auto, unfolding(st_expressions::specs::Parsers::leading))]
 fn names(alloc: Global, ts: &mut Cursor<'_>) -> Result<List<Identifier>, SyntaxFault>
     ensures read { Reads (parser.listed parser.word ts.old) result ts.new }
     ensures shorter { OnOk result (length ts.new < length ts.old) }

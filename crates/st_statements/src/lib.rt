@@ -1,0 +1,4 @@
+//! Statements, read from tokens.
+#![tactic(auto)]
+
+pub mod statement;
