@@ -1,6 +1,8 @@
 -- What is said of a reading function and a line of the grammar.
-use Rattle.std.specs.Prelude.{◌≡◌, ◌↔◌, ℕ, List, Option, Ok, Err}
+use Rattle.std.specs.Prelude.{◌≡◌, ◌↔◌, ℕ, List, Option, Some, Ok, Err}
+use Rattle.st_tokens.specs.declared.keyword.Keyword.TheVariants as w
 use Rattle.st_tokens.specs.declared.token.Kind.{Kind}
+use Rattle.st_tokens.specs.declared.token.Kind.TheVariants as k
 use Rattle.st_expressions.specs.Levels.{IsWithin}
 use Rattle.st_expressions.specs.Parsers.{Deep, Parser}
 use Rattle.st_expressions.specs.Tokens.{Tok, kind}
@@ -19,3 +21,15 @@ pub record ReadsExactly {A : Type 0} (room : ℕ) (P : Parser A) (R : List Tok �
 -- any token may follow
 abbrev pub Anything : Option Kind → Type 0
 Anything t = Unit {0}
+
+-- no word follows
+abbrev pub NoWord : Option Kind → Type 0
+NoWord (Some (k.Word n)) = ⊥
+NoWord _ = Unit {0}
+
+-- no block of variables follows
+abbrev pub NoBlock : Option Kind → Type 0
+NoBlock (Some (k.Keyword w.Var)) = ⊥
+NoBlock (Some (k.Keyword w.VarInput)) = ⊥
+NoBlock (Some (k.Keyword w.VarOutput)) = ⊥
+NoBlock _ = Unit {0}

@@ -1,7 +1,7 @@
 //! What is read is in the grammar, and what is in the grammar is read.
-ghost use Rattle.std.specs.Prelude.{◌≡◌, ℕ, false};
+ghost use Rattle.std.specs.Prelude.{ℕ};
 ghost use Rattle.st_declarations.specs.Grammar.{IsDeclaration, IsInitial, IsMember, IsSpecification, IsTypeBlock, IsTypeDeclaration, IsTypeDeclarations, IsVarBlock, IsVarBlocks};
-ghost use Rattle.st_declarations.specs.Laws.{Anything, ReadsExactly};
+ghost use Rattle.st_declarations.specs.Laws.{Anything, NoBlock, NoWord, ReadsExactly};
 ghost use Rattle.st_declarations.specs.Reading as spec;
 
 /// Types and initial values are read exactly.
@@ -14,13 +14,13 @@ pub fn types_and_values()
 pub fn variables()
     ensures declaration { (room : ℕ) → ReadsExactly room (spec.declaration room) IsDeclaration Anything }
     ensures block { (room : ℕ) → ReadsExactly room (spec.var_block room) IsVarBlock Anything }
-    ensures blocks { (room : ℕ) → ReadsExactly room (spec.var_blocks room) IsVarBlocks (λ token. spec.begins_block token ≡ false) }
+    ensures blocks { (room : ℕ) → ReadsExactly room (spec.var_blocks room) IsVarBlocks NoBlock }
 {}
 
 /// Declarations of types are read exactly. They end where no further one begins.
 pub fn declared_types()
     ensures member { (room : ℕ) → ReadsExactly room (spec.member room) IsMember Anything }
     ensures declaration { (room : ℕ) → ReadsExactly room (spec.type_declaration room) IsTypeDeclaration Anything }
-    ensures declarations { (room : ℕ) → ReadsExactly room (spec.type_declarations room) IsTypeDeclarations (λ token. spec.is_word token ≡ false) }
+    ensures declarations { (room : ℕ) → ReadsExactly room (spec.type_declarations room) IsTypeDeclarations NoWord }
     ensures block { (room : ℕ) → ReadsExactly room (spec.type_block room) IsTypeBlock Anything }
 {}
