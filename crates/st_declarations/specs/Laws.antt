@@ -13,7 +13,7 @@ pub record ReadsExactly {A : Type 0} (room : ℕ) (P : Parser A) (R : List Tok �
   pub found : (ts : List Tok) (x : A) (rest : List Tok) → P ts ≡ Ok (x, rest) → R ts x rest
   -- what is in the relation is read, where no front of the tokens has too many open levels
   pub read : (ts : List Tok) (x : A) (rest : List Tok) → R ts x rest → MayFollow (kind rest) → IsWithin room ts → P ts ≡ Ok (x, rest)
-  -- as many levels are open behind what is read as before it
+  -- the tokens keep to the levels exactly where those behind what is read do
   pub levels : (ts : List Tok) (x : A) (rest : List Tok) → P ts ≡ Ok (x, rest) → IsWithin room ts ↔ IsWithin room rest
   -- tokens are refused as too deep only where they are
   pub deep : (ts : List Tok) → P ts ≡ Err Deep → IsWithin room ts → ⊥
