@@ -80,7 +80,7 @@ fn begins_part(ts: &Cursor<'_>) -> bool
 }
 
 /// Whether the first token is `)`.
-fn is_close(ts: &Cursor<'_>) -> bool
+pub fn is_close(ts: &Cursor<'_>) -> bool
     ensures { result ≡ spec.is_close (kind ts.now) }
 {
     matches!(ts.kind(), Some(Kind::Symbol(Symbol::Close)))

@@ -1,0 +1,5 @@
+pub mod Blocks
+pub mod DeclaredTypes
+pub mod Exactness
+pub mod Initials
+pub mod Specifications
