@@ -1,5 +1,5 @@
 -- Lemmas on what a run writes.
-use Rattle.std.proofs.Common.{◌≡◌, ℕ, List, [], inl, inr, refl}
+use Rattle.std.proofs.Common.{ℕ, List, [], inl, inr, refl}
 use Rattle.std.specs.Prelude.{◌⊎◌, Option, Some, None, IfSome, Err}
 use Rattle.st_control.specs.Controllers.{RefusesLoad}
 use Rattle.st_control.specs.declared.refusal.Refusal.{Refusal}

@@ -53,11 +53,13 @@ fault_name IndexOutOfRange = codes "F3"
 -- `running 10`, with the moment, or `halted F2 Main line 4`
 abbrev pub status_text : Status → ℤ → List ℕ
 status_text Running now = codes "running " ++ signed_text now
-status_text (Halted fault) now = codes "halted " ++ fault_name fault.kind ++ codes " " ++ fault.unit ++ codes " line " ++ decimal fault.line
+status_text (Halted fault) now =
+    codes "halted " ++ fault_name fault.kind ++ codes " " ++ fault.unit ++ codes " line " ++ decimal fault.line
 
 -- the same with ` forces 1 undo 2`
 abbrev pub report_text : Status → ℤ → ℕ → ℕ → List ℕ
-report_text status now forces undo = status_text status now ++ codes " forces " ++ decimal forces ++ codes " undo " ++ decimal undo
+report_text status now forces undo =
+    status_text status now ++ codes " forces " ++ decimal forces ++ codes " undo " ++ decimal undo
 
 -- ---- values that are given as texts
 
@@ -67,7 +69,8 @@ value_of_none = record { elem = BOOL; bits = pos 2 }
 
 -- the value that a text is for the leaf with this path: a text that is no value of the leaf's type counts as one of none
 abbrev pub value_given : StateView → List ℕ → List ℕ → Value
-value_given s path given = option_map_or (λ leaf. unwrap_or (reads (leaf_at s.leaves leaf).elem given) value_of_none) (leaf_of s path) value_of_none
+value_given s path given =
+    option_map_or (λ leaf. unwrap_or (reads (leaf_at s.leaves leaf).elem given) value_of_none) (leaf_of s path) value_of_none
 
 -- ---- what a line does
 
@@ -91,7 +94,8 @@ stepped m (Err number) = refuses m (O number)
 -- a leaf is shown, if there is one (O1)
 abbrev pub shown : Machine → Option ℕ → Turn
 shown m None = refuses m (O 1)
-shown m (Some leaf) = told m (shown_text (leaf_at m.state.leaves leaf).shown (value_at m.state.content.values leaf) (forced_at m.state.content.forced leaf))
+shown m (Some leaf) =
+    told m (shown_text (leaf_at m.state.leaves leaf).shown (value_at m.state.content.values leaf) (forced_at m.state.content.forced leaf))
 
 -- what a request does: nothing is also replied nothing, and what there is not is refused (O11)
 abbrev pub answer : Request → Machine → Turn

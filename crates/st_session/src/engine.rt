@@ -1,10 +1,10 @@
 //! A session: each line of a source is acted on, and its reply written to a sink.
-ghost use Rattle.std.specs.Prelude.{◌≡◌, ◌≤◌, ◌<◌, ◌↔◌, ◌||◌, ℕ, [], Some, true, false, take, IfErr, IfOk, IfSome, IsTrue, OnErr, OnOk, OnSome, is_err, vec_capacity};
-ghost use Rattle.std.specs.Io.KnownBytes.{Appends, Keeps};
+ghost use Rattle.std.specs.Prelude.{◌≡◌, ◌≤◌, ◌<◌, ◌↔◌, ◌||◌, ℕ, [], true, false, take, IfOk, IfSome, IsTrue, OnErr, OnOk, OnSome, is_err, vec_capacity};
+ghost use Rattle.std.specs.Io.KnownBytes.{Appends};
 ghost use Rattle.st_control.specs.Controllers.{machine_of};
 ghost use Rattle.st_session.specs.Inputs.{left, pending, unread};
-ghost use Rattle.st_session.specs.Pending.{OnKnown, TakesPart};
-ghost use Rattle.st_session.specs.Replies.{answer as answer_to, shown as shown_at, turn as turn_of, value_given as given_at};
+ghost use Rattle.st_session.specs.Pending.{OnKnown};
+ghost use Rattle.st_session.specs.Replies.{answer as answer_to, value_given as given_at};
 ghost use Rattle.st_session.specs.Requests.{Request as Ask, request_of};
 ghost use Rattle.st_session.specs.Sessions.{AnswersAll, AnswersRead, LosesPart, StopsIn, TurnsOver};
 
@@ -65,9 +65,12 @@ fn write<M: Memory>(
     text: &[u8],
     reply: &mut Reply,
 ) -> bool
-    ensures machine { machine_of controller.new ≡ (answer_to (Ask.write path.now text.now) (machine_of controller.old)).machine }
-    ensures reply { reply.new ≡ (answer_to (Ask.write path.now text.now) (machine_of controller.old)).reply }
-    ensures refused { result ≡ (answer_to (Ask.write path.now text.now) (machine_of controller.old)).refused }
+    ensures machine { machine_of controller.new
+        ≡ (answer_to (Ask.write path.now text.now) (machine_of controller.old)).machine }
+    ensures reply { reply.new
+        ≡ (answer_to (Ask.write path.now text.now) (machine_of controller.old)).reply }
+    ensures refused { result
+        ≡ (answer_to (Ask.write path.now text.now) (machine_of controller.old)).refused }
 {
     let value = value_given(controller, path, text);
     reply.answer(controller.write(path, value))
@@ -80,9 +83,12 @@ fn force<M: Memory>(
     text: &[u8],
     reply: &mut Reply,
 ) -> bool
-    ensures machine { machine_of controller.new ≡ (answer_to (Ask.force path.now text.now) (machine_of controller.old)).machine }
-    ensures reply { reply.new ≡ (answer_to (Ask.force path.now text.now) (machine_of controller.old)).reply }
-    ensures refused { result ≡ (answer_to (Ask.force path.now text.now) (machine_of controller.old)).refused }
+    ensures machine { machine_of controller.new
+        ≡ (answer_to (Ask.force path.now text.now) (machine_of controller.old)).machine }
+    ensures reply { reply.new
+        ≡ (answer_to (Ask.force path.now text.now) (machine_of controller.old)).reply }
+    ensures refused { result
+        ≡ (answer_to (Ask.force path.now text.now) (machine_of controller.old)).refused }
 {
     let value = value_given(controller, path, text);
     reply.answer(controller.force(path, value))
@@ -171,13 +177,18 @@ fn turn<M: Memory, R: Source, W: Sink>(
 ) -> Result<Option<bool>, DeviceFault>
     requires source { R.has_failed source.old ≡ false }
     requires sink { W.has_failed sink.old ≡ false }
-    ensures ok { IfOk result (λ refused. OnKnown (pending buffers.old.input (R.rest source.old)) (pending buffers.new.input (R.rest source.new))
-        (TurnsOver refused buffers.new.input.at_end (machine_of controller.old) (machine_of controller.new) (W.taken sink.old) (W.taken sink.new))) }
+    ensures ok { IfOk result (λ refused. OnKnown
+        (pending buffers.old.input (R.rest source.old)) (pending buffers.new.input (R.rest source.new))
+        (TurnsOver refused buffers.new.input.at_end (machine_of controller.old) (machine_of controller.new)
+        (W.taken sink.old) (W.taken sink.new))) }
     ensures err { OnErr result (IfSome (pending buffers.old.input (R.rest source.old))
         (StopsIn (machine_of controller.old) (machine_of controller.new) (W.taken sink.old) (W.taken sink.new))) }
-    ensures read { R.has_failed source.new ≡ true → OnKnown (pending buffers.old.input (R.rest source.old)) (R.rest source.new)
-        (LosesPart buffers.old.input.at_end (machine_of controller.old) (machine_of controller.new) (W.taken sink.old) (W.taken sink.new)) }
-    ensures progress { IfOk result (λ refused. OnSome refused (left buffers.new.input (R.reads_left source.new) < left buffers.old.input (R.reads_left source.old))) }
+    ensures read { R.has_failed source.new ≡ true → OnKnown
+        (pending buffers.old.input (R.rest source.old)) (R.rest source.new)
+        (LosesPart buffers.old.input.at_end (machine_of controller.old) (machine_of controller.new)
+        (W.taken sink.old) (W.taken sink.new)) }
+    ensures progress { IfOk result (λ refused. OnSome refused (left buffers.new.input (R.reads_left source.new)
+        < left buffers.old.input (R.reads_left source.old))) }
     ensures ended { buffers.old.input.at_end ≡ true → buffers.new.input.at_end ≡ true }
     ensures failed { (R.has_failed source.new || W.has_failed sink.new) ≡ is_err result }
     ensures source { OnOk result (R.has_failed source.new ≡ false) }
@@ -209,7 +220,8 @@ fn answer_lines<M: Memory, R: Source, W: Sink>(
         (AnswersAll refused (machine_of controller.old) (machine_of controller.new) (W.taken sink.old) (W.taken sink.new))) }
     ensures err { OnErr result (IfSome (pending buffers.old.input (R.rest source.old))
         (StopsIn (machine_of controller.old) (machine_of controller.new) (W.taken sink.old) (W.taken sink.new))) }
-    ensures read { R.has_failed source.new ≡ true → OnKnown (pending buffers.old.input (R.rest source.old)) (R.rest source.new)
+    ensures read { R.has_failed source.new ≡ true → OnKnown
+        (pending buffers.old.input (R.rest source.old)) (R.rest source.new)
         (AnswersRead (machine_of controller.old) (machine_of controller.new) (W.taken sink.old) (W.taken sink.new)) }
     ensures failed { (R.has_failed source.new || W.has_failed sink.new) ≡ is_err result }
 {
@@ -243,7 +255,9 @@ pub fn session<M: Memory, R: Source, W: Sink>(
         (AnswersRead (machine_of controller.old) (machine_of controller.new) (W.taken sink.old) (W.taken sink.new)) }
     ensures failed { IsTrue (R.has_failed source.new || W.has_failed sink.new) ↔ (result ≡ Outcome.Device) }
 
-    ensures memory { result ≡ Outcome.Memory → (controller.new ≡ controller.old) × (source.new ≡ source.old) × (sink.new ≡ sink.old) }
+    // Nothing was done.
+    ensures memory { result ≡ Outcome.Memory
+        → (controller.new ≡ controller.old) × (source.new ≡ source.old) × (sink.new ≡ sink.old) }
 {
     let Ok(mut buffers) = Buffers::new(alloc) else {
         return Outcome::Memory;

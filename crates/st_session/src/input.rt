@@ -2,7 +2,7 @@
 //!
 //! A line ends at an LF, and a CR right before it is dropped. The last line may lack its LF. A line of more than 4,096
 //! bytes before its LF is passed over.
-ghost use Rattle.std.specs.Prelude.{◌≡◌, ◌≤◌, ◌<◌, true, false, Some, None, IfOk, IfSome, OnErr, OnOk, is_err, [], vec_len, vec_capacity};
+ghost use Rattle.std.specs.Prelude.{◌≡◌, ◌≤◌, ◌<◌, true, false, Some, None, IfOk, OnErr, OnOk, OnSome, is_err, [], vec_len, vec_capacity};
 ghost use Rattle.std.specs.Io.KnownBytes.{Keeps, IsAtEnd};
 ghost use Rattle.std.specs.Str.Lines.{strip_carriage_return};
 ghost use Rattle.st_session.specs.Pending.{IsFound, OnKnown, TakesByte, TakesFound, TakesPart};
@@ -55,12 +55,14 @@ impl Input {
     /// Reads a piece if none is unread.
     fn fill<R: Source>(&mut self, source: &mut R) -> Result<(), DeviceFault>
         requires { R.has_failed source.old ≡ false }
-        ensures bytes { OnOk result (Keeps (pending self.old (R.rest source.old)) (pending self.new (R.rest source.new))) }
+        ensures bytes { OnOk result (Keeps (pending self.old (R.rest source.old))
+            (pending self.new (R.rest source.new))) }
         ensures end { OnOk result (self.new.at ≡ self.new.end → IsAtEnd (pending self.new (R.rest source.new))) }
         ensures at_end { OnOk result (self.new.at ≡ self.new.end → self.new.at_end ≡ true) }
         ensures err { OnErr result (Keeps (R.rest source.old) (R.rest source.new)) }
         ensures empty { OnErr result ((unread self.old ≡ []) × (self.old.at_end ≡ false)) }
-        ensures progress { OnOk result (left self.new (R.reads_left source.new) ≤ left self.old (R.reads_left source.old)) }
+        ensures progress { OnOk result (left self.new (R.reads_left source.new)
+            ≤ left self.old (R.reads_left source.old)) }
         ensures ended { self.old.at_end ≡ true → self.new.at_end ≡ true }
         ensures failed { R.has_failed source.new ≡ is_err result }
     {
@@ -77,12 +79,15 @@ impl Input {
     /// Takes the next byte.
     fn next_byte<R: Source>(&mut self, source: &mut R) -> Result<Option<u8>, DeviceFault>
         requires { R.has_failed source.old ≡ false }
-        ensures bytes { IfOk result (λ byte. OnKnown (pending self.old (R.rest source.old)) (pending self.new (R.rest source.new)) (TakesByte byte)) }
+        ensures bytes { IfOk result (λ byte. OnKnown (pending self.old (R.rest source.old))
+            (pending self.new (R.rest source.new)) (TakesByte byte)) }
         ensures at_end { IfOk result (λ byte. byte ≡ None → self.new.at_end ≡ true) }
         ensures err { OnErr result (Keeps (R.rest source.old) (R.rest source.new)) }
         ensures empty { OnErr result ((unread self.old ≡ []) × (self.old.at_end ≡ false)) }
-        ensures steady { OnOk result (left self.new (R.reads_left source.new) ≤ left self.old (R.reads_left source.old)) }
-        ensures progress { IfOk result (λ byte. IfSome byte (λ _. left self.new (R.reads_left source.new) < left self.old (R.reads_left source.old))) }
+        ensures steady { OnOk result (left self.new (R.reads_left source.new)
+            ≤ left self.old (R.reads_left source.old)) }
+        ensures progress { IfOk result (λ byte. OnSome byte (left self.new (R.reads_left source.new)
+            < left self.old (R.reads_left source.old))) }
         ensures ended { self.old.at_end ≡ true → self.new.at_end ≡ true }
         ensures failed { R.has_failed source.new ≡ is_err result }
     {
@@ -105,10 +110,12 @@ impl Input {
     ) -> Result<Found, DeviceFault>
         requires works { R.has_failed source.old ≡ false }
         requires room { 4096 ≤ vec_capacity line.old }
-        ensures line { IfOk result (λ found. OnKnown (pending self.old (R.rest source.old)) (pending self.new (R.rest source.new)) (TakesFound found self.new.at_end line.new.items)) }
+        ensures line { IfOk result (λ found. OnKnown (pending self.old (R.rest source.old))
+            (pending self.new (R.rest source.new)) (TakesFound found self.new.at_end line.new.items)) }
         ensures err { OnErr result (OnKnown (pending self.old (R.rest source.old)) (R.rest source.new) TakesPart) }
         ensures not_ended { OnErr result (self.old.at_end ≡ false) }
-        ensures progress { IfOk result (λ found. IsFound found → left self.new (R.reads_left source.new) < left self.old (R.reads_left source.old)) }
+        ensures progress { IfOk result (λ found. IsFound found → left self.new (R.reads_left source.new)
+            < left self.old (R.reads_left source.old)) }
         ensures room { 4096 ≤ vec_capacity line.new }
         ensures ended { self.old.at_end ≡ true → self.new.at_end ≡ true }
         ensures failed { R.has_failed source.new ≡ is_err result }

@@ -57,7 +57,8 @@ impl<'a> Source for Bytes<'a> {
         // It fails only after the good calls, and gives a whole piece where it has one and there is room.
         ensures call { is_err result ≡ (good_calls_of self.old == 0) }
         ensures calls { OnOk result (good_calls_of self.new + 1 ≡ good_calls_of self.old) }
-        ensures count { IfOk result (λ count. count ≡ min (piece_of self.old) (min (length buffer.new) (length (rest_of self.old)))) }
+        ensures count { IfOk result (λ count. count
+            ≡ min (piece_of self.old) (min (length buffer.new) (length (rest_of self.old)))) }
         ensures piece { piece_of self.new ≡ piece_of self.old }
     {
         if self.good_calls == 0 {
@@ -133,7 +134,8 @@ impl Sink for Sheet {
         // It fails only after the good calls or for want of room, and takes a whole piece where there is one.
         ensures call { OnOk result (0 < good_calls_of self.old) }
         ensures calls { OnOk result (good_calls_of self.new + 1 ≡ good_calls_of self.old) }
-        ensures room { OnErr result (0 < good_calls_of self.old → room_on self.old < length (written_on self.old) + min (piece_of self.old) (length bytes.now)) }
+        ensures room { OnErr result (0 < good_calls_of self.old
+            → room_on self.old < length (written_on self.old) + min (piece_of self.old) (length bytes.now)) }
         ensures count { IfOk result (λ count. count ≡ min (piece_of self.old) (length bytes.now)) }
         ensures piece { piece_of self.new ≡ piece_of self.old }
     {

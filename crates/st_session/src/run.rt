@@ -90,7 +90,8 @@ fn serve<R: Source, W: Sink>(
 /// Writes a refusal, and answers its status. Where there is no memory for its text, that is what is refused.
 fn refuse<W: Sink>(alloc: Global, refusal: Refusal, sink: &mut W) -> u8
     requires { W.has_failed sink.old ≡ false }
-    ensures all { result ≢ DEVICE_FAILED → result ≢ NO_MEMORY → WritesAll [] result (W.taken sink.old) (W.taken sink.new) (Err refusal) }
+    ensures all { result ≢ DEVICE_FAILED → result ≢ NO_MEMORY
+        → WritesAll [] result (W.taken sink.old) (W.taken sink.new) (Err refusal) }
     ensures memory { result ≡ NO_MEMORY → Appends (W.taken sink.old) (W.taken sink.new) (ended (codes "refused M")) }
     ensures part { result ≡ DEVICE_FAILED → WritesPart [] (W.taken sink.old) (W.taken sink.new) (Err refusal)
         ⊎ WritesPart [] (W.taken sink.old) (W.taken sink.new) (Err M) }
@@ -120,7 +121,8 @@ fn tell<W: Sink>(sink: &mut W, text: &[u8], status: u8) -> u8
     requires works { W.has_failed sink.old ≡ false }
     requires other { status ≢ DEVICE_FAILED }
     ensures all { result ≢ DEVICE_FAILED → (result ≡ status) × Appends (W.taken sink.old) (W.taken sink.new) text.now }
-    ensures part { result ≡ DEVICE_FAILED → (count : ℕ) × Appends (W.taken sink.old) (W.taken sink.new) (take count text.now) }
+    ensures part { result ≡ DEVICE_FAILED → (count : ℕ)
+        × Appends (W.taken sink.old) (W.taken sink.new) (take count text.now) }
     ensures failed { IsTrue (W.has_failed sink.new) ↔ (result ≡ DEVICE_FAILED) }
 {
     match write_all(sink, text) {
