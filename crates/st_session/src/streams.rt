@@ -1,5 +1,6 @@
 //! The devices over readers and writers.
-ghost use Rattle.std.specs.Prelude.{◌≡◌, ◌-◌, ◌^◌, false};
+ghost use Rattle.std.specs.Prelude.{◌≡◌, ◌≤◌, ◌<◌, ◌+◌, ◌-◌, ◌^◌, false, IfOk, OnOk, is_err, length};
+ghost use Rattle.std.specs.Io.KnownBytes.{ReadConsumes};
 
 use crate::devices::{DeviceFault, Sink, Source};
 use std::io::{Read, Write};
@@ -41,7 +42,18 @@ impl<R: Read> Source for FromReader<R> {
 
     ghost has_failed = { reader_has_failed };
 
-    fn read_some(&mut self, buffer: &mut [u8]) -> Result<usize, DeviceFault> {
+    fn read_some(&mut self, buffer: &mut [u8]) -> Result<usize, DeviceFault>
+        requires room { 0 < length buffer.old }
+        requires works { reader_has_failed self.old ≡ false }
+        ensures bound { IfOk result (λ count. count ≤ length buffer.new) }
+        ensures bytes { ReadConsumes (R.remaining (reader_of self.old)) (R.remaining (reader_of self.new)) result buffer.new }
+        ensures progress { IfOk result (λ count. 0 < count → reads_left_of self.new < reads_left_of self.old) }
+        ensures steady { OnOk result (reads_left_of self.new ≤ reads_left_of self.old) }
+        ensures failed { reader_has_failed self.new ≡ is_err result }
+
+        // Each read is counted once.
+        ensures reads { OnOk result (reads_left_of self.new + 1 ≡ reads_left_of self.old) }
+    {
         if self.reads_left == 0 {
             self.failed = true;
             return Err(DeviceFault);

@@ -42,7 +42,7 @@ fn readers_and_writers_are_devices(rt: HostRuntime) -> Result<(), Fail> {
 
 /// The replies to lines with many blanks, to unknown ones and to one that is too long, and to others between.
 const WANTED: &[u8] = b"Main.B = FALSE\nrefused O11\nrefused O11\nrefused O11\nrefused O11\nok\n\
-    Main.B = TRUE forced\nrefused O3\nrunning 0 forces 1 undo 1\n";
+    Main.B = TRUE forced\nrefused O3\nrefused O3\nrunning 0 forces 1 undo 1\n";
 
 #[test]
 fn lines_and_words_come_out(rt: HostRuntime) -> Result<(), Fail> {
@@ -51,7 +51,7 @@ fn lines_and_words_come_out(rt: HostRuntime) -> Result<(), Fail> {
     for _ in 0..4097 {
         text.push(b' ')?;
     }
-    text.extend_from_slice(b"\nforce Main.B 1\nshow Main.B\nwrite Main.A x\nstatus")?;
+    text.extend_from_slice(b"\nforce Main.B 1\nshow Main.B\nwrite Main.A x\nwrite Main.B x\nstatus")?;
     let mut source = Bytes::new(text.as_slice(), 4096, ALL_GOOD);
     let mut sink = Sheet::new(rt.alloc(), 4096, ALL_GOOD);
     let status = run_text(rt.alloc(), PROGRAM, b"Main", 8, &mut source, &mut sink);
