@@ -1,5 +1,6 @@
--- The forms of tokens (IEC 61131-3:2003, 2.1.2, 2.1.3, 2.2).
+-- The forms of tokens (IEC 61131-3:2003, 2.1 and 2.2).
 use Rattle.std.specs.Prelude.{◌≡◌, ◌≢◌, ℕ, true, ◌⊎◌, List, ◌∷◌, ◌++◌, ℤ, pos, codes, Some, if◌then◌else◌}
+use Rattle.std.specs.Str.{byte}
 use Rattle.st_tree.specs.declared.elem.Elem.{Elem}
 use Rattle.st_tree.specs.declared.elem.Elem.TheVariants.{Time}
 use Rattle.st_tree.specs.declared.value.Value.{Value}
@@ -15,6 +16,7 @@ use Rattle.st_tokens.specs.declared.token.Kind.TheVariants as K
 use Rattle.st_tokens.specs.Symbols.{symbol_text}
 use Rattle.st_tokens.specs.Words.{IsWord, IsSame, IsReserved, spelling_of}
 
+-- a number as a value of a type, in its range or not
 abbrev pub value : Elem → ℤ → Value
 value elem n = record { elem = elem; bits = n }
 
@@ -28,12 +30,19 @@ IsDurationWord w = IsSame w (codes "T") ⊎ IsSame w (codes "TIME")
 
 -- these bytes have the form of this token
 pub data HasForm : List ℕ → Kind → Type 0 where
+  -- a word that isn't reserved (2.1.2)
   word : {w : List ℕ} → IsWord w → (IsReserved w → ⊥) → HasForm w (K.Word w)
+  -- a reserved word (2.1.3)
   keyword : {w : List ℕ} {x : Keyword} → IsSame w (spelling_of x) → HasForm w (K.Keyword x)
+  -- the name of an elementary type (2.3.1)
   type_name : {w : List ℕ} {elem : Elem} → IsSame w (name_of elem) → HasForm w (K.Type elem)
+  -- a number with or without a base (2.2.1)
   number : {digits : List ℕ} (n : ℕ) → number_read digits ≡ Some n → HasForm digits (K.Number (capped n))
+  -- a typed literal: the name of a type but TIME, `#`, and a literal of that type (2.2.1)
   typed : (name literal : List ℕ) (elem : Elem) (n : ℤ) → IsSame name (name_of elem) → elem ≢ Time
-      → literal_read (class_of elem) true literal ≡ Some n → HasForm (name ++ 35 ∷ literal) (K.Typed (value elem (capped_signed n)))
+      → literal_read (class_of elem) true literal ≡ Some n → HasForm (name ++ byte "#" ∷ literal) (K.Typed (value elem (capped_signed n)))
+  -- a duration: `T#` or `TIME#`, an optional `-`, and parts (2.2.3.1)
   duration : (name literal : List ℕ) (ms : ℤ) → IsDurationWord name
-      → signed_interval_read literal ≡ Some ms → HasForm (name ++ 35 ∷ literal) (K.Duration (time_of ms))
+      → signed_interval_read literal ≡ Some ms → HasForm (name ++ byte "#" ∷ literal) (K.Duration (time_of ms))
+  -- a symbol
   symbol : (x : Symbol) → HasForm (symbol_text x) (K.Symbol x)

@@ -32,10 +32,10 @@ abbrev pub behind : List ℕ → List ℕ
 behind [] = []
 behind (b ∷ bs) = if is_word_byte b then behind bs else b ∷ bs
 
--- no two '_' in a row, and none at the end; the flag says that a '_' stands before
+-- no two `_` in a row, and none at the end; the flag says that a `_` stands before
 abbrev pub is_clean_after : Bool → List ℕ → Bool
 is_clean_after underscore [] = not underscore
-is_clean_after underscore (b ∷ bs) = not (underscore && b == 95) && is_clean_after (b == 95) bs
+is_clean_after underscore (b ∷ bs) = not (underscore && b == byte "_") && is_clean_after (b == byte "_") bs
 
 abbrev pub is_clean : List ℕ → Bool
 is_clean w = is_clean_after false w

@@ -1,4 +1,4 @@
--- A text and its tokens.
+-- A text and its tokens (IEC 61131-3:2003, 2.1).
 use Rattle.std.specs.Prelude.{◌≡◌, ℕ, ◌+◌, ◌<◌, ◌≤◌, ◌⊎◌, true, List, [], ◌∷◌, ◌++◌, length, codes}
 use Rattle.st_tree.specs.declared.elem.Elem.TheVariants.{Time}
 use Rattle.st_tokens.specs.declared.fault.SyntaxFault.{SyntaxFault}
@@ -21,8 +21,8 @@ pub record IsLongest (text front rest : List ℕ) (kind : Kind) : Type 0 where
 abbrev pub BeginsHash : List ℕ → Type 0
 BeginsHash rest = (back : List ℕ) × (rest ≡ codes "#" ++ back)
 
--- there is no token, though this front has a form: a word has two '_' in a row or one at the end, what begins as a
--- duration is none, or a letter, a digit or '_' follows a literal
+-- there is no token, though this front has a form: a word has two `_` in a row or one at the end, what begins as a
+-- duration is none, or a letter, a digit or `_` follows a literal
 abbrev pub IsRefused : Kind → List ℕ → Type 0
 IsRefused (K.Word w) rest = IsUnclean w ⊎ (IsSame w (codes "T") × BeginsHash rest)
 IsRefused (K.Type elem) rest = (elem ≡ Time) × BeginsHash rest
@@ -31,6 +31,7 @@ IsRefused (K.Typed v) rest = BeginsWord rest
 IsRefused (K.Duration ms) rest = BeginsWord rest
 IsRefused _ rest = ⊥
 
+-- `(*` comes first
 abbrev pub BeginsComment : List ℕ → Type 0
 BeginsComment text = (behind : List ℕ) × (text ≡ codes "(*" ++ behind)
 
@@ -39,19 +40,25 @@ pub record IsComment (text body rest : List ℕ) : Type 0 where
   pub splits : text ≡ codes "(*" ++ (body ++ (codes "*)" ++ rest))
   pub first : (other back : List ℕ) → text ≡ codes "(*" ++ (other ++ (codes "*)" ++ back)) → length body ≤ length other
 
+-- what contracts see of a list of tokens
 abbrev pub Tokens : Type 0
 Tokens = List Token
 
+-- a token that begins on this line
 abbrev pub token : ℕ → Kind → Token
 token line kind = record { kind = kind; line = line }
 
 -- the text, which begins on this line, is blanks and comments around these tokens
 pub data HasTokens : ℕ → List ℕ → List Token → Type 0 where
+  -- nothing is left
   done : {line : ℕ} → HasTokens line [] []
+  -- a blank (2.1.4)
   blank : {line b : ℕ} {rest : List ℕ} {ts : List Token}
       → is_blank b ≡ true → HasTokens (line + line_end b) rest ts → HasTokens line (b ∷ rest) ts
+  -- a comment (2.1.5)
   comment : {line : ℕ} {text body rest : List ℕ} {ts : List Token}
       → IsComment text body rest → HasTokens (line + line_ends body) rest ts → HasTokens line text ts
+  -- what begins no comment: a token, which is the longest front that has a form
   next : {line : ℕ} {text front rest : List ℕ} {kind : Kind} {ts : List Token}
       → (BeginsComment text → ⊥) → IsLongest text front rest kind → (IsRefused kind rest → ⊥)
       → HasTokens line rest ts → HasTokens line text (token line kind ∷ ts)

@@ -86,14 +86,14 @@ spelling_of K.Xor = codes "XOR"
 abbrev pub IsSame : List ℕ → List ℕ → Type 0
 IsSame a b = map to_ascii_lowercase a ≡ map to_ascii_lowercase b
 
--- a word: a letter or '_', and then letters, digits and '_'
+-- a word: a letter or `_`, and then letters, digits and `_`
 abbrev pub IsWord : List ℕ → Type 0
 IsWord [] = ⊥
 IsWord (b ∷ bs) = (begins_word b ≡ true) × AreWordBytes bs
 
--- two '_' in a row, or one at the end
+-- two `_` in a row, or one at the end
 abbrev pub IsUnclean : List ℕ → Type 0
-IsUnclean w = ((front back : List ℕ) × (w ≡ front ++ 95 ∷ 95 ∷ back)) ⊎ ((front : List ℕ) × (w ≡ front ++ 95 ∷ []))
+IsUnclean w = ((front back : List ℕ) × (w ≡ front ++ (codes "__" ++ back))) ⊎ ((front : List ℕ) × (w ≡ front ++ codes "_"))
 
 -- a word that no program may use for its own names
 abbrev pub IsReserved : List ℕ → Type 0

@@ -134,10 +134,16 @@ fn scan<'a>(alloc: Global, text: &'a [u8]) -> Result<Vec<Token<'a>>, SyntaxFault
     Ok(found)
 }
 
-/// The tokens of a text.
+/// The tokens of a text, from its front on.
+///
+/// Between blanks and comments each token is the longest front that has the form of one. Case isn't significant, and
+/// comments don't nest.
 ///
 /// # Errors
-/// `TooLong` for a text of more than `MOST_BYTES`, else `NoToken` where it has no tokens, or `Memory`.
+/// - `TooLong` for a text of more than `MOST_BYTES`;
+/// - `NoToken` where nothing at some place has the form of a token, where a comment doesn't end, a word has two `_` in a
+///   row or one at its end, or a letter, a digit or `_` stands directly behind a literal;
+/// - `Memory` where memory runs out.
 pub fn tokens<'a>(alloc: Global, text: &'a [u8]) -> Result<Vec<Token<'a>>, SyntaxFault>
     ensures found { IfOk result (λ found. HasTokens 1 text.now found.items) }
     ensures fault { IfErr result (λ fault. Explains fault text.now) }
