@@ -1,4 +1,5 @@
-//! Statements, read from tokens.
+//! Statements and charts, read from tokens.
 #![tactic(auto)]
 
+pub mod chart;
 pub mod statement;

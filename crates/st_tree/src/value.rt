@@ -1,6 +1,6 @@
 //! Values of the elementary types.
-ghost use Rattle.std.specs.Prelude.{◌≡◌};
-ghost use Rattle.st_tree.specs.Values.{is_value as is_in_range};
+ghost use Rattle.std.specs.Prelude.{◌≡◌, ◌≢◌};
+ghost use Rattle.st_tree.specs.Values.{is_value as is_in_range, residue, wrapped, IsValue};
 
 use crate::elem::Elem;
 
@@ -22,5 +22,34 @@ pub fn is_value(value: Value) -> bool
         value.elem.is_signed() && size <= value.elem.limit()
     } else {
         size < value.elem.limit()
+    }
+}
+
+/// The value of a type that differs from a number by a multiple of 2 to the type's width; of BOOL, whether the number
+/// isn't 0.
+pub fn wrap(elem: Elem, number: i128) -> Value
+    ensures value { result ≡ wrapped elem number }
+    ensures in_range { IsValue result }
+    ensures agrees { elem ≢ Elem.Bool → residue elem result.bits ≡ residue elem number }
+{
+    if elem == Elem::Bool {
+        return Value {
+            elem,
+            bits: if number == 0 { 0 } else { 1 },
+        };
+    }
+    let modulus = 1i128 << elem.bits();
+    let residue = number.rem_euclid(modulus);
+    let value = Value {
+        elem,
+        bits: residue,
+    };
+    if is_value(value) {
+        value
+    } else {
+        Value {
+            elem,
+            bits: residue - modulus,
+        }
     }
 }

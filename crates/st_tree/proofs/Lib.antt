@@ -1,0 +1,11 @@
+pub mod Cases
+pub mod DigitTexts
+pub mod DurationLemmas
+pub mod DurationTexts
+pub mod FractionLemmas
+pub mod Grammar
+pub mod Laid
+pub mod NumberLemmas
+pub mod RoundTrip
+pub mod SignLemmas
+pub mod WordLemmas
