@@ -57,7 +57,7 @@ module _ (room : ℕ) (inside : Inside) where
   rank_err (suc r) ts mid x f some a refused =
       let a' : rank room inside r ts ≡ Ok (x, mid) = rw sub-one at a in
       refuses_too (operations (rank room inside (suc r - 1)) (suc r - 1) mid) _ f
-          (λ w g. let g' : operations (rank room inside r) r mid ≡ Err w = rw sub-one at g in rw (a', g') refl) refused
+      (λ w g. let g' : operations (rank room inside r) r mid ≡ Err w = rw sub-one at g in rw (a', g') refl) refused
 
 pub inside_expression : (room : ℕ) → 0 < room → (inside_of room).expression ≡ rank (room - 1) (inside_of (room - 1)) 7
 unfolding inside_of

@@ -51,7 +51,9 @@ fn lines_and_words_come_out(rt: HostRuntime) -> Result<(), Fail> {
     for _ in 0..4097 {
         text.push(b' ')?;
     }
-    text.extend_from_slice(b"\nforce Main.B 1\nshow Main.B\nwrite Main.A x\nwrite Main.B x\nstatus")?;
+    text.extend_from_slice(
+        b"\nforce Main.B 1\nshow Main.B\nwrite Main.A x\nwrite Main.B x\nstatus",
+    )?;
     let mut source = Bytes::new(text.as_slice(), 4096, ALL_GOOD);
     let mut sink = Sheet::new(rt.alloc(), 4096, ALL_GOOD);
     let status = run_text(rt.alloc(), PROGRAM, b"Main", 8, &mut source, &mut sink);

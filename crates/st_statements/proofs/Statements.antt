@@ -160,7 +160,7 @@ module _ (r : ℕ) where
       (λ ts p. open_is (kind (next ts)) p.0) (λ ts x rest p d. invocation_to ts x rest d)
       (λ ts x rest p g d. at_first (k.Word n) (λ us. (x : Statement) (rest : List Tok) → is_open (kind (next us)) ≡ true → IsStatement us x rest → IsInvocation us x rest) (invocation_from n) ts p.1 x rest p.0 d) (λ t g. g)
   named_by n false = exact_as (exact_before (k.Symbol s.Assign) (variable_exact r (inside_of r) (inside_exact r)) tt (exact_symbol s.Assign r refl)
-          (λ v q. exact_before (k.Symbol s.Semicolon) (expression_exact r) tt (exact_symbol s.Semicolon r refl) (λ x z. exact_pure (t.Assignment v x) Always Any (At r))))
+      (λ v q. exact_before (k.Symbol s.Semicolon) (expression_exact r) tt (exact_symbol s.Semicolon r refl) (λ x z. exact_pure (t.Assignment v x) Always Any (At r))))
       (λ ts p. tt) (λ ts x rest p d. assignment_to ts x rest d)
       (λ ts x rest p g d. at_first (k.Word n) (λ us. (x : Statement) (rest : List Tok) → is_open (kind (next us)) ≡ false → IsStatement us x rest → IsAssignment us x rest) (assignment_from n) ts p.1 x rest p.0 d) (λ t g. g)
 
@@ -467,7 +467,7 @@ module _ (d : Deeper) where
   abbrev after_for : Place → Parser Statement
   after_for p = λ ts. and_then (parser.word ts) (λ n us. and_then (parser.symbol s.Assign us) (λ q vs. and_then (d.expression vs) (λ a ws. and_then (parser.keyword w.To ws) (λ u xs. and_then (d.expression xs)
       (λ b ys. and_then (spec.step d ys) (λ c zs. and_then (parser.keyword w.Do zs) (λ v ks. and_then (d.statements ks) (λ ss bs. and_then (parser.keyword w.EndFor bs)
-          (λ y cs. and_then (parser.symbol s.Semicolon cs) (λ z. parser.pure (t.For p n a b c ss)))))))))))
+      (λ y cs. and_then (parser.symbol s.Semicolon cs) (λ z. parser.pure (t.For p n a b c ss)))))))))))
 
   abbrev after_while : Place → Parser Statement
   after_while p = λ ts. and_then (d.expression ts) (λ a us. and_then (parser.keyword w.Do us) (λ u vs. and_then (d.statements vs) (λ ss ws. and_then (parser.keyword w.EndWhile ws) (λ q xs. and_then (parser.symbol s.Semicolon xs) (λ z. parser.pure (t.While p a ss))))))
@@ -485,17 +485,17 @@ module _ (d : Deeper) where
   case_behind zero e = tt
   case_behind (suc r) e = λ p. exact_iff
       (exact_before (k.Keyword w.Of) e.0 tt (exact_keyword w.Of r refl) (λ a q. exact_bind (cases_exact r d e)
-          (λ cs. exact_bind (otherwise_exact r d e) (λ ys. closing_case r (t.Case p a cs ys)) (λ ys mid rest y c g. before_token EndsElse (refl, (refl, tt)) c)) choice_follow))
+      (λ cs. exact_bind (otherwise_exact r d e) (λ ys. closing_case r (t.Case p a cs ys)) (λ ys mid rest y c g. before_token EndsElse (refl, (refl, tt)) c)) choice_follow))
       (choice_to p) (choice_from p)
 
   for_behind : (r : ℕ) → ExactDeeper r d → Behind 1 r after_for (k.Keyword w.For) IsStatement Any
   for_behind zero e = tt
   for_behind (suc r) e = λ p. exact_iff
       (exact_bind (exact_word r) (λ n. exact_bind (exact_symbol s.Assign r refl) (λ q. exact_before (k.Keyword w.To) e.0 tt (exact_keyword w.To r refl) (λ a u.
-          exact_bind e.0 (λ b. exact_before (k.Keyword w.Do) (step_exact r d e) (refl, tt) (exact_keyword w.Do r refl) (λ c v.
-              exact_bind e.1 (λ ss. closing_for r (t.For p n a b c ss)) (λ ss mid rest y c' g. before_token EndsBlock (refl, tt) c')))
-              (λ b mid rest y c g. by_follow mid rest y c)))
-          (λ q mid rest y c g. tt)) (λ n mid rest y c g. tt))
+      exact_bind e.0 (λ b. exact_before (k.Keyword w.Do) (step_exact r d e) (refl, tt) (exact_keyword w.Do r refl) (λ c v.
+      exact_bind e.1 (λ ss. closing_for r (t.For p n a b c ss)) (λ ss mid rest y c' g. before_token EndsBlock (refl, tt) c')))
+      (λ b mid rest y c g. by_follow mid rest y c)))
+      (λ q mid rest y c g. tt)) (λ n mid rest y c g. tt))
       (counting_to p) (counting_from p)
 
   while_behind : (r : ℕ) → ExactDeeper r d → Behind 1 r after_while (k.Keyword w.While) IsStatement Any
