@@ -96,6 +96,7 @@ plain : (elem : Elem) (class : Class) (text : List ℕ) (number : ℤ) → class
     → ((t : List ℕ) → number_in class elem t ≡ literal_read class (is_typed elem t) (after_type elem t))
     → 0 < length text → slice_index text 0 < 65 → literal_read class false text ≡ Some number → in_range elem number ≡ true
     → reads elem text ≡ Some (record { elem = elem; bits = number })
+unfolding reads
 plain elem class [] number is literal some first read within = absurd (omega arith)
 plain elem class (c ∷ cs) number is literal some first read within =
     rw (is, literal (c ∷ cs), untyped elem c cs first, read) (value_of-some elem number within)
@@ -133,6 +134,7 @@ duration_is E.Time is = refl
 duration_is _ is = cc
 
 truth_back : (number : ℤ) → in_range E.Bool number ≡ true → reads E.Bool (text_in Boolean number) ≡ Some (record { elem = E.Bool; bits = number })
+unfolding reads
 truth_back (pos zero) within = refl
 truth_back (pos (suc zero)) within = refl
 truth_back (pos (suc (suc n))) within = absurd (let small = below (suc (suc n)) 2 within in omega arith)
@@ -144,6 +146,7 @@ bits_back elem (pos n) is within =
 bits_back elem (negsuc n) is within = let no_sign = bits_have_no_sign elem is in let sign = (both (is_signed elem) (nat_lt n (limit_of elem)) within).0 in cc
 
 time_back : (number : ℤ) → in_range E.Time number ≡ true → reads E.Time (text_in Duration number) ≡ Some (record { elem = E.Time; bits = number })
+unfolding reads
 time_back number within =
     rw (duration_read-text number (in_range-small E.Time number within)) (value_of-some E.Time number within)
 

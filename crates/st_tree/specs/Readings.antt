@@ -53,5 +53,5 @@ abbrev pub value_of : Elem → ℤ → Option Value
 value_of elem number = if in_range elem number then Some (record { elem = elem; bits = number }) else None
 
 -- the value of a type that a whole text is
-abbrev pub reads : Elem → List ℕ → Option Value
+unfoldable pub reads : Elem → List ℕ → Option Value
 reads elem text = option_and_then (value_of elem) (number_in (class_of elem) elem text)

@@ -1,5 +1,5 @@
 -- The elementary types of the profile (IEC 61131-3:2003, 2.3.1, table 10).
-use Rattle.std.specs.Prelude.{ℕ, ◌-◌, ◌/◌, ◌^◌, Bool, true, false, List, codes, if◌then◌else◌}
+use Rattle.std.specs.Prelude.{ℕ, ◌-◌, ◌/◌, ◌^◌, Bool, true, false, List, codes, nat_eq, if◌then◌else◌}
 use Rattle.st_tree.specs.declared.elem.Class.{Class}
 use Rattle.st_tree.specs.declared.elem.Class.TheVariants.{Boolean, Integer, BitString, Duration}
 use Rattle.st_tree.specs.declared.elem.Elem.{Elem}
@@ -21,6 +21,27 @@ name_of E.Word = codes "WORD"
 name_of E.Dword = codes "DWORD"
 name_of E.Lword = codes "LWORD"
 name_of E.Time = codes "TIME"
+
+-- the place of a type in the table, from 0
+abbrev pub place_of : Elem → ℕ
+place_of E.Bool = 0
+place_of E.Sint = 1
+place_of E.Int = 2
+place_of E.Dint = 3
+place_of E.Lint = 4
+place_of E.Usint = 5
+place_of E.Uint = 6
+place_of E.Udint = 7
+place_of E.Ulint = 8
+place_of E.Byte = 9
+place_of E.Word = 10
+place_of E.Dword = 11
+place_of E.Lword = 12
+place_of E.Time = 13
+
+-- whether two types are the same
+abbrev pub is_same : Elem → Elem → Bool
+is_same a b = nat_eq (place_of a) (place_of b)
 
 -- how many bits a value has: the standard's N, and 64 for TIME, whose size the standard leaves open
 abbrev pub bits_of : Elem → ℕ

@@ -1,6 +1,6 @@
 //! The elementary types (IEC 61131-3:2003, 2.3.1, table 10).
-ghost use Rattle.std.specs.Prelude.{◌≡◌};
-ghost use Rattle.st_tree.specs.Types.{bits_of, class_of, is_signed as has_sign, limit_of, name_of, width_of};
+ghost use Rattle.std.specs.Prelude.{◌≡◌, ◌↔◌, IsTrue};
+ghost use Rattle.st_tree.specs.Types.{bits_of, class_of, is_signed as has_sign, is_same, limit_of, name_of, place_of, width_of};
 
 /// An elementary type of the profile.
 #[derive(Clone, Copy, Debug, PartialEq, Eq)]
@@ -35,6 +35,21 @@ pub enum Class {
 }
 
 impl Elem {
+    /// Its place in the table of types, from 0.
+    pub fn place(self) -> u8
+        ensures { result ≡ place_of self }
+    {
+        self as u8
+    }
+
+    /// Whether it is the same type as another.
+    pub fn is(self, other: Elem) -> bool
+        ensures value { result ≡ is_same self other }
+        ensures same { IsTrue result ↔ (self ≡ other) }
+    {
+        self.place() == other.place()
+    }
+
     /// How its values are written.
     pub fn class(self) -> Class
         ensures { result ≡ class_of self }

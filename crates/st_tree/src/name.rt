@@ -46,7 +46,8 @@ impl Name {
 
     /// The bytes of the name.
     pub fn bytes(&self) -> &[u8]
-        ensures { result.now ≡ self.now }
+        ensures bytes { result.now ≡ self.now }
+        ensures short { length result.now ≤ 128 }
     {
         &self.bytes[..self.len]
     }

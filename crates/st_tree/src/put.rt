@@ -22,6 +22,7 @@ pub fn put_value(value: Value, out: &mut Vec<u8>) -> Result<(), AllocError>
     ensures err { OnErr result (out.new.items ≡ out.old.items) }
     ensures room { OnErr result (vec_capacity out.old < vec_len out.old + 24) }
     ensures capacity { vec_capacity out.old ≤ vec_capacity out.new }
+    ensures short { length (text value) ≤ 24 }
 {
     let mut buffer = [0; MOST_BYTES];
     let start = lay_value(value, &mut buffer);

@@ -24,6 +24,7 @@ pub struct BadValue;
 ///
 /// # Errors
 /// Where the text is nothing of the kind, or out of the type's range.
+#[tactic(auto, unfolding(crate::specs::Readings::reads))]
 pub fn read_value(elem: Elem, text: &[u8]) -> Result<Value, BadValue>
     ensures { MatchResult result (λ value. reads elem text.now ≡ Some value) (λ _. reads elem text.now ≡ None) }
 {

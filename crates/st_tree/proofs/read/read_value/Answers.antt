@@ -16,6 +16,7 @@ answered read None is = is
 answered read (Some v) is = is
 
 pub returns-in-Some : goal.returns-in-Some
+unfolding reads
 returns-in-Some c =
     let fits : FitsSigned w128 c.in-Some.number = search rules in
     let value : c.in_range.result ≡ value_of c.args.elem c.in-Some.number = simp to_z-of_z at c.in_range.ensures in

@@ -1,0 +1,13 @@
+//! The worked cases: whole sessions over whole program texts, with the bytes that have to come out.
+//!
+//! This crate has tests alone, of what crosses the crates below.
+#![tactic(auto)]
+
+#[cfg(test)]
+mod all_types;
+#[cfg(test)]
+mod first_path;
+#[cfg(test)]
+mod force_release_status;
+#[cfg(test)]
+mod running;

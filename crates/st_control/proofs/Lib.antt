@@ -1,0 +1,9 @@
+pub mod Changes
+pub mod Histories
+pub mod Steps
+pub mod ThinLeaves
+pub mod ThinLexemes
+pub mod ThinPrograms
+pub mod ThinReads
+pub mod ThinVariables
+pub mod Undone

@@ -1,0 +1,61 @@
+-- What holds of all lists of commands.
+use Rattle.std.specs.Prelude.{ℕ, ◌≡◌, Bool, true, false, List, ◌++◌, length, Option, Some, Ok, if◌then◌else◌}
+use Rattle.std.specs.Str.{bytes_eq}
+use Rattle.st_control.specs.Machine.{Command, Machine, after_all, after_undos, passed, step}
+use Rattle.st_control.specs.Machine.Command.{force, release, write}
+use Rattle.st_control.specs.States.{IsWhole, StateView}
+use Rattle.st_layout.specs.Laws.{is_forced, value_of}
+use Rattle.st_layout.specs.Layout.{raised}
+use Rattle.st_tree.specs.declared.value.Value.{Value}
+
+-- Whatever commands are given, refused ones between them included, as many undos as were accepted give back the machine
+-- before: its state, and the states that could be gone back to.
+abbrev pub IsGivenBack : Type 0
+IsGivenBack = (commands : List Command) (m : Machine) → after_undos (length (passed commands m)) (after_all commands m) ≡ m
+
+-- On the way the undos go through the states before each accepted command, the newest first.
+abbrev pub GoesThroughStates : Type 0
+GoesThroughStates = (commands : List Command) (m : Machine) → (after_all commands m).history ≡ passed commands m ++ m.history
+
+-- ---- what one accepted command changes, over the map from paths to values and the set of forced paths
+
+-- the value at a path of a state, and whether the path is forced
+abbrev pub value_in : StateView → List ℕ → Option Value
+value_in s path = value_of s.leaves s.content path
+
+abbrev pub is_forced_in : StateView → List ℕ → Bool
+is_forced_in s path = is_forced s.leaves s.content path
+
+-- the two paths are one, in any case
+abbrev pub is_same_path : List ℕ → List ℕ → Bool
+is_same_path path other = bytes_eq (raised path) (raised other)
+
+-- the program, the moment and the status stay
+pub record KeepsProgram (old new : StateView) : Type 0 where
+  pub leaves : new.leaves ≡ old.leaves
+  pub now : new.now ≡ old.now
+  pub status : new.status ≡ old.status
+
+-- the value at this path is the new one, and all others stay
+abbrev pub GetsValue : List ℕ → Value → StateView → StateView → Type 0
+GetsValue path value old new = (other : List ℕ) → value_in new other ≡ (if is_same_path other path then Some value else value_in old other)
+
+-- this path is forced now or isn't, and for all others it stays
+abbrev pub GetsForce : List ℕ → Bool → StateView → StateView → Type 0
+GetsForce path on old new = (other : List ℕ) → is_forced_in new other ≡ (if is_same_path other path then on else is_forced_in old other)
+
+abbrev pub KeepsValues : StateView → StateView → Type 0
+KeepsValues old new = (other : List ℕ) → value_in new other ≡ value_in old other
+
+abbrev pub KeepsForces : StateView → StateView → Type 0
+KeepsForces old new = (other : List ℕ) → is_forced_in new other ≡ is_forced_in old other
+
+-- the command changes this much
+abbrev pub Changes : Command → StateView → StateView → Type 0
+Changes (write path value) old new = GetsValue path value old new × KeepsForces old new × KeepsProgram old new
+Changes (force path value) old new = GetsValue path value old new × GetsForce path true old new × KeepsProgram old new
+Changes (release path) old new = KeepsValues old new × GetsForce path false old new × KeepsProgram old new
+
+-- A command that is accepted changes the value or the force at its own path, and at no other.
+abbrev pub ChangesOnePath : Type 0
+ChangesOnePath = (command : Command) (m next : Machine) → IsWhole m.state → step command m ≡ Ok next → Changes command m.state next.state

@@ -1,0 +1,58 @@
+-- The state of a controller, and what commands make of it.
+use Rattle.std.specs.Prelude.{ℕ, ℤ, pos, ◌<◌, true, false, List, Option, length}
+use Rattle.st_control.specs.declared.record.Record.{Record}
+use Rattle.st_control.specs.declared.record.Record.TheVariants.{Write, Force, Release}
+use Rattle.st_control.specs.declared.state.Status.{Status}
+use Rattle.st_control.specs.declared.state.Status.TheVariants.{Running}
+use Rattle.st_layout.specs.Layout.{IsSound, IsValueAt, number_of}
+use Rattle.st_layout.specs.Memory.{Content, Fits, initial_content, with_value, with_force}
+use Rattle.st_tree.specs.declared.leaf.Leaf.{Leaf}
+use Rattle.st_tree.specs.declared.value.Value.{Value}
+
+-- a state: the leaves of the program, the value of each and whether it is forced, the moment and the status
+pub record StateView : Type 0 where
+  pub leaves : List Leaf
+  pub content : Content
+  pub now : ℤ
+  pub status : Status
+
+-- what each state of a controller keeps: its leaves are those of a layout, and it has one value of the right type for each
+pub record IsWhole (s : StateView) : Type 0 where
+  pub sound : IsSound s.leaves
+  pub fits : Fits s.leaves s.content
+
+-- the state that a program begins with: initial values, no force, moment 0, running
+abbrev pub first_state : List Leaf → StateView
+first_state leaves = record { leaves = leaves; content = initial_content leaves; now = pos 0; status = Running }
+
+-- the number of the leaf with this path, in any case
+abbrev pub leaf_of : StateView → List ℕ → Option ℕ
+leaf_of s path = number_of s.leaves path
+
+-- the same state with other values and forces
+abbrev pub with_content : StateView → Content → StateView
+with_content s content = record { leaves = s.leaves; content = content; now = s.now; status = s.status }
+
+-- after a write the leaf has the value
+abbrev pub written : StateView → ℕ → Value → StateView
+written s leaf value = with_content s (with_value s.content leaf value)
+
+-- after a force the leaf has the value, and is forced
+abbrev pub forced : StateView → ℕ → Value → StateView
+forced s leaf value = with_content s (with_force (with_value s.content leaf value) leaf true)
+
+-- after a release the leaf isn't forced, and keeps its value
+abbrev pub released : StateView → ℕ → StateView
+released s leaf = with_content s (with_force s.content leaf false)
+
+-- the state before the command that left a record
+abbrev pub undone : StateView → Record → StateView
+undone s (Write leaf old) = with_content s (with_value s.content leaf old)
+undone s (Force leaf old was) = with_content s (with_force (with_value s.content leaf old) leaf was)
+undone s (Release leaf) = with_content s (with_force s.content leaf true)
+
+-- the record can be one of a command that left this state: its leaf is there, and the value is one of the leaf's type
+abbrev pub FitsRecord : StateView → Record → Type 0
+FitsRecord s (Write leaf old) = (leaf < length s.leaves) × IsValueAt s.leaves leaf old
+FitsRecord s (Force leaf old was) = (leaf < length s.leaves) × IsValueAt s.leaves leaf old
+FitsRecord s (Release leaf) = leaf < length s.leaves

@@ -1,0 +1,251 @@
+//! The controller.
+ghost use Rattle.std.specs.Prelude.{◌≡◌, ◌+◌, ◌<◌, ◌≤◌, ◌++◌, ◌∷◌, [], IfErr, IfOk, IfSome, OnOk, length, vec_capacity, vec_len};
+ghost use Rattle.st_control.specs.Controllers.{DropsNewest, IsLoaded, Keeps, RefusesLoad, Takes, first_controller, force_count, force_record, machine_of, release_record, shown_to, write_record};
+ghost use Rattle.st_control.specs.Machine.{step, undo_step};
+ghost use Rattle.st_control.specs.Machine.Command.{force, release, write};
+ghost use Rattle.st_control.specs.States.{IsWhole, leaf_of};
+ghost use Rattle.st_layout.specs.Layout.{leaf_at};
+ghost use Rattle.st_tree.specs.Values.{IsValue};
+
+use crate::record::Record;
+use crate::refusal::Refusal;
+use crate::state::{State, Status};
+use crate::thin::{ThinFault, read_thin};
+use crate::undoing::revert;
+use st_layout::{Layout, Memory};
+use st_tree::{Elem, Name, Value};
+use std::alloc::Global;
+use std::marker::Model;
+
+/// How many commands can be undone.
+const MOST_RECORDS: usize = 256;
+
+/// Why a text that is no program is refused.
+const NO_PROGRAM: Refusal = Refusal::S { number: 2, line: 1 };
+
+/// What an operator is told of a controller as a whole.
+#[derive(Clone, Copy)]
+pub struct Report {
+    /// Whether the program runs.
+    pub status: Status,
+    /// The moment of the last scan, in milliseconds.
+    pub now: i64,
+    /// How many leaves are forced.
+    pub forces: u32,
+    /// How many commands can be undone.
+    pub undo: u32,
+}
+
+/// A controller: a program's state, and the records of the commands that can be undone.
+///
+/// Room for all its 256 records is made at its load, so that no command needs memory for its record.
+#[derive(Drop)]
+pub struct Controller<M: Memory> {
+    state: State<M>,
+    /// The oldest first.
+    records: Vec<Record>,
+    main: Name,
+    limit: u32,
+}
+
+impl<M: Memory> Model for Controller<M> {
+    ghost use Rattle.std.specs.Prelude.{◌≤◌, vec_capacity, vec_len};
+    ghost use Rattle.st_control.specs.Controllers.{ControllerView, IsCoherent};
+
+    ghost Value = { ControllerView };
+
+    ghost view = { λ c. record { state = c.state; records = c.records.items; main = c.main; limit = c.limit } };
+
+    ghost invariant = { λ c. (256 ≤ vec_capacity c.records) × (vec_len c.records ≤ 256) × IsCoherent c.state c.records.items };
+}
+
+impl<M: Memory> Controller<M> {
+    /// Loads the program of the name `main`, in any case, from a text: initial values, no force, moment 0, running, and
+    /// nothing to undo. `limit` is the step limit of a scan, which is kept.
+    ///
+    /// Refused as S2 line 1 exactly where the text is no such program, and else for want of memory alone.
+    pub fn load(alloc: Global, text: &[u8], main: &[u8], limit: u32) -> Result<Self, Refusal>
+        ensures ok { IfOk result (λ controller. IsLoaded text.now main.now limit controller) }
+        ensures refused { IfErr result (λ refusal. RefusesLoad text.now main.now refusal) }
+    {
+        let leaves = match read_thin(alloc, text, main) {
+            Ok(leaves) => leaves,
+            Err(ThinFault::NotThin) => return Err(NO_PROGRAM),
+            Err(ThinFault::Memory) => return Err(Refusal::M),
+        };
+        let Some(name) = Name::of(main) else {
+            return Err(NO_PROGRAM);
+        };
+        match Layout::of(alloc, leaves) {
+            Ok(layout) => Controller::start(alloc, layout, name, limit),
+            Err(_) => Err(Refusal::M),
+        }
+    }
+
+    /// A controller of a program with these leaves: initial values, no force, moment 0, running, and nothing to undo.
+    ///
+    /// Room for all its records is made here. It is refused for want of memory alone.
+    pub fn start(alloc: Global, layout: Layout, main: Name, limit: u32) -> Result<Self, Refusal>
+        ensures ok { IfOk result (λ controller. controller ≡ first_controller layout main limit) }
+        ensures err { IfErr result (λ refusal. refusal ≡ Refusal.M) }
+    {
+        let Ok(memory) = M::fresh(alloc, &layout) else {
+            return Err(Refusal::M);
+        };
+        let Ok(records) = Vec::with_capacity(alloc, MOST_RECORDS) else {
+            return Err(Refusal::M);
+        };
+        Ok(Controller {
+            state: State {
+                layout,
+                memory,
+                now: 0,
+                status: Status::Running,
+            },
+            records,
+            main,
+            limit,
+        })
+    }
+
+    /// The number of the leaf with this path, in any case.
+    pub fn find(&self, path: &[u8]) -> Option<u32>
+        ensures value { result ≡ leaf_of self.now.state path.now }
+        ensures below { IfSome result (λ leaf. leaf < length self.now.state.leaves) }
+    {
+        self.state.layout.leaf(path)
+    }
+
+    /// The path of a leaf, spelled as the program declares it.
+    pub fn shown(&self, leaf: u32) -> &[u8]
+        requires { leaf < length self.now.state.leaves }
+        ensures value { result.now ≡ (leaf_at self.now.state.leaves leaf).shown }
+        ensures short { length result.now ≤ 255 }
+    {
+        self.state.layout.at(leaf).shown.items.as_slice()
+    }
+
+    /// The type of a leaf.
+    pub fn elem(&self, leaf: u32) -> Elem
+        requires { leaf < length self.now.state.leaves }
+        ensures { result ≡ (leaf_at self.now.state.leaves leaf).elem }
+    {
+        self.state.layout.at(leaf).elem
+    }
+
+    /// The value of the leaf with this path, and whether it is forced. Refused as O1 where there is no such path.
+    pub fn get(&self, path: &[u8]) -> Result<(Value, bool), Refusal>
+        ensures value { result ≡ shown_to self.now.state (leaf_of self.now.state path.now) }
+        ensures in_range { IfOk result (λ shown. IsValue shown.0) }
+    {
+        let layout = &self.state.layout;
+        match layout.leaf(path) {
+            Some(leaf) => Ok((
+                self.state.memory.get(layout, leaf),
+                self.state.memory.forced(layout, leaf),
+            )),
+            None => Err(Refusal::O(1)),
+        }
+    }
+
+    /// Sets the value of the leaf with this path.
+    ///
+    /// Refused as O1 where there is no such path, O2 where the leaf isn't open, O3 where the value isn't one of its type,
+    /// O4 where it is forced, O6 where the undo list is full.
+    pub fn write(&mut self, path: &[u8], value: Value) -> Result<(), Refusal>
+        ensures step { Takes (step (write path.now value) (machine_of self.old)) self.old result self.new }
+        ensures record { OnOk result (Keeps self.old self.new (write_record self.old.state path.now)) }
+    {
+        let full = self.records.len() >= MOST_RECORDS;
+        match self.state.leaf_to_write(full, path, value) {
+            Err(number) => Err(Refusal::O(number)),
+            Ok(leaf) => {
+                let newest = self.state.write(leaf, value);
+                keep(&mut self.records, newest);
+                Ok(())
+            }
+        }
+    }
+
+    /// Sets the value of the leaf with this path and forces it. A leaf that is forced may be forced again.
+    ///
+    /// Refused as O1 where there is no such path, O2 where the leaf isn't open, O3 where the value isn't one of its type,
+    /// O6 where the undo list is full.
+    pub fn force(&mut self, path: &[u8], value: Value) -> Result<(), Refusal>
+        ensures step { Takes (step (force path.now value) (machine_of self.old)) self.old result self.new }
+        ensures record { OnOk result (Keeps self.old self.new (force_record self.old.state path.now)) }
+    {
+        let full = self.records.len() >= MOST_RECORDS;
+        match self.state.leaf_to_force(full, path, value) {
+            Err(number) => Err(Refusal::O(number)),
+            Ok(leaf) => {
+                let newest = self.state.force(leaf, value);
+                keep(&mut self.records, newest);
+                Ok(())
+            }
+        }
+    }
+
+    /// Lets go of the leaf with this path, which keeps its value.
+    ///
+    /// Refused as O1 where there is no such path, O5 where the leaf isn't forced, O6 where the undo list is full.
+    pub fn release(&mut self, path: &[u8]) -> Result<(), Refusal>
+        ensures step { Takes (step (release path.now) (machine_of self.old)) self.old result self.new }
+        ensures record { OnOk result (Keeps self.old self.new (release_record self.old.state path.now)) }
+    {
+        let full = self.records.len() >= MOST_RECORDS;
+        match self.state.leaf_to_release(full, path) {
+            Err(number) => Err(Refusal::O(number)),
+            Ok(leaf) => {
+                let newest = self.state.release(leaf);
+                keep(&mut self.records, newest);
+                Ok(())
+            }
+        }
+    }
+
+    /// Takes back the newest command that isn't undone. It leaves no record itself, and takes no memory.
+    ///
+    /// Refused as O7 where there is nothing to undo.
+    pub fn undo(&mut self, alloc: Global) -> Result<(), Refusal>
+        ensures step { Takes (undo_step (machine_of self.old)) self.old result self.new }
+        ensures record { OnOk result (DropsNewest self.old self.new) }
+    {
+        let Some(newest) = self.records.pop() else {
+            return Err(Refusal::O(7));
+        };
+        match revert(alloc, &mut self.state, newest) {
+            Ok(()) => Ok(()),
+            Err(newest) => {
+                keep(&mut self.records, newest);
+                Err(Refusal::M)
+            }
+        }
+    }
+
+    /// How the controller stands as a whole.
+    pub fn status(&self) -> Report
+        ensures status { result.status ≡ self.now.state.status }
+        ensures now { result.now ≡ self.now.state.now }
+        ensures forces { result.forces ≡ force_count self.now.state }
+        ensures undo { result.undo ≡ length self.now.records }
+        ensures whole { IsWhole self.now.state }
+    {
+        Report {
+            status: self.state.status,
+            now: self.state.now,
+            forces: self.state.force_count(),
+            undo: self.records.len() as u32,
+        }
+    }
+}
+
+/// Puts a record after the others, for which there is room.
+fn keep(records: &mut Vec<Record>, newest: Record)
+    requires { vec_len records.old < vec_capacity records.old }
+    ensures items { records.new.items ≡ records.old.items ++ newest ∷ [] }
+    ensures len { vec_len records.new ≡ vec_len records.old + 1 }
+    ensures room { vec_capacity records.old ≤ vec_capacity records.new }
+{
+    let _ = records.push(newest);
+}

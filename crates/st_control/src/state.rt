@@ -1,0 +1,203 @@
+//! The state of a controller.
+ghost use Rattle.std.specs.Prelude.{◌≡◌, ◌<◌, IfOk, IsTrue, OnOk, count_by, false, true, length};
+ghost use Rattle.st_control.specs.Machine.{is_value_of as has_value};
+ghost use Rattle.st_layout.specs.Layout.{IsValueAt, IsValueOf, is_open as is_open_role};
+ghost use Rattle.st_layout.specs.Memory.{forced_at, value_at};
+
+use crate::record::Record;
+use st_layout::{Layout, Memory};
+use st_tree::{Leaf, Name, Role, Value, is_value};
+use std::marker::Model;
+
+/// What stops a scan.
+#[derive(Clone, Copy, Debug, PartialEq, Eq)]
+pub enum RunFaultKind {
+    /// More steps than the limit.
+    StepLimit,
+    /// A division by zero.
+    ZeroDivisor,
+    /// An index outside its array.
+    IndexOutOfRange,
+}
+
+/// Where and why a scan stopped.
+#[derive(Clone, Copy)]
+pub struct RunFault {
+    /// Why.
+    pub kind: RunFaultKind,
+    /// The unit whose body ran, spelled as it is declared.
+    pub unit: Name,
+    /// The line in the program's text, from 1.
+    pub line: u32,
+}
+
+/// Whether the program runs.
+#[derive(Clone, Copy)]
+pub enum Status {
+    /// It runs from scan to scan.
+    Running,
+    /// The last scan stopped with a fault.
+    Halted(RunFault),
+}
+
+/// The state of a controller: its program's leaves, their values, which of them are forced, the moment and the status.
+#[derive(Drop)]
+pub struct State<M: Memory> {
+    /// The leaves of the program that runs.
+    pub layout: Layout,
+    /// Their values, and which of them are forced.
+    pub memory: M,
+    /// The moment of the last scan, in milliseconds.
+    pub now: i64,
+    /// Whether the program runs.
+    pub status: Status,
+}
+
+impl<M: Memory> Model for State<M> {
+    ghost use Rattle.st_control.specs.States.{StateView};
+
+    ghost Value = { StateView };
+
+    ghost view = { λ s. record { leaves = s.layout; content = M.content s.layout s.memory; now = s.now; status = s.status } };
+
+    ghost invariant = { λ s. M.IsOver s.layout s.memory };
+}
+
+impl<M: Memory> State<M> {
+    ghost use Rattle.st_control.specs.States.{FitsRecord, IsWhole, forced, leaf_of, released, undone, written};
+    ghost use Rattle.st_control.specs.Machine.{leaf_to_force, leaf_to_release, leaf_to_write};
+
+    /// The leaf that a write would set, or the number of its refusal.
+    pub(crate) fn leaf_to_write(&self, full: bool, path: &[u8], value: Value) -> Result<u32, u8>
+        ensures value { result ≡ leaf_to_write self.entry.now full path.now value }
+        ensures below { IfOk result (λ leaf. leaf < length self.entry.now.leaves) }
+        ensures fits { IfOk result (λ leaf. IsValueAt self.entry.now.leaves leaf value) }
+        ensures room { OnOk result (full ≡ false) }
+    {
+        let Some(leaf) = self.layout.leaf(path) else {
+            return Err(1);
+        };
+        let declared = self.layout.at(leaf);
+        if !is_open(declared.role) {
+            return Err(2);
+        }
+        if !is_value_of(declared, value) {
+            return Err(3);
+        }
+        if self.memory.forced(&self.layout, leaf) {
+            return Err(4);
+        }
+        if full { Err(6) } else { Ok(leaf) }
+    }
+
+    /// The leaf that a force would set, or the number of its refusal.
+    pub(crate) fn leaf_to_force(&self, full: bool, path: &[u8], value: Value) -> Result<u32, u8>
+        ensures value { result ≡ leaf_to_force self.entry.now full path.now value }
+        ensures below { IfOk result (λ leaf. leaf < length self.entry.now.leaves) }
+        ensures fits { IfOk result (λ leaf. IsValueAt self.entry.now.leaves leaf value) }
+        ensures room { OnOk result (full ≡ false) }
+    {
+        let Some(leaf) = self.layout.leaf(path) else {
+            return Err(1);
+        };
+        let declared = self.layout.at(leaf);
+        if !is_open(declared.role) {
+            return Err(2);
+        }
+        if !is_value_of(declared, value) {
+            return Err(3);
+        }
+        if full { Err(6) } else { Ok(leaf) }
+    }
+
+    /// The leaf that a release would let go, or the number of its refusal.
+    pub(crate) fn leaf_to_release(&self, full: bool, path: &[u8]) -> Result<u32, u8>
+        ensures value { result ≡ leaf_to_release self.entry.now full path.now }
+        ensures below { IfOk result (λ leaf. leaf < length self.entry.now.leaves) }
+        ensures forced { IfOk result (λ leaf. forced_at self.entry.now.content.forced leaf ≡ true) }
+        ensures room { OnOk result (full ≡ false) }
+    {
+        let Some(leaf) = self.layout.leaf(path) else {
+            return Err(1);
+        };
+        if !self.memory.forced(&self.layout, leaf) {
+            return Err(5);
+        }
+        if full { Err(6) } else { Ok(leaf) }
+    }
+
+    /// Sets the value of a leaf, and answers what undoes it.
+    #[tactic(auto, using(crate::proofs::Undone::undone_written))]
+    pub(crate) fn write(&mut self, leaf: u32, value: Value) -> Record
+        requires below { leaf < length self.old.leaves }
+        requires fits { IsValueAt self.old.leaves leaf value }
+        ensures record { result ≡ Record.Write leaf (value_at self.old.content.values leaf) }
+        ensures new { self.new ≡ written self.old leaf value }
+        ensures back { undone self.new result ≡ self.old }
+        ensures fitting { FitsRecord self.new result }
+    {
+        let old = self.memory.get(&self.layout, leaf);
+        self.memory.set(&self.layout, leaf, value);
+        Record::Write { leaf, old }
+    }
+
+    /// Sets the value of a leaf and forces it, and answers what undoes it.
+    #[tactic(auto, using(crate::proofs::Undone::undone_forced))]
+    pub(crate) fn force(&mut self, leaf: u32, value: Value) -> Record
+        requires below { leaf < length self.old.leaves }
+        requires fits { IsValueAt self.old.leaves leaf value }
+        ensures record { result ≡ Record.Force leaf (value_at self.old.content.values leaf) (forced_at self.old.content.forced leaf) }
+        ensures new { self.new ≡ forced self.old leaf value }
+        ensures back { undone self.new result ≡ self.old }
+        ensures fitting { FitsRecord self.new result }
+    {
+        let old = self.memory.get(&self.layout, leaf);
+        let was = self.memory.forced(&self.layout, leaf);
+        self.memory.set(&self.layout, leaf, value);
+        self.memory.mark(&self.layout, leaf, true);
+        Record::Force { leaf, old, was }
+    }
+
+    /// Lets go of a leaf that is forced, and answers what undoes it.
+    #[tactic(auto, using(crate::proofs::Undone::undone_released))]
+    pub(crate) fn release(&mut self, leaf: u32) -> Record
+        requires below { leaf < length self.old.leaves }
+        requires forced { forced_at self.old.content.forced leaf ≡ true }
+        ensures record { result ≡ Record.Release leaf }
+        ensures new { self.new ≡ released self.old leaf }
+        ensures back { undone self.new result ≡ self.old }
+        ensures fitting { FitsRecord self.new result }
+    {
+        self.memory.mark(&self.layout, leaf, false);
+        Record::Release { leaf }
+    }
+
+    /// How many leaves are forced.
+    pub(crate) fn force_count(&self) -> u32
+        ensures count { result ≡ count_by (λ forced. forced) self.entry.now.content.forced }
+        ensures whole { IsWhole self.entry.now }
+    {
+        let mut count = 0;
+        for leaf in 0..self.layout.len() {
+            if self.memory.forced(&self.layout, leaf) {
+                count += 1;
+            }
+        }
+        count
+    }
+}
+
+/// Tests whether an operator may write and force a leaf of this role.
+fn is_open(role: Role) -> bool
+    ensures { result ≡ is_open_role role }
+{
+    matches!(role, Role::Plain | Role::ProcessInput)
+}
+
+/// Tests whether a leaf takes the value.
+fn is_value_of(leaf: &Leaf, value: Value) -> bool
+    ensures value { result ≡ has_value leaf.now value }
+    ensures fits { IsTrue result → IsValueOf leaf.now value }
+{
+    value.elem.is(leaf.elem) && is_value(value)
+}

@@ -1,0 +1,5 @@
+pub mod Contents
+pub mod Maps
+pub mod Paths
+pub mod Places
+pub mod Samples

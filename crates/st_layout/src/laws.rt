@@ -1,0 +1,17 @@
+//! Laws of layouts and of what memories hold.
+ghost use Rattle.st_layout.specs.Laws.{HasLeavesValues, LastPlaceEnds, MarkChangesOneForce, PathsDetermineContent, PlacesAreApart, SetChangesOneValue};
+
+/// The places of a layout's leaves never overlap, and the last one ends where the layout does.
+pub fn places_follow()
+    ensures apart { PlacesAreApart }
+    ensures last { LastPlaceEnds }
+{}
+
+/// What a memory holds is a map from the leaves' paths to values, and a set of forced paths: it changes at one path at a
+/// time, and the map and the set determine it.
+pub fn content_is_a_map()
+    ensures keys { HasLeavesValues }
+    ensures set { SetChangesOneValue }
+    ensures mark { MarkChangesOneForce }
+    ensures whole { PathsDetermineContent }
+{}

@@ -1,0 +1,14 @@
+//! Layouts, which number the leaves of a program, and memories, which hold a value for each.
+#![tactic(auto)]
+
+mod cells;
+mod laws;
+mod layout;
+mod memory;
+#[cfg(test)]
+mod tests;
+
+pub use cells::Cells;
+pub use laws::{content_is_a_map, places_follow};
+pub use layout::Layout;
+pub use memory::Memory;

@@ -1,0 +1,6 @@
+pub mod LineLemmas
+pub mod RunLemmas
+pub mod ServeLemmas
+pub mod StepLemmas
+pub mod TakingLemmas
+pub mod WordLemmas

@@ -1,0 +1,20 @@
+use Rattle.std.proofs.Common.{sym, ◌∙◌}
+use Rattle.st_control.specs.Controllers.{machine_of}
+use Rattle.st_control.specs.Machine.{Command as Do, step}
+use Rattle.st_session.specs.Replies.{value_given}
+use Rattle.st_session.proofs.StepLemmas.{stepped-refused, stepped-reply}
+use Rattle.st_session.proofs.engine.write.Goals as goal
+
+pub returns-clause-reply : goal.returns-clause-reply
+returns-clause-reply g c =
+    let old = c.args.controller.now in
+    let value = value_given old.state c.args.path.now c.args.text.now in
+    let takes = rw c.value_given-value.ensures at c.write.ensures.step in
+    c.answer.ensures.text ∙ sym (stepped-reply (step (Do.write c.args.path.now value) (machine_of old)) old c.write.new.self c.write.result takes)
+
+pub returns-clause-refused : goal.returns-clause-refused
+returns-clause-refused g c =
+    let old = c.args.controller.now in
+    let value = value_given old.state c.args.path.now c.args.text.now in
+    let takes = rw c.value_given-value.ensures at c.write.ensures.step in
+    c.answer.ensures.refused ∙ sym (stepped-refused (step (Do.write c.args.path.now value) (machine_of old)) old c.write.new.self c.write.result takes)

@@ -1,0 +1,11 @@
+pub mod Bytes
+pub mod Inputs
+pub mod Lines
+pub mod Pending
+pub mod Replies
+pub mod Requests
+pub mod Runs
+pub mod Sessions
+pub mod Sheet
+pub mod Streams
+pub mod Words

@@ -1,0 +1,194 @@
+//! The reply to a line, put together in room that was made before.
+ghost use Rattle.std.specs.Prelude.{◌≡◌, ◌≤◌, ◌+◌, ◌<◌, ◌++◌, [], IfOk, OnOk, OnErr, is_err, length, true, false, if◌then◌else◌, codes};
+ghost use Rattle.std.specs.Fmt.{decimal};
+ghost use Rattle.st_session.specs.Replies.{ended, fault_name, refusal_text, report_text, result_text, shown_text, status_text};
+ghost use Rattle.st_tree.specs.Texts.{signed_text, text};
+ghost use Rattle.st_tree.specs.Values.{IsValue};
+
+use st_control::{Refusal, Report, RunFaultKind, Status};
+use st_tree::{Elem, Value, put_value};
+use std::alloc::{AllocError, Global};
+use std::marker::Model;
+
+/// The most bytes of a reply. The longest ones show a path of 255 bytes.
+const MOST_BYTES: usize = 512;
+
+/// A reply. It has room for the longest one from the start, so that no reply needs memory.
+#[derive(Drop)]
+pub struct Reply {
+    text: Vec<u8>,
+}
+
+impl Model for Reply {
+    ghost use Rattle.std.specs.Prelude.{◌≤◌, List, ℕ, vec_capacity};
+
+    ghost Value = { List ℕ };
+
+    ghost view = { λ reply. reply.text.items };
+
+    ghost invariant = { λ reply. 512 ≤ vec_capacity reply.text };
+}
+
+impl Reply {
+    /// An empty reply.
+    pub fn new(alloc: Global) -> Result<Self, AllocError>
+        ensures { IfOk result (λ reply. reply ≡ []) }
+    {
+        Ok(Reply {
+            text: Vec::with_capacity(alloc, MOST_BYTES)?,
+        })
+    }
+
+    /// Its bytes.
+    pub fn as_slice(&self) -> &[u8]
+        ensures { result.now ≡ self.now }
+    {
+        self.text.as_slice()
+    }
+
+    /// Makes it empty.
+    pub fn clear(&mut self)
+        ensures { self.new ≡ [] }
+    {
+        self.text.clear();
+    }
+
+    /// Makes it `ok` or a refusal, and answers whether it is a refusal.
+    pub fn answer(&mut self, done: Result<(), Refusal>) -> bool
+        ensures text { self.new ≡ result_text done }
+        ensures refused { result ≡ is_err done }
+    {
+        match done {
+            Ok(()) => {
+                self.clear();
+                self.put(b"ok\n");
+                false
+            }
+            Err(refusal) => {
+                self.refuse(refusal);
+                true
+            }
+        }
+    }
+
+    /// Makes it a refusal.
+    pub fn refuse(&mut self, refusal: Refusal)
+        ensures { self.new ≡ ended (refusal_text refusal) }
+    {
+        self.clear();
+        match refusal {
+            Refusal::S { number, line } => {
+                self.put(b"refused S");
+                self.put_number(number.into());
+                self.put(b" line ");
+                self.put_number(line);
+            }
+            Refusal::C { number, line } => {
+                self.put(b"refused C");
+                self.put_number(number.into());
+                self.put(b" line ");
+                self.put_number(line);
+            }
+            Refusal::O(number) => {
+                self.put(b"refused O");
+                self.put_number(number.into());
+            }
+            Refusal::M => self.put(b"refused M"),
+        }
+        self.put(b"\n");
+    }
+
+    /// Makes it a leaf's path and value.
+    pub fn show(&mut self, path: &[u8], value: Value, forced: bool)
+        requires short { length path.now ≤ 255 }
+        requires value { IsValue value }
+        ensures { self.new ≡ ended (shown_text path.now value forced) }
+    {
+        self.clear();
+        self.put(path);
+        self.put(b" = ");
+        self.put_value(value);
+        self.put(if forced { b" forced" } else { b"" });
+        self.put(b"\n");
+    }
+
+    /// Makes it a report.
+    pub fn report(&mut self, report: Report)
+        ensures { self.new ≡ ended (report_text report.status report.now report.forces report.undo) }
+    {
+        self.begin_with_status(report.status, report.now);
+        self.put(b" forces ");
+        self.put_number(report.forces);
+        self.put(b" undo ");
+        self.put_number(report.undo);
+        self.put(b"\n");
+    }
+
+    /// Makes it a status, with the moment where the program runs.
+    fn begin_with_status(&mut self, status: Status, now: i64)
+        ensures text { self.new ≡ status_text status now }
+        ensures len { length self.new ≤ 256 }
+    {
+        self.clear();
+        match status {
+            Status::Running => {
+                self.put(b"running ");
+                self.put_value(Value {
+                    elem: Elem::Lint,
+                    bits: now.into(),
+                });
+            }
+            Status::Halted(fault) => {
+                self.put(b"halted ");
+                self.put(name_of(fault.kind));
+                self.put(b" ");
+                self.put(fault.unit.bytes());
+                self.put(b" line ");
+                self.put_number(fault.line);
+            }
+        }
+    }
+
+    /// Puts a number at its end.
+    fn put_number(&mut self, number: u32)
+        requires room { length self.old + 24 ≤ 512 }
+        ensures text { self.new ≡ self.old ++ decimal number }
+        ensures len { length self.new ≤ length self.old + 24 }
+    {
+        self.put_value(Value {
+            elem: Elem::Udint,
+            bits: number.into(),
+        });
+    }
+
+    /// Puts the text of a value at its end.
+    fn put_value(&mut self, value: Value)
+        requires room { length self.old + 24 ≤ 512 }
+        requires value { IsValue value }
+        ensures text { self.new ≡ self.old ++ text value }
+        ensures len { length self.new ≤ length self.old + 24 }
+    {
+        let _ = put_value(value, &mut self.text);
+    }
+
+    /// Puts bytes at its end.
+    fn put(&mut self, bytes: &[u8])
+        requires room { length self.old + length bytes.now ≤ 512 }
+        ensures text { self.new ≡ self.old ++ bytes.now }
+        ensures len { length self.new ≡ length self.old + length bytes.now }
+    {
+        let _ = self.text.extend_from_slice(bytes);
+    }
+}
+
+/// The name of a kind of fault.
+fn name_of(kind: RunFaultKind) -> &'static [u8]
+    ensures name { result.now ≡ fault_name kind }
+    ensures len { length result.now ≡ 2 }
+{
+    match kind {
+        RunFaultKind::StepLimit => b"F1",
+        RunFaultKind::ZeroDivisor => b"F2",
+        RunFaultKind::IndexOutOfRange => b"F3",
+    }
+}

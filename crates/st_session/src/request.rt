@@ -1,0 +1,128 @@
+//! What a line asks for.
+//!
+//! The words of a line are separated by spaces and tabs. Command words are in lower case.
+ghost use Rattle.std.specs.Prelude.{◌≡◌, ◌≤◌, ◌∷◌, [], MatchOption, length};
+ghost use Rattle.std.specs.List.{position_or_len, prefix_len};
+ghost use Rattle.st_session.specs.Requests.{path_request as asked_at, request_in, request_of, value_request as asked_with, word_request as asked_alone};
+ghost use Rattle.st_session.specs.Words.{HasNoBlankFirst, is_blank as is_space_or_tab, words_of};
+
+/// What a line asks for. Paths and values are as the line has them.
+#[derive(Clone, Copy)]
+pub enum Request<'a> {
+    /// The line has no words.
+    Nothing,
+    /// The value of the leaf with this path.
+    Show(&'a [u8]),
+    /// To set the leaf with this path to a value.
+    Write(&'a [u8], &'a [u8]),
+    /// To set the leaf with this path to a value, and to force it.
+    Force(&'a [u8], &'a [u8]),
+    /// To let go of the leaf with this path.
+    Release(&'a [u8]),
+    /// To take back the newest command.
+    Undo,
+    /// How the controller stands.
+    Status,
+    /// Nothing that there is.
+    Unknown,
+}
+
+/// What a line asks for.
+pub fn read_request(text: &[u8]) -> Request<'_>
+    ensures { request_of result ≡ request_in (words_of text.now) }
+{
+    let Some((word, rest)) = split_word(text) else {
+        return Request::Nothing;
+    };
+    let Some((path, rest)) = split_word(rest) else {
+        return word_request(word);
+    };
+    let Some((value, rest)) = split_word(rest) else {
+        return path_request(word, path);
+    };
+    if split_word(rest).is_some() {
+        return Request::Unknown;
+    }
+    value_request(word, path, value)
+}
+
+/// What one word asks for.
+fn word_request(word: &[u8]) -> Request<'_>
+    ensures { request_of result ≡ asked_alone word.now }
+{
+    if word == b"undo".as_slice() {
+        Request::Undo
+    } else if word == b"status".as_slice() {
+        Request::Status
+    } else {
+        Request::Unknown
+    }
+}
+
+/// What a word and a path ask for.
+fn path_request<'a>(word: &[u8], path: &'a [u8]) -> Request<'a>
+    ensures { request_of result ≡ asked_at word.now path.now }
+{
+    if word == b"show".as_slice() {
+        Request::Show(path)
+    } else if word == b"release".as_slice() {
+        Request::Release(path)
+    } else {
+        Request::Unknown
+    }
+}
+
+/// What a word, a path and a value ask for.
+fn value_request<'a>(word: &[u8], path: &'a [u8], value: &'a [u8]) -> Request<'a>
+    ensures { request_of result ≡ asked_with word.now path.now value.now }
+{
+    if word == b"write".as_slice() {
+        Request::Write(path, value)
+    } else if word == b"force".as_slice() {
+        Request::Force(path, value)
+    } else {
+        Request::Unknown
+    }
+}
+
+/// The first word of a text, and what stands after it.
+fn split_word(text: &[u8]) -> Option<(&[u8], &[u8])>
+    ensures { MatchOption result (words_of text.now ≡ []) (λ split. words_of text.now ≡ split.0.now ∷ words_of split.1.now) }
+{
+    let text = skip_blanks(text);
+    if text.is_empty() {
+        return None;
+    }
+    Some(text.split_at(word_len(text)))
+}
+
+/// A text without the blanks that it begins with.
+fn skip_blanks(text: &[u8]) -> &[u8]
+    ensures words { words_of result.now ≡ words_of text.now }
+    ensures first { HasNoBlankFirst result.now }
+{
+    text.split_at(blank_len(text)).1
+}
+
+/// How many blanks a text begins with.
+fn blank_len(text: &[u8]) -> usize
+    ensures value { result ≡ prefix_len is_space_or_tab text.now }
+    ensures within { result ≤ length text.now }
+{
+    text.iter().take_while(|byte| is_blank(**byte)).count()
+}
+
+/// How many bytes stand before the first blank.
+fn word_len(text: &[u8]) -> usize
+    ensures value { result ≡ position_or_len is_space_or_tab text.now }
+    ensures within { result ≤ length text.now }
+{
+    text.iter().take_while(|byte| !is_blank(**byte)).count()
+}
+
+/// Tests whether a byte is a space or a tab.
+fn is_blank(byte: u8) -> bool
+    ensures { result ≡ is_space_or_tab byte }
+{
+    byte == b' ' || byte == b'\t'
+}

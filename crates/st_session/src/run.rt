@@ -1,0 +1,132 @@
+//! Running a program's text: it is loaded, and a session's lines are answered.
+ghost use Rattle.std.specs.Prelude.{◌≡◌, ◌≢◌, ◌⊎◌, ◌↔◌, ◌||◌, ℕ, [], false, true, Err, Ok, IfSome, IsTrue, codes, take};
+ghost use Rattle.std.specs.Io.KnownBytes.{Appends};
+ghost use Rattle.st_control.specs.declared.refusal.Refusal.TheVariants.{M};
+ghost use Rattle.st_session.specs.Lines.{lines_of};
+ghost use Rattle.st_session.specs.Pending.{OnKnown};
+ghost use Rattle.st_session.specs.Replies.{ended};
+ghost use Rattle.st_session.specs.Runs.{OfLoad, WritesAll, WritesPart, WritesRead, refusal_status};
+
+use crate::devices::{Sink, Source};
+use crate::engine::{Outcome, session, write_all};
+use crate::reply::Reply;
+use st_control::{Controller, Refusal};
+use st_layout::Cells;
+use std::alloc::Global;
+
+/// All was accepted.
+pub const ACCEPTED: u8 = 0;
+
+/// The text is no program.
+pub const NO_PROGRAM: u8 = 1;
+
+/// Some line was refused.
+pub const LINE_REFUSED: u8 = 3;
+
+/// A device failed.
+pub const DEVICE_FAILED: u8 = 4;
+
+/// There was no memory.
+pub const NO_MEMORY: u8 = 5;
+
+/// Loads the program of the name `main` from a text and answers a session's lines over it, or writes the refusal of the
+/// load. Answers the status. The devices have not failed, and `steps` is the step limit of a scan.
+pub fn run_text<R: Source, W: Sink>(
+    alloc: Global,
+    text: &[u8],
+    main: &[u8],
+    steps: u32,
+    source: &mut R,
+    sink: &mut W,
+) -> u8
+    requires source { R.has_failed source.old ≡ false }
+    requires sink { W.has_failed sink.old ≡ false }
+
+    // The replies to all lines are written, or the refusal of the load.
+    ensures all { result ≢ DEVICE_FAILED → result ≢ NO_MEMORY → IfSome (R.rest source.old) (λ bytes.
+        OfLoad text.now main.now steps (WritesAll (lines_of bytes) result (W.taken sink.old) (W.taken sink.new))) }
+    ensures memory { result ≡ NO_MEMORY → Appends (W.taken sink.old) (W.taken sink.new) []
+        ⊎ Appends (W.taken sink.old) (W.taken sink.new) (ended (codes "refused M")) }
+
+    // A device has failed, and the run ended there. Of the lines that were read whole none is lost.
+    ensures part { result ≡ DEVICE_FAILED → IfSome (R.rest source.old) (λ bytes.
+        OfLoad text.now main.now steps (WritesPart (lines_of bytes) (W.taken sink.old) (W.taken sink.new))) }
+    ensures read { R.has_failed source.new ≡ true → OnKnown (R.rest source.old) (R.rest source.new) (λ bytes rest.
+        OfLoad text.now main.now steps (WritesRead bytes rest (W.taken sink.old) (W.taken sink.new))) }
+    ensures failed { IsTrue (R.has_failed source.new || W.has_failed sink.new) ↔ (result ≡ DEVICE_FAILED) }
+{
+    match Controller::load(alloc, text, main, steps) {
+        Ok(mut controller) => serve(alloc, &mut controller, source, sink),
+        Err(refusal) => refuse(alloc, refusal, sink),
+    }
+}
+
+/// Runs a session over a controller, and answers its status.
+fn serve<R: Source, W: Sink>(
+    alloc: Global,
+    controller: &mut Controller<Cells>,
+    source: &mut R,
+    sink: &mut W,
+) -> u8
+    requires source { R.has_failed source.old ≡ false }
+    requires sink { W.has_failed sink.old ≡ false }
+    ensures all { result ≢ DEVICE_FAILED → result ≢ NO_MEMORY → IfSome (R.rest source.old) (λ bytes.
+        WritesAll (lines_of bytes) result (W.taken sink.old) (W.taken sink.new) (Ok controller.old)) }
+    ensures memory { result ≡ NO_MEMORY → Appends (W.taken sink.old) (W.taken sink.new) [] }
+    ensures part { result ≡ DEVICE_FAILED → IfSome (R.rest source.old) (λ bytes.
+        WritesPart (lines_of bytes) (W.taken sink.old) (W.taken sink.new) (Ok controller.old)) }
+    ensures read { R.has_failed source.new ≡ true → OnKnown (R.rest source.old) (R.rest source.new) (λ bytes rest.
+        WritesRead bytes rest (W.taken sink.old) (W.taken sink.new) (Ok controller.old)) }
+    ensures failed { IsTrue (R.has_failed source.new || W.has_failed sink.new) ↔ (result ≡ DEVICE_FAILED) }
+{
+    match session(alloc, controller, source, sink) {
+        Outcome::Clean => ACCEPTED,
+        Outcome::Refused => LINE_REFUSED,
+        Outcome::Memory => NO_MEMORY,
+        Outcome::Device => DEVICE_FAILED,
+    }
+}
+
+/// Writes a refusal, and answers its status. Where there is no memory for its text, that is what is refused.
+fn refuse<W: Sink>(alloc: Global, refusal: Refusal, sink: &mut W) -> u8
+    requires { W.has_failed sink.old ≡ false }
+    ensures all { result ≢ DEVICE_FAILED → result ≢ NO_MEMORY
+        → WritesAll [] result (W.taken sink.old) (W.taken sink.new) (Err refusal) }
+    ensures memory { result ≡ NO_MEMORY → Appends (W.taken sink.old) (W.taken sink.new) (ended (codes "refused M")) }
+    ensures part { result ≡ DEVICE_FAILED → WritesPart [] (W.taken sink.old) (W.taken sink.new) (Err refusal)
+        ⊎ WritesPart [] (W.taken sink.old) (W.taken sink.new) (Err M) }
+    ensures failed { IsTrue (W.has_failed sink.new) ↔ (result ≡ DEVICE_FAILED) }
+{
+    match Reply::new(alloc) {
+        Ok(mut reply) => {
+            reply.refuse(refusal);
+            tell(sink, reply.as_slice(), status_of(refusal))
+        }
+        Err(_) => tell(sink, b"refused M\n", NO_MEMORY),
+    }
+}
+
+/// The status of a refusal.
+fn status_of(refusal: Refusal) -> u8
+    ensures { result ≡ refusal_status refusal }
+{
+    match refusal {
+        Refusal::M => NO_MEMORY,
+        _ => NO_PROGRAM,
+    }
+}
+
+/// Writes a text and answers the status, or that a device failed.
+fn tell<W: Sink>(sink: &mut W, text: &[u8], status: u8) -> u8
+    requires works { W.has_failed sink.old ≡ false }
+    requires other { status ≢ DEVICE_FAILED }
+    ensures all { result ≢ DEVICE_FAILED → (result ≡ status) × Appends (W.taken sink.old) (W.taken sink.new) text.now }
+    ensures part { result ≡ DEVICE_FAILED → (count : ℕ)
+        × Appends (W.taken sink.old) (W.taken sink.new) (take count text.now) }
+    ensures failed { IsTrue (W.has_failed sink.new) ↔ (result ≡ DEVICE_FAILED) }
+{
+    match write_all(sink, text) {
+        Ok(()) => status,
+        Err(_) => DEVICE_FAILED,
+    }
+}

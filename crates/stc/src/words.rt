@@ -1,0 +1,221 @@
+//! What the program's words ask for, as `clap` reads them.
+
+ghost use Rattle.std.specs.Prelude.{◌≡◌, ℕ, [], IfErr, IfOk, IfSome, IsNone, OnOk, map, option_map, false};
+ghost use Rattle.clap.specs.Words.{app_of, kind_of, subcommand_rows_of};
+ghost use Rattle.clap.specs.declared.builder.command.Command.TheViews.{out-Command as fields_of};
+ghost use Rattle.stc.specs.Words.{AreInOrder, HasLimit, IsFaultOf, IsLimitOf, IsOrder, IsRunnable, IsStepLimit, chosen_by, faults_of, file_app, run_app, stc_app, verb_name};
+
+use clap::error::ErrorKind;
+use clap::{Arg, ArgMatches, Command, Error};
+use std::alloc::{AllocError, Global};
+use std::convert::AsStr;
+
+/// The most steps that one scan may be given.
+const MOST_STEPS: u32 = 10_000_000;
+
+/// The steps of one scan where the words name no limit.
+const USUAL_STEPS: u32 = 100_000;
+
+/// What is to be done with the source text.
+#[derive(Clone, Copy, Debug, PartialEq, Eq)]
+pub enum Verb {
+    /// Load the main program and run a session over it.
+    Run,
+}
+
+/// What the words ask for.
+#[derive(Clone, Copy, Debug)]
+pub struct Order<'a> {
+    pub verb: Verb,
+    /// The path of the source text.
+    pub file: &'a str,
+    /// The name of the main program.
+    pub main: &'a str,
+    /// The most steps of one scan, from 1 to 10,000,000.
+    pub steps: u32,
+}
+
+/// The order that the words give, of which the first is the program's own name. An error is a
+/// request for help, a fault of usage, or want of memory.
+pub fn read_words<'a, S: AsStr>(alloc: Global, words: &'a [S]) -> Result<Order<'a>, Error>
+    ensures order { IfOk result (λ order. IsOrder order (chosen_by (map S.text words.entry.now))) }
+    ensures faultless { OnOk result (faults_of (map S.text words.entry.now) ≡ []) }
+    ensures fault { IfErr result (IsFaultOf (map S.text words.entry.now)) }
+
+    // Words that are in order are refused for want of memory alone.
+    ensures memory { IfErr result (λ error. AreInOrder (map S.text words.entry.now) → kind_of error ≡ ErrorKind.OutOfMemory) }
+{
+    let mut command = stc_command(alloc)?;
+    let matches = command.try_get_matches_from_mut(words)?;
+    match order_in(&matches) {
+        Some(order) => Ok(order),
+        None => Err(command.error(
+            ErrorKind::ValueValidation,
+            "K of '--steps <K>' is a number from 1 to 10000000",
+        )?),
+    }
+}
+
+/// The command line of the whole program.
+fn stc_command<'a>(alloc: Global) -> Result<Command<'a>, AllocError>
+    ensures { IfOk result (λ command. app_of command ≡ stc_app) }
+{
+    Command::new(alloc, "stc")
+        .bin_name("stc")?
+        .about("A soft controller for programs in Structured Text.")
+        .subcommand_required(true)
+        .disable_help_subcommand(true)
+        .subcommand(run_command(alloc)?)
+}
+
+/// `run FILE --program N [--steps K]`
+fn run_command<'a>(alloc: Global) -> Result<Command<'a>, AllocError>
+    ensures app { IfOk result (λ command. app_of command ≡ run_app) }
+    ensures local { IfOk result (λ command. (fields_of command).has_globals ≡ false) }
+{
+    let steps = Arg::new(alloc, "steps").long("steps").value_name("K").help(
+        "The most steps of one scan, from 1 to 10000000; 100000 where it isn't given",
+    );
+    file_command(alloc, "run")?
+        .about("Run a session over the program on standard input and output.")
+        .arg(steps)
+}
+
+/// A subcommand that takes FILE and `--program N`.
+fn file_command<'a>(alloc: Global, name: &'a str) -> Result<Command<'a>, AllocError>
+    ensures app { IfOk result (λ command. app_of command ≡ file_app name.entry.now) }
+    ensures local { IfOk result (λ command. (fields_of command).has_globals ≡ false) }
+{
+    let file = Arg::new(alloc, "FILE")
+        .help("The source text")
+        .required(true);
+    let program = Arg::new(alloc, "program")
+        .long("program")
+        .value_name("N")
+        .help("The name of the main program")
+        .required(true);
+    Command::new(alloc, name).arg(file)?.arg(program)
+}
+
+/// The order that the subcommand and its matches give.
+fn order_in<'a>(matches: &ArgMatches<'a>) -> Option<Order<'a>>
+    ensures some { IfSome result (λ order. IsOrder order (subcommand_rows_of matches.now)) }
+    ensures none { IsNone result → ¬ IsRunnable (subcommand_rows_of matches.now) }
+{
+    let (name, inner) = matches.subcommand()?;
+    let verb = verb_named(name)?;
+    let file = inner.get_str("FILE")?;
+    let main = inner.get_str("program")?;
+    let steps = step_limit(inner.get_str("steps"))?;
+    Some(Order {
+        verb,
+        file,
+        main,
+        steps,
+    })
+}
+
+/// The verb of this name.
+fn verb_named(name: &str) -> Option<Verb>
+    ensures some { IfSome result (λ verb. name.now ≡ verb_name verb) }
+    ensures none { IsNone result → (verb : Verb) → ¬ (name.now ≡ verb_name verb) }
+{
+    match name {
+        "run" => Some(Verb::Run),
+        _ => None,
+    }
+}
+
+/// The step limit that K gives, or the usual one where K is not given.
+fn step_limit(given: Option<&str>) -> Option<u32>
+    ensures some { IfSome result (IsLimitOf (option_map (λ text. text.now) given.entry)) }
+    ensures none { IsNone result → ¬ HasLimit (option_map (λ text. text.now) given.entry) }
+{
+    match given {
+        Some(text) => number_in_range(text),
+        None => Some(USUAL_STEPS),
+    }
+}
+
+/// The number that the text writes, where it is a step limit.
+fn number_in_range(text: &str) -> Option<u32>
+    ensures some { IfSome result (IsStepLimit text.now) }
+    ensures none { IsNone result → (steps : ℕ) → ¬ IsStepLimit text.now steps }
+{
+    let steps: u32 = text.parse().ok()?;
+    if 1 <= steps && steps <= MOST_STEPS {
+        Some(steps)
+    } else {
+        None
+    }
+}
+
+#[cfg(test)]
+mod tests {
+    use super::*;
+    use std::test::Fail;
+
+    #[test]
+    fn reads_an_order(rt: HostRuntime) -> Result<(), Fail> {
+        let order = read_words(rt.alloc(), &["stc", "run", "a.st", "--program", "Main"])?;
+        assert!(rt; order.verb == Verb::Run);
+        assert_eq!(rt; order.file, "a.st");
+        assert_eq!(rt; order.main, "Main");
+        assert_eq!(rt; order.steps, 100_000);
+
+        let words = ["stc", "run", "--steps", "7", "--program=Main", "a.st"];
+        let order = read_words(rt.alloc(), &words)?;
+        assert_eq!(rt; order.file, "a.st");
+        assert_eq!(rt; order.main, "Main");
+        assert_eq!(rt; order.steps, 7);
+        Ok(())
+    }
+
+    #[test]
+    fn limits_the_steps(rt: HostRuntime) {
+        for (steps, is_fit) in [
+            ("0", false),
+            ("1", true),
+            ("10000000", true),
+            ("10000001", false),
+            ("99999999999", false),
+            ("-1", false),
+            ("many", false),
+        ] {
+            let words = ["stc", "run", "a.st", "--program", "Main", "--steps", steps];
+            let order = read_words(rt.alloc(), &words);
+            assert_eq!(rt; order.is_ok(), is_fit, "at {steps}");
+        }
+    }
+
+    #[test]
+    fn refuses_faults_of_usage(rt: HostRuntime) {
+        for words in [
+            ["stc", "run", "--program", "Main"].as_slice(),
+            ["stc", "run", "a.st"].as_slice(),
+            ["stc", "run", "a.st", "b.st", "--program", "Main"].as_slice(),
+            ["stc", "run", "a.st", "--program", "Main", "--scans", "3"].as_slice(),
+            ["stc", "walk", "a.st", "--program", "Main"].as_slice(),
+            ["stc"].as_slice(),
+        ] {
+            match read_words(rt.alloc(), words) {
+                Ok(_) => assert!(rt; false, "{words:?} were taken"),
+                Err(error) => assert_eq!(rt; error.exit_code(), 2, "{words:?}"),
+            }
+        }
+    }
+
+    #[test]
+    fn answers_with_help(rt: HostRuntime) {
+        for words in [
+            ["stc", "--help"].as_slice(),
+            ["stc", "run", "--help"].as_slice(),
+            ["stc", "run", "a.st", "-h"].as_slice(),
+        ] {
+            match read_words(rt.alloc(), words) {
+                Ok(_) => assert!(rt; false, "{words:?} were taken"),
+                Err(error) => assert!(rt; error.kind() == ErrorKind::DisplayHelp, "{words:?}"),
+            }
+        }
+    }
+}
