@@ -29,25 +29,31 @@ IsOpener (K.Number n) b = is_ascii_digit b ≡ true
 IsOpener (K.Symbol x) b = Opens b
 IsOpener _ b = begins_word b ≡ true
 
+-- a front with a byte that may begin its kind
 abbrev pub Begins : List ℕ → Kind → Type 0
 Begins front kind = (b : ℕ) × (bs : List ℕ) × (front ≡ b ∷ bs) × IsOpener kind b
 
+-- what begins with a word begins as words do
 word_begins : (w more : List ℕ) → IsWord w → (b : ℕ) × (bs : List ℕ) × (w ++ more ≡ b ∷ bs) × (begins_word b ≡ true)
 word_begins [] more h = absurd h
 word_begins (b ∷ bs) more h = (b, bs ++ more, refl, h.0)
 
+-- a word begins as words do
 alone_begins : (w : List ℕ) → IsWord w → (b : ℕ) × (bs : List ℕ) × (w ≡ b ∷ bs) × (begins_word b ≡ true)
 alone_begins [] h = absurd h
 alone_begins (b ∷ bs) h = (b, bs, refl, h.0)
 
+-- `T` and `TIME`, in any case, are words without unclean `_`
 pub duration_name : (w : List ℕ) → IsDurationWord w → is_name w ≡ true
 duration_name w (inl h) = same_name w (codes "T") h refl
 duration_name w (inr h) = same_name w (codes "TIME") h refl
 
+-- a symbol begins with a byte that opens one
 symbol_begins : (x : Symbol) → IsDouble x ⊎ IsSingle x → (b : ℕ) × (bs : List ℕ) × (symbol_text x ≡ b ∷ bs) × Opens b
 symbol_begins x (inl d) = (d.first, d.second ∷ [], d.text, d.opens)
 symbol_begins x (inr d) = (d.byte, [], d.text, d.opens)
 
+-- each form begins as its kind may
 pub form_begins : (front : List ℕ) (kind : Kind) → HasForm front kind → Begins front kind
 form_begins front kind (word {w = w} h n) = alone_begins w h
 form_begins front kind (keyword {w = w} {x = x} h) = alone_begins w (name_word w (keyword_name w x h))
@@ -61,6 +67,7 @@ form_begins front kind (symbol x) = symbol_begins x (symbol_cases x)
 abbrev pub begins_token : ℕ → Bool
 begins_token b = is_ascii_digit b || (begins_word b || is_some (single b))
 
+-- how a kind may begin, a token may
 opener_token : (kind : Kind) (b : ℕ) → IsOpener kind b → begins_token b ≡ true
 opener_token (K.Number n) b h = rw h refl
 opener_token (K.Symbol x) b h = let d = h.no_digit in let w = h.no_word in let s = h.single in rw (d, w, s) refl
@@ -70,6 +77,7 @@ opener_token (K.Type elem) b h = rw (begins_no_digit b h, h) refl
 opener_token (K.Typed v) b h = rw (begins_no_digit b h, h) refl
 opener_token (K.Duration ms) b h = rw (begins_no_digit b h, h) refl
 
+-- each form has a first byte, with which tokens begin
 pub form_first : (front : List ℕ) (kind : Kind) → HasForm front kind → (b : ℕ) × (bs : List ℕ) × (front ≡ b ∷ bs) × (begins_token b ≡ true)
 form_first front kind form = let w = form_begins front kind form in (w.0, w.1, w.2, opener_token kind w.0 w.3)
 
@@ -82,9 +90,11 @@ opens_text b bs front back kind e form =
 
 -- ---- which forms there are behind which first byte
 
+-- no byte is a digit and begins a word
 no_digit_word : {P : Type 0} (b : ℕ) → is_ascii_digit b ≡ true → begins_word b ≡ true → P
 no_digit_word b d w = not_both d (begins_no_digit b w)
 
+-- behind a digit only a number has a form
 pub only_number : (b : ℕ) (front : List ℕ) (kind : Kind) → HasForm front kind → IsOpener kind b → is_ascii_digit b ≡ true
     → (n : ℕ) × (number_read front ≡ Some n) × (kind ≡ K.Number (capped n))
 only_number b front kind (word h n) o d = no_digit_word b d o
@@ -95,6 +105,7 @@ only_number b front kind (typed name literal elem n h k r) o d = no_digit_word b
 only_number b front kind (duration name literal ms h r) o d = no_digit_word b d o
 only_number b front kind (symbol x) o d = not_both d o.no_digit
 
+-- behind what is no digit and begins no word only a symbol has a form
 pub only_symbol : (b : ℕ) (front : List ℕ) (kind : Kind) → HasForm front kind → IsOpener kind b → is_ascii_digit b ≡ false → begins_word b ≡ false
     → (x : Symbol) × (front ≡ symbol_text x) × (kind ≡ K.Symbol x)
 only_symbol b front kind (word h n) o d w = not_both o w
@@ -133,10 +144,12 @@ pub record Lasting (front : List ℕ) (kind : Kind) : Type 0 where
   pub reads : signed_interval_read literal ≡ Some number
   pub kind_is : kind ≡ K.Duration (time_of number)
 
+-- the kind of a word, from what the tables say
 kind_of : (w : List ℕ) (k : Option Keyword) (e : Option Elem) → keyword_of w ≡ k → elem_of w ≡ e → word_kind w ≡ kind_by w k e
 unfolding word_kind
 kind_of w k e h j = ap (λ (x : Option Keyword). kind_by w x (elem_of w)) h ∙ ap (λ (x : Option Elem). kind_by w k x) j
 
+-- behind what begins a word only words, typed literals and durations have a form
 pub only_word : (b : ℕ) (front : List ℕ) (kind : Kind) → HasForm front kind → IsOpener kind b → begins_word b ≡ true
     → Plain front kind ⊎ (Literal front kind ⊎ Lasting front kind)
 only_word b front kind (word {w = w} h n) o t = inl (record {

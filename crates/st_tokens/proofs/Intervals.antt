@@ -15,7 +15,7 @@ use Rattle.st_tokens.specs.Characters.{is_word_byte, AreWordBytes, BeginsWord}
 use Rattle.st_tokens.specs.Scanning.{run, behind, ends_in_digit, has_fraction, fraction_of, interval_front, interval_behind, interval_at}
 use Rattle.st_tokens.proofs.Numbers.{Found, begins, digits_test, read_words, decimal_digit}
 use Rattle.st_tokens.proofs.Runs.{run_behind, behind_not, run_is, words_in_run, words_append}
-use Rattle.st_tokens.proofs.Cases.{by_test, both, is_equal, not_both, some_parts}
+use Rattle.st_tokens.proofs.Cases.{below, by_test, both, is_equal, not_both, some_parts}
 
 -- a text that ends in such a byte
 pub record Ends (test : ℕ → Bool) (text : List ℕ) : Type 0 where
@@ -24,9 +24,11 @@ pub record Ends (test : ℕ → Bool) (text : List ℕ) : Type 0 where
   pub splits : text ≡ init ++ last ∷ []
   pub passes : test last ≡ true
 
+-- one byte that passes
 ends_one : (test : ℕ → Bool) (b : ℕ) → test b ≡ true → Ends test (b ∷ [])
 ends_one test b h = record { init = []; last = b; splits = refl; passes = h }
 
+-- what stands before changes nothing
 ends_more : (test : ℕ → Bool) (a b : List ℕ) → Ends test b → Ends test (a ++ b)
 ends_more test a b e = record {
   init = a ++ e.init;
@@ -41,27 +43,34 @@ ends_all test [] h p = absurd (omega arith)
 ends_all test (b ∷ []) h p = ends_one test b (both (test b) true h).0
 ends_all test (b ∷ c ∷ bs) h p = ends_more test (b ∷ []) (c ∷ bs) (ends_all test (c ∷ bs) (both (test b) (list_all test (c ∷ bs)) h).1 (omega arith))
 
+-- the byte at the last place
 last_is : (init : List ℕ) (b : ℕ) → slice_index (init ++ b ∷ []) (length (init ++ b ∷ []) - 1) ≡ b
 last_is init b =
     let l : length (init ++ b ∷ []) - 1 ≡ length init = omega (arith, length-append init (b ∷ [])) in
     ap (λ (n : ℕ). slice_index (init ++ b ∷ []) n) l ∙ get_or-append_seam init b [] 0
 
+-- a text that ends in a digit passes the test
 digit_ends : (w : List ℕ) → Ends is_ascii_digit w → ends_in_digit w ≡ true
 digit_ends w e = ap ends_in_digit e.splits ∙ ap is_ascii_digit (last_is e.init e.last) ∙ e.passes
 
+-- no letter is a digit
 letter_no_digit : (b : ℕ) → is_ascii_alphabetic b ≡ true → is_ascii_digit b ≡ false
 letter_no_digit b h = grind (arith, nat_tests)
 
+-- a text that ends in a letter fails it
 letter_ends : (w : List ℕ) → Ends is_ascii_alphabetic w → ends_in_digit w ≡ false
 letter_ends w e = ap ends_in_digit e.splits ∙ ap is_ascii_digit (last_is e.init e.last) ∙ letter_no_digit e.last e.passes
 
+-- a letter is a byte of a word
 letter_word : (b : ℕ) → is_ascii_alphabetic b ≡ true → is_word_byte b ≡ true
 letter_word b h = grind (arith, nat_tests)
 
+-- letters are bytes of a word
 letters_words : (bs : List ℕ) → list_all is_ascii_alphabetic bs ≡ true → AreWordBytes bs
 letters_words [] h = tt
 letters_words (b ∷ bs) h = let p = both (is_ascii_alphabetic b) (list_all is_ascii_alphabetic bs) h in (letter_word b p.0, letters_words bs p.1)
 
+-- decimal digits are bytes of a word
 digits_words : (bs : List ℕ) → list_all (λ c. is_digit c 10) bs ≡ true → AreWordBytes bs
 digits_words [] h = tt
 digits_words (b ∷ bs) h = let p = both (is_digit b 10) (list_all (λ c. is_digit c 10) bs) h in (digit_word b (decimal_digit b p.0), digits_words bs p.1) where
@@ -79,18 +88,21 @@ digits_end flag c (d ∷ ds) h = by_test (c == 95)
     (λ t. let h' : (is_digit c 10 && are_digits 10 true (d ∷ ds)) ≡ true = rw t at h in
     ends_more is_ascii_digit (c ∷ []) (d ∷ ds) (digits_end true d ds (both (is_digit c 10) (are_digits 10 true (d ∷ ds)) h').1))
 
+-- what reads as a decimal number ends in a digit
 decimal_ends : (ds : List ℕ) (n : ℕ) → digits_read 10 ds ≡ Some n → Ends is_ascii_digit ds
 decimal_ends [] n h = let t = digits_test 10 [] n h in absurd (cc)
 decimal_ends (c ∷ ds) n h = digits_end false c ds (digits_test 10 (c ∷ ds) n h)
 
 -- ---- what parts look like
 
+-- a text is what is taken from its front, and the rest
 taken : (p : ℕ → Bool) (xs : List ℕ) → xs ≡ take_while p xs ++ drop (length (take_while p xs)) xs
 taken p [] = refl
 taken p (x ∷ xs) = by_test (p x)
     (λ t. rw (t, one-add) (ap (λ (zs : List ℕ). x ∷ zs) (taken p xs)))
     (λ t. rw t refl)
 
+-- all that is taken passes
 taken_pass : (p : ℕ → Bool) (xs : List ℕ) → list_all p (take_while p xs) ≡ true
 taken_pass p [] = refl
 taken_pass p (x ∷ xs) = by_test (p x) (λ t. rw (t, one-add) (rw t (taken_pass p xs))) (λ t. rw t refl)
@@ -105,6 +117,7 @@ pub record Whole (text : List ℕ) : Type 0 where
   pub words : AreWordBytes text
   pub ends : Ends is_ascii_alphabetic text
 
+-- one `.` stands behind a digit
 pub record Split (text : List ℕ) : Type 0 where
   pub front : List ℕ
   pub back : List ℕ
@@ -113,6 +126,7 @@ pub record Split (text : List ℕ) : Type 0 where
   pub back_words : AreWordBytes back
   pub ends : Ends is_ascii_digit front
 
+-- each unit has letters
 letters_some : (unit : TimeUnit) (w : List ℕ) → is_word (letters_of unit) w ≡ true → 0 < length w
 letters_some unit [] h = never unit h where
   never : (u : TimeUnit) → is_word (letters_of u) [] ≡ true → 0 < 0
@@ -123,17 +137,20 @@ letters_some unit [] h = never unit h where
   never Milliseconds g = absurd (cc)
 letters_some unit (b ∷ w) h = omega arith
 
+-- a sum has both parts
 sum_parts : (a b : Option ℕ) (n : ℕ) → sum_of a b ≡ Some n → (k : ℕ) × (l : ℕ) × (a ≡ Some k) × (b ≡ Some l)
 sum_parts None b n h = absurd (cc)
 sum_parts (Some k) None n h = absurd (cc)
 sum_parts (Some k) (Some l) n h = (k, l, refl, refl)
 
+-- an amount is read from digits
 amount_digits : (unit : TimeUnit) (number : List ℕ) (n : ℕ) → amount_read unit number ≡ Some n → (k : ℕ) × (digits_read 10 number ≡ Some k)
 amount_digits unit number n h = at (digits_read 10 number) refl h where
   at : (o : Option ℕ) → digits_read 10 number ≡ o → option_map (λ m. m * milliseconds_of unit) o ≡ Some n → (k : ℕ) × (digits_read 10 number ≡ Some k)
   at None e g = absurd (cc)
   at (Some k) e g = (k, e)
 
+-- a fraction is read from digits
 fraction_digits : (unit : TimeUnit) (digits : List ℕ) (n : ℕ) → fraction_read unit digits ≡ Some n → AreWordBytes digits
 fraction_digits unit digits n h = by_test (list_all (λ c. is_digit c 10) digits)
     (λ t. digits_words digits t)
@@ -141,9 +158,7 @@ fraction_digits unit digits n h = by_test (list_all (λ c. is_digit c 10) digits
     (λ u. let h' : ◌≡◌ {A = Option ℕ} None (Some n) = rw (u, t) at h in absurd (cc))
     (λ u. let h' : ◌≡◌ {A = Option ℕ} None (Some n) = rw u at h in absurd (cc)))
 
-below : (a b : ℕ) → nat_lt a b ≡ true → a < b
-below a b h = grind (arith, nat_tests)
-
+-- a number with a `.` is what stands before and behind the first
 point_splits : (number : List ℕ) → is_some (position is_point number) ≡ true → number ≡ before_first is_point number ++ 46 ∷ after_first is_point number
 point_splits number h = by_test (nat_lt (position_or_len is_point number) (length number))
     (λ t. let lt : position_or_len is_point number < length number = below _ _ t in
@@ -185,12 +200,14 @@ last_shape unit number letters n h l some = by_test (is_some (position is_point 
       ends = ends_more is_ascii_alphabetic number letters (ends_all is_ascii_alphabetic letters l some);
     }))
 
+-- a `_` may stand first
 underscore_splits : (text : List ℕ) → (text ≡ without_underscore text) ⊎ (text ≡ 95 ∷ without_underscore text)
 underscore_splits [] = inl refl
 underscore_splits (b ∷ bs) = by_test (b == 95)
     (λ t. inr (rw t (ap (λ (x : ℕ). x ∷ bs) (is_equal b 95 t))))
     (λ t. inl (rw t refl))
 
+-- what reads as parts has one of the two shapes
 parts_shape : (us : List TimeUnit) (text : List ℕ) (n : ℕ) → parts_read us text ≡ Some n → Whole text ⊎ Split text
 parts_shape [] text n h = absurd (cc)
 parts_shape (unit ∷ smaller) text n h = by_test (is_word (letters_of unit) (part_letters text))
@@ -220,15 +237,18 @@ parts_shape (unit ∷ smaller) text n h = by_test (is_word (letters_of unit) (pa
       behind_line (inl e) s = subst (λ zs. Whole zs ⊎ Split zs) (sym e) s
       behind_line (inr e) s = grown (95 ∷ []) (part_rest text) (without_underscore (part_rest text)) e (refl, tt) s
 
+-- what reads as an interval has one of the two shapes
 pub interval_shape : (text : List ℕ) (n : ℕ) → interval_read text ≡ Some n → Whole text ⊎ Split text
 unfolding interval_read
 interval_shape text n h = parts_shape units text n h
 
 -- ---- at the front of a text
 
+-- the longest front that reads as an interval
 abbrev pub IntervalFound : List ℕ → List ℕ → ℕ → Type 0
 IntervalFound text rest v = Found interval_read capped text rest v
 
+-- where a fraction follows, a `.` stands behind the run
 fraction_test : (text : List ℕ) → has_fraction text ≡ true → behind text ≡ 46 ∷ fraction_of text
 fraction_test text h = begins (codes ".") (behind text) (both (ends_in_digit (run text)) (begins_with (codes ".") (behind text)) h).1
 
@@ -236,19 +256,23 @@ fraction_test text h = begins (codes ".") (behind text) (both (ends_in_digit (ru
 split_run : (text front back rest : List ℕ) → text ≡ (front ++ 46 ∷ back) ++ rest → AreWordBytes front → (run text ≡ front) × (behind text ≡ 46 ∷ (back ++ rest))
 split_run text front back rest e words = run_is text front (46 ∷ (back ++ rest)) (e ∙ append_assoc front (46 ∷ back) rest) words (λ (k : is_word_byte 46 ≡ true). cc)
 
+-- a `.` behind a run that ends in a digit begins a fraction
 split_test : (text : List ℕ) (s : Ends is_ascii_digit (run text)) (more : List ℕ) → behind text ≡ 46 ∷ more → has_fraction text ≡ true
 split_test text s more e = rw (digit_ends (run text) s) (ap (λ (zs : List ℕ). begins_with (codes ".") zs) e)
 
+-- what was mapped
 option_parts : (text rest : List ℕ) (v : ℕ) (o : Option ℕ) → option_map {T = ℕ} {U = ℕ × List ℕ} (λ n. (capped n, interval_behind text)) o ≡ Some (v, rest)
     → (n : ℕ) × (o ≡ Some n) × (v ≡ capped n) × (rest ≡ interval_behind text)
 option_parts text rest v None h = absurd (cc)
 option_parts text rest v (Some n) h = let p = some_parts h in (n, refl, sym p.0, sym p.1)
 
+-- what reading an interval gave
 interval_parts : (text rest : List ℕ) (v : ℕ) → interval_at text ≡ Some (v, rest)
     → (n : ℕ) × (interval_read (interval_front text) ≡ Some n) × (v ≡ capped n) × (rest ≡ interval_behind text)
 unfolding interval_at
 interval_parts text rest v h = option_parts text rest v (interval_read (interval_front text)) h
 
+-- what is read is the longest interval
 pub interval_found : (text rest : List ℕ) (v : ℕ) → interval_at text ≡ Some (v, rest) → IntervalFound text rest v
 interval_found text rest v h = by_test (has_fraction text)
     (λ t. let p = interval_parts text rest v h in with_fraction t p.0 (rw t at p.1) p.2 (rw t at p.3))
@@ -293,6 +317,7 @@ interval_found text rest v h = by_test (has_fraction text)
             let u = split_run text s.front s.back back (g ∙ ap (λ (zs : List ℕ). zs ++ back) s.splits) s.front_words in
             not_both (split_test text (subst (Ends is_ascii_digit) (sym u.0) s.ends) (s.back ++ back) u.1) t
 
+-- an interval that no byte of a word follows is read
 pub interval_only : (text front rest : List ℕ) (n : ℕ) → text ≡ front ++ rest → interval_read front ≡ Some n → (BeginsWord rest → ⊥) → interval_at text ≡ Some (capped n, rest)
 unfolding interval_at
 interval_only text front rest n e h ends = at (interval_shape front n h) where

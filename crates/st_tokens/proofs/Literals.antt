@@ -16,9 +16,11 @@ use Rattle.st_tokens.proofs.Numbers.{first_digit, Found, Alive, Based, read_word
 use Rattle.st_tokens.proofs.Runs.{run_behind, behind_not, run_is, words_in_run}
 use Rattle.st_tokens.proofs.Cases.{by_test, is_equal, not_both, some_parts}
 
+-- the longest front that reads as a number with an optional sign
 abbrev pub SignedFound : List ℕ → List ℕ → ℤ → Type 0
 SignedFound text rest v = Found (signed_read true) capped_signed text rest v
 
+-- holding a number down and negating it commute
 pub capped_negative : (n : ℕ) → negative (capped n) ≡ capped_signed (negative n)
 capped_negative zero = refl
 capped_negative (suc n) = ap (λ (m : ℕ). negative (capped m)) (sym (add-one n))
@@ -30,6 +32,7 @@ mapped_parts {A} {B} f None v rest h = absurd (cc)
 mapped_parts {A} {B} f (Some p) v rest h = let q = some_parts h in
     (p.0, subst (λ zs. ◌≡◌ {A = Option (A × List ℕ)} (Some (p.0, p.1)) (Some (p.0, zs))) q.1 refl, sym q.0)
 
+-- what was mapped
 pub mapped_some : {A B : Type 0} (f : A → B) (o : Option A) (b : B) → option_map f o ≡ Some b → (a : A) × (o ≡ Some a) × (b ≡ f a)
 mapped_some f None b h = absurd (cc)
 mapped_some f (Some a) b h = (a, refl, let e : f a ≡ b = cc in sym e)
@@ -45,12 +48,15 @@ record Sign (sign : ℕ) (means : ℕ → ℤ) : Type 0 where
   pub counts : (n : ℕ) → means (capped n) ≡ capped_signed (means n)
   pub no_word : is_word_byte sign ≡ false
 
+-- `-`
 minus : Sign 45 negative
 minus = record { reads = λ more. refl; counts = capped_negative; no_word = refl }
 
+-- `+`
 plus : Sign 43 pos
 plus = record { reads = λ more. refl; counts = λ n. refl; no_word = refl }
 
+-- behind a sign what is read is the longest
 sign_found : (sign : ℕ) (means : ℕ → ℤ) → Sign sign means → (text tail rest : List ℕ) (v : ℤ) → text ≡ sign ∷ tail
     → option_map {T = ℕ × List ℕ} {U = ℤ × List ℕ} (λ p. (means p.0, p.1)) (digits_at 10 tail) ≡ Some (v, rest) → SignedFound text rest v
 sign_found sign means is text tail rest v e h =
@@ -85,6 +91,7 @@ abbrev signed_by : Bool → Bool → List ℕ → Option ℤ
 signed_by m p text = cond m (option_map negative (digits_read 10 (drop 1 text)))
     (cond p (option_map pos (digits_read 10 (drop 1 text))) (option_map pos (number_read text)))
 
+-- reading a signed number goes by the tests
 signed_tests : (text : List ℕ) (m p : Bool) → (slice_index text 0 == 45) ≡ m → (slice_index text 0 == 43) ≡ p → signed_read true text ≡ signed_by m p text
 signed_tests text m p e f = ap (λ (x : Bool). signed_by x ((slice_index text 0 == 43)) text) e ∙ ap (λ (x : Bool). signed_by m x text) f
 
@@ -93,6 +100,7 @@ unsigned_reads : (text front back : List ℕ) → text ≡ front ++ back → (sl
     → signed_read true front ≡ option_map pos (number_read front)
 unsigned_reads text front back e m p = signed_tests front false false (no_start 45 text front back refl e m) (no_start 43 text front back refl e p)
 
+-- without a sign what is read is the longest
 unsigned_found : (text rest : List ℕ) (v : ℤ) → (slice_index text 0 == 45) ≡ false → (slice_index text 0 == 43) ≡ false
     → option_map positive_found (number_at text) ≡ Some (v, rest) → SignedFound text rest v
 unsigned_found text rest v m p h =
@@ -110,6 +118,7 @@ unsigned_found text rest v m p h =
           let n = mapped_some pos (number_read other) w (sym (unsigned_reads text other back e m p) ∙ r) in f.longest other back n.0 e n.1;
     }
 
+-- what is read is the longest
 pub signed_found : (text rest : List ℕ) (v : ℤ) → signed_at text ≡ Some (v, rest) → SignedFound text rest v
 unfolding signed_at
 signed_found text rest v h = by_test ((slice_index text 0 == 45))
@@ -118,6 +127,7 @@ signed_found text rest v h = by_test ((slice_index text 0 == 45))
     (λ u. sign_found 43 pos plus text (drop 1 text) rest v (first_is 43 text refl u) (rw (t, u) at h))
     (λ u. unsigned_found text rest v t u (rw (t, u) at h)))
 
+-- decimal digits behind a sign are read
 sign_only : (sign : ℕ) (means : ℕ → ℤ) → Sign sign means → (more rest : List ℕ) (z : ℤ) → signed_read true (sign ∷ more) ≡ Some z → Alive rest
     → option_map {T = ℕ × List ℕ} {U = ℤ × List ℕ} (λ p. (means p.0, p.1)) (digits_at 10 (more ++ rest)) ≡ Some (capped_signed z, rest)
 sign_only sign means is more rest z h alive =
@@ -126,6 +136,7 @@ sign_only sign means is more rest z h alive =
     ap (option_map {T = ℕ × List ℕ} {U = ℤ × List ℕ} (λ p. (means p.0, p.1))) d
     ∙ ap (λ (x : ℤ). let r : Option (ℤ × List ℕ) = Some (x, rest) in r) (is.counts n.0 ∙ ap capped_signed (sym n.2))
 
+-- a number with an optional sign that nothing continues is read
 pub signed_only : (text front rest : List ℕ) (z : ℤ) → text ≡ front ++ rest → signed_read true front ≡ Some z → Alive rest → signed_at text ≡ Some (capped_signed z, rest)
 unfolding signed_at
 signed_only text front rest z e h alive = by_test ((slice_index front 0 == 45))
@@ -154,6 +165,7 @@ record Truth (word : List ℕ) : Type 0 where
   pub not_empty : is_word word [] ≡ false
   pub name : is_name (map to_ascii_lowercase word) ≡ true
 
+-- TRUE
 truth : Truth (codes "TRUE")
 truth = record {
   no_base = λ w base h. base_cases (λ m zs. is_word (codes "TRUE") zs ≡ true → ⊥) w base h (λ k. cc) (λ k. cc) (λ k. cc);
@@ -161,6 +173,7 @@ truth = record {
   name = refl;
 }
 
+-- FALSE
 falsity : Truth (codes "FALSE")
 falsity = record {
   no_base = λ w base h. base_cases (λ m zs. is_word (codes "FALSE") zs ≡ true → ⊥) w base h (λ k. cc) (λ k. cc) (λ k. cc);
@@ -168,12 +181,15 @@ falsity = record {
   name = refl;
 }
 
+-- a test of words that passed
 pub is_same : (word w : List ℕ) → is_word word w ≡ true → IsSame w word
 is_same word w h = (bytes_eq-Decides (map to_ascii_lowercase w) (map to_ascii_lowercase word)).0 h
 
+-- the same word passes the test
 pub same_test : (word w : List ℕ) → IsSame w word → is_word word w ≡ true
 same_test word w h = (bytes_eq-Decides (map to_ascii_lowercase w) (map to_ascii_lowercase word)).1 h
 
+-- a truth value has bytes of a word alone
 truth_words : (word w : List ℕ) → Truth word → is_word word w ≡ true → AreWordBytes w
 truth_words word w is h = word_words w (name_word w (same_name w word (is_same word w h) is.name))
 
@@ -213,6 +229,7 @@ boolean_cases text z h = by_test (is_word (codes "TRUE") text)
     (λ u. let h' : ◌≡◌ {A = Option ℤ} (Some (pos 0)) (Some z) = rw (t, u) at h in inr (inl (u, let e : pos 0 ≡ z = cc in sym e)))
     (λ u. inr (inr (record { no_true = t; no_false = u; reads = rw (t, u) at h }))))
 
+-- the longest front that reads as a literal of the class
 abbrev pub LiteralFound : Class → List ℕ → List ℕ → ℤ → Type 0
 LiteralFound class text rest v = Found (literal_read class true) capped_signed text rest v
 
@@ -241,6 +258,7 @@ no_truth word text front rest is e ends no_run = by_test (is_word word front)
     (λ t. let u = run_is text front rest e (truth_words word front is t) ends in not_both (subst (λ zs. is_word word zs ≡ true) (sym u.0) t) no_run)
     (λ t. t)
 
+-- where the run is no truth value, a number is the longest
 number_of_boolean : (text rest : List ℕ) (v : ℤ) → is_word (codes "TRUE") (run text) ≡ false → is_word (codes "FALSE") (run text) ≡ false → SignedFound text rest v
     → LiteralFound Boolean text rest v
 number_of_boolean text rest v t u f = record {
@@ -259,6 +277,7 @@ number_of_boolean text rest v t u f = record {
   at other back w e (inr (inl k)) = let le = words_in_run text other back e (truth_words (codes "FALSE") other falsity k.0) in let covers = f.covers in omega arith
   at other back w e (inr (inr k)) = f.longest other back w e k.reads
 
+-- what is read of BOOL is the longest
 pub boolean_found : (text rest : List ℕ) (v : ℤ) → boolean_at text ≡ Some (v, rest) → LiteralFound Boolean text rest v
 unfolding boolean_at
 boolean_found text rest v h = by_test (is_word (codes "TRUE") (run text))
@@ -269,6 +288,7 @@ boolean_found text rest v h = by_test (is_word (codes "TRUE") (run text))
     truth_found (codes "FALSE") text rest v falsity u (rw (t, u) (let e : ◌≡◌ {A = Option ℤ} (Some (pos 0)) (Some v) = ap (λ (x : ℤ). Some x) p.0 in e)) (sym p.0 ∙ ap capped_signed p.0) (sym p.1))
     (λ u. number_of_boolean text rest v t u (signed_found text rest v (rw (t, u) at h))))
 
+-- a literal of BOOL that nothing continues is read
 pub boolean_only : (text front rest : List ℕ) (z : ℤ) → text ≡ front ++ rest → literal_read Boolean true front ≡ Some z → Alive rest → boolean_at text ≡ Some (capped_signed z, rest)
 unfolding boolean_at
 boolean_only text front rest z e h alive = at (boolean_cases front z h) where
@@ -299,6 +319,7 @@ boolean_only text front rest z e h alive = at (boolean_cases front z h) where
 
 -- ---- by the class of the type
 
+-- what is read is the longest literal of the class
 pub literal_found : (class : Class) (text rest : List ℕ) (v : ℤ) → literal_at class text ≡ Some (v, rest) → LiteralFound class text rest v
 unfolding literal_at
 literal_found Boolean text rest v h = boolean_found text rest v h
@@ -306,6 +327,7 @@ literal_found Integer text rest v h = signed_found text rest v h
 literal_found BitString text rest v h = signed_found text rest v h
 literal_found Duration text rest v h = absurd (cc)
 
+-- a literal of the class that nothing continues is read
 pub literal_only : (class : Class) (text front rest : List ℕ) (z : ℤ) → (class ≡ Duration → ⊥) → text ≡ front ++ rest → literal_read class true front ≡ Some z → Alive rest
     → literal_at class text ≡ Some (capped_signed z, rest)
 unfolding literal_at

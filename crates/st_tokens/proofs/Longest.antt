@@ -34,6 +34,7 @@ pub record IsToken (text front rest : List ℕ) (kind : Kind) : Type 0 where
   pub longest : IsLongest text front rest kind
   pub allowed : IsRefused kind rest → ⊥
 
+-- some front is a token
 abbrev pub TokenFound : List ℕ → Kind → List ℕ → Type 0
 TokenFound text kind rest = (front : List ℕ) × IsToken text front rest kind
 
@@ -44,6 +45,7 @@ mapped f (Some a) b h = (a, refl, let e : f a ≡ b = cc in e)
 
 -- ---- numbers
 
+-- what is read behind a digit is a token
 number_token : (b : ℕ) (bs rest : List ℕ) (kind : Kind) → is_ascii_digit b ≡ true → option_map number_found (number_at (b ∷ bs)) ≡ Some (kind, rest) → TokenFound (b ∷ bs) kind rest
 number_token b bs rest kind d h =
     let m = mapped number_found (number_at (b ∷ bs)) (kind, rest) h in
@@ -65,21 +67,25 @@ number_token b bs rest kind d h =
 
 -- ---- words
 
+-- a word has the form that the tables say
 word_form : (w : List ℕ) → IsWord w → (k : Option Keyword) (e : Option Elem) → keyword_of w ≡ k → elem_of w ≡ e → HasForm w (kind_by w k e)
 word_form w h (Some x) e i j = keyword (keyword_is w x i)
 word_form w h None (Some x) i j = type_name (elem_is w x j)
 word_form w h None None i j = word h (not_reserved w i j)
 
+-- a word has the form of its kind
 kind_form : (w : List ℕ) → IsWord w → HasForm w (word_kind w)
 unfolding word_kind
 kind_form w h = word_form w h (keyword_of w) (elem_of w) refl refl
 
+-- a clean word that no `#` follows is no fault
 word_allowed : (w rest : List ℕ) → is_clean w ≡ true → ((back : List ℕ) → rest ≡ 35 ∷ back → ⊥) → (k : Option Keyword) (e : Option Elem) → IsRefused (kind_by w k e) rest → ⊥
 word_allowed w rest c n (Some x) e h = h
 word_allowed w rest c n None (Some x) h = n h.1.0 h.1.1
 word_allowed w rest c n None None (inl u) = not_unclean w c u
 word_allowed w rest c n None None (inr u) = n u.1.0 u.1.1
 
+-- the same of the kind of a word
 kind_allowed : (w rest : List ℕ) → is_clean w ≡ true → ((back : List ℕ) → rest ≡ 35 ∷ back → ⊥) → IsRefused (word_kind w) rest → ⊥
 unfolding word_kind
 kind_allowed w rest c n h = word_allowed w rest c n (keyword_of w) (elem_of w) h
@@ -103,6 +109,7 @@ plain_longest b bs other back k w t e form = at (only_word b other k form (opens
   at (inr (inl p)) = hash p.name p.literal (word_words p.name (name_word p.name (elem_name p.name p.elem p.named))) p.splits
   at (inr (inr p)) = hash p.name p.literal (word_words p.name (name_word p.name (duration_name p.name p.named))) p.splits
 
+-- a clean word that no `#` follows is a token
 plain_token : (b : ℕ) (bs : List ℕ) → begins_word b ≡ true → begins_with (codes "#") (behind (b ∷ bs)) ≡ false → is_clean (run (b ∷ bs)) ≡ true
     → TokenFound (b ∷ bs) (word_kind (run (b ∷ bs))) (behind (b ∷ bs))
 plain_token b bs w t c = (
@@ -126,6 +133,7 @@ pub record Behind (text other back name literal : List ℕ) : Type 0 where
   pub tail_is : tail_of text ≡ literal ++ back
   pub size : length other ≡ length (run text) + suc (length literal)
 
+-- a front with a `#` behind a name has the run for its name
 behind_hash : (text other back name literal : List ℕ) → AreWordBytes name → text ≡ other ++ back → other ≡ name ++ 35 ∷ literal → Behind text other back name literal
 behind_hash text other back name literal words e f =
     let r = hash_run text name literal back words (e ∙ ap (λ (zs : List ℕ). zs ++ back) f) in
@@ -153,16 +161,19 @@ prefixed_longest read counts v b bs rest w f typed_reads lasting_reads other bac
       let r = lasting_reads other k p (sym h.run_is) in
       let le = f.longest p.literal back r.0 h.tail_is r.1 in let l = whole in let s = h.size in omega arith
 
+-- a text is its run, a `#`, what was read, and the rest
 prefixed_splits : (text front rest : List ℕ) → begins_with (codes "#") (behind text) ≡ true → tail_of text ≡ front ++ rest → text ≡ (run text ++ 35 ∷ front) ++ rest
 prefixed_splits text front rest t e =
     hash_split text t ∙ ap (λ (zs : List ℕ). run text ++ 35 ∷ zs) e ∙ sym (append_assoc (run text) (35 ∷ front) rest)
 
 -- ---- which words begin a duration
 
+-- a word that begins durations passes the test
 duration_test : (w : List ℕ) → IsDurationWord w → is_duration_word w ≡ true
 duration_test w (inl h) = let t = same_test (codes "T") w h in rw t refl
 duration_test w (inr h) = let t = same_test (codes "TIME") w h in by_test (is_word (codes "T") w) (λ u. rw u refl) (λ u. rw (u, t) refl)
 
+-- a word that passes the test begins durations
 duration_word : (w : List ℕ) → is_duration_word w ≡ true → IsDurationWord w
 duration_word w h = by_test (is_word (codes "T") w)
     (λ t. inl (is_same (codes "T") w t))
@@ -173,6 +184,7 @@ not_typed : (w : List ℕ) (elem : Elem) → IsDurationWord w → IsSame w (name
 not_typed w elem (inl d) h = let none = short_no_elem w d in let some = elem_in w elem h in absurd (cc)
 not_typed w elem (inr d) h = let time = elem_in w E.Time d in let some = elem_in w elem h in cc
 
+-- a duration that is read is a token
 duration_token : (b : ℕ) (bs rest : List ℕ) (kind : Kind) → begins_word b ≡ true → begins_with (codes "#") (behind (b ∷ bs)) ≡ true
     → is_duration_word (run (b ∷ bs)) ≡ true → duration_at (tail_of (b ∷ bs)) ≡ Some (kind, rest) → TokenFound (b ∷ bs) kind rest
 unfolding duration_at
@@ -197,6 +209,7 @@ duration_token b bs rest kind w t d h =
       },
     ))
 
+-- a typed literal that is read is a token
 typed_token : (b : ℕ) (bs rest : List ℕ) (kind : Kind) (elem : Elem) → begins_word b ≡ true → begins_with (codes "#") (behind (b ∷ bs)) ≡ true
     → is_duration_word (run (b ∷ bs)) ≡ false → elem_of (run (b ∷ bs)) ≡ Some elem
     → option_map (typed_found elem) (literal_at (class_of elem) (tail_of (b ∷ bs))) ≡ Some (kind, rest) → TokenFound (b ∷ bs) kind rest
@@ -232,6 +245,7 @@ typed_token b bs rest kind elem w t d i h =
           let one = elem_in (run (b ∷ bs)) p.elem (subst (λ zs. IsSame zs (name_of p.elem)) e p.named) in
           let same : p.elem ≡ elem = cc in subst (λ x. literal_read (class_of x) true p.literal ≡ Some p.number) same p.reads
 
+-- a literal that begins with a word is a token
 prefixed_token : (b : ℕ) (bs rest : List ℕ) (kind : Kind) → begins_word b ≡ true → begins_with (codes "#") (behind (b ∷ bs)) ≡ true
     → prefixed_at (run (b ∷ bs)) (tail_of (b ∷ bs)) ≡ Some (kind, rest) → TokenFound (b ∷ bs) kind rest
 unfolding prefixed_at typed_at
@@ -243,6 +257,7 @@ prefixed_token b bs rest kind w t h = by_test (is_duration_word (run (b ∷ bs))
       by_elem d None i g = absurd (cc)
       by_elem d (Some elem) i g = typed_token b bs rest kind elem w t d i g
 
+-- what is read behind a letter or `_` is a token
 word_token : (b : ℕ) (bs rest : List ℕ) (kind : Kind) → begins_word b ≡ true → word_at (b ∷ bs) ≡ Some (kind, rest) → TokenFound (b ∷ bs) kind rest
 unfolding word_at
 word_token b bs rest kind w h = by_test (begins_with (codes "#") (behind (b ∷ bs)))
@@ -258,12 +273,14 @@ word_token b bs rest kind w h = by_test (begins_with (codes "#") (behind (b ∷ 
 abbrev NoDouble : ℕ → List ℕ → Type 0
 NoDouble b bs = (c : ℕ) (back : List ℕ) (y : Symbol) → bs ≡ c ∷ back → double b c ≡ Some y → ⊥
 
+-- a symbol has two bytes at most
 symbol_size : (b : ℕ) (bs back : List ℕ) (x : Symbol) → b ∷ bs ≡ symbol_text x ++ back → length (symbol_text x) ≤ 2
 symbol_size b bs back x e = at (symbol_cases x) where
   at : IsDouble x ⊎ IsSingle x → length (symbol_text x) ≤ 2
   at (inl d) = let l = ap length d.text in omega arith
   at (inr d) = let l = ap length d.text in omega arith
 
+-- where no symbol of two bytes stands, it has one
 single_size : (b : ℕ) (bs back : List ℕ) (x : Symbol) → NoDouble b bs → b ∷ bs ≡ symbol_text x ++ back → length (symbol_text x) ≤ 1
 single_size b bs back x none e = at (symbol_cases x) where
   at : IsDouble x ⊎ IsSingle x → length (symbol_text x) ≤ 1
@@ -273,6 +290,7 @@ single_size b bs back x none e = at (symbol_cases x) where
       absurd (none d.second back x more (subst (λ y. double y d.second ≡ Some x) (sym same) d.found))
   at (inr d) = let l = ap length d.text in omega arith
 
+-- a symbol that is the longest is a token
 symbol_token : (b : ℕ) (bs rest : List ℕ) (x : Symbol) → is_ascii_digit b ≡ false → begins_word b ≡ false → b ∷ bs ≡ symbol_text x ++ rest
     → ((back : List ℕ) (y : Symbol) → b ∷ bs ≡ symbol_text y ++ back → length (symbol_text y) ≤ length (symbol_text x)) → TokenFound (b ∷ bs) (K.Symbol x) rest
 symbol_token b bs rest x d w e longest = (
@@ -288,6 +306,7 @@ symbol_token b bs rest x d w e longest = (
   },
 )
 
+-- a symbol of one byte
 single_token : (b : ℕ) (bs rest : List ℕ) (kind : Kind) (o : Option Symbol) → is_ascii_digit b ≡ false → begins_word b ≡ false → NoDouble b bs
     → single b ≡ o → symbol_or o bs None ≡ Some (kind, rest) → TokenFound (b ∷ bs) kind rest
 single_token b bs rest kind None d w none e h = absurd (cc)
@@ -296,6 +315,7 @@ single_token b bs rest kind (Some x) d w none e h = let p = some_parts h in let 
     (symbol_token b bs bs x d w (sym (ap (λ (zs : List ℕ). zs ++ bs) t))
     (λ back y f. let le = single_size b bs back y none f in let l = ap length t in omega arith)))
 
+-- a symbol of two bytes, else one of one
 double_token : (b c : ℕ) (bs rest : List ℕ) (kind : Kind) (o : Option Symbol) → is_ascii_digit b ≡ false → begins_word b ≡ false
     → double b c ≡ o → symbol_or o bs (symbol_or (single b) (c ∷ bs) None) ≡ Some (kind, rest) → TokenFound (b ∷ c ∷ bs) kind rest
 double_token b c bs rest kind None d w e h = single_token b (c ∷ bs) rest kind (single b) d w
@@ -305,6 +325,7 @@ double_token b c bs rest kind (Some x) d w e h = let p = some_parts h in let t =
     (symbol_token b (c ∷ bs) bs x d w (sym (ap (λ (zs : List ℕ). zs ++ bs) t))
     (λ back y f. let le = symbol_size b (c ∷ bs) back y f in let l = ap length t in omega arith)))
 
+-- what is read behind another byte is a token
 symbols_token : (b : ℕ) (bs rest : List ℕ) (kind : Kind) → is_ascii_digit b ≡ false → begins_word b ≡ false → symbol_at (b ∷ bs) ≡ Some (kind, rest) → TokenFound (b ∷ bs) kind rest
 unfolding symbol_at
 symbols_token b [] rest kind d w h = single_token b [] rest kind (single b) d w (λ c back y f g. cc) refl h
@@ -312,6 +333,7 @@ symbols_token b (c ∷ bs) rest kind d w h = double_token b c bs rest kind (doub
 
 -- ---- a token at the front
 
+-- what is read at the front of a text is a token
 pub token_found : (text : List ℕ) (kind : Kind) (rest : List ℕ) → token_at text ≡ Some (kind, rest) → TokenFound text kind rest
 unfolding token_at symbol_at
 token_found [] kind rest h = absurd (cc)
@@ -323,9 +345,11 @@ token_found (b ∷ bs) kind rest h = by_test (is_ascii_digit b)
 
 -- ---- and no other
 
+-- the same kind
 pair_some : (f : Kind) (g : Kind) (rest : List ℕ) → f ≡ g → ◌≡◌ {A = Option (Kind × List ℕ)} (Some (f, rest)) (Some (g, rest))
 pair_some f g rest e = ap (λ (k : Kind). let r : Option (Kind × List ℕ) = Some (k, rest) in r) e
 
+-- a token that begins with a digit is read
 number_is_only : (b : ℕ) (bs front rest : List ℕ) (kind : Kind) → IsToken (b ∷ bs) front rest kind → ((back : List ℕ) → rest ≡ 35 ∷ back → ⊥) → is_ascii_digit b ≡ true
     → option_map number_found (number_at (b ∷ bs)) ≡ Some (kind, rest)
 number_is_only b bs front rest kind h alive d =
@@ -345,6 +369,7 @@ word_ends b bs front (c ∷ rest) kind h is ends =
       longer [] k = absurd k
       longer (x ∷ w) k = (k.0, words_append w (c ∷ []) k.1 (ends, tt))
 
+-- a token that is a word is read
 plain_only : (b : ℕ) (bs front rest : List ℕ) (kind : Kind) → IsToken (b ∷ bs) front rest kind → ((back : List ℕ) → rest ≡ 35 ∷ back → ⊥) → Plain front kind
     → word_at (b ∷ bs) ≡ Some (kind, rest)
 unfolding word_at
@@ -355,6 +380,7 @@ plain_only b bs front rest kind h alive p =
     let kind_is : word_kind (run (b ∷ bs)) ≡ kind = ap word_kind u.0 ∙ p.kind_is in
     rw (t, c) (pair_some (word_kind (run (b ∷ bs))) kind (behind (b ∷ bs)) kind_is ∙ ap (λ (zs : List ℕ). let r : Option (Kind × List ℕ) = Some (kind, zs) in r) u.1)
 
+-- only TIME is written as a duration
 no_duration_class : (elem : Elem) → (elem ≡ E.Time → ⊥) → class_of elem ≡ Duration → ⊥
 no_duration_class E.Time n h = n refl
 no_duration_class E.Bool n h = cc
@@ -371,6 +397,7 @@ no_duration_class E.Word n h = cc
 no_duration_class E.Dword n h = cc
 no_duration_class E.Lword n h = cc
 
+-- a token that is a typed literal is read
 literal_is_only : (b : ℕ) (bs front rest : List ℕ) (kind : Kind) → IsToken (b ∷ bs) front rest kind → ((back : List ℕ) → rest ≡ 35 ∷ back → ⊥) → (p : Literal front kind)
     → word_at (b ∷ bs) ≡ Some (kind, rest)
 unfolding word_at prefixed_at typed_at
@@ -388,6 +415,7 @@ literal_is_only b bs front rest kind h alive p =
     rw (t, d) (ap (λ (o : Option Elem). option_and_then (λ elem. option_map (typed_found elem) (literal_at (class_of elem) (tail_of (b ∷ bs)))) o) i
     ∙ ap (option_map (typed_found p.elem)) found ∙ pair_some (K.Typed (value p.elem (capped_signed p.number))) kind rest (sym p.kind_is))
 
+-- a token that is a duration is read
 lasting_is_only : (b : ℕ) (bs front rest : List ℕ) (kind : Kind) → IsToken (b ∷ bs) front rest kind → ((back : List ℕ) → rest ≡ 35 ∷ back → ⊥) → (p : Lasting front kind)
     → word_at (b ∷ bs) ≡ Some (kind, rest)
 unfolding word_at prefixed_at duration_at
@@ -402,6 +430,7 @@ lasting_is_only b bs front rest kind h alive p =
     rw (t, d) (ap (option_map duration_found) found
     ∙ pair_some (K.Duration (time_of (capped_signed p.number))) kind rest (ap (λ (n : ℤ). K.Duration n) (time_of-capped p.number) ∙ sym p.kind_is))
 
+-- a token that begins with a letter or `_` is read
 word_is_only : (b : ℕ) (bs front rest : List ℕ) (kind : Kind) → IsToken (b ∷ bs) front rest kind → ((back : List ℕ) → rest ≡ 35 ∷ back → ⊥) → begins_word b ≡ true
     → word_at (b ∷ bs) ≡ Some (kind, rest)
 word_is_only b bs front rest kind h alive w = at (only_word b front kind h.longest.form (opens_text b bs front rest kind h.longest.splits h.longest.form) w) where
@@ -410,16 +439,19 @@ word_is_only b bs front rest kind h alive w = at (only_word b front kind h.longe
   at (inr (inl p)) = literal_is_only b bs front rest kind h alive p
   at (inr (inr p)) = lasting_is_only b bs front rest kind h alive p
 
+-- a symbol of two bytes is read
 double_only : (x : Symbol) (b c : ℕ) (rest : List ℕ) → double b c ≡ Some x → symbol_at (b ∷ c ∷ rest) ≡ Some (K.Symbol x, rest)
 unfolding symbol_at
 double_only x b c rest h = ap (λ (o : Option Symbol). symbol_or o rest (symbol_or (single b) (c ∷ rest) None)) h
 
+-- a symbol of one byte is read, where none of two stands
 single_only : (x : Symbol) (b : ℕ) (rest : List ℕ) → single b ≡ Some x → ((c : ℕ) (back : List ℕ) → rest ≡ c ∷ back → double b c ≡ None) → symbol_at (b ∷ rest) ≡ Some (K.Symbol x, rest)
 unfolding symbol_at
 single_only x b [] h none = ap (λ (o : Option Symbol). symbol_or o [] None) h
 single_only x b (c ∷ rest) h none = ap (λ (o : Option Symbol). symbol_or o rest (symbol_or (single b) (c ∷ rest) None)) (none c rest refl)
     ∙ ap (λ (o : Option Symbol). symbol_or o (c ∷ rest) None) h
 
+-- a token that begins with another byte is read
 symbol_is_only : (b : ℕ) (bs front rest : List ℕ) (kind : Kind) → IsToken (b ∷ bs) front rest kind → is_ascii_digit b ≡ false → begins_word b ≡ false
     → symbol_at (b ∷ bs) ≡ Some (kind, rest)
 symbol_is_only b bs front rest kind h d w = at (only_symbol b front kind h.longest.form (opens_text b bs front rest kind h.longest.splits h.longest.form) d w) where
@@ -442,6 +474,7 @@ symbol_is_only b bs front rest kind h d w = at (only_symbol b front kind h.longe
   at : (x : Symbol) × (front ≡ symbol_text x) × (kind ≡ K.Symbol x) → symbol_at (b ∷ bs) ≡ Some (kind, rest)
   at o = by_case o.0 o.1 (symbol_cases o.0) ∙ pair_some (K.Symbol o.0) kind rest (sym o.2)
 
+-- a token at the front of a text is what is read, where no `#` follows
 pub only : (text front rest : List ℕ) (kind : Kind) → IsToken text front rest kind → ((back : List ℕ) → rest ≡ 35 ∷ back → ⊥) → token_at text ≡ Some (kind, rest)
 unfolding token_at
 only [] front rest kind h alive =
@@ -453,6 +486,7 @@ only (b ∷ bs) front rest kind h alive = by_test (is_ascii_digit b)
     (λ w. rw (d, w) (word_is_only b bs front rest kind h alive w))
     (λ w. rw (d, w) (symbol_is_only b bs front rest kind h d w)))
 
+-- an empty text has no token at its front
 pub token_at-empty : (text : List ℕ) → length text < 1 → token_at text ≡ None
 unfolding token_at symbol_at
 token_at-empty [] h = refl

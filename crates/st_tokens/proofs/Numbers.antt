@@ -37,9 +37,11 @@ pub record Alive (rest : List ℕ) : Type 0 where
 
 -- ---- digits
 
+-- a digit is a byte of a word
 digit_word : (base c : ℕ) → base ≤ 16 → is_digit c base ≡ true → is_word_byte c ≡ true
 digit_word base c high h = grind (arith, nat_tests)
 
+-- digits are bytes of a word
 digits_words : (base : ℕ) (flag : Bool) (ds : List ℕ) → base ≤ 16 → are_digits base flag ds ≡ true → AreWordBytes ds
 digits_words base flag [] high h = tt
 digits_words base flag (c ∷ ds) high h = by_test (c == 95)
@@ -48,12 +50,15 @@ digits_words base flag (c ∷ ds) high h = by_test (c == 95)
     (λ t. let h' : (is_digit c base && are_digits base true ds) ≡ true = rw t at h in let p = both (is_digit c base) _ h' in
     (digit_word base c high p.0, digits_words base true ds high p.1))
 
+-- what reads as digits passes the test
 pub digits_test : (base : ℕ) (ds : List ℕ) (n : ℕ) → digits_read base ds ≡ Some n → are_digits base false ds ≡ true
 digits_test base ds n h = by_test (are_digits base false ds) (λ t. t) (λ t. let h' : ◌≡◌ {A = Option ℕ} None (Some n) = rw t at h in absurd (cc))
 
+-- what reads as digits has bytes of a word alone
 pub read_words : (base : ℕ) (ds : List ℕ) (n : ℕ) → base ≤ 16 → digits_read base ds ≡ Some n → AreWordBytes ds
 read_words base ds n high h = digits_words base false ds high (digits_test base ds n h)
 
+-- a digit of base 10
 pub decimal_digit : (c : ℕ) → is_digit c 10 ≡ true → is_ascii_digit c ≡ true
 decimal_digit c h = grind (arith, nat_tests)
 
@@ -93,9 +98,11 @@ base_cases P w base h p q r = by_test (bytes_eq w (codes "16"))
       made : (m : ℕ) (name : List ℕ) → bytes_eq w name ≡ true → m ≡ base → P m name → P base w
       made m name t e x = subst (λ zs. P base zs) (sym ((bytes_eq-Decides w name).0 t)) (subst (λ k. P k name) e x)
 
+-- no base is above 16
 base_high : (w : List ℕ) (base : ℕ) → base_of w ≡ Some base → base ≤ 16
 base_high w base h = base_cases (λ m zs. m ≤ 16) w base h (omega arith) (omega arith) (omega arith)
 
+-- a base is written with bytes of a word
 pub base_words : (w : List ℕ) (base : ℕ) → base_of w ≡ Some base → AreWordBytes w
 base_words w base h = base_cases (λ m zs. AreWordBytes zs) w base h (refl, (refl, tt)) (refl, tt) (refl, tt)
 
@@ -109,18 +116,22 @@ number_shape ds n h = by_test (begins_with (codes "16#") ds)
     (λ v. inr (record { word = codes "2"; more = after (codes "2#") ds; base = 2; splits = begins (codes "2#") ds v; named = refl; reads = rw (t, u, v) at h }))
     (λ v. inl (rw (t, u, v) at h))))
 
+-- digits behind a base and `#` read as a number
 pub number_based : (w more : List ℕ) (base n : ℕ) → base_of w ≡ Some base → digits_read base more ≡ Some n → number_read (w ++ 35 ∷ more) ≡ Some n
 number_based w more base n h reads = base_cases (λ m zs. digits_read m more ≡ Some n → number_read (zs ++ 35 ∷ more) ≡ Some n) w base h (λ k. k) (λ k. k) (λ k. k) reads
 
+-- no `#` is a byte of a word
 words_no_hash : (w more : List ℕ) → AreWordBytes (w ++ 35 ∷ more) → ⊥
 words_no_hash [] more h = let k : is_word_byte 35 ≡ true = h.0 in cc
 words_no_hash (b ∷ w) more h = words_no_hash w more h.1
 
+-- what has no `#` begins with no base
 no_base : (w ds : List ℕ) → AreWordBytes ds → begins_with (w ++ 35 ∷ []) ds ≡ false
 no_base w ds words = by_test (begins_with (w ++ 35 ∷ []) ds)
     (λ t. let e = begins (w ++ 35 ∷ []) ds t ∙ append_assoc w (35 ∷ []) (after (w ++ 35 ∷ []) ds) in absurd (words_no_hash w _ (subst AreWordBytes e words)))
     (λ t. t)
 
+-- decimal digits read as a number
 pub number_plain : (ds : List ℕ) (n : ℕ) → AreWordBytes ds → digits_read 10 ds ≡ Some n → number_read ds ≡ Some n
 number_plain ds n words h = rw (no_base (codes "16") ds words, no_base (codes "8") ds words, no_base (codes "2") ds words) h
 
@@ -134,6 +145,7 @@ first_digit ds n h = at (number_shape ds n h) where
 
 -- ---- at the front of a text
 
+-- what reading digits gave
 pub digits_parts : (base : ℕ) (text rest : List ℕ) (v : ℕ) → digits_at base text ≡ Some (v, rest)
     → (n : ℕ) × (digits_read base (run text) ≡ Some n) × (v ≡ capped n) × (rest ≡ behind text)
 unfolding digits_at
@@ -143,6 +155,7 @@ digits_parts base text rest v h = at (digits_read base (run text)) refl h where
   at None e g = absurd (cc)
   at (Some n) e g = let p = some_parts g in (n, e, sym p.0, sym p.1)
 
+-- digits that no byte of a word follows are read
 pub digits_made : (base : ℕ) (text ds rest : List ℕ) (n : ℕ) → base ≤ 16 → text ≡ ds ++ rest → digits_read base ds ≡ Some n → (BeginsWord rest → ⊥)
     → digits_at base text ≡ Some (capped n, rest)
 unfolding digits_at
@@ -159,15 +172,19 @@ pub hash_run : (text w more back : List ℕ) → AreWordBytes w → text ≡ (w 
     → (run text ≡ w) × (behind text ≡ 35 ∷ (more ++ back))
 hash_run text w more back words e = run_is text w (35 ∷ (more ++ back)) (e ∙ append_assoc w (35 ∷ more) back) words (λ (k : is_word_byte 35 ≡ true). cc)
 
+-- a `#` behind the run passes the test
 pub hash_test : (text more : List ℕ) → behind text ≡ 35 ∷ more → begins_with (codes "#") (behind text) ≡ true
 hash_test text more e = rw e refl
 
+-- where none stands, the test fails
 pub no_hash_test : (text : List ℕ) → ((back : List ℕ) → behind text ≡ 35 ∷ back → ⊥) → begins_with (codes "#") (behind text) ≡ false
 no_hash_test text n = by_test (begins_with (codes "#") (behind text)) (λ t. absurd (n (after (codes "#") (behind text)) (begins (codes "#") (behind text) t))) (λ t. t)
 
+-- the longest front that reads as a number
 abbrev pub NumberFound : List ℕ → List ℕ → ℕ → Type 0
 NumberFound text rest v = Found number_read capped text rest v
 
+-- without a `#` what is read is the longest
 number_plain_found : (text rest : List ℕ) (v : ℕ) → begins_with (codes "#") (behind text) ≡ false → digits_at 10 text ≡ Some (v, rest) → NumberFound text rest v
 number_plain_found text rest v t h = let p = digits_parts 10 text rest v h in record {
   front = run text;
@@ -189,6 +206,7 @@ number_plain_found text rest v t h = let p = digits_parts 10 text rest v h in re
 abbrev pub tail_of : List ℕ → List ℕ
 tail_of text = after (codes "#") (behind text)
 
+-- behind a base and `#` what is read is the longest
 number_based_found : (text rest : List ℕ) (v base : ℕ) → begins_with (codes "#") (behind text) ≡ true → base_of (run text) ≡ Some base
     → digits_at base (after (codes "#") (behind text)) ≡ Some (v, rest) → NumberFound text rest v
 number_based_found text rest v base t named h = let p = digits_parts base (tail_of text) rest v h in record {
@@ -212,6 +230,7 @@ number_based_found text rest v base t named h = let p = digits_parts base (tail_
       let m = length-append b.word (35 ∷ b.more) in let l = length-append (run text) (35 ∷ run (tail_of text)) in
       let f = ap length b.splits in let g = ap length r.0 in omega arith
 
+-- what is read is the longest number
 pub number_found : (text rest : List ℕ) (v : ℕ) → number_at text ≡ Some (v, rest) → NumberFound text rest v
 unfolding number_at
 number_found text rest v h = by_test (begins_with (codes "#") (behind text))
@@ -222,6 +241,7 @@ number_found text rest v h = by_test (begins_with (codes "#") (behind text))
       at t None e g = absurd (cc)
       at t (Some base) e g = number_based_found text rest v base t e g
 
+-- a number that nothing continues is read
 pub number_only : (text front rest : List ℕ) (n : ℕ) → text ≡ front ++ rest → number_read front ≡ Some n → Alive rest → number_at text ≡ Some (capped n, rest)
 unfolding number_at
 number_only text front rest n e h alive = at (number_shape front n h) where

@@ -23,9 +23,6 @@ pub record Reads (text : List ℕ) (found : List Token) (line : ℕ) (rest : Lis
   pub forth : (ts : List Token) → HasTokens line rest ts → HasTokens 1 text (found ++ ts)
   pub back : (ts : List Token) → HasTokens 1 text ts → (us : List Token) × (ts ≡ found ++ us) × HasTokens line rest us
 
-pub reads_start : (text : List ℕ) → Reads text [] 1 text
-reads_start text = record { forth = λ ts h. h; back = λ ts h. (ts, refl, h) }
-
 -- a step that has no token
 pub reads_past : (text : List ℕ) (found : List Token) (line line' : ℕ) (rest rest' : List ℕ) → Reads text found line rest
     → ((ts : List Token) → HasTokens line' rest' ts → HasTokens line rest ts) → ((ts : List Token) → HasTokens line rest ts → HasTokens line' rest' ts)
@@ -44,20 +41,24 @@ no_form b bs front back kind never form splits =
     let yes : begins_token b ≡ true = subst (λ x. begins_token x ≡ true) (sym same) w.3 in
     not_both yes never
 
+-- no token begins with a blank
 blank_never : (b : ℕ) → is_blank b ≡ true → begins_token b ≡ false
 blank_never b h = by_test (b == 9) (λ t. rw (is_equal b 9 t) refl) (λ f.
     by_test (b == 10) (λ t. rw (is_equal b 10 t) refl) (λ g.
     by_test (b == 13) (λ t. rw (is_equal b 13 t) refl) (λ i.
     by_test (b == 32) (λ t. rw (is_equal b 32 t) refl) (λ j. let h' = rw (f, g, i, j) at h in absurd (cc)))))
 
+-- nor does a comment
 blank_no_mark : (b : ℕ) → is_blank b ≡ true → b ≡ 40 → ⊥
 blank_no_mark b h e = let h' : is_blank 40 ≡ true = rw e at h in cc
 
+-- behind a blank the tokens are the same
 behind_blank : {line b : ℕ} {rest : List ℕ} {ts : List Token} → is_blank b ≡ true → HasTokens line (b ∷ rest) ts → HasTokens (line + line_end b) rest ts
 behind_blank h (blank w d) = d
 behind_blank {b = b} h (comment c d) = let e = c.splits in let f : b ≡ 40 = cc in absurd (blank_no_mark b h f)
 behind_blank {b = b} {rest = rest} h (next {front = front} {rest = back} {kind = kind} w t r d) = absurd (no_form b rest front back kind (blank_never b h) t.form t.splits)
 
+-- a blank is passed over
 pub reads_blank : (text : List ℕ) (found : List Token) (line line' b : ℕ) (rest : List ℕ) → Reads text found line (b ∷ rest) → is_blank b ≡ true
     → line' ≡ line + line_end b → Reads text found line' rest
 reads_blank text found line line' b rest r h e =
@@ -70,6 +71,7 @@ as_comment (blank w d) = absurd (cc)
 as_comment {bs = bs} (comment {body = body} {rest = rest} c d) = (body, rest, ends_of bs body rest c, d)
 as_comment {bs = bs} (next w t r d) = absurd (w (bs, refl))
 
+-- a comment is passed over
 pub reads_comment : (text : List ℕ) (found : List Token) (line line' : ℕ) (bs rest : List ℕ) → Reads text found line (40 ∷ 42 ∷ bs)
     → comment_at line bs ≡ Some (line', rest) → Reads text found line' rest
 reads_comment text found line line' bs rest r h =
@@ -80,6 +82,7 @@ reads_comment text found line line' bs rest r h =
     subst (λ n. HasTokens n rest ts) (sym w.2) (subst (λ zs. HasTokens (line + line_ends w.0) zs ts) same.1
     (subst (λ zs. HasTokens (line + line_ends zs) v.1 ts) same.0 v.3)))
 
+-- what begins as a comment and does not end has no tokens
 pub no_comment : (line : ℕ) (bs : List ℕ) (ts : List Token) → comment_at line bs ≡ None → HasTokens line (40 ∷ 42 ∷ bs) ts → ⊥
 no_comment line bs ts h d = let v = as_comment d in comment_none line bs h v.0 v.1 v.2.splits
 
@@ -100,18 +103,22 @@ pub record First (line : ℕ) (text : List ℕ) (ts : List Token) : Type 0 where
   pub is_token : IsToken text front rest kind
   pub behind : HasTokens line rest more
 
+-- what begins neither with a blank nor as a comment begins with a token
 first_token : {line b : ℕ} {bs : List ℕ} {ts : List Token} → is_blank b ≡ false → (BeginsComment (b ∷ bs) → ⊥) → HasTokens line (b ∷ bs) ts → First line (b ∷ bs) ts
 first_token h n (blank w d) = not_both w h
 first_token h n (comment {body = body} {rest = rest} c d) = absurd (n (body ++ 42 ∷ 41 ∷ rest, c.splits))
 first_token h n (next {front = front} {rest = rest} {kind = kind} {ts = ts} w t r d) =
     record { front = front; rest = rest; kind = kind; more = ts; same = refl; is_token = record { longest = t; allowed = r }; behind = d }
 
+-- that token is what is read
 first_at : (line b : ℕ) (bs : List ℕ) (ts : List Token) (f : First line (b ∷ bs) ts) → token_at (b ∷ bs) ≡ Some (f.kind, f.rest)
 first_at line b bs ts f = only (b ∷ bs) f.front f.rest f.kind f.is_token (λ back e. never_tokens refl refl (subst (λ zs. HasTokens line zs f.more) e f.behind))
 
+-- where nothing is read, there are no tokens
 pub no_token : (line b : ℕ) (bs : List ℕ) (ts : List Token) → is_blank b ≡ false → (BeginsComment (b ∷ bs) → ⊥) → token_at (b ∷ bs) ≡ None → HasTokens line (b ∷ bs) ts → ⊥
 no_token line b bs ts h n none d = let e = first_at line b bs ts (first_token h n d) in cc
 
+-- a token is read
 pub reads_token : (text : List ℕ) (found : List Token) (line b : ℕ) (bs rest : List ℕ) (kind : Kind) → Reads text found line (b ∷ bs)
     → is_blank b ≡ false → (BeginsComment (b ∷ bs) → ⊥) → token_at (b ∷ bs) ≡ Some (kind, rest) → Reads text (found ++ token line kind ∷ []) line rest
 reads_token text found line b bs rest kind r h n e = record { forth = forth; back = back } where
@@ -129,9 +136,11 @@ reads_token text found line b bs rest kind r h n e = record { forth = forth; bac
         subst (λ zs. HasTokens line zs f.more) same.1 f.behind,
       )
 
+-- at the end the tokens are those found
 pub reads_end : (text : List ℕ) (found : List Token) (line : ℕ) → Reads text found line [] → HasTokens 1 text found
 reads_end text found line r = let d : HasTokens 1 text (found ++ []) = r.forth [] done in rw append-nil at d
 
+-- nothing has no token
 at_end : {line : ℕ} {ts : List Token} → HasTokens line [] ts → ts ≡ []
 at_end done = refl
 at_end (comment c d) = let e = c.splits in absurd (cc)
@@ -160,6 +169,7 @@ token_same line text front rest kind ts us n t d e =
     let same = some_parts (sym (first_at line v.0 (v.1 ++ rest) us f) ∙ own) in
     (f.more, f.same ∙ ap (λ (k : Kind). token line k ∷ f.more) same.0, subst (λ zs. HasTokens line zs f.more) same.1 f.behind)
 
+-- a text has one list of tokens
 pub one_list : {line : ℕ} {text : List ℕ} {ts us : List Token} → HasTokens line text ts → HasTokens line text us → ts ≡ us
 one_list done e = sym (at_end e)
 one_list (blank w d) e = one_list d (behind_blank w e)
@@ -175,6 +185,7 @@ first_byte : (text : List ℕ) → 1 ≤ length text → text ≡ get_or text 0 
 first_byte [] h = absurd (omega arith)
 first_byte (b ∷ bs) h = refl
 
+-- the step at a blank
 pub blank_step : (text rest : List ℕ) (found : List Token) (line line' : ℕ) → 1 ≤ length rest → Reads text found line rest
     → is_blank (get_or rest 0 0) ≡ true → line' ≡ line + line_end (get_or rest 0 0) → Reads text found line' (drop 1 rest)
 blank_step text rest found line line' h r t e =
@@ -189,22 +200,27 @@ mark_first (b ∷ c ∷ bs) h =
     let e : 40 ≡ b = is_equal 40 b w.0 in let f : 42 ≡ c = is_equal 42 c v.0 in
     rw (← e, ← f) refl
 
+-- a text that begins as a comment passes the test
 mark_test : (rest : List ℕ) → BeginsComment rest → begins_with (codes "(*") rest ≡ true
 mark_test rest w = rw w.1 refl
 
+-- a text that fails the test begins no comment
 pub no_mark : (rest : List ℕ) → begins_with (codes "(*") rest ≡ false → BeginsComment rest → ⊥
 no_mark rest h w = not_both (mark_test rest w) h
 
+-- the step at a comment
 pub comment_step : (text rest behind : List ℕ) (found : List Token) (line line' : ℕ) → Reads text found line rest
     → begins_with (codes "(*") rest ≡ true → comment_at line (drop 2 rest) ≡ Some (line', behind) → Reads text found line' behind
 comment_step text rest behind found line line' r h e =
     reads_comment text found line line' (drop 2 rest) behind (subst (λ zs. Reads text found line zs) (mark_first rest h) r) e
 
+-- a comment that does not end
 pub open_comment : (text rest : List ℕ) (found : List Token) (line : ℕ) → Reads text found line rest
     → begins_with (codes "(*") rest ≡ true → comment_at line (drop 2 rest) ≡ None → (ts : List Token) → HasTokens 1 text ts → ⊥
 open_comment text rest found line r h e ts d =
     let w = r.back ts d in no_comment line (drop 2 rest) w.0 e (subst (λ zs. HasTokens line zs w.0) (mark_first rest h) w.2)
 
+-- the step at a token
 pub token_step : (text rest behind : List ℕ) (found : List Token) (line : ℕ) (kind : Kind) → 1 ≤ length rest → Reads text found line rest
     → is_blank (get_or rest 0 0) ≡ false → begins_with (codes "(*") rest ≡ false → token_at rest ≡ Some (kind, behind)
     → Reads text (found ++ token line kind ∷ []) line behind
@@ -213,6 +229,7 @@ token_step text rest behind found line kind h r t m e =
     reads_token text found line (get_or rest 0 0) (drop 1 rest) behind kind (subst (λ zs. Reads text found line zs) f r) t
     (λ w. no_mark rest m (w.0, f ∙ w.1)) (subst (λ zs. token_at zs ≡ Some (kind, behind)) f e)
 
+-- where no token is read
 pub stuck : (text rest : List ℕ) (found : List Token) (line : ℕ) → 1 ≤ length rest → Reads text found line rest
     → is_blank (get_or rest 0 0) ≡ false → begins_with (codes "(*") rest ≡ false → token_at rest ≡ None → (ts : List Token) → HasTokens 1 text ts → ⊥
 stuck text rest found line h r t m e ts d =
@@ -237,19 +254,23 @@ shorter_comment line line' rest behind h e =
     let ends = line_ends-length w.0 in let line_is = w.2 in
     (omega arith, omega arith)
 
+-- a token takes bytes away
 pub shorter_token : (rest behind : List ℕ) (kind : Kind) → token_at rest ≡ Some (kind, behind) → length behind < length rest
 shorter_token rest behind kind e =
     let w = token_found rest kind behind e in let v = form_first w.0 kind w.1.longest.form in
     let l = ap length (w.1.longest.splits ∙ ap (λ (zs : List ℕ). zs ++ behind) v.2) in
     let m : length (v.1 ++ behind) ≡ length v.1 + length behind = length-append v.1 behind in omega arith
 
+-- a text of no bytes
 pub nothing : (xs : List ℕ) → length xs < 1 → xs ≡ []
 nothing [] h = refl
 nothing (x ∷ xs) h = absurd (omega arith)
 
+-- how the code counts a line
 pub line_end-is : (b : ℕ) → bool_byte (b == 10) ≡ line_end b
 line_end-is b = by_test (b == 10) (λ t. rw t refl) (λ t. rw t refl)
 
+-- a byte ends one line at most
 pub line_end-bound : (b : ℕ) → bool_byte (b == 10) ≤ 1
 line_end-bound b = by_test (b == 10) (λ t. rw t (omega arith)) (λ t. rw t (omega arith))
 

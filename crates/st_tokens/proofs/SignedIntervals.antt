@@ -1,7 +1,6 @@
 -- What stands behind the `#` of a duration, at the front of a text.
-use Rattle.std.proofs.Common.{◌≡◌, ℕ, suc, ◌+◌, ◌-◌, ◌<◌, ◌≤◌, List, [], ◌∷◌, ◌++◌, length, drop, refl, sym, ap, ◌∙◌, Bool, true, false, cond, arith, subst, slice_index, nat_lt}
+use Rattle.std.proofs.Common.{◌≡◌, ℕ, suc, ◌+◌, ◌-◌, ◌≤◌, List, [], ◌∷◌, ◌++◌, length, drop, refl, sym, ap, ◌∙◌, Bool, true, false, cond, arith, subst, slice_index, nat_lt}
 use Rattle.std.specs.Prelude.{Option, Some, option_map, ◌==◌, ℤ, pos, negsuc, neg_ℤ, ◌^◌}
-use Rattle.std.proofs.lemmas.Bool.Decides.{nat_tests}
 use Rattle.st_tree.specs.Durations.{interval_read, signed_interval_read}
 use Rattle.st_tree.specs.Numbers.{capped, capped_signed, negative}
 use Rattle.st_tokens.specs.Forms.{time_of}
@@ -9,11 +8,13 @@ use Rattle.st_tokens.specs.Scanning.{run, interval_at, signed_interval_at, posit
 use Rattle.st_tokens.proofs.Intervals.{interval_found, interval_only}
 use Rattle.st_tokens.proofs.Literals.{capped_negative, first_is, no_start, mapped_parts, mapped_some}
 use Rattle.st_tokens.proofs.Numbers.{Found, Alive}
-use Rattle.st_tokens.proofs.Cases.{by_test}
+use Rattle.st_tokens.proofs.Cases.{at_least, below, not_below, by_test}
 
+-- the longest front that reads as an interval with an optional `-`
 abbrev pub DurationFound : List ℕ → List ℕ → ℤ → Type 0
 DurationFound text rest v = Found signed_interval_read capped_signed text rest v
 
+-- behind a `-` what is read is the longest
 minus_found : (text tail rest : List ℕ) (v : ℤ) → text ≡ 45 ∷ tail → option_map negative_found (interval_at tail) ≡ Some (v, rest) → DurationFound text rest v
 minus_found text tail rest v e h =
     let m = mapped_parts negative (interval_at tail) v rest h in
@@ -42,12 +43,15 @@ minus_found text tail rest v e h =
 abbrev signed_by : Bool → List ℕ → Option ℤ
 signed_by m text = cond m (option_map negative (interval_read (drop 1 text))) (option_map pos (interval_read text))
 
+-- reading goes by the test
 signed_test : (text : List ℕ) (m : Bool) → (slice_index text 0 == 45) ≡ m → signed_interval_read text ≡ signed_by m text
 signed_test text m e = ap (λ (x : Bool). signed_by x text) e
 
+-- a front of a text without a sign has none
 unsigned_reads : (text front back : List ℕ) → text ≡ front ++ back → (slice_index text 0 == 45) ≡ false → signed_interval_read front ≡ option_map pos (interval_read front)
 unsigned_reads text front back e m = signed_test front false (no_start 45 text front back refl e m)
 
+-- without a `-` what is read is the longest
 unsigned_found : (text rest : List ℕ) (v : ℤ) → (slice_index text 0 == 45) ≡ false → option_map positive_found (interval_at text) ≡ Some (v, rest) → DurationFound text rest v
 unsigned_found text rest v m h =
     let q = mapped_parts pos (interval_at text) v rest h in
@@ -64,16 +68,19 @@ unsigned_found text rest v m h =
           let n = mapped_some pos (interval_read other) w (sym (unsigned_reads text other back e m) ∙ r) in f.longest other back n.0 e n.1;
     }
 
+-- what is read is the longest
 pub signed_interval_found : (text rest : List ℕ) (v : ℤ) → signed_interval_at text ≡ Some (v, rest) → DurationFound text rest v
 unfolding signed_interval_at
 signed_interval_found text rest v h = by_test (slice_index text 0 == 45)
     (λ t. minus_found text (drop 1 text) rest v (first_is 45 text refl t) (rw t at h))
     (λ t. unsigned_found text rest v t (rw t at h))
 
+-- an interval is not empty
 empty_interval : (n : ℕ) → interval_read [] ≡ Some n → ⊥
 unfolding interval_read
 empty_interval n h = cc
 
+-- an interval with an optional `-` that nothing continues is read
 pub signed_interval_only : (text front rest : List ℕ) (z : ℤ) → text ≡ front ++ rest → signed_interval_read front ≡ Some z → Alive rest
     → signed_interval_at text ≡ Some (capped_signed z, rest)
 unfolding signed_interval_at
@@ -94,15 +101,7 @@ signed_interval_only text front rest z e h alive = by_test (slice_index front 0 
 
 -- ---- what a duration counts as
 
-below : (a b : ℕ) → nat_lt a b ≡ true → a < b
-below a b h = grind (arith, nat_tests)
-
-not_below : (a b : ℕ) → nat_lt a b ≡ false → b ≤ a
-not_below a b h = grind (arith, nat_tests)
-
-at_least : (a b : ℕ) → b ≤ a → nat_lt a b ≡ false
-at_least a b h = grind (arith, nat_tests)
-
+-- holding a number down changes nothing that a duration counts as
 pub time_of-capped : (z : ℤ) → time_of (capped_signed z) ≡ time_of z
 time_of-capped (pos n) = by_test (nat_lt n (2 ^ 63))
     (λ t. let small = below n (2 ^ 63) t in let e : capped n ≡ n = omega arith in ap (λ (m : ℕ). time_of (pos m)) e)
