@@ -1,0 +1,4 @@
+pub mod DeclarationReading
+pub mod Declarations
+pub mod UnitReading
+pub mod Units
