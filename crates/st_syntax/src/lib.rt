@@ -2,7 +2,7 @@
 #![tactic(auto)]
 
 mod declaration;
+mod text;
+mod unit;
 
-pub mod unit;
-
-
+pub use text::{one_reading, parse};
