@@ -524,7 +524,7 @@ statement_begins (counting a b c m) = refl
 statement_begins (while_loop a m) = refl
 statement_begins (repeat_loop m a) = refl
 
-begins_is : (ts : List Tok) (x : Statement) (rest : List Tok) → IsStatement ts x rest → begins_statement (kind ts) ≡ true
+pub begins_is : (ts : List Tok) (x : Statement) (rest : List Tok) → IsStatement ts x rest → begins_statement (kind ts) ≡ true
 begins_is ts x rest d = statement_begins d
 
 to_statements : {ts rest : List Tok} {xs : List Statement} → IsMany IsStatement ts xs rest → IsStatements ts xs rest
