@@ -105,8 +105,8 @@ module _ (r : ℕ) where
   declared_by : (c : Bool) → Exact 1 (spec.declared_by (suc r) c) (λ ts. (is_struct (kind ts) ≡ c) × Always ts) IsDeclared Any (At (suc (suc r))) (At (suc (suc r)))
   unfolding spec.structure spec.derived
   declared_by true = exact_under (exact_token (k.Keyword w.Struct) refl {R = IsDeclared} (λ p. exact_iff
-          (exact_before (k.Keyword w.EndStruct) members_exact (refl, tt) (exact_keyword w.EndStruct (suc (suc r)) refl) (λ xs q. exact_bind (exact_symbol s.Semicolon (suc (suc r)) refl) (λ z. exact_pure (d.Structure p xs) Always Any (At (suc (suc r)))) (λ z mid rest y e g. tt)))
-          (structure_to p) (structure_from p))) (λ ts h. struct_is (kind ts) h.0) (λ t g. g)
+      (exact_before (k.Keyword w.EndStruct) members_exact (refl, tt) (exact_keyword w.EndStruct (suc (suc r)) refl) (λ xs q. exact_bind (exact_symbol s.Semicolon (suc (suc r)) refl) (λ z. exact_pure (d.Structure p xs) Always Any (At (suc (suc r)))) (λ z mid rest y e g. tt)))
+      (structure_to p) (structure_from p))) (λ ts h. struct_is (kind ts) h.0) (λ t g. g)
   declared_by false = exact_as (exact_bind (specification_exact (suc r)) (λ x. exact_last (initialized_exact r) (d.Derived x)) (λ x mid rest y e g. tt)) (λ ts h. tt)
       (λ ts x rest h e. derived_to ts x rest e) (λ ts x rest h g e. derived_from ts x rest h.0 e) (λ t g. g)
 
@@ -122,7 +122,7 @@ module _ (r : ℕ) where
   unfolding spec.types
   types_exact = exact_token (k.Keyword w.Type) refl {R = IsUnit} (λ p. exact_iff
       (exact_before (k.Keyword w.EndType) (exact_many is_word (spec.type_declaration (suc r)) IsTypeDeclaration Any (At (suc (suc r))) (exact_under type_exact (λ ts h. tt) (λ t g. g)) type_begins (λ t h. tt)) (refl, tt)
-          (exact_keyword w.EndType (suc (suc r)) refl) (λ xs q. exact_pure (u.Types p xs) Always Any (At (suc (suc r)))))
+      (exact_keyword w.EndType (suc (suc r)) refl) (λ xs q. exact_pure (u.Types p xs) Always Any (At (suc (suc r)))))
       (types_to p) (types_from p))
 
 -- ---- functions
@@ -136,8 +136,8 @@ elementary_exact r = record { reads = λ ts x rest t h. reads ts x rest h; deep 
   reads : (ts : List Tok) (x : Elem) (rest : List Tok) → spec.elementary_by (kind ts) ts ≡ Ok (x, rest) → Found 1 IsElementary (At r) (At r) ts x rest
   reads ((p, k.Type e) ∷ ts) x rest h = let same = ok_parts h in
       subst (λ z. Found 1 IsElementary (At r) (At r) ((p, k.Type e) ∷ ts) z rest) same.0
-          (subst (λ us. Found 1 IsElementary (At r) (At r) ((p, k.Type e) ∷ ts) e us) same.1
-              (record { is = an_elem; takes = omega arith; after = λ q. q; before = λ q. q }))
+      (subst (λ us. Found 1 IsElementary (At r) (At r) ((p, k.Type e) ∷ ts) e us) same.1
+      (record { is = an_elem; takes = omega arith; after = λ q. q; before = λ q. q }))
   reads [] x rest h = absurd (cc)
   reads ((p, _) ∷ ts) x rest h = absurd (cc)
 
@@ -217,8 +217,8 @@ module _ (r : ℕ) where
   unfolding spec.function
   function_exact = exact_token (k.Keyword w.Function) refl {R = IsUnit} (λ p. exact_iff
       (exact_bind (exact_word (suc (suc r))) (λ n. exact_bind (exact_symbol s.Colon (suc (suc r)) refl) (λ q. exact_bind (elementary_exact (suc (suc r))) (λ e. exact_bind (variables_exact r)
-          (λ vs. exact_before (k.Keyword w.EndFunction) (statements_exact (suc (suc r))) (refl, tt) (exact_keyword w.EndFunction (suc (suc r)) refl) (λ ss z. exact_pure (u.Function (function_of p n e vs ss)) Always Any (At (suc (suc r)))))
-          (λ vs mid rest y f g. function_follow mid rest y f)) (λ e mid rest y f g. tt)) (λ q mid rest y f g. tt)) (λ n mid rest y f g. tt))
+      (λ vs. exact_before (k.Keyword w.EndFunction) (statements_exact (suc (suc r))) (refl, tt) (exact_keyword w.EndFunction (suc (suc r)) refl) (λ ss z. exact_pure (u.Function (function_of p n e vs ss)) Always Any (At (suc (suc r)))))
+      (λ vs mid rest y f g. function_follow mid rest y f)) (λ e mid rest y f g. tt)) (λ q mid rest y f g. tt)) (λ n mid rest y f g. tt))
       (function_to p) (function_from p))
 
   body_by : (c : Bool) → Exact 0 (spec.body_by (suc r) c) (λ ts. (begins_element (kind ts) ≡ c) × Always ts) IsBody EndsBody (At (suc (suc r))) (At (suc (suc r)))
@@ -279,13 +279,13 @@ module _ (r : ℕ) where
   block_rule : (p : Place) → Exact 1 (λ ts. and_then (parser.word ts) (λ n us. and_then (declarations.variables (suc r) us) (λ vs ws. and_then (spec.body (suc r) ws) (λ c xs. and_then (parser.keyword w.EndFunctionBlock xs) (λ z. parser.pure (organization_of p n vs c))))))
       Always (IsWhole (k.Keyword w.EndFunctionBlock) p) Any (At (suc (suc r))) (At (suc (suc r)))
   block_rule p = exact_iff (exact_bind (exact_word (suc (suc r))) (λ n. exact_bind (variables_exact r) (λ vs. exact_before (k.Keyword w.EndFunctionBlock) (body_exact r) (refl, (refl, tt)) (exact_keyword w.EndFunctionBlock (suc (suc r)) refl)
-          (λ c z. exact_pure (organization_of p n vs c) Always Any (At (suc (suc r))))) (λ vs mid rest y f g. body_follow (k.Keyword w.EndFunctionBlock) (refl, tt) mid rest y f)) (λ n mid rest y f g. tt))
+      (λ c z. exact_pure (organization_of p n vs c) Always Any (At (suc (suc r))))) (λ vs mid rest y f g. body_follow (k.Keyword w.EndFunctionBlock) (refl, tt) mid rest y f)) (λ n mid rest y f g. tt))
       (whole_to (k.Keyword w.EndFunctionBlock) p) (whole_from (k.Keyword w.EndFunctionBlock) p)
 
   program_rule : (p : Place) → Exact 1 (λ ts. and_then (parser.word ts) (λ n us. and_then (declarations.variables (suc r) us) (λ vs ws. and_then (spec.body (suc r) ws) (λ c xs. and_then (parser.keyword w.EndProgram xs) (λ z. parser.pure (organization_of p n vs c))))))
       Always (IsWhole (k.Keyword w.EndProgram) p) Any (At (suc (suc r))) (At (suc (suc r)))
   program_rule p = exact_iff (exact_bind (exact_word (suc (suc r))) (λ n. exact_bind (variables_exact r) (λ vs. exact_before (k.Keyword w.EndProgram) (body_exact r) (refl, (refl, tt)) (exact_keyword w.EndProgram (suc (suc r)) refl)
-          (λ c z. exact_pure (organization_of p n vs c) Always Any (At (suc (suc r))))) (λ vs mid rest y f g. body_follow (k.Keyword w.EndProgram) (refl, tt) mid rest y f)) (λ n mid rest y f g. tt))
+      (λ c z. exact_pure (organization_of p n vs c) Always Any (At (suc (suc r))))) (λ vs mid rest y f g. body_follow (k.Keyword w.EndProgram) (refl, tt) mid rest y f)) (λ n mid rest y f g. tt))
       (whole_to (k.Keyword w.EndProgram) p) (whole_from (k.Keyword w.EndProgram) p)
 
   -- what is made of what was read behind a word
