@@ -23,14 +23,7 @@ pub enum Statement {
     /// `CASE`: the selector, the cases, and the statements of ELSE. Without ELSE there are none.
     Case(Place, Expression, List<CaseElement>, List<Statement>),
     /// `FOR`: the variable, its first and its last value, the step where BY names one, and the statements.
-    For(
-        Place,
-        Identifier,
-        Expression,
-        Expression,
-        Option<Expression>,
-        List<Statement>,
-    ),
+    For(Place, Identifier, Expression, Expression, Option<Expression>, List<Statement>),
     /// `WHILE`: the condition, and the statements.
     While(Place, Expression, List<Statement>),
     /// `REPEAT`: the statements, and the condition behind UNTIL.
