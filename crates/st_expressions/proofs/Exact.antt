@@ -1,7 +1,7 @@
 -- Parsers that read a relation exactly: what they read is in it, and what is in it they read.
 use Rattle.std.proofs.Common.{◌≡◌, ℕ, zero, suc, ◌+◌, ◌<◌, ◌≤◌, List, [], ◌∷◌, length, refl, sym, ap, subst, ◌∙◌, Bool, true, false, rules, arith, ◌⊎◌, inl, inr}
 use denote.Enum.Bare.{same_true}
-use Rattle.std.specs.Prelude.{Option, Some, None, Result, Ok, Err}
+use Rattle.std.specs.Prelude.{Option, Some, Ok, Err}
 use Rattle.st_tokens.specs.contracts.keyword.Keyword as keyword
 use Rattle.st_tokens.specs.contracts.symbol.Symbol as symbol
 use Rattle.st_tokens.specs.declared.keyword.Keyword.{Keyword}
@@ -136,7 +136,7 @@ exact_pure {A} a pre F Q = record { reads = λ ts x rest p h. reads ts x rest h;
   reads : (ts : List Tok) (x : A) (rest : List Tok) → ◌≡◌ {A = Outcome A} (Ok (a, ts)) (Ok (x, rest)) → Found 0 (IsPure a) Q Q ts x rest
   reads ts x rest h = let e = ok_parts h in
       subst (λ y. Found 0 (IsPure a) Q Q ts y rest) e.0 (subst (λ us. Found 0 (IsPure a) Q Q ts a us) e.1
-          (record { is = done; takes = omega arith; after = λ q. q; before = λ q. q }))
+      (record { is = done; takes = omega arith; after = λ q. q; before = λ q. q }))
 
   read : {ts rest : List Tok} {x : A} → IsPure a ts x rest → ◌≡◌ {A = Outcome A} (Ok (a, ts)) (Ok (x, rest))
   read done = refl
@@ -193,7 +193,7 @@ module _ {A : Type 0} {d : ℕ} {f : Place → Parser A} (x : Kind) (pre : List 
   token_reads : (ts : List Tok) → IsFirst x ts → (y : A) (rest : List Tok) → pre ts → and_then (parser.skip ts) f ≡ Ok (y, rest) → Found 1 R Q Q'' ts y rest
   token_reads = at_first x (λ ts. (y : A) (rest : List Tok) → pre ts → and_then (parser.skip ts) f ≡ Ok (y, rest) → Found 1 R Q Q'' ts y rest)
       (λ p us y rest i h. let u = (b p).reads us y rest i h in
-          record { is = u.is; takes = omega (arith, u.takes); after = λ q. u.after ((l p us).0 q); before = λ q. (l p us).1 (u.before q) })
+      record { is = u.is; takes = omega (arith, u.takes); after = λ q. u.after ((l p us).0 q); before = λ q. (l p us).1 (u.before q) })
 
   token_deep : (ts : List Tok) → IsFirst x ts → pre ts → and_then (parser.skip ts) f ≡ Err Deep → Q ts → ⊥
   token_deep = at_first x (λ ts. pre ts → and_then (parser.skip ts) f ≡ Err Deep → Q ts → ⊥) (λ p us i h q. (b p).deep us i h ((l p us).0 q))
@@ -234,9 +234,9 @@ module _ (x : Kind) (test : Option Kind → Bool) (r : ℕ) (plain : opens x ≡
       → Found 1 (IsOne x) (At r) (At (past (closes x) r)) ts p rest
   expected ts p rest first h = at_first x (λ us. ◌≡◌ {A = Outcome Place} (Ok (place us, next us)) (Ok (p, rest)) → Found 1 (IsOne x) (At r) (At (past (closes x) r)) us p rest)
       (λ q us e. let same = ok_parts e in
-          subst (λ z. Found 1 (IsOne x) (At r) (At (past (closes x) r)) ((q, x) ∷ us) z rest) same.0
-              (subst (λ vs. Found 1 (IsOne x) (At r) (At (past (closes x) r)) ((q, x) ∷ us) q vs) same.1
-                  (record { is = one; takes = omega arith; after = (leads x r plain q us).0; before = (leads x r plain q us).1 }))) ts first h
+      subst (λ z. Found 1 (IsOne x) (At r) (At (past (closes x) r)) ((q, x) ∷ us) z rest) same.0
+      (subst (λ vs. Found 1 (IsOne x) (At r) (At (past (closes x) r)) ((q, x) ∷ us) q vs) same.1
+      (record { is = one; takes = omega arith; after = (leads x r plain q us).0; before = (leads x r plain q us).1 }))) ts first h
 
   expect_reads : (ts : List Tok) (p : Place) (rest : List Tok) (b : Bool) → test (kind ts) ≡ b → parser.expect test ts ≡ Ok (p, rest) → Found 1 (IsOne x) (At r) (At (past (closes x) r)) ts p rest
   unfolding parser.expect
@@ -291,8 +291,8 @@ exact_word r = record { reads = λ ts x rest u h. reads ts x rest h; deep = λ t
   reads : (ts : List Tok) (x : Identifier) (rest : List Tok) → parser.word_by (kind ts) ts ≡ Ok (x, rest) → Found 1 IsWord (At r) (At r) ts x rest
   reads ((p, k.Word n) ∷ ts) x rest h = let e = ok_parts h in
       subst (λ z. Found 1 IsWord (At r) (At r) ((p, k.Word n) ∷ ts) z rest) e.0
-          (subst (λ us. Found 1 IsWord (At r) (At r) ((p, k.Word n) ∷ ts) (identifier p n) us) e.1
-              (record { is = a_word; takes = omega arith; after = λ q. q; before = λ q. q }))
+      (subst (λ us. Found 1 IsWord (At r) (At r) ((p, k.Word n) ∷ ts) (identifier p n) us) e.1
+      (record { is = a_word; takes = omega arith; after = λ q. q; before = λ q. q }))
   reads [] x rest h = absurd (cc)
   reads ((p, _) ∷ ts) x rest h = absurd (cc)
 
@@ -310,8 +310,8 @@ exact_number r = record { reads = λ ts x rest u h. reads ts x rest h; deep = λ
   reads : (ts : List Tok) (x : ℕ) (rest : List Tok) → parser.number_by (kind ts) ts ≡ Ok (x, rest) → Found 1 IsNumber (At r) (At r) ts x rest
   reads ((p, k.Number n) ∷ ts) x rest h = let e = ok_parts h in
       subst (λ z. Found 1 IsNumber (At r) (At r) ((p, k.Number n) ∷ ts) z rest) e.0
-          (subst (λ us. Found 1 IsNumber (At r) (At r) ((p, k.Number n) ∷ ts) n us) e.1
-              (record { is = a_number; takes = omega arith; after = λ q. q; before = λ q. q }))
+      (subst (λ us. Found 1 IsNumber (At r) (At r) ((p, k.Number n) ∷ ts) n us) e.1
+      (record { is = a_number; takes = omega arith; after = λ q. q; before = λ q. q }))
   reads [] x rest h = absurd (cc)
   reads ((p, _) ∷ ts) x rest h = absurd (cc)
 
@@ -347,13 +347,13 @@ module _ {A : Type 0} (test : Option Kind → Bool) (item : Parser A) (R : Relat
       → ((mid : List Tok) (ys : List A) → many_from test item n mid ≡ Ok (ys, rest) → Found 0 (IsMany R) Q Q mid ys rest) → Found 0 (IsMany R) Q Q ts xs rest
   step_reads n ts false o xs rest t i h ih = let e = ok_parts (sym (at_end test item n ts t) ∙ h) in
       subst (λ us. Found 0 (IsMany R) Q Q ts xs us) e.1 (subst (λ ys. Found 0 (IsMany R) Q Q ts ys ts) e.0
-          (record { is = none; takes = omega arith; after = λ q. q; before = λ q. q }))
+      (record { is = none; takes = omega arith; after = λ q. q; before = λ q. q }))
   step_reads n ts true (Ok z) xs rest t i h ih =
       let g = ahead_ok z.0 _ xs rest (sym (at_item test item n ts z.0 z.1 t i) ∙ h) in
       let v = ih z.1 g.0 g.1 in
       let u = a.reads ts z.0 z.1 t i in
       subst (λ ys. Found 0 (IsMany R) Q Q ts ys rest) (sym g.2)
-          (record { is = more u.is v.is; takes = omega (arith, u.takes, v.takes); after = λ q. v.after (u.after q); before = λ q. u.before (v.before q) })
+      (record { is = more u.is v.is; takes = omega (arith, u.takes, v.takes); after = λ q. v.after (u.after q); before = λ q. u.before (v.before q) })
   step_reads n ts true (Err r) xs rest t i h ih = let g = sym (at_err test item n ts r t i) ∙ h in absurd (cc)
 
   from_reads : (n : ℕ) (ts : List Tok) (xs : List A) (rest : List Tok) → many_from test item n ts ≡ Ok (xs, rest) → Found 0 (IsMany R) Q Q ts xs rest

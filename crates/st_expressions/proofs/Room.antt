@@ -73,7 +73,7 @@ front_within (t ∷ ts) r (f ∷ front) back room e =
     let same : t ≡ f = cc in
     let rest : ts ≡ front ++ back = cc in
     subst (λ g. opened (g ∷ front) ≤ closed (g ∷ front) + r) same
-        (front_of (step_of t.1) r front (Room ts) (λ n q. front_within ts n front back q rest) room)
+    (front_of (step_of t.1) r front (Room ts) (λ n q. front_within ts n front back q rest) room)
 
 pub within_from : (ts : List Tok) (r : ℕ) → Room ts r → IsWithin r ts
 within_from ts r room = λ front back e. front_within ts r front back room e

@@ -16,7 +16,11 @@ fn signed(ts: &mut Cursor<'_>, is_negative: bool) -> Result<SignedInteger, Synta
 {
     let place = ts.skip();
     let size = number(ts)?;
-    Ok(SignedInteger { place, is_negative, size })
+    Ok(SignedInteger {
+        place,
+        is_negative,
+        size,
+    })
 }
 
 /// Takes a number with or without a sign.
@@ -28,7 +32,11 @@ pub fn signed_integer(ts: &mut Cursor<'_>) -> Result<SignedInteger, SyntaxFault>
     match ts.kind() {
         Some(Kind::Number(size)) => {
             let place = ts.skip();
-            Ok(SignedInteger { place, is_negative: false, size })
+            Ok(SignedInteger {
+                place,
+                is_negative: false,
+                size,
+            })
         }
         Some(Kind::Symbol(Symbol::Plus)) => signed(ts, false),
         Some(Kind::Symbol(Symbol::Minus)) => signed(ts, true),
@@ -46,7 +54,10 @@ pub fn constant(ts: &mut Cursor<'_>) -> Result<Constant, SyntaxFault>
         Some(Kind::Typed(value)) => Ok(Constant::Typed(ts.skip(), value)),
         Some(Kind::Duration(milliseconds)) => {
             let place = ts.skip();
-            Ok(Constant::Duration(Duration { place, milliseconds }))
+            Ok(Constant::Duration(Duration {
+                place,
+                milliseconds,
+            }))
         }
         Some(Kind::Keyword(Keyword::True)) => Ok(Constant::Truth(ts.skip(), true)),
         Some(Kind::Keyword(Keyword::False)) => Ok(Constant::Truth(ts.skip(), false)),

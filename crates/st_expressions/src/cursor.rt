@@ -2,8 +2,6 @@
 ghost use Rattle.std.specs.Prelude.{◌≡◌, ◌<◌, ◌≤◌, ◌-◌, length, IsSome};
 ghost use Rattle.st_expressions.specs.Tokens.{numbered, kind, place, next};
 
-
-
 use st_tokens::{Kind, Spelling, Symbol, Token};
 use st_tree::tree::Place;
 use std::marker::Model;
@@ -33,7 +31,11 @@ impl<'a> Cursor<'a> {
     pub fn new(rest: &'a [Token<'a>], last_line: u32) -> Cursor<'a>
         ensures { result ≡ numbered 0 rest.now }
     {
-        Cursor { rest, number: 0, last_line }
+        Cursor {
+            rest,
+            number: 0,
+            last_line,
+        }
     }
 
     /// What the first token is.

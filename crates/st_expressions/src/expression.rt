@@ -143,7 +143,11 @@ fn next_expression(alloc: Global, ts: &mut Cursor<'_>, room: u8) -> Result<Expre
 /// The expressions in brackets.
 #[cycle(parser)]
 #[tactic(auto, unfolding(crate::specs::Parsers::leading))]
-fn expressions(alloc: Global, ts: &mut Cursor<'_>, room: u8) -> Result<List<Expression>, SyntaxFault>
+fn expressions(
+    alloc: Global,
+    ts: &mut Cursor<'_>,
+    room: u8,
+) -> Result<List<Expression>, SyntaxFault>
     requires { 0 < room }
     ensures read { Reads (parser.listed (spec.inside_of room).expression ts.old) result ts.new }
     ensures shorter { OnOk result (length ts.new < length ts.old) }
@@ -274,7 +278,11 @@ fn next_argument(alloc: Global, ts: &mut Cursor<'_>, room: u8) -> Result<Argumen
 
 #[cycle(parser)]
 #[tactic(auto, unfolding(crate::specs::Parsers::leading))]
-fn argument_list(alloc: Global, ts: &mut Cursor<'_>, room: u8) -> Result<List<Argument>, SyntaxFault>
+fn argument_list(
+    alloc: Global,
+    ts: &mut Cursor<'_>,
+    room: u8,
+) -> Result<List<Argument>, SyntaxFault>
     requires { 0 < room }
     ensures read { Reads (parser.listed (spec.argument (spec.inside_of room)) ts.old) result ts.new }
     ensures shorter { OnOk result (length ts.new < length ts.old) }
@@ -401,7 +409,12 @@ fn unary(alloc: Global, ts: &mut Cursor<'_>, room: u8) -> Result<Expression, Syn
 
 #[cycle(parser)]
 #[tactic(auto, unfolding(crate::specs::Reading::operation))]
-fn operation(alloc: Global, ts: &mut Cursor<'_>, room: u8, rank: u8) -> Result<Operation, SyntaxFault>
+fn operation(
+    alloc: Global,
+    ts: &mut Cursor<'_>,
+    room: u8,
+    rank: u8,
+) -> Result<Operation, SyntaxFault>
     requires { rank < 7 }
     ensures read { Reads (spec.operation (spec.rank room (spec.inside_of room) rank) ts.old) result ts.new }
     ensures shorter { OnOk result (length ts.new < length ts.old) }
@@ -411,14 +424,23 @@ fn operation(alloc: Global, ts: &mut Cursor<'_>, room: u8, rank: u8) -> Result<O
     match found {
         Some(operator) => {
             let operand = level(alloc, ts, room, rank)?;
-            Ok(Operation { place, operator, operand })
+            Ok(Operation {
+                place,
+                operator,
+                operand,
+            })
         }
         None => Err(SyntaxFault::NotInGrammar { line: ts.line() }),
     }
 }
 
 #[cycle(parser)]
-fn operations(alloc: Global, ts: &mut Cursor<'_>, room: u8, rank: u8) -> Result<List<Operation>, SyntaxFault>
+fn operations(
+    alloc: Global,
+    ts: &mut Cursor<'_>,
+    room: u8,
+    rank: u8,
+) -> Result<List<Operation>, SyntaxFault>
     requires { rank < 7 }
     ensures read { Reads (spec.operations (spec.rank room (spec.inside_of room) rank) rank ts.old) result ts.new }
     ensures shorter { OnOk result (length ts.new ≤ length ts.old) }
@@ -431,7 +453,12 @@ fn operations(alloc: Global, ts: &mut Cursor<'_>, room: u8, rank: u8) -> Result<
     Ok(found)
 }
 
-fn chain(alloc: Global, place: Place, first: Expression, operations: List<Operation>) -> Result<Expression, SyntaxFault>
+fn chain(
+    alloc: Global,
+    place: Place,
+    first: Expression,
+    operations: List<Operation>,
+) -> Result<Expression, SyntaxFault>
     ensures ok { IfOk result (λ chain. chain ≡ spec.chain place first operations) }
     ensures err { IfErr result (λ fault. fault ≡ Memory) }
 {

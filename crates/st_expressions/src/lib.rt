@@ -1,7 +1,7 @@
 //! Expressions and what stands in them, read from tokens.
 #![tactic(auto)]
 
-pub mod cursor;
-pub mod token;
 pub mod constant;
+pub mod cursor;
 pub mod expression;
+pub mod token;

@@ -1,6 +1,6 @@
 -- The reading functions of charts read their grammar exactly.
-use Rattle.std.proofs.Common.{◌≡◌, ℕ, zero, suc, ◌+◌, ◌<◌, ◌≤◌, List, [], ◌∷◌, length, refl, sym, ap, subst, ◌∙◌, Bool, true, false, arith}
-use Rattle.std.specs.Prelude.{Option, Some, None, Result, Ok, Err}
+use Rattle.std.proofs.Common.{◌≡◌, ℕ, suc, List, [], ◌∷◌, refl, sym, subst, ◌∙◌, Bool, true, false, arith}
+use Rattle.std.specs.Prelude.{Option, Some, None, Ok, Err}
 use Rattle.st_tokens.specs.declared.keyword.Keyword.TheVariants as w
 use Rattle.st_tokens.specs.declared.symbol.Symbol.TheVariants as s
 use Rattle.st_tokens.specs.declared.token.Kind.{Kind}
@@ -13,22 +13,20 @@ use Rattle.st_tree.specs.declared.tree.unit.Association.{Association}
 use Rattle.st_tree.specs.declared.tree.unit.ChartElement.{ChartElement}
 use Rattle.st_tree.specs.declared.tree.unit.ChartElement.TheVariants as c
 use Rattle.st_expressions.specs.Grammar.{IsRank, duration_of}
-use Rattle.st_expressions.specs.Lists.{IsMany, none, more, IsNext, IsListed, listed}
+use Rattle.st_expressions.specs.Lists.{IsMany, IsListed, listed}
 use Rattle.st_expressions.specs.Parsers as parser
 use Rattle.st_expressions.specs.Parsers.{Outcome, Parser, and_then, identifier, is_comma, Deep, Wrong}
 use Rattle.st_expressions.specs.Reading.{is_open, is_close}
-use Rattle.st_expressions.specs.Tokens.{Tok, kind, next, place}
-use Rattle.st_expressions.proofs.Exact.{Relation, Found, Exact, Always, Any, Then, seq, IsOne, one, IsPure, done, IsWord, a_word, IsNumber, a_number, exact_bind, exact_as, exact_iff, exact_last, exact_under, exact_zero, exact_pure, made, exact_refuse, exact_on, IsFirst, exact_token, exact_token_if, exact_symbol, exact_keyword, exact_word, exact_number, exact_before, before_token, Ends, exact_many, exact_listed}
+use Rattle.st_expressions.specs.Tokens.{Tok, kind}
+use Rattle.st_expressions.proofs.Exact.{Relation, Found, Exact, Always, Any, Then, seq, IsOne, one, IsPure, done, IsWord, a_word, IsNumber, a_number, exact_bind, exact_as, exact_iff, exact_last, exact_under, exact_zero, exact_pure, made, exact_refuse, exact_on, IsFirst, exact_token, exact_token_if, exact_symbol, exact_keyword, exact_word, exact_number, exact_before, Ends, exact_many, exact_listed}
 use Rattle.st_expressions.proofs.Expressions.{expression_exact, open_is}
-use Rattle.st_expressions.proofs.Follows.{Stops}
 use Rattle.st_expressions.proofs.Loops.{ok_parts}
 use Rattle.st_expressions.proofs.Room.{At, enters}
 use Rattle.st_statements.specs.Grammar.{IsStatements}
 use Rattle.st_statements.specs.ChartReading as spec
 use Rattle.st_statements.specs.ChartReading.{begins_element, is_word}
-use Rattle.st_statements.specs.Charts.{qualifier_of, association_of, step_of, transition_of, action_of, is_priority, IsQualifier, untimed, timed, IsAssociation, unqualified, qualified, IsStepRest, step_rest, IsOptionalName, no_name, a_name, IsPriority, no_priority, priority, IsName, name, IsNames, one_name, names, IsTransitionRest, transition_rest, IsElement, initial_step, plain_step, transition, action, IsChart, chart}
-use Rattle.st_statements.specs.Reading.{statements}
-use Rattle.st_statements.proofs.Statements.{EndsBlock, statements_exact}
+use Rattle.st_statements.specs.Charts.{qualifier_of, association_of, step_of, transition_of, action_of, is_priority, IsQualifier, untimed, timed, IsAssociation, unqualified, qualified, step_rest, IsOptionalName, no_name, a_name, IsPriority, no_priority, priority, IsName, name, IsNames, one_name, names, transition_rest, IsElement, initial_step, plain_step, transition, action, IsChart, chart}
+use Rattle.st_statements.proofs.Statements.{statements_exact}
 
 -- ---- '('
 
@@ -63,8 +61,8 @@ duration_exact r = record { reads = λ ts x rest u h. reads ts x rest h; deep = 
   reads : (ts : List Tok) (x : Duration) (rest : List Tok) → spec.duration_by (kind ts) ts ≡ Ok (x, rest) → Found 1 IsDuration (At r) (At r) ts x rest
   reads ((p, k.Duration d) ∷ ts) x rest h = let e = ok_parts h in
       subst (λ z. Found 1 IsDuration (At r) (At r) ((p, k.Duration d) ∷ ts) z rest) e.0
-          (subst (λ us. Found 1 IsDuration (At r) (At r) ((p, k.Duration d) ∷ ts) (duration_of p d) us) e.1
-              (record { is = a_duration; takes = omega arith; after = λ q. q; before = λ q. q }))
+      (subst (λ us. Found 1 IsDuration (At r) (At r) ((p, k.Duration d) ∷ ts) (duration_of p d) us) e.1
+      (record { is = a_duration; takes = omega arith; after = λ q. q; before = λ q. q }))
   reads [] x rest h = absurd (cc)
   reads ((p, _) ∷ ts) x rest h = absurd (cc)
 
@@ -178,7 +176,7 @@ module _ (r : ℕ) where
   unfolding spec.association
   association_exact = exact_iff
       (exact_bind (exact_word (suc r)) (λ n. exact_bind (opening_exact r) (λ q. exact_before (k.Symbol s.Close) qualified_exact refl (exact_symbol s.Close r refl)
-          (λ x z. exact_bind (exact_symbol s.Semicolon (suc r) refl) (λ u. exact_pure (association_of n x) Always Any (At (suc r))) (λ u mid rest y d g. tt))) (λ q mid rest y d g. tt)) (λ n mid rest y d g. tt))
+      (λ x z. exact_bind (exact_symbol s.Semicolon (suc r) refl) (λ u. exact_pure (association_of n x) Always Any (At (suc r))) (λ u mid rest y d g. tt))) (λ q mid rest y d g. tt)) (λ n mid rest y d g. tt))
       association_to association_from
 
   associations_exact : Exact 0 (spec.associations (suc r)) Always (IsMany IsAssociation) (Ends is_word Any) (At (suc r)) (At (suc r))
@@ -248,8 +246,8 @@ priority_word_exact r = record { reads = λ ts x rest u h. reads ts x rest h; de
       → Found 1 IsPriorityWord (At r) (At r) ((p, k.Word n) ∷ ts) x rest
   reads_by p n ts x rest true t h = let e = ok_parts (rw t at h) in
       subst (λ z. Found 1 IsPriorityWord (At r) (At r) ((p, k.Word n) ∷ ts) z rest) e.0
-          (subst (λ us. Found 1 IsPriorityWord (At r) (At r) ((p, k.Word n) ∷ ts) p us) e.1
-              (record { is = the_word t; takes = omega arith; after = λ q. q; before = λ q. q }))
+      (subst (λ us. Found 1 IsPriorityWord (At r) (At r) ((p, k.Word n) ∷ ts) p us) e.1
+      (record { is = the_word t; takes = omega arith; after = λ q. q; before = λ q. q }))
   reads_by p n ts x rest false t h = let g = rw t at h in absurd (cc)
 
   reads : (ts : List Tok) (x : Place) (rest : List Tok) → spec.priority_word_by (kind ts) ts ≡ Ok (x, rest) → Found 1 IsPriorityWord (At r) (At r) ts x rest
@@ -358,8 +356,8 @@ module _ (r : ℕ) where
   unfolding parser.enter
   priority_by true = exact_zero (exact_under (exact_token_if (k.Symbol s.Open) Always IsPriority NoOpen (At (suc r)) (At r) (At (suc r)) (enters (k.Symbol s.Open) r refl)
       (λ p. exact_as (exact_bind (priority_word_exact r) (λ q. exact_bind (exact_symbol s.Assign r refl) (λ u. exact_bind (exact_number r) (λ n. exact_bind (exact_symbol s.Close r refl)
-              (λ z. exact_pure (Some n) Always Any (At (suc r))) (λ z mid rest y d g. tt)) (λ n mid rest y d g. tt)) (λ u mid rest y d g. tt)) (λ q mid rest y d g. tt))
-          (λ ts u. tt) (λ ts x rest u d. priority_to p ts x rest d) (λ ts x rest u g d. priority_from p ts x rest g d) (λ t g. tt)))
+      (λ z. exact_pure (Some n) Always Any (At (suc r))) (λ z mid rest y d g. tt)) (λ n mid rest y d g. tt)) (λ u mid rest y d g. tt)) (λ q mid rest y d g. tt))
+      (λ ts u. tt) (λ ts x rest u d. priority_to p ts x rest d) (λ ts x rest u g d. priority_from p ts x rest g d) (λ t g. tt)))
       (λ ts h. (open_is (kind ts) h.0, tt)) (λ t g. g))
   priority_by false = exact_as (exact_pure None Always Any (At (suc r))) (λ ts h. tt) (λ ts x rest h d. no_priority_to ts x rest d) (λ ts x rest h g d. no_priority_from ts x rest h.0 d) (λ t g. tt)
 
@@ -382,16 +380,16 @@ module _ (r : ℕ) where
   unfolding spec.transition
   transition_exact = exact_token (k.Keyword w.Transition) refl {R = IsElement} (λ p. exact_iff
       (exact_bind (optional_exact (suc r)) (λ n. exact_before (k.Keyword w.From) priority_exact refl (exact_keyword w.From (suc r) refl) (λ m q. exact_bind names_exact (λ xs. exact_bind (exact_keyword w.To (suc r) refl)
-          (λ u. exact_bind names_exact (λ ys. exact_bind (exact_symbol s.Assign (suc r) refl) (λ v. exact_before (k.Symbol s.Semicolon) (expression_exact (suc r)) tt (exact_symbol s.Semicolon (suc r) refl)
-              (λ x y. exact_bind (exact_keyword w.EndTransition (suc r) refl) (λ z. exact_pure (c.Transition (transition_of p n m xs ys x)) Always Any (At (suc r))) (λ z mid rest y' d g. tt)))
-              (λ v mid rest y d g. tt)) (λ ys mid rest y d g. tt)) (λ u mid rest y d g. tt)) (λ xs mid rest y d g. tt))) (λ n mid rest y d g. optional_follow mid rest y d g))
+      (λ u. exact_bind names_exact (λ ys. exact_bind (exact_symbol s.Assign (suc r) refl) (λ v. exact_before (k.Symbol s.Semicolon) (expression_exact (suc r)) tt (exact_symbol s.Semicolon (suc r) refl)
+      (λ x y. exact_bind (exact_keyword w.EndTransition (suc r) refl) (λ z. exact_pure (c.Transition (transition_of p n m xs ys x)) Always Any (At (suc r))) (λ z mid rest y' d g. tt)))
+      (λ v mid rest y d g. tt)) (λ ys mid rest y d g. tt)) (λ u mid rest y d g. tt)) (λ xs mid rest y d g. tt))) (λ n mid rest y d g. optional_follow mid rest y d g))
       (transition_to p) (transition_from p))
 
   action_exact : Exact 1 (spec.action (suc r)) (IsFirst (k.Keyword w.Action)) IsElement Any (At (suc r)) (At (suc r))
   unfolding spec.action
   action_exact = exact_token (k.Keyword w.Action) refl {R = IsElement} (λ p. exact_iff
       (exact_bind (exact_word (suc r)) (λ n. exact_bind (exact_symbol s.Colon (suc r) refl) (λ q. exact_before (k.Keyword w.EndAction) (statements_exact (suc r)) (refl, tt) (exact_keyword w.EndAction (suc r) refl)
-          (λ ss z. exact_pure (c.Action (action_of p n ss)) Always Any (At (suc r)))) (λ q mid rest y d g. tt)) (λ n mid rest y d g. tt))
+      (λ ss z. exact_pure (c.Action (action_of p n ss)) Always Any (At (suc r)))) (λ q mid rest y d g. tt)) (λ n mid rest y d g. tt))
       (action_to p) (action_from p))
 
   element_by : (t : Option Kind) → Exact 1 (spec.element_by (suc r) t) (λ ts. (kind ts ≡ t) × Always ts) IsElement Any (At (suc r)) (At (suc r))

@@ -72,7 +72,10 @@ fn duration(ts: &mut Cursor<'_>) -> Result<Duration, SyntaxFault>
     match ts.kind() {
         Some(Kind::Duration(milliseconds)) => {
             let place = ts.skip();
-            Ok(Duration { place, milliseconds })
+            Ok(Duration {
+                place,
+                milliseconds,
+            })
         }
         _ => Err(SyntaxFault::NotInGrammar { line: ts.line() }),
     }
@@ -125,7 +128,11 @@ fn association(alloc: Global, ts: &mut Cursor<'_>, room: u8) -> Result<Associati
     Ok(Association { name, qualifier })
 }
 
-fn associations(alloc: Global, ts: &mut Cursor<'_>, room: u8) -> Result<List<Association>, SyntaxFault>
+fn associations(
+    alloc: Global,
+    ts: &mut Cursor<'_>,
+    room: u8,
+) -> Result<List<Association>, SyntaxFault>
     ensures read { Reads (spec.associations room ts.old) result ts.new }
     ensures shorter { OnOk result (length ts.new ≤ length ts.old) }
 {
@@ -138,7 +145,12 @@ fn associations(alloc: Global, ts: &mut Cursor<'_>, room: u8) -> Result<List<Ass
 }
 
 #[tactic(auto, unfolding(crate::specs::ChartReading::step))]
-fn step(alloc: Global, ts: &mut Cursor<'_>, room: u8, is_initial: bool) -> Result<ChartElement, SyntaxFault>
+fn step(
+    alloc: Global,
+    ts: &mut Cursor<'_>,
+    room: u8,
+    is_initial: bool,
+) -> Result<ChartElement, SyntaxFault>
     ensures read { Reads (spec.step room is_initial ts.old) result ts.new }
     ensures shorter { OnOk result (length ts.new < length ts.old) }
 {
@@ -313,7 +325,11 @@ fn element(alloc: Global, ts: &mut Cursor<'_>, room: u8) -> Result<ChartElement,
 
 /// Takes the elements of a chart, of which there is one or more. `room` more levels may be opened.
 #[tactic(auto, unfolding(st_expressions::specs::Parsers::leading))]
-pub fn chart(alloc: Global, ts: &mut Cursor<'_>, room: u8) -> Result<List<ChartElement>, SyntaxFault>
+pub fn chart(
+    alloc: Global,
+    ts: &mut Cursor<'_>,
+    room: u8,
+) -> Result<List<ChartElement>, SyntaxFault>
     ensures read { Reads (spec.chart room ts.old) result ts.new }
     ensures shorter { OnOk result (length ts.new < length ts.old) }
 {

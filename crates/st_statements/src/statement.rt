@@ -222,7 +222,10 @@ fn conditional(alloc: Global, ts: &mut Cursor<'_>, room: u8) -> Result<Condition
     let condition = inner(alloc, ts, room)?;
     keyword(ts, Keyword::Then)?;
     let statements = block(alloc, ts, room)?;
-    Ok(ConditionalPart { condition, statements })
+    Ok(ConditionalPart {
+        condition,
+        statements,
+    })
 }
 
 #[cycle(parser)]
@@ -239,7 +242,11 @@ fn elsif(alloc: Global, ts: &mut Cursor<'_>, room: u8) -> Result<ConditionalPart
 /// The parts of IF and of each ELSIF.
 #[cycle(parser)]
 #[tactic(auto, unfolding(st_expressions::specs::Parsers::leading))]
-fn conditionals(alloc: Global, ts: &mut Cursor<'_>, room: u8) -> Result<List<ConditionalPart>, SyntaxFault>
+fn conditionals(
+    alloc: Global,
+    ts: &mut Cursor<'_>,
+    room: u8,
+) -> Result<List<ConditionalPart>, SyntaxFault>
     requires { 0 < room }
     ensures read { Reads (spec.conditionals (spec.deeper_of room) ts.old) result ts.new }
     ensures shorter { OnOk result (length ts.new < length ts.old) }
@@ -401,7 +408,11 @@ fn statement(alloc: Global, ts: &mut Cursor<'_>, room: u8) -> Result<Statement, 
 
 /// Takes as many statements as there are. `room` more levels may be opened.
 #[cycle(parser)]
-pub fn statements(alloc: Global, ts: &mut Cursor<'_>, room: u8) -> Result<List<Statement>, SyntaxFault>
+pub fn statements(
+    alloc: Global,
+    ts: &mut Cursor<'_>,
+    room: u8,
+) -> Result<List<Statement>, SyntaxFault>
     ensures read { Reads (spec.statements room ts.old) result ts.new }
     ensures shorter { OnOk result (length ts.new ≤ length ts.old) }
 {

@@ -1,6 +1,6 @@
 -- The reading functions of declarations read their grammar exactly.
-use Rattle.std.proofs.Common.{◌≡◌, ℕ, zero, suc, ◌+◌, ◌<◌, ◌≤◌, List, [], ◌∷◌, length, refl, sym, ap, subst, ◌∙◌, Bool, true, false, arith}
-use Rattle.std.specs.Prelude.{Option, Some, None, Result, Ok, Err}
+use Rattle.std.proofs.Common.{◌≡◌, ℕ, suc, List, [], ◌∷◌, refl, sym, ap, subst, ◌∙◌, Bool, true, false}
+use Rattle.std.specs.Prelude.{Option, Some, None}
 use Rattle.st_tokens.specs.declared.keyword.Keyword.TheVariants as w
 use Rattle.st_tokens.specs.declared.symbol.Symbol.TheVariants as s
 use Rattle.st_tokens.specs.declared.token.Kind.{Kind}
@@ -19,7 +19,6 @@ use Rattle.st_tree.specs.declared.tree.declaration.Subrange.{Subrange}
 use Rattle.st_tree.specs.declared.tree.declaration.TypeName.{TypeName}
 use Rattle.st_tree.specs.declared.tree.declaration.TypeName.TheVariants as n
 use Rattle.st_tree.specs.declared.tree.declaration.VarBlock.{VarBlock}
-use Rattle.st_tree.specs.declared.tree.place.Identifier.{Identifier}
 use Rattle.st_tree.specs.declared.tree.place.Place.{Place}
 use Rattle.st_expressions.specs.Grammar.{IsSignedInteger, unsigned, IsConstant, integer}
 use Rattle.st_expressions.specs.Lists.{IsMany, none, more, IsListed, listed}
@@ -27,7 +26,7 @@ use Rattle.st_expressions.specs.Parsers as parser
 use Rattle.st_expressions.specs.Parsers.{Parser, and_then, identifier, is_comma}
 use Rattle.st_expressions.specs.Reading.{is_open, is_close}
 use Rattle.st_expressions.specs.Tokens.{Tok, kind, next, place}
-use Rattle.st_expressions.proofs.Exact.{Relation, Found, Exact, Always, Any, Then, seq, IsOne, one, IsPure, done, IsWord, a_word, IsNumber, a_number, exact_bind, exact_as, exact_iff, exact_last, exact_under, exact_zero, exact_pure, made, exact_refuse, exact_on, IsFirst, exact_token, exact_token_if, exact_symbol, exact_keyword, exact_word, exact_number, exact_before, before_token, Ends, exact_many, exact_listed}
+use Rattle.st_expressions.proofs.Exact.{Relation, Exact, Always, Any, Then, seq, IsOne, one, IsPure, done, IsWord, a_word, IsNumber, a_number, exact_bind, exact_as, exact_iff, exact_last, exact_under, exact_zero, exact_pure, made, exact_refuse, exact_on, IsFirst, exact_token, exact_token_if, exact_symbol, exact_keyword, exact_word, exact_number, exact_before, Ends, exact_many, exact_listed}
 use Rattle.st_expressions.proofs.Expressions.{constant_exact, signed_integer_exact}
 use Rattle.st_expressions.proofs.Follows.{constant_begins, begins_constant}
 use Rattle.st_expressions.proofs.Room.{At, enters}
@@ -133,7 +132,7 @@ module _ (r : ℕ) where
   unfolding spec.array
   array_exact = exact_token (k.Keyword w.Array) refl {R = IsSpecification} (λ p. exact_iff
       (exact_bind (bracket_exact r) (λ q. exact_before (k.Symbol s.CloseBracket) (exact_listed spec.subrange IsSubrange Any r (subrange_exact r) tt) (refl, tt) (exact_symbol s.CloseBracket r refl)
-          (λ xs u. exact_bind (exact_keyword w.Of (suc r) refl) (λ v. exact_last (type_name_exact (suc r)) (sp.Array p xs)) (λ v mid rest y d g. tt))) (λ q mid rest y d g. tt))
+      (λ xs u. exact_bind (exact_keyword w.Of (suc r) refl) (λ v. exact_last (type_name_exact (suc r)) (sp.Array p xs)) (λ v mid rest y d g. tt))) (λ q mid rest y d g. tt))
       (array_to p) (array_from p))
 
   specification_by : (b : Bool) → Exact 1 (spec.specification_by r b) (λ ts. (is_array (kind ts) ≡ b) × Always ts) IsSpecification Any (At (suc r)) (At (suc r))
@@ -256,7 +255,7 @@ module _ (r : ℕ) where
   repeated_exact : Exact 1 (spec.repeated (suc r)) (λ ts. is_repeated (kind ts) (kind (next ts)) ≡ true) IsArrayElement NoOpen (At (suc r)) (At (suc r))
   unfolding spec.repeated
   repeated_exact = exact_on place (λ p ts. and_then (parser.number ts) (λ m us. and_then (Rattle.st_statements.specs.ChartReading.opening (suc r) us) (λ q vs. and_then (spec.repeated_value vs) (λ x ws. and_then (parser.symbol s.Close ws)
-          (λ z. parser.pure (a.Repeated p m x))))))
+      (λ z. parser.pure (a.Repeated p m x))))))
       (λ ts. is_repeated (kind ts) (kind (next ts)) ≡ true) IsArrayElement NoOpen (At (suc r)) (At (suc r))
       (λ p. exact_as (repeated_rule p) (λ ts h. tt) (λ ts x rest h d. repeated_to p ts x rest (sym h.0) d) (λ ts x rest h g d. repeated_from p ts x rest (sym h.0) h.1 g d) (λ t g. tt))
 
@@ -274,7 +273,7 @@ module _ (r : ℕ) where
   unfolding spec.initial_array spec.initial_constant
   initial_by true = exact_as
       (exact_bind (bracket_exact (suc r)) (λ p. exact_before (k.Symbol s.CloseBracket) (exact_listed (spec.element (suc r)) IsArrayElement NoOpen (suc r) (element_exact r) refl) (refl, refl) (exact_symbol s.CloseBracket (suc r) refl)
-          (λ xs q. exact_pure (i.Array p xs) Always Any (At (suc (suc r))))) (λ p mid rest y d g. tt))
+      (λ xs q. exact_pure (i.Array p xs) Always Any (At (suc (suc r))))) (λ p mid rest y d g. tt))
       (λ ts h. tt) (λ ts x rest h d. initial_array_to ts x rest d) (λ ts x rest h g d. initial_array_from ts x rest h.0 d) (λ t g. g)
   initial_by false = exact_as (exact_last (constant_exact (suc (suc r))) i.Constant) (λ ts h. tt) (λ ts x rest h d. initial_constant_to ts x rest d) (λ ts x rest h g d. initial_constant_from ts x rest h.0 d) (λ t g. g)
 
@@ -284,7 +283,7 @@ module _ (r : ℕ) where
 
   initialized_by : (b : Bool) → Exact 1 (spec.initialized_by (suc r) b) (λ ts. (is_assign (kind ts) ≡ b) × Always ts) IsInitialized Any (At (suc (suc r))) (At (suc (suc r)))
   initialized_by true = exact_under (exact_token (k.Symbol s.Assign) refl {R = IsInitialized} (λ p. exact_iff
-          (exact_before (k.Symbol s.Semicolon) initial_exact tt (exact_symbol s.Semicolon (suc (suc r)) refl) (λ y q. exact_pure (Some y) Always Any (At (suc (suc r))))) (initialized_to p) (initialized_from p)))
+      (exact_before (k.Symbol s.Semicolon) initial_exact tt (exact_symbol s.Semicolon (suc (suc r)) refl) (λ y q. exact_pure (Some y) Always Any (At (suc (suc r))))) (initialized_to p) (initialized_from p)))
       (λ ts h. assign_is (kind ts) h.0) (λ t g. g)
   initialized_by false = exact_as (exact_bind (exact_symbol s.Semicolon (suc (suc r)) refl) (λ q. exact_pure None Always Any (At (suc (suc r)))) (λ q mid rest y d g. tt)) (λ ts h. tt)
       (λ ts x rest h d. uninitialized_to ts x rest d) (λ ts x rest h g d. uninitialized_from ts x rest h.0 d) (λ t g. g)
@@ -322,16 +321,6 @@ member_begins ts x rest (member e f) = refl
 -- CONSTANT, RETAIN or NON_RETAIN don't follow
 abbrev EndsHead : Option Kind → Type 0
 EndsHead t = (is_retention t ≡ false) × (is_constant t ≡ false)
-
-retention_true : (x : Section) (ts : List Tok) (y : Section) (rest : List Tok) → is_retention (kind ts) ≡ true → EndsHead (kind rest) → IsRetention x ts y rest → ◌≡◌ {A = parser.Outcome Section} (Ok (x, next ts)) (Ok (y, rest))
-retention_true x ts y rest h g retained = refl
-retention_true x ts y rest h g not_retained = refl
-retention_true x ts y rest h g unsaid = absurd (let wrong = sym h ∙ g.0 in cc)
-
-retention_cases : (t : Option Kind) → is_retention t ≡ true → (M : Option Kind → Type 0) → M (Some (k.Keyword w.Retain)) → M (Some (k.Keyword w.NonRetain)) → M t
-retention_cases (Some (k.Keyword w.Retain)) h M a b = a
-retention_cases (Some (k.Keyword w.NonRetain)) h M a b = b
-retention_cases _ h M a b = absurd (cc)
 
 retain_to : (x : Section) (p : Place) (ts : List Tok) (y : Section) (rest : List Tok) → IsPure x ts y rest → IsRetention x ((p, k.Keyword w.Retain) ∷ ts) y rest
 retain_to x p ts y rest d = made d (λ z us. IsRetention x ((p, k.Keyword w.Retain) ∷ ts) z us) retained
@@ -379,14 +368,14 @@ module _ (r : ℕ) where
   unfolding spec.declaration
   declaration_exact = exact_iff
       (exact_before (k.Symbol s.Colon) (exact_listed parser.word IsName Any (suc (suc r)) (name_exact (suc (suc r))) tt) (refl, tt) (exact_symbol s.Colon (suc (suc r)) refl)
-          (λ ns q. exact_bind (specification_exact (suc r)) (λ x. exact_last (initialized_exact r) (declaration_of ns x)) (λ x mid rest y d g. tt)))
+      (λ ns q. exact_bind (specification_exact (suc r)) (λ x. exact_last (initialized_exact r) (declaration_of ns x)) (λ x mid rest y d g. tt)))
       declaration_to declaration_from
 
   pub member_exact : Exact 1 (spec.member (suc r)) Always IsMember Any (At (suc (suc r))) (At (suc (suc r)))
   unfolding spec.member
   member_exact = exact_iff
       (exact_bind (exact_word (suc (suc r))) (λ m. exact_bind (exact_symbol s.Colon (suc (suc r)) refl) (λ q. exact_bind (specification_exact (suc r)) (λ x. exact_last (initialized_exact r) (declaration_of (m ∷ []) x)) (λ x mid rest y d g. tt))
-          (λ q mid rest y d g. tt)) (λ m mid rest y d g. tt))
+      (λ q mid rest y d g. tt)) (λ m mid rest y d g. tt))
       member_to member_from
 
   retention_of : (x : Section) (t : Option Kind) → is_retention t ≡ true → Exact 0 (λ ts. and_then (parser.skip ts) (λ q. parser.pure x)) (λ ts. (kind ts ≡ t) × Always ts) (IsRetention x) EndsHead (At r) (At r)
@@ -399,15 +388,16 @@ module _ (r : ℕ) where
   retention_by : (x : Section) (b : Bool) → Exact 0 (spec.retention_by x b) (λ ts. (is_retention (kind ts) ≡ b) × Always ts) (IsRetention x) EndsHead (At r) (At r)
   retention_by x true = exact_under (exact_on kind (λ t ts. and_then (parser.skip ts) (λ q. parser.pure x)) (λ ts. (is_retention (kind ts) ≡ true) × Always ts) (IsRetention x) EndsHead (At r) (At r)
       (λ t. retained_at t)) (λ ts h. h) (λ t g. g) where
-    retained_by : (t : Option Kind) (b : Bool) → is_retention t ≡ b → Exact 0 (λ ts. and_then (parser.skip ts) (λ q. parser.pure x)) (λ ts. (kind ts ≡ t) × ((is_retention (kind ts) ≡ true) × Always ts)) (IsRetention x) EndsHead (At r) (At r)
-    retained_by t true h = exact_under (retention_of x t h) (λ ts p. (p.0, tt)) (λ u g. g)
-    retained_by t false h = record {
-      reads = λ ts y rest p e. absurd (let wrong = sym p.1.0 ∙ (ap is_retention p.0 ∙ h) in cc);
-      deep = λ ts p e q. let wrong = sym p.1.0 ∙ (ap is_retention p.0 ∙ h) in cc;
-      read = λ ts y rest p d g q. absurd (let wrong = sym p.1.0 ∙ (ap is_retention p.0 ∙ h) in cc);
-    }
-    retained_at : (t : Option Kind) → Exact 0 (λ ts. and_then (parser.skip ts) (λ q. parser.pure x)) (λ ts. (kind ts ≡ t) × ((is_retention (kind ts) ≡ true) × Always ts)) (IsRetention x) EndsHead (At r) (At r)
-    retained_at t = retained_by t (is_retention t) refl
+        retained_by : (t : Option Kind) (b : Bool) → is_retention t ≡ b → Exact 0 (λ ts. and_then (parser.skip ts) (λ q. parser.pure x)) (λ ts. (kind ts ≡ t) × ((is_retention (kind ts) ≡ true) × Always ts)) (IsRetention x) EndsHead (At r) (At r)
+        retained_by t true h = exact_under (retention_of x t h) (λ ts p. (p.0, tt)) (λ u g. g)
+        retained_by t false h = record {
+          reads = λ ts y rest p e. absurd (let wrong = sym p.1.0 ∙ (ap is_retention p.0 ∙ h) in cc);
+          deep = λ ts p e q. let wrong = sym p.1.0 ∙ (ap is_retention p.0 ∙ h) in cc;
+          read = λ ts y rest p d g q. absurd (let wrong = sym p.1.0 ∙ (ap is_retention p.0 ∙ h) in cc);
+        }
+
+        retained_at : (t : Option Kind) → Exact 0 (λ ts. and_then (parser.skip ts) (λ q. parser.pure x)) (λ ts. (kind ts ≡ t) × ((is_retention (kind ts) ≡ true) × Always ts)) (IsRetention x) EndsHead (At r) (At r)
+        retained_at t = retained_by t (is_retention t) refl
   retention_by x false = exact_as (exact_pure x Always Any (At r)) (λ ts h. tt) (λ ts y rest h d. unsaid_to x ts y rest d) (λ ts y rest h g d. unsaid_from x ts y rest h.0 d) (λ t g. tt)
 
   retention_exact : (x : Section) → Exact 0 (spec.retention x) Always (IsRetention x) EndsHead (At r) (At r)

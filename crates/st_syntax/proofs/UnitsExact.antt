@@ -1,6 +1,6 @@
 -- The reading functions of units read their grammar exactly.
-use Rattle.std.proofs.Common.{◌≡◌, ℕ, zero, suc, ◌+◌, ◌<◌, ◌≤◌, List, [], ◌∷◌, length, refl, sym, ap, subst, ◌∙◌, Bool, true, false, arith}
-use Rattle.std.specs.Prelude.{Option, Some, None, Result, Ok, Err}
+use Rattle.std.proofs.Common.{◌≡◌, ℕ, suc, List, [], ◌∷◌, refl, sym, subst, ◌∙◌, Bool, true, false, arith}
+use Rattle.std.specs.Prelude.{Option, Some, Ok, Err}
 use Rattle.st_tokens.specs.declared.keyword.Keyword.TheVariants as w
 use Rattle.st_tokens.specs.declared.symbol.Symbol.TheVariants as s
 use Rattle.st_tokens.specs.declared.token.Kind.{Kind}
@@ -9,8 +9,6 @@ use Rattle.st_tree.specs.declared.elem.Elem.{Elem}
 use Rattle.st_tree.specs.declared.tree.declaration.Declaration.{Declaration}
 use Rattle.st_tree.specs.declared.tree.declaration.DeclaredType.{DeclaredType}
 use Rattle.st_tree.specs.declared.tree.declaration.DeclaredType.TheVariants as d
-use Rattle.st_tree.specs.declared.tree.declaration.VarBlock.{VarBlock}
-use Rattle.st_tree.specs.declared.tree.place.Identifier.{Identifier}
 use Rattle.st_tree.specs.declared.tree.place.Place.{Place}
 use Rattle.st_tree.specs.declared.tree.unit.Body.{Body}
 use Rattle.st_tree.specs.declared.tree.unit.Body.TheVariants as b
@@ -18,22 +16,22 @@ use Rattle.st_tree.specs.declared.tree.unit.Organization.{Organization}
 use Rattle.st_tree.specs.declared.tree.unit.TypeDeclaration.{TypeDeclaration}
 use Rattle.st_tree.specs.declared.tree.unit.Unit as unit
 use Rattle.st_tree.specs.declared.tree.unit.Unit.TheVariants as u
-use Rattle.st_expressions.specs.Lists.{IsMany, none, more}
+use Rattle.st_expressions.specs.Lists.{IsMany}
 use Rattle.st_expressions.specs.Parsers as parser
 use Rattle.st_expressions.specs.Parsers.{Parser, and_then, identifier, Deep}
-use Rattle.st_expressions.specs.Tokens.{Tok, kind, next, place}
-use Rattle.st_expressions.proofs.Exact.{Relation, Found, Exact, Always, Any, Then, seq, IsOne, one, IsPure, done, IsWord, a_word, exact_bind, exact_as, exact_iff, exact_last, exact_under, exact_zero, exact_pure, made, exact_refuse, exact_on, IsFirst, exact_token, exact_symbol, exact_keyword, exact_word, exact_before, before_token, Ends, exact_many}
+use Rattle.st_expressions.specs.Tokens.{Tok, kind}
+use Rattle.st_expressions.proofs.Exact.{Relation, Found, Exact, Always, Any, Then, seq, IsOne, one, IsPure, done, IsWord, a_word, exact_bind, exact_as, exact_iff, exact_last, exact_under, exact_zero, exact_pure, made, exact_refuse, exact_on, IsFirst, exact_token, exact_symbol, exact_keyword, exact_word, exact_before, Ends, exact_many}
 use Rattle.st_expressions.proofs.Loops.{ok_parts}
 use Rattle.st_expressions.proofs.Room.{At}
 use Rattle.st_statements.specs.ChartReading.{is_word, begins_element}
 use Rattle.st_statements.specs.Charts.{IsElement, initial_step, plain_step, transition, action, IsChart, chart}
-use Rattle.st_statements.specs.Grammar.{IsStatements, no_statement, statements, IsStatement}
+use Rattle.st_statements.specs.Grammar.{IsStatements, no_statement, statements}
 use Rattle.st_statements.specs.Reading.{begins_statement}
 use Rattle.st_statements.proofs.ChartsExact.{chart_exact}
 use Rattle.st_statements.proofs.Statements.{EndsBlock, statements_exact, begins_is}
 use Rattle.st_syntax.specs.DeclarationReading as declarations
 use Rattle.st_syntax.specs.DeclarationReading.{begins_block}
-use Rattle.st_syntax.specs.Declarations.{IsSpecification, simple, array, elementary, declared, IsInitialized, IsMember, member, IsVarBlock}
+use Rattle.st_syntax.specs.Declarations.{IsSpecification, simple, IsInitialized, IsMember, IsVarBlock}
 use Rattle.st_syntax.specs.UnitReading as spec
 use Rattle.st_syntax.specs.UnitReading.{is_struct, begins_unit}
 use Rattle.st_syntax.specs.Units.{type_of, function_of, organization_of, IsDeclared, derived, structure, IsTypeDeclaration, type_declaration, IsBody, plain_body, chart_body, IsOrganization, organization, IsUnit, types, function, function_block, program}
@@ -105,8 +103,8 @@ module _ (r : ℕ) where
   declared_by : (c : Bool) → Exact 1 (spec.declared_by (suc r) c) (λ ts. (is_struct (kind ts) ≡ c) × Always ts) IsDeclared Any (At (suc (suc r))) (At (suc (suc r)))
   unfolding spec.structure spec.derived
   declared_by true = exact_under (exact_token (k.Keyword w.Struct) refl {R = IsDeclared} (λ p. exact_iff
-          (exact_before (k.Keyword w.EndStruct) members_exact (refl, tt) (exact_keyword w.EndStruct (suc (suc r)) refl) (λ xs q. exact_bind (exact_symbol s.Semicolon (suc (suc r)) refl) (λ z. exact_pure (d.Structure p xs) Always Any (At (suc (suc r)))) (λ z mid rest y e g. tt)))
-          (structure_to p) (structure_from p))) (λ ts h. struct_is (kind ts) h.0) (λ t g. g)
+      (exact_before (k.Keyword w.EndStruct) members_exact (refl, tt) (exact_keyword w.EndStruct (suc (suc r)) refl) (λ xs q. exact_bind (exact_symbol s.Semicolon (suc (suc r)) refl) (λ z. exact_pure (d.Structure p xs) Always Any (At (suc (suc r)))) (λ z mid rest y e g. tt)))
+      (structure_to p) (structure_from p))) (λ ts h. struct_is (kind ts) h.0) (λ t g. g)
   declared_by false = exact_as (exact_bind (specification_exact (suc r)) (λ x. exact_last (initialized_exact r) (d.Derived x)) (λ x mid rest y e g. tt)) (λ ts h. tt)
       (λ ts x rest h e. derived_to ts x rest e) (λ ts x rest h g e. derived_from ts x rest h.0 e) (λ t g. g)
 
@@ -122,7 +120,7 @@ module _ (r : ℕ) where
   unfolding spec.types
   types_exact = exact_token (k.Keyword w.Type) refl {R = IsUnit} (λ p. exact_iff
       (exact_before (k.Keyword w.EndType) (exact_many is_word (spec.type_declaration (suc r)) IsTypeDeclaration Any (At (suc (suc r))) (exact_under type_exact (λ ts h. tt) (λ t g. g)) type_begins (λ t h. tt)) (refl, tt)
-          (exact_keyword w.EndType (suc (suc r)) refl) (λ xs q. exact_pure (u.Types p xs) Always Any (At (suc (suc r)))))
+      (exact_keyword w.EndType (suc (suc r)) refl) (λ xs q. exact_pure (u.Types p xs) Always Any (At (suc (suc r)))))
       (types_to p) (types_from p))
 
 -- ---- functions
@@ -136,8 +134,8 @@ elementary_exact r = record { reads = λ ts x rest t h. reads ts x rest h; deep 
   reads : (ts : List Tok) (x : Elem) (rest : List Tok) → spec.elementary_by (kind ts) ts ≡ Ok (x, rest) → Found 1 IsElementary (At r) (At r) ts x rest
   reads ((p, k.Type e) ∷ ts) x rest h = let same = ok_parts h in
       subst (λ z. Found 1 IsElementary (At r) (At r) ((p, k.Type e) ∷ ts) z rest) same.0
-          (subst (λ us. Found 1 IsElementary (At r) (At r) ((p, k.Type e) ∷ ts) e us) same.1
-              (record { is = an_elem; takes = omega arith; after = λ q. q; before = λ q. q }))
+      (subst (λ us. Found 1 IsElementary (At r) (At r) ((p, k.Type e) ∷ ts) e us) same.1
+      (record { is = an_elem; takes = omega arith; after = λ q. q; before = λ q. q }))
   reads [] x rest h = absurd (cc)
   reads ((p, _) ∷ ts) x rest h = absurd (cc)
 
@@ -170,9 +168,6 @@ statement_no_block (Some (k.Keyword w.For)) h = (refl, tt)
 statement_no_block (Some (k.Keyword w.While)) h = (refl, tt)
 statement_no_block (Some (k.Keyword w.Repeat)) h = (refl, tt)
 statement_no_block _ h = absurd (cc)
-
-statements_begin : {ts rest : List Tok} {x : _} {xs : _} → IsStatements ts (x ∷ xs) rest → begins_statement (kind ts) ≡ true
-statements_begin {ts} {rest} {x} (statements {mid = mid} e m) = begins_is ts x mid e
 
 function_follow : {S : _ → Relation unit.Unit} (mid rest : List Tok) (y : unit.Unit) → Then IsStatements (λ ss. Then (IsOne (k.Keyword w.EndFunction)) (λ z. S ss)) mid y rest → Ends begins_block Any (kind mid)
 function_follow mid rest y (seq no_statement (seq one f)) = (refl, tt)
@@ -217,8 +212,8 @@ module _ (r : ℕ) where
   unfolding spec.function
   function_exact = exact_token (k.Keyword w.Function) refl {R = IsUnit} (λ p. exact_iff
       (exact_bind (exact_word (suc (suc r))) (λ n. exact_bind (exact_symbol s.Colon (suc (suc r)) refl) (λ q. exact_bind (elementary_exact (suc (suc r))) (λ e. exact_bind (variables_exact r)
-          (λ vs. exact_before (k.Keyword w.EndFunction) (statements_exact (suc (suc r))) (refl, tt) (exact_keyword w.EndFunction (suc (suc r)) refl) (λ ss z. exact_pure (u.Function (function_of p n e vs ss)) Always Any (At (suc (suc r)))))
-          (λ vs mid rest y f g. function_follow mid rest y f)) (λ e mid rest y f g. tt)) (λ q mid rest y f g. tt)) (λ n mid rest y f g. tt))
+      (λ vs. exact_before (k.Keyword w.EndFunction) (statements_exact (suc (suc r))) (refl, tt) (exact_keyword w.EndFunction (suc (suc r)) refl) (λ ss z. exact_pure (u.Function (function_of p n e vs ss)) Always Any (At (suc (suc r)))))
+      (λ vs mid rest y f g. function_follow mid rest y f)) (λ e mid rest y f g. tt)) (λ q mid rest y f g. tt)) (λ n mid rest y f g. tt))
       (function_to p) (function_from p))
 
   body_by : (c : Bool) → Exact 0 (spec.body_by (suc r) c) (λ ts. (begins_element (kind ts) ≡ c) × Always ts) IsBody EndsBody (At (suc (suc r))) (At (suc (suc r)))
@@ -279,19 +274,14 @@ module _ (r : ℕ) where
   block_rule : (p : Place) → Exact 1 (λ ts. and_then (parser.word ts) (λ n us. and_then (declarations.variables (suc r) us) (λ vs ws. and_then (spec.body (suc r) ws) (λ c xs. and_then (parser.keyword w.EndFunctionBlock xs) (λ z. parser.pure (organization_of p n vs c))))))
       Always (IsWhole (k.Keyword w.EndFunctionBlock) p) Any (At (suc (suc r))) (At (suc (suc r)))
   block_rule p = exact_iff (exact_bind (exact_word (suc (suc r))) (λ n. exact_bind (variables_exact r) (λ vs. exact_before (k.Keyword w.EndFunctionBlock) (body_exact r) (refl, (refl, tt)) (exact_keyword w.EndFunctionBlock (suc (suc r)) refl)
-          (λ c z. exact_pure (organization_of p n vs c) Always Any (At (suc (suc r))))) (λ vs mid rest y f g. body_follow (k.Keyword w.EndFunctionBlock) (refl, tt) mid rest y f)) (λ n mid rest y f g. tt))
+      (λ c z. exact_pure (organization_of p n vs c) Always Any (At (suc (suc r))))) (λ vs mid rest y f g. body_follow (k.Keyword w.EndFunctionBlock) (refl, tt) mid rest y f)) (λ n mid rest y f g. tt))
       (whole_to (k.Keyword w.EndFunctionBlock) p) (whole_from (k.Keyword w.EndFunctionBlock) p)
 
   program_rule : (p : Place) → Exact 1 (λ ts. and_then (parser.word ts) (λ n us. and_then (declarations.variables (suc r) us) (λ vs ws. and_then (spec.body (suc r) ws) (λ c xs. and_then (parser.keyword w.EndProgram xs) (λ z. parser.pure (organization_of p n vs c))))))
       Always (IsWhole (k.Keyword w.EndProgram) p) Any (At (suc (suc r))) (At (suc (suc r)))
   program_rule p = exact_iff (exact_bind (exact_word (suc (suc r))) (λ n. exact_bind (variables_exact r) (λ vs. exact_before (k.Keyword w.EndProgram) (body_exact r) (refl, (refl, tt)) (exact_keyword w.EndProgram (suc (suc r)) refl)
-          (λ c z. exact_pure (organization_of p n vs c) Always Any (At (suc (suc r))))) (λ vs mid rest y f g. body_follow (k.Keyword w.EndProgram) (refl, tt) mid rest y f)) (λ n mid rest y f g. tt))
+      (λ c z. exact_pure (organization_of p n vs c) Always Any (At (suc (suc r))))) (λ vs mid rest y f g. body_follow (k.Keyword w.EndProgram) (refl, tt) mid rest y f)) (λ n mid rest y f g. tt))
       (whole_to (k.Keyword w.EndProgram) p) (whole_from (k.Keyword w.EndProgram) p)
-
-  -- what is made of what was read behind a word
-  regroup : {A B C : Type 0} (o : parser.Outcome A) (f : A → Parser B) (g : B → C) → and_then (and_then o f) (λ x. parser.pure (g x)) ≡ and_then o (λ x ts. and_then (f x ts) (λ y. parser.pure (g y)))
-  regroup (Ok z) f g = refl
-  regroup (Err e) f g = refl
 
   block_exact : Exact 1 (spec.function_block (suc r)) (IsFirst (k.Keyword w.FunctionBlock)) IsUnit Any (At (suc (suc r))) (At (suc (suc r)))
   unfolding spec.function_block spec.organization

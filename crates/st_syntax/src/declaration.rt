@@ -377,7 +377,12 @@ fn declarations(alloc: Global, ts: &mut Cursor<'_>) -> Result<List<Declaration>,
 }
 
 /// The declarations of a block, behind its first words.
-fn rest_of_block(alloc: Global, ts: &mut Cursor<'_>, place: Place, section: Section) -> Result<VarBlock, SyntaxFault>
+fn rest_of_block(
+    alloc: Global,
+    ts: &mut Cursor<'_>,
+    place: Place,
+    section: Section,
+) -> Result<VarBlock, SyntaxFault>
     ensures read { Reads (spec.block_rest 63 place section ts.old) result ts.new }
     ensures shorter { OnOk result (length ts.new < length ts.old) }
 {

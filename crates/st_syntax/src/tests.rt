@@ -126,8 +126,14 @@ fn fault_at_its_line(rt: HostRuntime) -> Result<(), Fail> {
         (b"PROGRAM Main A := +\nB; END_PROGRAM", 2),
         (b"PROGRAM Main STEP S: END_STEP\nA := 1; END_PROGRAM", 2),
         (b"FUNCTION F : T\nEND_FUNCTION", 1),
-        (b"PROGRAM Main TRANSITION\n(LEVEL := 1) FROM A TO B := C; END_TRANSITION END_PROGRAM", 2),
-        (b"PROGRAM Main VAR_INPUT\nCONSTANT A : INT; END_VAR END_PROGRAM", 2),
+        (
+            b"PROGRAM Main TRANSITION\n(LEVEL := 1) FROM A TO B := C; END_TRANSITION END_PROGRAM",
+            2,
+        ),
+        (
+            b"PROGRAM Main VAR_INPUT\nCONSTANT A : INT; END_VAR END_PROGRAM",
+            2,
+        ),
         (b"TYPE T : STRUCT\nEND_STRUCT; END_TYPE", 2),
     ];
     for (text, line) in cases {

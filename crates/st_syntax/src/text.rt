@@ -46,12 +46,13 @@ pub fn parse(alloc: Global, text: &[u8]) -> Result<Vec<Unit>, SyntaxFault>
     let found = units(alloc, &mut cursor)?;
     match cursor.kind() {
         None => Ok(found.items),
-        Some(_) => Err(SyntaxFault::NotInGrammar { line: cursor.line() }),
+        Some(_) => Err(SyntaxFault::NotInGrammar {
+            line: cursor.line(),
+        }),
     }
 }
 
 /// No text is two lists of units.
 pub fn one_reading()
     ensures { (text : List ℕ) (us vs : List unit.Unit) → IsTextOf text us → IsTextOf text vs → us ≡ vs }
-{
-}
+{}

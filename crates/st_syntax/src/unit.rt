@@ -12,7 +12,9 @@ use st_expressions::token::{keyword, symbol, word};
 use st_statements::chart::{begins_element, chart, is_word};
 use st_statements::statement::statements;
 use st_tokens::{Keyword, Kind, Symbol, SyntaxFault};
-use st_tree::tree::{Body, Declaration, DeclaredType, Function, Organization, TypeDeclaration, Unit};
+use st_tree::tree::{
+    Body, Declaration, DeclaredType, Function, Organization, TypeDeclaration, Unit,
+};
 use st_tree::{Elem, List};
 use std::alloc::Global;
 
@@ -94,7 +96,10 @@ fn type_declaration(alloc: Global, ts: &mut Cursor<'_>) -> Result<TypeDeclaratio
     Ok(TypeDeclaration { name, declared })
 }
 
-fn type_declarations(alloc: Global, ts: &mut Cursor<'_>) -> Result<List<TypeDeclaration>, SyntaxFault>
+fn type_declarations(
+    alloc: Global,
+    ts: &mut Cursor<'_>,
+) -> Result<List<TypeDeclaration>, SyntaxFault>
     ensures read { Reads (spec.type_declarations 63 ts.old) result ts.new }
     ensures shorter { OnOk result (length ts.new ≤ length ts.old) }
 {
@@ -182,7 +187,11 @@ fn body(alloc: Global, ts: &mut Cursor<'_>) -> Result<Body, SyntaxFault>
 
 /// A function block or a program, from its first word to `last`.
 #[tactic(auto, unfolding(crate::specs::UnitReading::organization))]
-fn organization(alloc: Global, ts: &mut Cursor<'_>, last: Keyword) -> Result<Organization, SyntaxFault>
+fn organization(
+    alloc: Global,
+    ts: &mut Cursor<'_>,
+    last: Keyword,
+) -> Result<Organization, SyntaxFault>
     ensures read { Reads (spec.organization 63 last ts.old) result ts.new }
     ensures shorter { OnOk result (length ts.new < length ts.old) }
 {
@@ -204,11 +213,7 @@ fn function_block(alloc: Global, ts: &mut Cursor<'_>) -> Result<Unit, SyntaxFaul
     ensures read { Reads (spec.function_block 63 ts.old) result ts.new }
     ensures shorter { OnOk result (length ts.new < length ts.old) }
 {
-    Ok(Unit::FunctionBlock(organization(
-        alloc,
-        ts,
-        Keyword::EndFunctionBlock,
-    )?))
+    Ok(Unit::FunctionBlock(organization(alloc, ts, Keyword::EndFunctionBlock)?))
 }
 
 #[tactic(auto, unfolding(crate::specs::UnitReading::program))]

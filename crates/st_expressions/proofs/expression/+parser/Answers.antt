@@ -1,8 +1,8 @@
-use Rattle.std.proofs.Common.{◌≡◌, ℕ, zero, suc, ◌+◌, ◌-◌, ◌<◌, ◌≤◌, List, [], ◌∷◌, ◌++◌, length, refl, sym, ap, Ok, ◌∙◌, arith}
+use Rattle.std.proofs.Common.{[], refl, sym, ap, Ok, ◌∙◌, arith}
 use Rattle.std.proofs.lemmas.Result.{err_from_is_err_and}
 use Rattle.st_expressions.specs.Parsers as parser
 use Rattle.st_expressions.specs.Reading as spec
-use Rattle.st_expressions.proofs.Loops.{Left, left_init, left_step, loop_end, loop_err, leading_end, leading_err}
+use Rattle.st_expressions.proofs.Loops.{left_init, left_step, loop_end, loop_err, leading_end, leading_err}
 use Rattle.st_expressions.proofs.ReadingLemmas.{rank_ok, rank_err, inside_expression, inside_variable, reads_made}
 use Rattle.st_expressions.proofs.expression.+parser.Goals as goal
 
@@ -88,6 +88,6 @@ level-returns-in_err-operations-clause-read t c =
 pub level-returns-clause-read : goal.level-returns-clause-read
 level-returns-clause-read t c =
     reads_made _ _ _ c.chain.result
-        (rank_ok c.args.room (spec.inside_of c.args.room) c.args.rank c.args.ts.now c.level.new.ts c.operations.new.ts c.in_ok-first.first c.in_ok-operations.operations c.if-rank-eq0.false c.in_ok-first.ensures.read c.in_ok-operations.ensures.read
-            ∙ ap (λ p. Ok (spec.chain p c.in_ok-first.first c.in_ok-operations.operations, c.operations.new.ts)) (sym c.place-place.ensures))
-        c.chain.ensures.ok c.chain.ensures.err
+    (rank_ok c.args.room (spec.inside_of c.args.room) c.args.rank c.args.ts.now c.level.new.ts c.operations.new.ts c.in_ok-first.first c.in_ok-operations.operations c.if-rank-eq0.false c.in_ok-first.ensures.read c.in_ok-operations.ensures.read
+    ∙ ap (λ p. Ok (spec.chain p c.in_ok-first.first c.in_ok-operations.operations, c.operations.new.ts)) (sym c.place-place.ensures))
+    c.chain.ensures.ok c.chain.ensures.err
