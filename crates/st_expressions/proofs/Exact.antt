@@ -1,7 +1,7 @@
 -- Parsers that read a relation exactly: what they read is in it, and what is in it they read.
 use Rattle.std.proofs.Common.{◌≡◌, ℕ, zero, suc, ◌+◌, ◌<◌, ◌≤◌, List, [], ◌∷◌, length, refl, sym, ap, subst, ◌∙◌, Bool, true, false, rules, arith, ◌⊎◌, inl, inr}
 use denote.Enum.Bare.{same_true}
-use Rattle.std.specs.Prelude.{Option, Some, None, Result, Ok, Err}
+use Rattle.std.specs.Prelude.{Option, Some, Ok, Err}
 use Rattle.st_tokens.specs.contracts.keyword.Keyword as keyword
 use Rattle.st_tokens.specs.contracts.symbol.Symbol as symbol
 use Rattle.st_tokens.specs.declared.keyword.Keyword.{Keyword}

@@ -1,6 +1,6 @@
 -- The reading functions of expressions read their grammar exactly.
-use Rattle.std.proofs.Common.{◌≡◌, ℕ, zero, suc, ◌+◌, ◌<◌, ◌≤◌, List, [], ◌∷◌, refl, sym, ap, subst, ◌∙◌, Bool, true, false, arith}
-use Rattle.std.specs.Prelude.{Option, Some, None, Ok, Err}
+use Rattle.std.proofs.Common.{◌≡◌, ℕ, zero, suc, List, [], ◌∷◌, refl, sym, ap, subst, ◌∙◌, Bool, true, false, arith}
+use Rattle.std.specs.Prelude.{Option, Some, None}
 use Rattle.st_tokens.specs.declared.keyword.Keyword.TheVariants as w
 use Rattle.st_tokens.specs.declared.symbol.Symbol.TheVariants as s
 use Rattle.st_tokens.specs.declared.token.Kind.{Kind}
@@ -28,8 +28,8 @@ use Rattle.st_expressions.specs.Parsers.{Parser, and_then, identifier, many, is_
 use Rattle.st_expressions.specs.Reading as spec
 use Rattle.st_expressions.specs.Reading.{Inside, begins_part}
 use Rattle.st_expressions.specs.Tokens.{Tok, kind, next, place}
-use Rattle.st_expressions.proofs.Exact.{Relation, Found, Exact, Always, Any, Then, seq, IsOne, one, IsPure, done, IsWord, a_word, IsNumber, a_number, exact_bind, exact_bind_if, exact_as, exact_iff, exact_last, exact_under, exact_pure, made, exact_refuse, exact_on, IsFirst, at_first, exact_token, exact_token_if, exact_enter, Behind, exact_symbol, exact_keyword, exact_word, exact_number, exact_before, before_token, Ends, exact_many, exact_listed}
-use Rattle.st_expressions.proofs.Follows.{Stops, stops_less, stops_at, stops_part, stops_operator, rank_is, begins_integer, integer_begins, begins_constant, constant_begins, primary_begins, begins_expression, argument_begins, part_begins, operation_begins, rank_word, Ending}
+use Rattle.st_expressions.proofs.Exact.{Relation, Exact, Always, Any, Then, seq, IsOne, one, IsPure, done, IsWord, a_word, IsNumber, a_number, exact_bind, exact_bind_if, exact_as, exact_iff, exact_last, exact_under, exact_pure, made, exact_refuse, exact_on, IsFirst, exact_token, exact_token_if, exact_enter, Behind, exact_symbol, exact_word, exact_number, exact_before, Ends, exact_many, exact_listed}
+use Rattle.st_expressions.proofs.Follows.{Stops, stops_less, stops_at, stops_part, stops_operator, rank_is, begins_integer, integer_begins, begins_constant, constant_begins, primary_begins, argument_begins, part_begins, operation_begins, rank_word, Ending}
 use Rattle.st_expressions.proofs.Room.{At, past, Leads, leads}
 
 -- ---- literals

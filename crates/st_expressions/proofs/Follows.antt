@@ -1,5 +1,5 @@
 -- What may follow an expression, and how its parts begin.
-use Rattle.std.proofs.Common.{◌≡◌, ℕ, zero, suc, ◌<◌, ◌≤◌, List, [], ◌∷◌, refl, sym, ap, subst, ◌∙◌, Bool, true, false, arith}
+use Rattle.std.proofs.Common.{◌≡◌, ℕ, suc, ◌<◌, List, ◌∷◌, refl, sym, ap, subst, Bool, true, false, arith}
 use lib.Dec.{eqb→eq, T}
 use Rattle.std.proofs.Math.Dec.{eqb_refl}
 use Rattle.std.specs.Prelude.{Option, Some, None, ◌==◌}
@@ -12,12 +12,10 @@ use Rattle.st_tree.specs.declared.tree.constant.SignedInteger.{SignedInteger}
 use Rattle.st_tree.specs.declared.tree.constant.Constant.{Constant}
 use Rattle.st_tree.specs.declared.tree.expression.Expression.{Expression}
 use Rattle.st_tree.specs.declared.tree.expression.Operation.{Operation}
-use Rattle.st_tree.specs.declared.tree.expression.Variable.{Variable}
 use Rattle.st_tree.specs.declared.tree.expression.Part.{Part}
-use Rattle.st_tree.specs.declared.tree.expression.Call.{Call}
 use Rattle.st_tree.specs.declared.tree.expression.Argument.{Argument}
 use Rattle.st_tree.specs.declared.tree.place.Place.{Place}
-use Rattle.st_expressions.specs.Grammar.{IsSignedInteger, unsigned, plus, minus, IsConstant, integer, typed, duration, truth, falsehood, IsRank, unary, alone, chain, IsOperations, no_operation, operations, IsOperation, operation, IsUnary, negation, complement, primary, IsPrimary, constant, variable, call, group, IsVariable, named, IsParts, no_part, parts, IsPart, field, subscripts, IsCall, called, IsArguments, no_arguments, arguments, IsArgument, positional, input, output, operator_of, rank_of}
+use Rattle.st_expressions.specs.Grammar.{IsSignedInteger, unsigned, plus, minus, IsConstant, integer, typed, duration, truth, falsehood, IsRank, unary, alone, chain, IsOperations, operations, IsOperation, operation, IsUnary, negation, complement, primary, IsPrimary, constant, variable, call, group, named, no_part, parts, IsPart, field, subscripts, called, no_arguments, arguments, IsArgument, positional, input, output, operator_of, rank_of}
 use Rattle.st_expressions.specs.Reading.{begins_part, is_operator, has_rank, operator_at}
 use Rattle.st_expressions.specs.Tokens.{Tok, kind}
 

@@ -1,5 +1,5 @@
 -- The steps of the reading functions that recurse.
-use Rattle.std.proofs.Common.{◌≡◌, ℕ, zero, suc, ◌-◌, ◌<◌, List, [], ◌∷◌, ◌++◌, length, refl, sym, ap, ◌∙◌, sub-one, arith}
+use Rattle.std.proofs.Common.{◌≡◌, ℕ, zero, suc, ◌-◌, ◌<◌, List, [], ◌∷◌, refl, sym, ap, ◌∙◌, sub-one, arith}
 use Rattle.std.specs.Prelude.{Result, Ok, Err, IfOk, IfErr}
 use Rattle.st_tokens.specs.declared.fault.SyntaxFault.{SyntaxFault}
 use Rattle.st_tokens.specs.declared.fault.SyntaxFault.TheVariants.{Memory}
@@ -8,7 +8,7 @@ use Rattle.st_tree.specs.declared.tree.expression.Expression.{Expression}
 use Rattle.st_tree.specs.declared.tree.expression.Expression.TheVariants as e
 use Rattle.st_tree.specs.declared.tree.expression.Operation.{Operation}
 use Rattle.st_expressions.specs.Tokens.{Tok, place, next}
-use Rattle.st_expressions.specs.Parsers.{Reads, Refuses, Outcome, Parser, Deep, enter}
+use Rattle.st_expressions.specs.Parsers.{Reads, Refuses, Outcome, Deep, enter}
 use Rattle.st_expressions.specs.Reading.{Inside, inside_of, rank, operations, chain, variable}
 use Rattle.st_expressions.proofs.Loops.{refuses_too}
 

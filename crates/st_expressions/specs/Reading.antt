@@ -1,5 +1,5 @@
 -- The reading of expressions as functions: what each function that reads them answers.
-use Rattle.std.specs.Prelude.{◌≡◌, ℕ, zero, suc, Bool, true, false, ◌==◌, if◌then◌else◌, List, [], ◌∷◌, Option, Some, None, Result, Ok, Err}
+use Rattle.std.specs.Prelude.{ℕ, zero, suc, Bool, true, false, ◌==◌, List, [], ◌∷◌, Option, Some, None}
 use Rattle.st_tokens.specs.declared.keyword.Keyword.TheVariants as w
 use Rattle.st_tokens.specs.declared.symbol.Symbol.TheVariants as s
 use Rattle.st_tokens.specs.declared.token.Kind.{Kind}
@@ -18,8 +18,7 @@ use Rattle.st_tree.specs.declared.tree.expression.Part.TheVariants as part
 use Rattle.st_tree.specs.declared.tree.expression.Call.{Call}
 use Rattle.st_tree.specs.declared.tree.expression.Argument.{Argument}
 use Rattle.st_tree.specs.declared.tree.expression.Argument.TheVariants as a
-use Rattle.st_expressions.specs.Tokens.{Tok, kind, place, next}
-use Rattle.st_expressions.specs.Parsers.{Parser, and_then, ◌>>=◌, ◌>>◌, pure, refuse, skip, peek, peek_second, here, symbol, enter, word, number, many, listed}
+use Rattle.st_expressions.specs.Parsers.{Parser, ◌>>=◌, ◌>>◌, pure, refuse, skip, peek, peek_second, here, symbol, enter, word, number, many, listed}
 use Rattle.st_expressions.specs.Grammar.{integer_of, duration_of, operation_of, variable_of, call_of, operator_of, rank_of}
 
 -- ---- literals

@@ -9,7 +9,7 @@ ghost use Rattle.st_tokens.specs.declared.fault.SyntaxFault.TheVariants.{Memory}
 
 use crate::constant::constant;
 use crate::cursor::Cursor;
-use crate::token::{boxed, enter, is_comma, symbol, word};
+use crate::token::{boxed, enter, is_close, is_comma, symbol, word};
 use st_tokens::{Keyword, Kind, Symbol, SyntaxFault};
 use st_tree::tree::{Argument, Call, Expression, Operation, Part, Place, Variable};
 use st_tree::{BinOp, List};
@@ -79,15 +79,8 @@ fn begins_part(ts: &Cursor<'_>) -> bool
     )
 }
 
-/// Whether the first token is `)`.
-pub fn is_close(ts: &Cursor<'_>) -> bool
-    ensures { result ≡ spec.is_close (kind ts.now) }
-{
-    matches!(ts.kind(), Some(Kind::Symbol(Symbol::Close)))
-}
-
 /// Whether the second token is `(`.
-fn is_call(ts: &Cursor<'_>) -> bool
+pub fn is_call(ts: &Cursor<'_>) -> bool
     ensures { result ≡ spec.is_open (kind (next ts.now)) }
 {
     matches!(ts.second(), Some(Kind::Symbol(Symbol::Open)))

@@ -2,6 +2,7 @@
 ghost use Rattle.std.specs.Prelude.{◌≡◌, ◌<◌, ◌≤◌, length, IfErr, IfOk, OnOk, true};
 ghost use Rattle.st_expressions.specs.Parsers as spec;
 ghost use Rattle.st_expressions.specs.Parsers.{Reads};
+ghost use Rattle.st_expressions.specs.Reading.{is_close, is_open};
 ghost use Rattle.st_expressions.specs.Tokens.{kind};
 ghost use Rattle.st_tokens.specs.declared.fault.SyntaxFault.TheVariants.{Memory};
 
@@ -38,6 +39,20 @@ pub fn is_comma(ts: &Cursor<'_>) -> bool
     ensures { result ≡ spec.is_comma (kind ts.now) }
 {
     matches!(ts.kind(), Some(Kind::Symbol(Symbol::Comma)))
+}
+
+/// Whether the first token is `(`.
+pub fn is_open(ts: &Cursor<'_>) -> bool
+    ensures { result ≡ is_open (kind ts.now) }
+{
+    matches!(ts.kind(), Some(Kind::Symbol(Symbol::Open)))
+}
+
+/// Whether the first token is `)`.
+pub fn is_close(ts: &Cursor<'_>) -> bool
+    ensures { result ≡ is_close (kind ts.now) }
+{
+    matches!(ts.kind(), Some(Kind::Symbol(Symbol::Close)))
 }
 
 /// Takes this symbol.

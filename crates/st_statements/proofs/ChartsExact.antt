@@ -1,6 +1,6 @@
 -- The reading functions of charts read their grammar exactly.
-use Rattle.std.proofs.Common.{◌≡◌, ℕ, zero, suc, ◌+◌, ◌<◌, ◌≤◌, List, [], ◌∷◌, length, refl, sym, ap, subst, ◌∙◌, Bool, true, false, arith}
-use Rattle.std.specs.Prelude.{Option, Some, None, Result, Ok, Err}
+use Rattle.std.proofs.Common.{◌≡◌, ℕ, suc, List, [], ◌∷◌, refl, sym, subst, ◌∙◌, Bool, true, false, arith}
+use Rattle.std.specs.Prelude.{Option, Some, None, Ok, Err}
 use Rattle.st_tokens.specs.declared.keyword.Keyword.TheVariants as w
 use Rattle.st_tokens.specs.declared.symbol.Symbol.TheVariants as s
 use Rattle.st_tokens.specs.declared.token.Kind.{Kind}
@@ -13,22 +13,20 @@ use Rattle.st_tree.specs.declared.tree.unit.Association.{Association}
 use Rattle.st_tree.specs.declared.tree.unit.ChartElement.{ChartElement}
 use Rattle.st_tree.specs.declared.tree.unit.ChartElement.TheVariants as c
 use Rattle.st_expressions.specs.Grammar.{IsRank, duration_of}
-use Rattle.st_expressions.specs.Lists.{IsMany, none, more, IsNext, IsListed, listed}
+use Rattle.st_expressions.specs.Lists.{IsMany, IsListed, listed}
 use Rattle.st_expressions.specs.Parsers as parser
 use Rattle.st_expressions.specs.Parsers.{Outcome, Parser, and_then, identifier, is_comma, Deep, Wrong}
 use Rattle.st_expressions.specs.Reading.{is_open, is_close}
-use Rattle.st_expressions.specs.Tokens.{Tok, kind, next, place}
-use Rattle.st_expressions.proofs.Exact.{Relation, Found, Exact, Always, Any, Then, seq, IsOne, one, IsPure, done, IsWord, a_word, IsNumber, a_number, exact_bind, exact_as, exact_iff, exact_last, exact_under, exact_zero, exact_pure, made, exact_refuse, exact_on, IsFirst, exact_token, exact_token_if, exact_symbol, exact_keyword, exact_word, exact_number, exact_before, before_token, Ends, exact_many, exact_listed}
+use Rattle.st_expressions.specs.Tokens.{Tok, kind}
+use Rattle.st_expressions.proofs.Exact.{Relation, Found, Exact, Always, Any, Then, seq, IsOne, one, IsPure, done, IsWord, a_word, IsNumber, a_number, exact_bind, exact_as, exact_iff, exact_last, exact_under, exact_zero, exact_pure, made, exact_refuse, exact_on, IsFirst, exact_token, exact_token_if, exact_symbol, exact_keyword, exact_word, exact_number, exact_before, Ends, exact_many, exact_listed}
 use Rattle.st_expressions.proofs.Expressions.{expression_exact, open_is}
-use Rattle.st_expressions.proofs.Follows.{Stops}
 use Rattle.st_expressions.proofs.Loops.{ok_parts}
 use Rattle.st_expressions.proofs.Room.{At, enters}
 use Rattle.st_statements.specs.Grammar.{IsStatements}
 use Rattle.st_statements.specs.ChartReading as spec
 use Rattle.st_statements.specs.ChartReading.{begins_element, is_word}
-use Rattle.st_statements.specs.Charts.{qualifier_of, association_of, step_of, transition_of, action_of, is_priority, IsQualifier, untimed, timed, IsAssociation, unqualified, qualified, IsStepRest, step_rest, IsOptionalName, no_name, a_name, IsPriority, no_priority, priority, IsName, name, IsNames, one_name, names, IsTransitionRest, transition_rest, IsElement, initial_step, plain_step, transition, action, IsChart, chart}
-use Rattle.st_statements.specs.Reading.{statements}
-use Rattle.st_statements.proofs.Statements.{EndsBlock, statements_exact}
+use Rattle.st_statements.specs.Charts.{qualifier_of, association_of, step_of, transition_of, action_of, is_priority, IsQualifier, untimed, timed, IsAssociation, unqualified, qualified, step_rest, IsOptionalName, no_name, a_name, IsPriority, no_priority, priority, IsName, name, IsNames, one_name, names, transition_rest, IsElement, initial_step, plain_step, transition, action, IsChart, chart}
+use Rattle.st_statements.proofs.Statements.{statements_exact}
 
 -- ---- '('
 

@@ -1,12 +1,12 @@
 -- The reading functions of statements read their grammar exactly.
-use Rattle.std.proofs.Common.{◌≡◌, ℕ, zero, suc, ◌+◌, ◌<◌, ◌≤◌, List, [], ◌∷◌, refl, sym, ap, subst, ◌∙◌, Bool, true, false, arith}
-use Rattle.std.specs.Prelude.{Option, Some, None, Ok, Err}
+use Rattle.std.proofs.Common.{◌≡◌, ℕ, zero, suc, List, [], ◌∷◌, refl, sym, subst, Bool, true, false}
+use Rattle.std.specs.Prelude.{Option, Some, None}
+use Rattle.st_tokens.specs.declared.keyword.Keyword.{Keyword}
 use Rattle.st_tokens.specs.declared.keyword.Keyword.TheVariants as w
 use Rattle.st_tokens.specs.declared.symbol.Symbol.TheVariants as s
 use Rattle.st_tokens.specs.declared.token.Kind.{Kind}
 use Rattle.st_tokens.specs.declared.token.Kind.TheVariants as k
 use Rattle.st_tree.specs.declared.tree.place.Place.{Place}
-use Rattle.st_tree.specs.declared.tree.place.Identifier.{Identifier}
 use Rattle.st_tree.specs.declared.tree.constant.Constant.{Constant}
 use Rattle.st_tree.specs.declared.tree.expression.Expression.{Expression}
 use Rattle.st_tree.specs.declared.tree.statement.Statement.{Statement}
@@ -15,16 +15,17 @@ use Rattle.st_tree.specs.declared.tree.statement.ConditionalPart.{ConditionalPar
 use Rattle.st_tree.specs.declared.tree.statement.CaseElement.{CaseElement}
 use Rattle.st_tree.specs.declared.tree.statement.Label.{Label}
 use Rattle.st_tree.specs.declared.tree.statement.Label.TheVariants as l
-use Rattle.st_expressions.specs.Grammar.{IsConstant, IsRank, IsVariable, named as is_named, IsParts, no_part, parts, IsPart, field, subscripts, IsCall, called, IsArguments, no_arguments, arguments}
+use Rattle.st_expressions.specs.Grammar.{IsConstant, IsRank, IsVariable, named as is_named, no_part, parts, field, subscripts, IsCall, called, no_arguments, arguments}
+use Rattle.st_expressions.specs.Levels.{opens, closes}
 use Rattle.st_expressions.specs.Lists.{IsMany, none, more, IsListed, listed}
 use Rattle.st_expressions.specs.Parsers as parser
 use Rattle.st_expressions.specs.Parsers.{Parser, and_then, identifier, many, is_comma}
-use Rattle.st_expressions.specs.Reading.{constant, expression, variable, call, inside_of, is_open}
-use Rattle.st_expressions.specs.Tokens.{Tok, kind, next, place}
-use Rattle.st_expressions.proofs.Exact.{Relation, Found, Exact, Always, Any, Then, seq, IsOne, one, IsPure, done, IsWord, a_word, exact_bind, exact_bind_if, exact_as, exact_iff, exact_last, exact_under, exact_zero, exact_pure, made, exact_refuse, exact_on, IsFirst, at_first, exact_token, exact_token_if, exact_enter, Behind, exact_symbol, exact_keyword, exact_word, exact_before, before_token, Ends, exact_many, exact_listed}
+use Rattle.st_expressions.specs.Reading.{inside_of, is_open}
+use Rattle.st_expressions.specs.Tokens.{Tok, kind, next}
+use Rattle.st_expressions.proofs.Exact.{Relation, Exact, Always, Any, Then, seq, IsOne, one, IsPure, done, IsWord, a_word, exact_bind, exact_as, exact_iff, exact_last, exact_under, exact_zero, exact_pure, made, exact_refuse, exact_on, IsFirst, at_first, exact_token, exact_enter, Behind, exact_symbol, exact_keyword, exact_word, exact_before, before_token, Ends, exact_many, exact_listed}
 use Rattle.st_expressions.proofs.Expressions.{constant_exact, variable_exact, call_exact, inside_exact, expression_exact, open_is}
 use Rattle.st_expressions.proofs.Follows.{Stops, constant_begins, begins_constant}
-use Rattle.st_expressions.proofs.Room.{At}
+use Rattle.st_expressions.proofs.Room.{At, past}
 use Rattle.st_statements.specs.Grammar.{part_of, case_of, IsLabel, value, range, IsBy, no_by, by_step, IsStatements, no_statement, statements, IsStatement, empty, assignment, invocation, returning, exiting, selection, choice, counting, while_loop, repeat_loop, IsConditional, conditional, IsElsifs, no_elsif, elsifs, IsElse, no_else, otherwise, IsCase, case, IsCases, no_case, cases}
 use Rattle.st_statements.specs.Reading as spec
 use Rattle.st_statements.specs.Reading.{Deeper, begins_label, begins_statement, is_elsif, is_else, is_by, is_range}
@@ -440,20 +441,11 @@ by_follow : {S : Option Expression → Relation Statement} (mid rest : List Tok)
 by_follow mid rest y (seq (by_step d) c) = tt
 by_follow mid rest y (seq no_by (seq one c)) = tt
 
-closing_if : (r : ℕ) (y : Statement) → Exact 1 (λ ts. and_then (parser.keyword w.EndIf ts) (λ q us. and_then (parser.symbol s.Semicolon us) (λ z. parser.pure y))) Always (Closing (k.Keyword w.EndIf) y) Any (At r) (At (suc r))
-closing_if r y = exact_bind (exact_keyword w.EndIf r refl) (λ q. exact_bind (exact_symbol s.Semicolon (suc r) refl) (λ z. exact_pure y Always Any (At (suc r))) (λ z mid rest x d g. tt)) (λ q mid rest x d g. tt)
-
-closing_case : (r : ℕ) (y : Statement) → Exact 1 (λ ts. and_then (parser.keyword w.EndCase ts) (λ q us. and_then (parser.symbol s.Semicolon us) (λ z. parser.pure y))) Always (Closing (k.Keyword w.EndCase) y) Any (At r) (At (suc r))
-closing_case r y = exact_bind (exact_keyword w.EndCase r refl) (λ q. exact_bind (exact_symbol s.Semicolon (suc r) refl) (λ z. exact_pure y Always Any (At (suc r))) (λ z mid rest x d g. tt)) (λ q mid rest x d g. tt)
-
-closing_for : (r : ℕ) (y : Statement) → Exact 1 (λ ts. and_then (parser.keyword w.EndFor ts) (λ q us. and_then (parser.symbol s.Semicolon us) (λ z. parser.pure y))) Always (Closing (k.Keyword w.EndFor) y) Any (At r) (At (suc r))
-closing_for r y = exact_bind (exact_keyword w.EndFor r refl) (λ q. exact_bind (exact_symbol s.Semicolon (suc r) refl) (λ z. exact_pure y Always Any (At (suc r))) (λ z mid rest x d g. tt)) (λ q mid rest x d g. tt)
-
-closing_while : (r : ℕ) (y : Statement) → Exact 1 (λ ts. and_then (parser.keyword w.EndWhile ts) (λ q us. and_then (parser.symbol s.Semicolon us) (λ z. parser.pure y))) Always (Closing (k.Keyword w.EndWhile) y) Any (At r) (At (suc r))
-closing_while r y = exact_bind (exact_keyword w.EndWhile r refl) (λ q. exact_bind (exact_symbol s.Semicolon (suc r) refl) (λ z. exact_pure y Always Any (At (suc r))) (λ z mid rest x d g. tt)) (λ q mid rest x d g. tt)
-
-closing_repeat : (r : ℕ) (y : Statement) → Exact 1 (λ ts. and_then (parser.keyword w.EndRepeat ts) (λ q us. and_then (parser.symbol s.Semicolon us) (λ z. parser.pure y))) Always (Closing (k.Keyword w.EndRepeat) y) Any (At r) (At (suc r))
-closing_repeat r y = exact_bind (exact_keyword w.EndRepeat r refl) (λ q. exact_bind (exact_symbol s.Semicolon (suc r) refl) (λ z. exact_pure y Always Any (At (suc r))) (λ z mid rest x d g. tt)) (λ q mid rest x d g. tt)
+-- a word that closes a level, and ';'
+closing : (x : Keyword) (r : ℕ) → opens (k.Keyword x) ≡ 0 → (y : Statement)
+    → Exact 1 (λ ts. and_then (parser.keyword x ts) (λ q us. and_then (parser.symbol s.Semicolon us) (λ z. parser.pure y))) Always (Closing (k.Keyword x) y) Any (At r) (At (past (closes (k.Keyword x)) r))
+closing x r plain y = exact_bind (exact_keyword x r plain)
+    (λ q. exact_bind (exact_symbol s.Semicolon (past (closes (k.Keyword x)) r) refl) (λ z. exact_pure y Always Any (At (past (closes (k.Keyword x)) r))) (λ z mid rest e d g. tt)) (λ q mid rest e d g. tt)
 
 -- what the reading functions do behind the word that opens a level
 module _ (d : Deeper) where
@@ -478,14 +470,14 @@ module _ (d : Deeper) where
   if_behind : (r : ℕ) → ExactDeeper r d → Behind 1 r after_if (k.Keyword w.If) IsStatement Any
   if_behind zero e = tt
   if_behind (suc r) e = λ p. exact_iff
-      (exact_bind (conditionals_exact r d e) (λ xs. exact_bind (otherwise_exact r d e) (λ ys. closing_if r (t.If p xs ys)) (λ ys mid rest y c g. before_token EndsElse (refl, (refl, tt)) c)) selection_follow)
+      (exact_bind (conditionals_exact r d e) (λ xs. exact_bind (otherwise_exact r d e) (λ ys. closing w.EndIf r refl (t.If p xs ys)) (λ ys mid rest y c g. before_token EndsElse (refl, (refl, tt)) c)) selection_follow)
       (selection_to p) (selection_from p)
 
   case_behind : (r : ℕ) → ExactDeeper r d → Behind 1 r after_case (k.Keyword w.Case) IsStatement Any
   case_behind zero e = tt
   case_behind (suc r) e = λ p. exact_iff
       (exact_before (k.Keyword w.Of) e.0 tt (exact_keyword w.Of r refl) (λ a q. exact_bind (cases_exact r d e)
-      (λ cs. exact_bind (otherwise_exact r d e) (λ ys. closing_case r (t.Case p a cs ys)) (λ ys mid rest y c g. before_token EndsElse (refl, (refl, tt)) c)) choice_follow))
+      (λ cs. exact_bind (otherwise_exact r d e) (λ ys. closing w.EndCase r refl (t.Case p a cs ys)) (λ ys mid rest y c g. before_token EndsElse (refl, (refl, tt)) c)) choice_follow))
       (choice_to p) (choice_from p)
 
   for_behind : (r : ℕ) → ExactDeeper r d → Behind 1 r after_for (k.Keyword w.For) IsStatement Any
@@ -493,7 +485,7 @@ module _ (d : Deeper) where
   for_behind (suc r) e = λ p. exact_iff
       (exact_bind (exact_word r) (λ n. exact_bind (exact_symbol s.Assign r refl) (λ q. exact_before (k.Keyword w.To) e.0 tt (exact_keyword w.To r refl) (λ a u.
       exact_bind e.0 (λ b. exact_before (k.Keyword w.Do) (step_exact r d e) (refl, tt) (exact_keyword w.Do r refl) (λ c v.
-      exact_bind e.1 (λ ss. closing_for r (t.For p n a b c ss)) (λ ss mid rest y c' g. before_token EndsBlock (refl, tt) c')))
+      exact_bind e.1 (λ ss. closing w.EndFor r refl (t.For p n a b c ss)) (λ ss mid rest y c' g. before_token EndsBlock (refl, tt) c')))
       (λ b mid rest y c g. by_follow mid rest y c)))
       (λ q mid rest y c g. tt)) (λ n mid rest y c g. tt))
       (counting_to p) (counting_from p)
@@ -501,13 +493,13 @@ module _ (d : Deeper) where
   while_behind : (r : ℕ) → ExactDeeper r d → Behind 1 r after_while (k.Keyword w.While) IsStatement Any
   while_behind zero e = tt
   while_behind (suc r) e = λ p. exact_iff
-      (exact_before (k.Keyword w.Do) e.0 tt (exact_keyword w.Do r refl) (λ a q. exact_bind e.1 (λ ss. closing_while r (t.While p a ss)) (λ ss mid rest y c g. before_token EndsBlock (refl, tt) c)))
+      (exact_before (k.Keyword w.Do) e.0 tt (exact_keyword w.Do r refl) (λ a q. exact_bind e.1 (λ ss. closing w.EndWhile r refl (t.While p a ss)) (λ ss mid rest y c g. before_token EndsBlock (refl, tt) c)))
       (while_to p) (while_from p)
 
   repeat_behind : (r : ℕ) → ExactDeeper r d → Behind 0 r after_repeat (k.Keyword w.Repeat) IsStatement Any
   repeat_behind zero e = tt
   repeat_behind (suc r) e = λ p. exact_iff
-      (exact_before (k.Keyword w.Until) e.1 (refl, tt) (exact_keyword w.Until r refl) (λ ss q. exact_bind e.0 (λ a. closing_repeat r (t.Repeat p ss a)) (λ a mid rest y c g. before_token (Stops 7) tt c)))
+      (exact_before (k.Keyword w.Until) e.1 (refl, tt) (exact_keyword w.Until r refl) (λ ss q. exact_bind e.0 (λ a. closing w.EndRepeat r refl (t.Repeat p ss a)) (λ a mid rest y c g. before_token (Stops 7) tt c)))
       (repeat_to p) (repeat_from p)
 
 -- ---- statements

@@ -1,5 +1,5 @@
 -- The reading of charts as functions: what each function that reads them answers.
-use Rattle.std.specs.Prelude.{ℕ, zero, suc, Bool, true, false, if◌then◌else◌, List, [], ◌∷◌, Option, Some, None, Ok, Err}
+use Rattle.std.specs.Prelude.{ℕ, Bool, true, false, if◌then◌else◌, List, [], ◌∷◌, Option, Some, None, Ok, Err}
 use Rattle.st_tokens.specs.declared.keyword.Keyword.TheVariants as w
 use Rattle.st_tokens.specs.declared.symbol.Symbol.TheVariants as s
 use Rattle.st_tokens.specs.declared.token.Kind.{Kind}
@@ -14,7 +14,7 @@ use Rattle.st_tree.specs.declared.tree.unit.ChartElement.TheVariants as c
 use Rattle.st_expressions.specs.Grammar.{duration_of}
 use Rattle.st_expressions.specs.Parsers.{Parser, and_then, ◌>>=◌, ◌>>◌, pure, refuse, skip, peek, symbol, keyword, enter, word, number, many, leading, listed, is_comma}
 use Rattle.st_expressions.specs.Reading.{expression, is_open, is_close}
-use Rattle.st_expressions.specs.Tokens.{Tok, kind, next, place}
+use Rattle.st_expressions.specs.Tokens.{kind, next, place}
 use Rattle.st_statements.specs.Charts.{qualifier_of, association_of, step_of, transition_of, action_of, is_priority}
 use Rattle.st_statements.specs.Reading.{statements}
 

@@ -1,10 +1,9 @@
 -- The reading of statements as functions: what each function that reads them answers.
-use Rattle.std.specs.Prelude.{ℕ, zero, suc, Bool, true, false, List, [], ◌∷◌, Option, Some, None, Ok, Err}
+use Rattle.std.specs.Prelude.{ℕ, zero, suc, Bool, true, false, List, [], Option, Some, None}
 use Rattle.st_tokens.specs.declared.keyword.Keyword.TheVariants as w
 use Rattle.st_tokens.specs.declared.symbol.Symbol.TheVariants as s
 use Rattle.st_tokens.specs.declared.token.Kind.{Kind}
 use Rattle.st_tokens.specs.declared.token.Kind.TheVariants as k
-use Rattle.st_tree.specs.declared.tree.place.Place.{Place}
 use Rattle.st_tree.specs.declared.tree.constant.Constant.{Constant}
 use Rattle.st_tree.specs.declared.tree.expression.Expression.{Expression}
 use Rattle.st_tree.specs.declared.tree.statement.Statement.{Statement}
@@ -13,9 +12,8 @@ use Rattle.st_tree.specs.declared.tree.statement.ConditionalPart.{ConditionalPar
 use Rattle.st_tree.specs.declared.tree.statement.CaseElement.{CaseElement}
 use Rattle.st_tree.specs.declared.tree.statement.Label.{Label}
 use Rattle.st_tree.specs.declared.tree.statement.Label.TheVariants as l
-use Rattle.st_expressions.specs.Parsers.{Parser, and_then, ◌>>=◌, ◌>>◌, pure, refuse, skip, peek, peek_second, symbol, keyword, enter, word, many, leading, listed}
+use Rattle.st_expressions.specs.Parsers.{Parser, ◌>>=◌, ◌>>◌, pure, refuse, skip, peek, peek_second, symbol, keyword, enter, word, many, leading, listed}
 use Rattle.st_expressions.specs.Reading.{constant, expression, variable, call, inside_of, is_open}
-use Rattle.st_expressions.specs.Tokens.{Tok, kind, next, place}
 use Rattle.st_statements.specs.Grammar.{part_of, case_of}
 
 -- what stands between a word that opens a level and the one that closes it

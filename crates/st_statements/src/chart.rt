@@ -2,7 +2,6 @@
 ghost use Rattle.std.specs.Prelude.{◌≡◌, ◌<◌, ◌≤◌, [], ◌∷◌, length, IfErr, IfOk, OnOk};
 ghost use Rattle.st_expressions.specs.Parsers as parser;
 ghost use Rattle.st_expressions.specs.Parsers.{Reads};
-ghost use Rattle.st_expressions.specs.Reading.{is_close, is_open};
 ghost use Rattle.st_expressions.specs.Tokens.{kind};
 ghost use Rattle.st_statements.specs.ChartReading as spec;
 ghost use Rattle.st_statements.specs.Charts.{is_priority};
@@ -11,7 +10,7 @@ ghost use Rattle.st_tokens.specs.declared.fault.SyntaxFault.TheVariants.{Memory}
 use crate::statement::statements;
 use st_expressions::cursor::Cursor;
 use st_expressions::expression::expression;
-use st_expressions::token::{enter, is_comma, keyword, number, symbol, word};
+use st_expressions::token::{enter, is_close, is_comma, is_open, keyword, number, symbol, word};
 use st_tokens::{Keyword, Kind, Symbol, SyntaxFault};
 use st_tree::List;
 use st_tree::tree::{
@@ -19,20 +18,6 @@ use st_tree::tree::{
     Transition,
 };
 use std::alloc::Global;
-
-/// Whether the first token is `(`.
-fn is_open(ts: &Cursor<'_>) -> bool
-    ensures { result ≡ is_open (kind ts.now) }
-{
-    matches!(ts.kind(), Some(Kind::Symbol(Symbol::Open)))
-}
-
-/// Whether the first token is `)`.
-fn is_close(ts: &Cursor<'_>) -> bool
-    ensures { result ≡ is_close (kind ts.now) }
-{
-    matches!(ts.kind(), Some(Kind::Symbol(Symbol::Close)))
-}
 
 /// Whether the first token is a word.
 pub fn is_word(ts: &Cursor<'_>) -> bool
@@ -240,8 +225,8 @@ pub fn words(alloc: Global, ts: &mut Cursor<'_>) -> Result<List<Identifier>, Syn
     Ok(found)
 }
 
-/// A list of one item.
-fn alone(alloc: Global, item: Identifier) -> Result<List<Identifier>, SyntaxFault>
+/// A list of one name.
+pub fn alone(alloc: Global, item: Identifier) -> Result<List<Identifier>, SyntaxFault>
     ensures ok { IfOk result (λ list. list ≡ item ∷ []) }
     ensures err { IfErr result (λ fault. fault ≡ Memory) }
 {

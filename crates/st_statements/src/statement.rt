@@ -2,25 +2,17 @@
 ghost use Rattle.std.specs.Prelude.{◌≡◌, ◌<◌, ◌≤◌, length, OnOk};
 ghost use Rattle.st_expressions.specs.Parsers as parser;
 ghost use Rattle.st_expressions.specs.Parsers.{Reads};
-ghost use Rattle.st_expressions.specs.Reading.{is_open};
-ghost use Rattle.st_expressions.specs.Tokens.{kind, next};
+ghost use Rattle.st_expressions.specs.Tokens.{kind};
 ghost use Rattle.st_statements.specs.Reading as spec;
 
 use st_expressions::constant::constant;
 use st_expressions::cursor::Cursor;
-use st_expressions::expression::{call, expression, variable};
+use st_expressions::expression::{call, expression, is_call, variable};
 use st_expressions::token::{enter, is_comma, keyword, symbol, word};
 use st_tokens::{Keyword, Kind, Symbol, SyntaxFault};
 use st_tree::List;
 use st_tree::tree::{CaseElement, ConditionalPart, Expression, Label, Statement};
 use std::alloc::Global;
-
-/// Whether the second token is `(`.
-fn is_call(ts: &Cursor<'_>) -> bool
-    ensures { result ≡ is_open (kind (next ts.now)) }
-{
-    matches!(ts.second(), Some(Kind::Symbol(Symbol::Open)))
-}
 
 /// Whether the first token begins a label.
 fn begins_label(ts: &Cursor<'_>) -> bool

@@ -1,6 +1,6 @@
 -- The reading functions of declarations read their grammar exactly.
-use Rattle.std.proofs.Common.{◌≡◌, ℕ, zero, suc, ◌+◌, ◌<◌, ◌≤◌, List, [], ◌∷◌, length, refl, sym, ap, subst, ◌∙◌, Bool, true, false, arith}
-use Rattle.std.specs.Prelude.{Option, Some, None, Result, Ok, Err}
+use Rattle.std.proofs.Common.{◌≡◌, ℕ, suc, List, [], ◌∷◌, refl, sym, ap, subst, ◌∙◌, Bool, true, false}
+use Rattle.std.specs.Prelude.{Option, Some, None}
 use Rattle.st_tokens.specs.declared.keyword.Keyword.TheVariants as w
 use Rattle.st_tokens.specs.declared.symbol.Symbol.TheVariants as s
 use Rattle.st_tokens.specs.declared.token.Kind.{Kind}
@@ -19,7 +19,6 @@ use Rattle.st_tree.specs.declared.tree.declaration.Subrange.{Subrange}
 use Rattle.st_tree.specs.declared.tree.declaration.TypeName.{TypeName}
 use Rattle.st_tree.specs.declared.tree.declaration.TypeName.TheVariants as n
 use Rattle.st_tree.specs.declared.tree.declaration.VarBlock.{VarBlock}
-use Rattle.st_tree.specs.declared.tree.place.Identifier.{Identifier}
 use Rattle.st_tree.specs.declared.tree.place.Place.{Place}
 use Rattle.st_expressions.specs.Grammar.{IsSignedInteger, unsigned, IsConstant, integer}
 use Rattle.st_expressions.specs.Lists.{IsMany, none, more, IsListed, listed}
@@ -27,7 +26,7 @@ use Rattle.st_expressions.specs.Parsers as parser
 use Rattle.st_expressions.specs.Parsers.{Parser, and_then, identifier, is_comma}
 use Rattle.st_expressions.specs.Reading.{is_open, is_close}
 use Rattle.st_expressions.specs.Tokens.{Tok, kind, next, place}
-use Rattle.st_expressions.proofs.Exact.{Relation, Found, Exact, Always, Any, Then, seq, IsOne, one, IsPure, done, IsWord, a_word, IsNumber, a_number, exact_bind, exact_as, exact_iff, exact_last, exact_under, exact_zero, exact_pure, made, exact_refuse, exact_on, IsFirst, exact_token, exact_token_if, exact_symbol, exact_keyword, exact_word, exact_number, exact_before, before_token, Ends, exact_many, exact_listed}
+use Rattle.st_expressions.proofs.Exact.{Relation, Exact, Always, Any, Then, seq, IsOne, one, IsPure, done, IsWord, a_word, IsNumber, a_number, exact_bind, exact_as, exact_iff, exact_last, exact_under, exact_zero, exact_pure, made, exact_refuse, exact_on, IsFirst, exact_token, exact_token_if, exact_symbol, exact_keyword, exact_word, exact_number, exact_before, Ends, exact_many, exact_listed}
 use Rattle.st_expressions.proofs.Expressions.{constant_exact, signed_integer_exact}
 use Rattle.st_expressions.proofs.Follows.{constant_begins, begins_constant}
 use Rattle.st_expressions.proofs.Room.{At, enters}
@@ -322,16 +321,6 @@ member_begins ts x rest (member e f) = refl
 -- CONSTANT, RETAIN or NON_RETAIN don't follow
 abbrev EndsHead : Option Kind → Type 0
 EndsHead t = (is_retention t ≡ false) × (is_constant t ≡ false)
-
-retention_true : (x : Section) (ts : List Tok) (y : Section) (rest : List Tok) → is_retention (kind ts) ≡ true → EndsHead (kind rest) → IsRetention x ts y rest → ◌≡◌ {A = parser.Outcome Section} (Ok (x, next ts)) (Ok (y, rest))
-retention_true x ts y rest h g retained = refl
-retention_true x ts y rest h g not_retained = refl
-retention_true x ts y rest h g unsaid = absurd (let wrong = sym h ∙ g.0 in cc)
-
-retention_cases : (t : Option Kind) → is_retention t ≡ true → (M : Option Kind → Type 0) → M (Some (k.Keyword w.Retain)) → M (Some (k.Keyword w.NonRetain)) → M t
-retention_cases (Some (k.Keyword w.Retain)) h M a b = a
-retention_cases (Some (k.Keyword w.NonRetain)) h M a b = b
-retention_cases _ h M a b = absurd (cc)
 
 retain_to : (x : Section) (p : Place) (ts : List Tok) (y : Section) (rest : List Tok) → IsPure x ts y rest → IsRetention x ((p, k.Keyword w.Retain) ∷ ts) y rest
 retain_to x p ts y rest d = made d (λ z us. IsRetention x ((p, k.Keyword w.Retain) ∷ ts) z us) retained

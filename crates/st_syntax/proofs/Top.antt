@@ -1,6 +1,6 @@
 -- The tokens of a whole text.
-use Rattle.std.proofs.Common.{◌≡◌, ℕ, zero, suc, ◌+◌, ◌<◌, ◌≤◌, List, [], ◌∷◌, length, refl, sym, ap, subst, ◌∙◌, true, false, arith}
-use Rattle.std.specs.Prelude.{Option, Some, None, Result, Ok, Err}
+use Rattle.std.proofs.Common.{◌≡◌, ℕ, ◌≤◌, List, [], ◌∷◌, length, refl, sym, ap, subst, ◌∙◌, arith}
+use Rattle.std.specs.Prelude.{Some, None, Ok}
 use Rattle.st_tokens.specs.declared.fault.SyntaxFault.{SyntaxFault}
 use Rattle.st_tokens.specs.declared.fault.SyntaxFault.TheVariants as fault
 use Rattle.st_tokens.specs.declared.scan.TheConstants.{MOST_BYTES}
@@ -11,12 +11,12 @@ use Rattle.st_tokens.proofs.Reading.{one_list}
 use Rattle.st_tree.specs.declared.tree.unit.Unit as unit
 use Rattle.st_expressions.specs.Levels.{IsWithin}
 use Rattle.st_expressions.specs.Lists.{IsMany}
-use Rattle.st_expressions.specs.Parsers.{Outcome, Refuses, Wrong, Deep}
+use Rattle.st_expressions.specs.Parsers.{Refuses}
 use Rattle.st_expressions.specs.Tokens.{Tok, kind, numbered}
 use Rattle.st_expressions.proofs.Exact.{Exact, Always, Any, Ends}
 use Rattle.st_expressions.proofs.Loops.{ok_parts}
-use Rattle.st_expressions.proofs.Room.{At, Room, room_from, within_from}
-use Rattle.st_syntax.specs.Texts.{IsTextOf, IsOutside, IsDeep, Explains}
+use Rattle.st_expressions.proofs.Room.{At, room_from, within_from}
+use Rattle.st_syntax.specs.Texts.{IsTextOf, IsOutside, Explains}
 use Rattle.st_syntax.specs.UnitReading.{units, begins_unit}
 use Rattle.st_syntax.specs.Units.{IsUnit, AreUnits}
 use Rattle.st_syntax.proofs.UnitsExact.{units_exact}

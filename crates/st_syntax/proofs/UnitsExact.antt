@@ -1,6 +1,6 @@
 -- The reading functions of units read their grammar exactly.
-use Rattle.std.proofs.Common.{◌≡◌, ℕ, zero, suc, ◌+◌, ◌<◌, ◌≤◌, List, [], ◌∷◌, length, refl, sym, ap, subst, ◌∙◌, Bool, true, false, arith}
-use Rattle.std.specs.Prelude.{Option, Some, None, Result, Ok, Err}
+use Rattle.std.proofs.Common.{◌≡◌, ℕ, suc, List, [], ◌∷◌, refl, sym, subst, ◌∙◌, Bool, true, false, arith}
+use Rattle.std.specs.Prelude.{Option, Some, Ok, Err}
 use Rattle.st_tokens.specs.declared.keyword.Keyword.TheVariants as w
 use Rattle.st_tokens.specs.declared.symbol.Symbol.TheVariants as s
 use Rattle.st_tokens.specs.declared.token.Kind.{Kind}
@@ -9,8 +9,6 @@ use Rattle.st_tree.specs.declared.elem.Elem.{Elem}
 use Rattle.st_tree.specs.declared.tree.declaration.Declaration.{Declaration}
 use Rattle.st_tree.specs.declared.tree.declaration.DeclaredType.{DeclaredType}
 use Rattle.st_tree.specs.declared.tree.declaration.DeclaredType.TheVariants as d
-use Rattle.st_tree.specs.declared.tree.declaration.VarBlock.{VarBlock}
-use Rattle.st_tree.specs.declared.tree.place.Identifier.{Identifier}
 use Rattle.st_tree.specs.declared.tree.place.Place.{Place}
 use Rattle.st_tree.specs.declared.tree.unit.Body.{Body}
 use Rattle.st_tree.specs.declared.tree.unit.Body.TheVariants as b
@@ -18,22 +16,22 @@ use Rattle.st_tree.specs.declared.tree.unit.Organization.{Organization}
 use Rattle.st_tree.specs.declared.tree.unit.TypeDeclaration.{TypeDeclaration}
 use Rattle.st_tree.specs.declared.tree.unit.Unit as unit
 use Rattle.st_tree.specs.declared.tree.unit.Unit.TheVariants as u
-use Rattle.st_expressions.specs.Lists.{IsMany, none, more}
+use Rattle.st_expressions.specs.Lists.{IsMany}
 use Rattle.st_expressions.specs.Parsers as parser
 use Rattle.st_expressions.specs.Parsers.{Parser, and_then, identifier, Deep}
-use Rattle.st_expressions.specs.Tokens.{Tok, kind, next, place}
-use Rattle.st_expressions.proofs.Exact.{Relation, Found, Exact, Always, Any, Then, seq, IsOne, one, IsPure, done, IsWord, a_word, exact_bind, exact_as, exact_iff, exact_last, exact_under, exact_zero, exact_pure, made, exact_refuse, exact_on, IsFirst, exact_token, exact_symbol, exact_keyword, exact_word, exact_before, before_token, Ends, exact_many}
+use Rattle.st_expressions.specs.Tokens.{Tok, kind}
+use Rattle.st_expressions.proofs.Exact.{Relation, Found, Exact, Always, Any, Then, seq, IsOne, one, IsPure, done, IsWord, a_word, exact_bind, exact_as, exact_iff, exact_last, exact_under, exact_zero, exact_pure, made, exact_refuse, exact_on, IsFirst, exact_token, exact_symbol, exact_keyword, exact_word, exact_before, Ends, exact_many}
 use Rattle.st_expressions.proofs.Loops.{ok_parts}
 use Rattle.st_expressions.proofs.Room.{At}
 use Rattle.st_statements.specs.ChartReading.{is_word, begins_element}
 use Rattle.st_statements.specs.Charts.{IsElement, initial_step, plain_step, transition, action, IsChart, chart}
-use Rattle.st_statements.specs.Grammar.{IsStatements, no_statement, statements, IsStatement}
+use Rattle.st_statements.specs.Grammar.{IsStatements, no_statement, statements}
 use Rattle.st_statements.specs.Reading.{begins_statement}
 use Rattle.st_statements.proofs.ChartsExact.{chart_exact}
 use Rattle.st_statements.proofs.Statements.{EndsBlock, statements_exact, begins_is}
 use Rattle.st_syntax.specs.DeclarationReading as declarations
 use Rattle.st_syntax.specs.DeclarationReading.{begins_block}
-use Rattle.st_syntax.specs.Declarations.{IsSpecification, simple, array, elementary, declared, IsInitialized, IsMember, member, IsVarBlock}
+use Rattle.st_syntax.specs.Declarations.{IsSpecification, simple, IsInitialized, IsMember, IsVarBlock}
 use Rattle.st_syntax.specs.UnitReading as spec
 use Rattle.st_syntax.specs.UnitReading.{is_struct, begins_unit}
 use Rattle.st_syntax.specs.Units.{type_of, function_of, organization_of, IsDeclared, derived, structure, IsTypeDeclaration, type_declaration, IsBody, plain_body, chart_body, IsOrganization, organization, IsUnit, types, function, function_block, program}
@@ -171,9 +169,6 @@ statement_no_block (Some (k.Keyword w.While)) h = (refl, tt)
 statement_no_block (Some (k.Keyword w.Repeat)) h = (refl, tt)
 statement_no_block _ h = absurd (cc)
 
-statements_begin : {ts rest : List Tok} {x : _} {xs : _} → IsStatements ts (x ∷ xs) rest → begins_statement (kind ts) ≡ true
-statements_begin {ts} {rest} {x} (statements {mid = mid} e m) = begins_is ts x mid e
-
 function_follow : {S : _ → Relation unit.Unit} (mid rest : List Tok) (y : unit.Unit) → Then IsStatements (λ ss. Then (IsOne (k.Keyword w.EndFunction)) (λ z. S ss)) mid y rest → Ends begins_block Any (kind mid)
 function_follow mid rest y (seq no_statement (seq one f)) = (refl, tt)
 function_follow mid rest y (seq (statements {mid = last} {x = x} e m) f) = statement_no_block (kind mid) (begins_is mid x last e)
@@ -287,11 +282,6 @@ module _ (r : ℕ) where
   program_rule p = exact_iff (exact_bind (exact_word (suc (suc r))) (λ n. exact_bind (variables_exact r) (λ vs. exact_before (k.Keyword w.EndProgram) (body_exact r) (refl, (refl, tt)) (exact_keyword w.EndProgram (suc (suc r)) refl)
       (λ c z. exact_pure (organization_of p n vs c) Always Any (At (suc (suc r))))) (λ vs mid rest y f g. body_follow (k.Keyword w.EndProgram) (refl, tt) mid rest y f)) (λ n mid rest y f g. tt))
       (whole_to (k.Keyword w.EndProgram) p) (whole_from (k.Keyword w.EndProgram) p)
-
-  -- what is made of what was read behind a word
-  regroup : {A B C : Type 0} (o : parser.Outcome A) (f : A → Parser B) (g : B → C) → and_then (and_then o f) (λ x. parser.pure (g x)) ≡ and_then o (λ x ts. and_then (f x ts) (λ y. parser.pure (g y)))
-  regroup (Ok z) f g = refl
-  regroup (Err e) f g = refl
 
   block_exact : Exact 1 (spec.function_block (suc r)) (IsFirst (k.Keyword w.FunctionBlock)) IsUnit Any (At (suc (suc r))) (At (suc (suc r)))
   unfolding spec.function_block spec.organization

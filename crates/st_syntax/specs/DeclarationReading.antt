@@ -1,5 +1,5 @@
 -- The reading of declarations as functions: what each function that reads them answers. In brackets `room` levels may still be opened.
-use Rattle.std.specs.Prelude.{ℕ, suc, Bool, true, false, List, [], ◌∷◌, Option, Some, None, Ok, Err}
+use Rattle.std.specs.Prelude.{ℕ, suc, Bool, true, false, List, [], ◌∷◌, Option, Some, None}
 use Rattle.st_tokens.specs.declared.keyword.Keyword.TheVariants as w
 use Rattle.st_tokens.specs.declared.symbol.Symbol.TheVariants as s
 use Rattle.st_tokens.specs.declared.token.Kind.{Kind}
@@ -19,9 +19,9 @@ use Rattle.st_tree.specs.declared.tree.declaration.TypeName.{TypeName}
 use Rattle.st_tree.specs.declared.tree.declaration.TypeName.TheVariants as n
 use Rattle.st_tree.specs.declared.tree.declaration.VarBlock.{VarBlock}
 use Rattle.st_tree.specs.declared.tree.place.Place.{Place}
-use Rattle.st_expressions.specs.Parsers.{Parser, and_then, ◌>>=◌, ◌>>◌, pure, refuse, skip, peek, here, symbol, keyword, enter, word, number, many, leading, listed}
+use Rattle.st_expressions.specs.Parsers.{Parser, ◌>>=◌, ◌>>◌, pure, refuse, skip, peek, here, symbol, keyword, enter, word, number, many, listed}
 use Rattle.st_expressions.specs.Reading.{constant, signed_integer, is_close}
-use Rattle.st_expressions.specs.Tokens.{Tok, kind, next, place}
+use Rattle.st_expressions.specs.Tokens.{kind, next}
 use Rattle.st_statements.specs.ChartReading.{is_word, opening}
 use Rattle.st_syntax.specs.Declarations.{subrange_of, declaration_of, block_of}
 

@@ -1,5 +1,5 @@
 -- The reading of units as functions: what each function that reads them answers. In brackets `room` levels may still be opened.
-use Rattle.std.specs.Prelude.{ℕ, suc, Bool, true, false, List, [], ◌∷◌, Option, Some, None, Ok, Err}
+use Rattle.std.specs.Prelude.{ℕ, suc, Bool, true, false, List, Option, Some, Ok}
 use Rattle.st_tokens.specs.declared.keyword.Keyword.TheVariants as w
 use Rattle.st_tokens.specs.declared.keyword.Keyword.{Keyword}
 use Rattle.st_tokens.specs.declared.symbol.Symbol.TheVariants as s
@@ -15,8 +15,8 @@ use Rattle.st_tree.specs.declared.tree.unit.Organization.{Organization}
 use Rattle.st_tree.specs.declared.tree.unit.TypeDeclaration.{TypeDeclaration}
 use Rattle.st_tree.specs.declared.tree.unit.Unit as unit
 use Rattle.st_tree.specs.declared.tree.unit.Unit.TheVariants as u
-use Rattle.st_expressions.specs.Parsers.{Parser, and_then, ◌>>=◌, ◌>>◌, pure, refuse, skip, peek, symbol, keyword, word, many, leading}
-use Rattle.st_expressions.specs.Tokens.{Tok, kind, next, place}
+use Rattle.st_expressions.specs.Parsers.{Parser, ◌>>=◌, ◌>>◌, pure, refuse, skip, peek, symbol, keyword, word, many, leading}
+use Rattle.st_expressions.specs.Tokens.{kind, next}
 use Rattle.st_statements.specs.ChartReading.{is_word, begins_element, chart}
 use Rattle.st_statements.specs.Reading.{statements}
 use Rattle.st_syntax.specs.DeclarationReading.{specification, initialized, member, variables}

@@ -2,19 +2,18 @@
 ghost use Rattle.std.specs.Prelude.{◌≡◌, ◌<◌, ◌≤◌, [], ◌∷◌, length, IfErr, IfOk, OnOk, Ok};
 ghost use Rattle.st_expressions.specs.Parsers as parser;
 ghost use Rattle.st_expressions.specs.Parsers.{Reads};
-ghost use Rattle.st_expressions.specs.Reading.{is_close};
 ghost use Rattle.st_expressions.specs.Tokens.{kind, next};
 ghost use Rattle.st_syntax.specs.DeclarationReading as spec;
 ghost use Rattle.st_tokens.specs.declared.fault.SyntaxFault.TheVariants.{Memory};
 
 use st_expressions::constant::{constant, signed_integer};
 use st_expressions::cursor::Cursor;
-use st_expressions::token::{enter, is_comma, keyword, number, symbol, word};
-use st_statements::chart::{is_word, opening, words};
+use st_expressions::token::{enter, is_close, is_comma, keyword, number, symbol, word};
+use st_statements::chart::{alone, is_word, opening, words};
 use st_tokens::{Keyword, Kind, Symbol, SyntaxFault};
 use st_tree::List;
 use st_tree::tree::{
-    ArrayElement, Constant, Declaration, Identifier, Initial, Place, Section, Specification,
+    ArrayElement, Constant, Declaration, Initial, Place, Section, Specification,
     Subrange, TypeName, VarBlock,
 };
 use std::alloc::Global;
@@ -27,13 +26,6 @@ fn is_bracket(ts: &Cursor<'_>) -> bool
     ensures { result ≡ spec.is_bracket (kind ts.now) }
 {
     matches!(ts.kind(), Some(Kind::Symbol(Symbol::OpenBracket)))
-}
-
-/// Whether the first token is `)`.
-fn is_close(ts: &Cursor<'_>) -> bool
-    ensures { result ≡ is_close (kind ts.now) }
-{
-    matches!(ts.kind(), Some(Kind::Symbol(Symbol::Close)))
 }
 
 /// Whether the first token is `:=`.
@@ -309,16 +301,6 @@ fn declaration(alloc: Global, ts: &mut Cursor<'_>) -> Result<Declaration, Syntax
         specification,
         initial,
     })
-}
-
-/// A list of one item.
-fn alone(alloc: Global, item: Identifier) -> Result<List<Identifier>, SyntaxFault>
-    ensures ok { IfOk result (λ list. list ≡ item ∷ []) }
-    ensures err { IfErr result (λ fault. fault ≡ Memory) }
-{
-    let mut found = List::new(alloc);
-    found.push(item)?;
-    Ok(found)
 }
 
 /// Takes a member of a structure.

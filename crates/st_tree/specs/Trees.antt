@@ -4,11 +4,11 @@ use Rattle.st_tree.specs.declared.tree.expression.Expression.{Expression, fold-E
 use Rattle.st_tree.specs.declared.tree.expression.Operation.{Operation, fold-Operation}
 use Rattle.st_tree.specs.declared.tree.expression.Part.{Part, fold-Part}
 use Rattle.st_tree.specs.declared.tree.expression.Variable.{Variable, fold-Variable}
-use Rattle.st_tree.specs.declared.tree.expression.Argument.TheOpen.{Argument-F, Call-F, Expression-F, Operation-F, Part-F, Variable-F}
+use Rattle.st_tree.specs.declared.tree.expression.Argument.TheOpen.{Argument-F, Expression-F, Part-F}
 use Rattle.st_tree.specs.declared.tree.statement.CaseElement.{CaseElement, fold-CaseElement}
 use Rattle.st_tree.specs.declared.tree.statement.ConditionalPart.{ConditionalPart, fold-ConditionalPart}
 use Rattle.st_tree.specs.declared.tree.statement.Statement.{Statement, fold-Statement}
-use Rattle.st_tree.specs.declared.tree.statement.Statement.TheOpen.{CaseElement-F, ConditionalPart-F, Statement-F}
+use Rattle.st_tree.specs.declared.tree.statement.Statement.TheOpen.{Statement-F}
 
 -- one of them is true
 abbrev pub any : List Bool → Bool

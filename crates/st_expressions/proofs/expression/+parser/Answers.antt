@@ -1,8 +1,8 @@
-use Rattle.std.proofs.Common.{◌≡◌, ℕ, zero, suc, ◌+◌, ◌-◌, ◌<◌, ◌≤◌, List, [], ◌∷◌, ◌++◌, length, refl, sym, ap, Ok, ◌∙◌, arith}
+use Rattle.std.proofs.Common.{[], refl, sym, ap, Ok, ◌∙◌, arith}
 use Rattle.std.proofs.lemmas.Result.{err_from_is_err_and}
 use Rattle.st_expressions.specs.Parsers as parser
 use Rattle.st_expressions.specs.Reading as spec
-use Rattle.st_expressions.proofs.Loops.{Left, left_init, left_step, loop_end, loop_err, leading_end, leading_err}
+use Rattle.st_expressions.proofs.Loops.{left_init, left_step, loop_end, loop_err, leading_end, leading_err}
 use Rattle.st_expressions.proofs.ReadingLemmas.{rank_ok, rank_err, inside_expression, inside_variable, reads_made}
 use Rattle.st_expressions.proofs.expression.+parser.Goals as goal
 

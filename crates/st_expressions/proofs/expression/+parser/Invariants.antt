@@ -1,4 +1,4 @@
-use Rattle.std.proofs.Common.{◌≡◌, ◌+◌, ◌*◌, ◌-◌, ◌<◌, ◌≤◌, List, [], ◌∷◌, length, ℕ}
+use Rattle.std.proofs.Common.{◌+◌, ◌*◌, ◌≤◌, [], length}
 use Rattle.st_expressions.specs.Parsers as parser
 use Rattle.st_expressions.specs.Reading as spec
 use Rattle.st_expressions.proofs.Loops.{Left}

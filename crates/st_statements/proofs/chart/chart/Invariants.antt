@@ -1,5 +1,4 @@
-use Rattle.std.proofs.Common.{◌≡◌, ◌≤◌, List, [], ◌∷◌, length}
-use Rattle.st_expressions.specs.Parsers as parser
+use Rattle.std.proofs.Common.{◌≤◌, length}
 use Rattle.st_statements.specs.ChartReading as spec
 use Rattle.st_expressions.proofs.Loops.{Left}
 use Rattle.st_statements.proofs.chart.chart.Given as goal

@@ -1,9 +1,8 @@
-use Rattle.std.proofs.Common.{◌≡◌, ℕ, zero, suc, ◌+◌, ◌-◌, ◌<◌, ◌≤◌, List, [], ◌∷◌, ◌++◌, length, refl, sym, ap, Ok, ◌∙◌, arith}
+use Rattle.std.proofs.Common.{refl, sym, ◌∙◌, arith}
 use Rattle.std.proofs.lemmas.Result.{err_from_is_err_and}
 use Rattle.st_expressions.specs.Parsers as parser
 use Rattle.st_syntax.specs.DeclarationReading as spec
-use Rattle.st_statements.specs.ChartReading as chart
-use Rattle.st_expressions.proofs.Loops.{Left, left_init, left_step, loop_end, loop_err, leading_end, leading_err}
+use Rattle.st_expressions.proofs.Loops.{left_init, left_step, leading_end, leading_err}
 use Rattle.st_syntax.proofs.declaration.subranges.Goals as goal
 
 pub items-init : goal.items-init

@@ -1,4 +1,4 @@
-use Rattle.std.proofs.Common.{◌≡◌, refl, sym, ap, ◌∙◌}
+use Rattle.std.proofs.Common.{sym, ◌∙◌}
 use Rattle.std.proofs.lemmas.Result.{err_from_is_err_and}
 use Rattle.st_syntax.proofs.Top.{found, left_over, refused, one_text, only_memory}
 use Rattle.st_syntax.proofs.text.parse.Goals as goal
