@@ -7,6 +7,7 @@ mod record;
 mod refusal;
 mod state;
 mod thin;
+mod thin_program;
 mod undoing;
 
 pub use controller::{Controller, Report};
@@ -15,4 +16,5 @@ pub use record::Record;
 pub use refusal::Refusal;
 pub use state::{RunFault, RunFaultKind, State, Status};
 pub use thin::texts_give_one_list;
+pub use thin_program::units_give_one_list;
 pub use undoing::revert;
