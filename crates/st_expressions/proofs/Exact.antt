@@ -151,6 +151,15 @@ pub exact_under : {A : Type 0} {c : ℕ} {P : Parser A} {pre pre' : List Tok →
     → Exact c P pre R F Q Q' → ((ts : List Tok) → pre' ts → pre ts) → ((t : Option Kind) → F' t → F t) → Exact c P pre' R F' Q Q'
 exact_under a premise follow = exact_as a premise (λ ts x rest p d. d) (λ ts x rest p g d. d) follow
 
+-- the same, whatever it takes
+pub exact_zero : {A : Type 0} {c : ℕ} {P : Parser A} {pre : List Tok → Type 0} {R : Relation A} {F : Option Kind → Type 0} {Q Q' : List Tok → Type 0}
+    → Exact c P pre R F Q Q' → Exact 0 P pre R F Q Q'
+exact_zero a = record {
+  reads = λ ts x rest p h. let u = a.reads ts x rest p h in record { is = u.is; takes = omega (arith, u.takes); after = u.after; before = u.before };
+  deep = a.deep;
+  read = a.read;
+}
+
 -- what can't be in the relation is refused
 pub exact_refuse : {A : Type 0} (c : ℕ) (pre : List Tok → Type 0) (R : Relation A) (F : Option Kind → Type 0) (Q Q' : List Tok → Type 0)
     → ((ts : List Tok) (x : A) (rest : List Tok) → pre ts → R ts x rest → ⊥) → Exact {A = A} c parser.refuse pre R F Q Q'
@@ -416,7 +425,7 @@ module _ {A : Type 0} (item : Parser A) (R : Relation A) (F : Option Kind → Ty
 
   -- item { ',' item }
   pub exact_listed : Exact 1 (parser.listed item) Always (IsListed R) (Ends is_comma F) (At r) (At r)
-  unfolding parser.listed
+  unfolding parser.leading
   exact_listed = exact_iff (exact_bind a (λ x. exact_bind exact_nexts (λ xs. exact_pure (x ∷ xs) Always (Ends is_comma F) (At r)) same_end) first_follow) to_listed from_listed where
     same_end : {x : A} (xs : List A) (mid rest : List Tok) (ys : List A) → IsPure (x ∷ xs) mid ys rest → Ends is_comma F (kind rest) → Ends is_comma F (kind mid)
     same_end xs mid rest ys p e = made p (λ zs us. Ends is_comma F (kind us) → Ends is_comma F (kind mid)) (λ g. g) e

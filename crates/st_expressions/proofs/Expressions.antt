@@ -386,7 +386,7 @@ group_behind zero i h = tt
 group_behind (suc r) i h = λ p. exact_iff
     (exact_before (k.Symbol s.Close) h.0 tt (exact_symbol s.Close r refl) (λ x q. exact_pure (e.Group p x) Always Any (At (suc r)))) (group_to p) (group_from p)
 
-open_is : (t : Option Kind) → spec.is_open t ≡ true → t ≡ Some (k.Symbol s.Open)
+pub open_is : (t : Option Kind) → spec.is_open t ≡ true → t ≡ Some (k.Symbol s.Open)
 open_is (Some (k.Symbol s.Open)) h = refl
 open_is _ h = absurd (cc)
 

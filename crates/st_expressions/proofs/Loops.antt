@@ -5,7 +5,7 @@ use Rattle.st_tokens.specs.declared.fault.SyntaxFault.{SyntaxFault}
 use Rattle.st_tokens.specs.declared.fault.SyntaxFault.TheVariants as fault
 use Rattle.st_tokens.specs.declared.token.Kind.{Kind}
 use Rattle.st_expressions.specs.Tokens.{Tok, kind, next, place}
-use Rattle.st_expressions.specs.Parsers.{Refuses, Refusal, Wrong, Deep, Outcome, Parser, and_then, many_from, many, is_comma, next_item, listed}
+use Rattle.st_expressions.specs.Parsers.{Refuses, Refusal, Wrong, Deep, Outcome, Parser, and_then, many_from, many, leading}
 
 -- what was found before stands in front
 abbrev pub ahead : {A : Type 0} → List A → Outcome (List A) → Outcome (List A)
@@ -108,20 +108,20 @@ pub ahead_err : {A : Type 0} (x : A) (o : Outcome (List A)) (r : Refusal) → ah
 ahead_err x (Ok y) r h = absurd (cc)
 ahead_err x (Err s) r h = cc
 
-module _ {A : Type 0} (item : Parser A) (start mid : List Tok) (x : A) (first : item start ≡ Ok (x, mid)) where
+module _ {A : Type 0} (head : Parser A) (test : Option Kind → Bool) (item : Parser A) (start mid : List Tok) (x : A) (first : head start ≡ Ok (x, mid)) where
   as_ahead : (o : Outcome (List A)) → and_then o (λ xs us. Ok (x ∷ xs, us)) ≡ ahead (x ∷ []) o
   as_ahead (Ok y) = refl
   as_ahead (Err r) = refl
 
-  listed_is : listed item start ≡ ahead (x ∷ []) (many is_comma (next_item item) mid)
-  unfolding listed
-  listed_is = rw first (as_ahead (many is_comma (next_item item) mid))
+  leading_is : leading head test item start ≡ ahead (x ∷ []) (many test item mid)
+  unfolding leading
+  leading_is = rw first (as_ahead (many test item mid))
 
   -- a loop behind the first item
-  pub listed_end : (one found : List A) (ts : List Tok) → one ≡ [] ++ x ∷ [] → Left is_comma (next_item item) one mid found ts
-      → is_comma (kind ts) ≡ false → listed item start ≡ Ok (found, ts)
-  listed_end one found ts e w t = listed_is ∙ ap (λ zs. ahead zs (many is_comma (next_item item) mid)) (sym e) ∙ left_end is_comma (next_item item) one mid found ts w t
+  pub leading_end : (one found : List A) (ts : List Tok) → one ≡ [] ++ x ∷ [] → Left test item one mid found ts
+      → test (kind ts) ≡ false → leading head test item start ≡ Ok (found, ts)
+  leading_end one found ts e w t = leading_is ∙ ap (λ zs. ahead zs (many test item mid)) (sym e) ∙ left_end test item one mid found ts w t
 
-  pub listed_err : (one found : List A) (ts : List Tok) (f : SyntaxFault) → one ≡ [] ++ x ∷ [] → Left is_comma (next_item item) one mid found ts
-      → is_comma (kind ts) ≡ true → Refuses (next_item item ts) f → Refuses (listed item start) f
-  listed_err one found ts f e w t = refuses_too _ _ f (λ r h. listed_is ∙ ap (λ zs. ahead zs (many is_comma (next_item item) mid)) (sym e) ∙ left_err is_comma (next_item item) one mid found ts r w t h)
+  pub leading_err : (one found : List A) (ts : List Tok) (f : SyntaxFault) → one ≡ [] ++ x ∷ [] → Left test item one mid found ts
+      → test (kind ts) ≡ true → Refuses (item ts) f → Refuses (leading head test item start) f
+  leading_err one found ts f e w t = refuses_too _ _ f (λ r h. leading_is ∙ ap (λ zs. ahead zs (many test item mid)) (sym e) ∙ left_err test item one mid found ts r w t h)

@@ -119,12 +119,16 @@ is_comma _ = false
 unfoldable pub next_item : {A : Type 0} → Parser A → Parser A
 next_item item = skip >> item
 
--- item { ',' item }
-unfoldable pub listed : {A : Type 0} → Parser A → Parser (List A)
-listed item = do
-  x ← item
-  xs ← many is_comma (next_item item)
+-- first { item }, as long as the first token passes the test
+unfoldable pub leading : {A : Type 0} → Parser A → (Option Kind → Bool) → Parser A → Parser (List A)
+leading first test item = do
+  x ← first
+  xs ← many test item
   pure (x ∷ xs)
+
+-- item { ',' item }
+abbrev pub listed : {A : Type 0} → Parser A → Parser (List A)
+listed item = leading item is_comma (next_item item)
 
 -- ---- what a function that reads ensures: the outcome, unless memory runs out
 

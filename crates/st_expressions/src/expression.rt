@@ -142,7 +142,7 @@ fn next_expression(alloc: Global, ts: &mut Cursor<'_>, room: u8) -> Result<Expre
 
 /// The expressions in brackets.
 #[cycle(parser)]
-#[tactic(auto, unfolding(crate::specs::Parsers::listed))]
+#[tactic(auto, unfolding(crate::specs::Parsers::leading))]
 fn expressions(alloc: Global, ts: &mut Cursor<'_>, room: u8) -> Result<List<Expression>, SyntaxFault>
     requires { 0 < room }
     ensures read { Reads (parser.listed (spec.inside_of room).expression ts.old) result ts.new }
@@ -273,7 +273,7 @@ fn next_argument(alloc: Global, ts: &mut Cursor<'_>, room: u8) -> Result<Argumen
 }
 
 #[cycle(parser)]
-#[tactic(auto, unfolding(crate::specs::Parsers::listed))]
+#[tactic(auto, unfolding(crate::specs::Parsers::leading))]
 fn argument_list(alloc: Global, ts: &mut Cursor<'_>, room: u8) -> Result<List<Argument>, SyntaxFault>
     requires { 0 < room }
     ensures read { Reads (parser.listed (spec.argument (spec.inside_of room)) ts.old) result ts.new }

@@ -1,0 +1,6 @@
+pub mod Characters
+pub mod Forms
+pub mod Scanning
+pub mod Symbols
+pub mod Text
+pub mod Words

@@ -1,12 +1,21 @@
 //! The tokens of a text (IEC 61131-3:2003, 2.1 and 2.2).
 #![tactic(auto)]
 
+mod comment;
+mod duration;
 mod fault;
 mod keyword;
+mod literal;
+mod run;
+mod scan;
 mod symbol;
+#[cfg(test)]
+mod tests;
 mod token;
+mod word;
 
 pub use fault::SyntaxFault;
-pub use keyword::Keyword;
+pub use keyword::{KEYWORDS, Keyword};
+pub use scan::{MOST_BYTES, tokens, tokens_are_one_list};
 pub use symbol::Symbol;
 pub use token::{Kind, Spelling, Token};

@@ -87,8 +87,8 @@ fn read_signed_interval(text: &[u8]) -> Option<i128>
     }
 }
 
-/// Reads a whole text as parts with units from large to small.
-fn read_interval(text: &[u8]) -> Option<u128>
+/// Reads a whole text as parts with units from large to small, in milliseconds. What is above all types' ranges counts as 2^64.
+pub fn read_interval(text: &[u8]) -> Option<u128>
     ensures value { result ≡ option_map capped (interval_read text.now) }
     ensures bound { IfSome result (λ number. number ≤ 2 ^ 64) }
 {

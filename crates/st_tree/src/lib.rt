@@ -19,11 +19,12 @@ mod value;
 mod word;
 
 pub use boxed::Boxed;
-pub use duration::interval_is_its_parts;
+pub use duration::{interval_is_its_parts, read_interval};
 pub use elem::{Class, Elem};
 pub use leaf::{Leaf, Role};
 pub use list::List;
 pub use name::Name;
+pub use number::{read_digits, read_number};
 pub use operator::BinOp;
 pub use put::put_value;
 pub use read::{BadValue, read_value, text_is_read_back};

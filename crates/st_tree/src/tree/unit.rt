@@ -10,8 +10,8 @@ use crate::tree::statement::Statement;
 /// A unit of a text.
 #[derive(Drop)]
 pub enum Unit {
-    /// A type. One TYPE may declare several.
-    Type(TypeDeclaration),
+    /// `TYPE`: the types that it declares.
+    Types(Place, List<TypeDeclaration>),
     /// A function.
     Function(Function),
     /// A function block.

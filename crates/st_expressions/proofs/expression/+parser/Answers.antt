@@ -2,7 +2,7 @@ use Rattle.std.proofs.Common.{◌≡◌, ℕ, zero, suc, ◌+◌, ◌-◌, ◌<�
 use Rattle.std.proofs.lemmas.Result.{err_from_is_err_and}
 use Rattle.st_expressions.specs.Parsers as parser
 use Rattle.st_expressions.specs.Reading as spec
-use Rattle.st_expressions.proofs.Loops.{Left, left_init, left_step, loop_end, loop_err, listed_end, listed_err}
+use Rattle.st_expressions.proofs.Loops.{Left, left_init, left_step, loop_end, loop_err, leading_end, leading_err}
 use Rattle.st_expressions.proofs.ReadingLemmas.{rank_ok, rank_err, inside_expression, inside_variable, reads_made}
 use Rattle.st_expressions.proofs.expression.+parser.Goals as goal
 
@@ -12,7 +12,7 @@ expressions-items-init t c = record { left = left_init parser.is_comma (parser.n
 pub expressions-returns-in_err-item-clause-read : goal.expressions-returns-in_err-item-clause-read
 expressions-returns-in_err-item-clause-read t c =
     let p = err_from_is_err_and c.from_residual-in_err-item.result c.from_residual-in_err-item.ensures.1 in
-    rw (p.1, p.2) (listed_err (spec.inside_of c.args.room).expression c.args.ts.now c.inside.new.ts c.in_ok-first.first c.in_ok-first.ensures.read c.push.new.self c.items.found c.items.ts _ (rw (c.in_ok-push.ensures.ok, c.new-found.ensures) refl) c.items.invariant.left (sym c.is_comma.ensures ∙ c.items-test.true) c.in_err-item.ensures.read)
+    rw (p.1, p.2) (leading_err (spec.inside_of c.args.room).expression parser.is_comma (parser.next_item (spec.inside_of c.args.room).expression) c.args.ts.now c.inside.new.ts c.in_ok-first.first c.in_ok-first.ensures.read c.push.new.self c.items.found c.items.ts _ (rw (c.in_ok-push.ensures.ok, c.new-found.ensures) refl) c.items.invariant.left (sym c.is_comma.ensures ∙ c.items-test.true) c.in_err-item.ensures.read)
 
 pub expressions-items-preserved : goal.expressions-items-preserved
 expressions-items-preserved t c = record {
@@ -21,7 +21,7 @@ expressions-items-preserved t c = record {
 }
 
 pub expressions-returns-clause-read : goal.expressions-returns-clause-read
-expressions-returns-clause-read t c = listed_end (spec.inside_of c.args.room).expression c.args.ts.now c.inside.new.ts c.in_ok-first.first c.in_ok-first.ensures.read c.push.new.self c.items.found c.items.ts (rw (c.in_ok-push.ensures.ok, c.new-found.ensures) refl) c.items.invariant.left (sym c.is_comma.ensures ∙ c.items-test.false)
+expressions-returns-clause-read t c = leading_end (spec.inside_of c.args.room).expression parser.is_comma (parser.next_item (spec.inside_of c.args.room).expression) c.args.ts.now c.inside.new.ts c.in_ok-first.first c.in_ok-first.ensures.read c.push.new.self c.items.found c.items.ts (rw (c.in_ok-push.ensures.ok, c.new-found.ensures) refl) c.items.invariant.left (sym c.is_comma.ensures ∙ c.items-test.false)
 
 pub argument_list-items-init : goal.argument_list-items-init
 argument_list-items-init t c = record { left = left_init parser.is_comma (parser.next_item (spec.argument (spec.inside_of c.args.room))) c.push.new.self c.argument.new.ts; shorter = omega arith }
@@ -29,7 +29,7 @@ argument_list-items-init t c = record { left = left_init parser.is_comma (parser
 pub argument_list-returns-in_err-item-clause-read : goal.argument_list-returns-in_err-item-clause-read
 argument_list-returns-in_err-item-clause-read t c =
     let p = err_from_is_err_and c.from_residual-in_err-item.result c.from_residual-in_err-item.ensures.1 in
-    rw (p.1, p.2) (listed_err (spec.argument (spec.inside_of c.args.room)) c.args.ts.now c.argument.new.ts c.in_ok-first.first c.in_ok-first.ensures.read c.push.new.self c.items.found c.items.ts _ (rw (c.in_ok-push.ensures.ok, c.new-found.ensures) refl) c.items.invariant.left (sym c.is_comma.ensures ∙ c.items-test.true) c.in_err-item.ensures.read)
+    rw (p.1, p.2) (leading_err (spec.argument (spec.inside_of c.args.room)) parser.is_comma (parser.next_item (spec.argument (spec.inside_of c.args.room))) c.args.ts.now c.argument.new.ts c.in_ok-first.first c.in_ok-first.ensures.read c.push.new.self c.items.found c.items.ts _ (rw (c.in_ok-push.ensures.ok, c.new-found.ensures) refl) c.items.invariant.left (sym c.is_comma.ensures ∙ c.items-test.true) c.in_err-item.ensures.read)
 
 pub argument_list-items-preserved : goal.argument_list-items-preserved
 argument_list-items-preserved t c = record {
@@ -38,7 +38,7 @@ argument_list-items-preserved t c = record {
 }
 
 pub argument_list-returns-clause-read : goal.argument_list-returns-clause-read
-argument_list-returns-clause-read t c = listed_end (spec.argument (spec.inside_of c.args.room)) c.args.ts.now c.argument.new.ts c.in_ok-first.first c.in_ok-first.ensures.read c.push.new.self c.items.found c.items.ts (rw (c.in_ok-push.ensures.ok, c.new-found.ensures) refl) c.items.invariant.left (sym c.is_comma.ensures ∙ c.items-test.false)
+argument_list-returns-clause-read t c = leading_end (spec.argument (spec.inside_of c.args.room)) parser.is_comma (parser.next_item (spec.argument (spec.inside_of c.args.room))) c.args.ts.now c.argument.new.ts c.in_ok-first.first c.in_ok-first.ensures.read c.push.new.self c.items.found c.items.ts (rw (c.in_ok-push.ensures.ok, c.new-found.ensures) refl) c.items.invariant.left (sym c.is_comma.ensures ∙ c.items-test.false)
 
 pub parts-items-init : goal.parts-items-init
 parts-items-init t c = record { left = rw c.new-found.ensures (left_init spec.begins_part (spec.part_of c.args.room (spec.inside_of c.args.room)) [] c.args.ts.now); shorter = omega arith }

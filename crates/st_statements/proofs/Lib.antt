@@ -1,0 +1,3 @@
+pub mod ChartsExact
+pub mod ReadingLemmas
+pub mod Statements

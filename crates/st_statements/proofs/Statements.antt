@@ -1,0 +1,586 @@
+-- The reading functions of statements read their grammar exactly.
+use Rattle.std.proofs.Common.{◌≡◌, ℕ, zero, suc, ◌+◌, ◌<◌, ◌≤◌, List, [], ◌∷◌, refl, sym, ap, subst, ◌∙◌, Bool, true, false, arith}
+use Rattle.std.specs.Prelude.{Option, Some, None, Ok, Err}
+use Rattle.st_tokens.specs.declared.keyword.Keyword.TheVariants as w
+use Rattle.st_tokens.specs.declared.symbol.Symbol.TheVariants as s
+use Rattle.st_tokens.specs.declared.token.Kind.{Kind}
+use Rattle.st_tokens.specs.declared.token.Kind.TheVariants as k
+use Rattle.st_tree.specs.declared.tree.place.Place.{Place}
+use Rattle.st_tree.specs.declared.tree.place.Identifier.{Identifier}
+use Rattle.st_tree.specs.declared.tree.constant.Constant.{Constant}
+use Rattle.st_tree.specs.declared.tree.expression.Expression.{Expression}
+use Rattle.st_tree.specs.declared.tree.statement.Statement.{Statement}
+use Rattle.st_tree.specs.declared.tree.statement.Statement.TheVariants as t
+use Rattle.st_tree.specs.declared.tree.statement.ConditionalPart.{ConditionalPart}
+use Rattle.st_tree.specs.declared.tree.statement.CaseElement.{CaseElement}
+use Rattle.st_tree.specs.declared.tree.statement.Label.{Label}
+use Rattle.st_tree.specs.declared.tree.statement.Label.TheVariants as l
+use Rattle.st_expressions.specs.Grammar.{IsConstant, IsRank, IsVariable, named as is_named, IsParts, no_part, parts, IsPart, field, subscripts, IsCall, called, IsArguments, no_arguments, arguments}
+use Rattle.st_expressions.specs.Lists.{IsMany, none, more, IsListed, listed}
+use Rattle.st_expressions.specs.Parsers as parser
+use Rattle.st_expressions.specs.Parsers.{Parser, and_then, identifier, many, is_comma}
+use Rattle.st_expressions.specs.Reading.{constant, expression, variable, call, inside_of, is_open}
+use Rattle.st_expressions.specs.Tokens.{Tok, kind, next, place}
+use Rattle.st_expressions.proofs.Exact.{Relation, Found, Exact, Always, Any, Then, seq, IsOne, one, IsPure, done, IsWord, a_word, exact_bind, exact_bind_if, exact_as, exact_iff, exact_last, exact_under, exact_zero, exact_pure, made, exact_refuse, exact_on, IsFirst, at_first, exact_token, exact_token_if, exact_enter, Behind, exact_symbol, exact_keyword, exact_word, exact_before, before_token, Ends, exact_many, exact_listed}
+use Rattle.st_expressions.proofs.Expressions.{constant_exact, variable_exact, call_exact, inside_exact, expression_exact, open_is}
+use Rattle.st_expressions.proofs.Follows.{Stops, constant_begins, begins_constant}
+use Rattle.st_expressions.proofs.Room.{At}
+use Rattle.st_statements.specs.Grammar.{part_of, case_of, IsLabel, value, range, IsBy, no_by, by_step, IsStatements, no_statement, statements, IsStatement, empty, assignment, invocation, returning, exiting, selection, choice, counting, while_loop, repeat_loop, IsConditional, conditional, IsElsifs, no_elsif, elsifs, IsElse, no_else, otherwise, IsCase, case, IsCases, no_case, cases}
+use Rattle.st_statements.specs.Reading as spec
+use Rattle.st_statements.specs.Reading.{Deeper, begins_label, begins_statement, is_elsif, is_else, is_by, is_range}
+
+-- ---- labels
+
+-- a label doesn't go on
+abbrev NoRange : Option Kind → Type 0
+NoRange t = is_range t ≡ false
+
+-- behind the first literal of a label
+data IsTail (x : Constant) : List Tok → Label → List Tok → Type 0 where
+  single : {ts : List Tok} → IsTail x ts (l.Value x) ts
+  ranged : {p : Place} {ts rest : List Tok} {y : Constant} → IsConstant ts y rest → IsTail x ((p, k.Symbol s.Range) ∷ ts) (l.Range x y) rest
+
+label_of : {x : Constant} {ts mid : List Tok} {y : Label} {rest : List Tok} → IsConstant ts x mid → IsTail x mid y rest → IsLabel ts y rest
+label_of d single = value d
+label_of d (ranged e) = range d e
+
+label_to : (ts : List Tok) (y : Label) (rest : List Tok) → Then IsConstant IsTail ts y rest → IsLabel ts y rest
+label_to ts y rest (seq d e) = label_of d e
+
+label_from : (ts : List Tok) (y : Label) (rest : List Tok) → IsLabel ts y rest → Then IsConstant IsTail ts y rest
+label_from ts y rest (value d) = seq d single
+label_from ts y rest (range d e) = seq d (ranged e)
+
+ranged_to : (x : Constant) (p : Place) (ts : List Tok) (y : Label) (rest : List Tok) → Then IsConstant (λ z. IsPure (l.Range x z)) ts y rest → IsTail x ((p, k.Symbol s.Range) ∷ ts) y rest
+ranged_to x p ts y rest (seq d m) = made m (λ z us. IsTail x ((p, k.Symbol s.Range) ∷ ts) z us) (ranged d)
+
+ranged_from : (x : Constant) (p : Place) (ts : List Tok) (y : Label) (rest : List Tok) → NoRange (kind rest) → IsTail x ((p, k.Symbol s.Range) ∷ ts) y rest → Then IsConstant (λ z. IsPure (l.Range x z)) ts y rest
+ranged_from x p ts y rest g (ranged d) = seq d done
+ranged_from x p ts y rest g single = absurd (cc)
+
+single_to : (x : Constant) (ts : List Tok) (y : Label) (rest : List Tok) → IsPure (l.Value x) ts y rest → IsTail x ts y rest
+single_to x ts y rest d = made d (λ z us. IsTail x ts z us) single
+
+single_from : (x : Constant) (ts : List Tok) (y : Label) (rest : List Tok) → is_range (kind ts) ≡ false → IsTail x ts y rest → IsPure (l.Value x) ts y rest
+single_from x ts y rest h single = done
+single_from x ts y rest h (ranged d) = absurd (cc)
+
+range_is : (t : Option Kind) → is_range t ≡ true → t ≡ Some (k.Symbol s.Range)
+range_is (Some (k.Symbol s.Range)) h = refl
+range_is _ h = absurd (cc)
+
+module _ (r : ℕ) where
+  tail_by : (x : Constant) (b : Bool) → Exact 0 (spec.label_by x b) (λ ts. (is_range (kind ts) ≡ b) × Always ts) (IsTail x) NoRange (At r) (At r)
+  tail_by x true = exact_zero (exact_under (exact_token (k.Symbol s.Range) refl {R = IsTail x} (λ p. exact_as (exact_last (constant_exact r) (l.Range x)) (λ ts u. u)
+      (λ ts y rest u d. ranged_to x p ts y rest d) (λ ts y rest u g d. ranged_from x p ts y rest g d) (λ t g. tt))) (λ ts h. range_is (kind ts) h.0) (λ t g. g))
+  tail_by x false = exact_as (exact_pure (l.Value x) Always Any (At r)) (λ ts h. tt) (λ ts y rest h d. single_to x ts y rest d) (λ ts y rest h g d. single_from x ts y rest h.0 d) (λ t g. tt)
+
+  pub label_exact : Exact 1 spec.label Always IsLabel NoRange (At r) (At r)
+  unfolding spec.label
+  label_exact = exact_iff (exact_bind (constant_exact r) (λ x. exact_on (λ ts. is_range (kind ts)) (spec.label_by x) Always (IsTail x) NoRange (At r) (At r) (tail_by x)) (λ x mid rest y d g. tt)) label_to label_from
+
+-- ---- statements without statements in them
+
+named_not : {p : Place} {n : List ℕ} {ts rest : List Tok} {v : _} → is_open (kind ts) ≡ true → (kind rest ≡ Some (k.Symbol s.Assign)) → IsVariable ((p, k.Word n) ∷ ts) v rest → ⊥
+named_not h e (is_named {ts = us} no_part) = let a = open_is (kind us) h in cc
+named_not h e (is_named (parts field m)) = cc
+named_not h e (is_named (parts (subscripts d o) m)) = cc
+
+call_not : {p : Place} {n : List ℕ} {ts rest : List Tok} {c : _} → is_open (kind ts) ≡ false → IsCall ((p, k.Word n) ∷ ts) c rest → ⊥
+call_not h (called no_arguments) = cc
+call_not h (called (arguments d m)) = cc
+
+abbrev IsInvocation : Relation Statement
+IsInvocation = Then IsCall (λ c. Then (IsOne (k.Symbol s.Semicolon)) (λ q. IsPure (t.Call c)))
+
+invocation_to : (ts : List Tok) (x : Statement) (rest : List Tok) → IsInvocation ts x rest → IsStatement ts x rest
+invocation_to ts x rest (seq d (seq one m)) = made m (λ y us. IsStatement ts y us) (invocation d)
+
+invocation_from : (n : List ℕ) (p : Place) (us : List Tok) → (x : Statement) (rest : List Tok) → is_open (kind us) ≡ true → IsStatement ((p, k.Word n) ∷ us) x rest → IsInvocation ((p, k.Word n) ∷ us) x rest
+invocation_from n p us x rest h (invocation d) = seq d (seq one done)
+invocation_from n p us x rest h (assignment d e) = absurd (named_not h refl d)
+
+abbrev IsAssignment : Relation Statement
+IsAssignment = Then IsVariable (λ v. Then (IsOne (k.Symbol s.Assign)) (λ q. Then (IsRank 7) (λ x. Then (IsOne (k.Symbol s.Semicolon)) (λ z. IsPure (t.Assignment v x)))))
+
+assignment_to : (ts : List Tok) (x : Statement) (rest : List Tok) → IsAssignment ts x rest → IsStatement ts x rest
+assignment_to ts x rest (seq d (seq one (seq e (seq one m)))) = made m (λ y us. IsStatement ts y us) (assignment d e)
+
+assignment_from : (n : List ℕ) (p : Place) (us : List Tok) → (x : Statement) (rest : List Tok) → is_open (kind us) ≡ false → IsStatement ((p, k.Word n) ∷ us) x rest → IsAssignment ((p, k.Word n) ∷ us) x rest
+assignment_from n p us x rest h (assignment d e) = seq d (seq one (seq e (seq one done)))
+assignment_from n p us x rest h (invocation d) = absurd (call_not h d)
+
+empty_to : (p : Place) (ts : List Tok) (x : Statement) (rest : List Tok) → IsPure (t.Empty p) ts x rest → IsStatement ((p, k.Symbol s.Semicolon) ∷ ts) x rest
+empty_to p ts x rest d = made d (λ y us. IsStatement ((p, k.Symbol s.Semicolon) ∷ ts) y us) empty
+
+empty_from : (p : Place) (ts : List Tok) (x : Statement) (rest : List Tok) → IsStatement ((p, k.Symbol s.Semicolon) ∷ ts) x rest → IsPure (t.Empty p) ts x rest
+empty_from p ts x rest empty = done
+empty_from p ts x rest (assignment d e) = elim d [ ]
+empty_from p ts x rest (invocation d) = elim d [ ]
+
+abbrev IsEnd : Statement → Relation Statement
+IsEnd x = Then (IsOne (k.Symbol s.Semicolon)) (λ z. IsPure x)
+
+returning_to : (p : Place) (ts : List Tok) (x : Statement) (rest : List Tok) → IsEnd (t.Return p) ts x rest → IsStatement ((p, k.Keyword w.Return) ∷ ts) x rest
+returning_to p ts x rest (seq one m) = made m (λ y us. IsStatement ((p, k.Keyword w.Return) ∷ ts) y us) returning
+
+returning_from : (p : Place) (ts : List Tok) (x : Statement) (rest : List Tok) → IsStatement ((p, k.Keyword w.Return) ∷ ts) x rest → IsEnd (t.Return p) ts x rest
+returning_from p ts x rest returning = seq one done
+returning_from p ts x rest (assignment d e) = elim d [ ]
+returning_from p ts x rest (invocation d) = elim d [ ]
+
+exiting_to : (p : Place) (ts : List Tok) (x : Statement) (rest : List Tok) → IsEnd (t.Exit p) ts x rest → IsStatement ((p, k.Keyword w.Exit) ∷ ts) x rest
+exiting_to p ts x rest (seq one m) = made m (λ y us. IsStatement ((p, k.Keyword w.Exit) ∷ ts) y us) exiting
+
+exiting_from : (p : Place) (ts : List Tok) (x : Statement) (rest : List Tok) → IsStatement ((p, k.Keyword w.Exit) ∷ ts) x rest → IsEnd (t.Exit p) ts x rest
+exiting_from p ts x rest exiting = seq one done
+exiting_from p ts x rest (assignment d e) = elim d [ ]
+exiting_from p ts x rest (invocation d) = elim d [ ]
+
+module _ (r : ℕ) where
+  empty_exact : Exact 1 spec.empty (IsFirst (k.Symbol s.Semicolon)) IsStatement Any (At r) (At r)
+  unfolding spec.empty
+  empty_exact = exact_token (k.Symbol s.Semicolon) refl {R = IsStatement} (λ p. exact_iff (exact_pure (t.Empty p) Always Any (At r)) (empty_to p) (empty_from p))
+
+  -- ';', and what it ends
+  end_exact : (x : Statement) → Exact 1 (λ ts. and_then (parser.symbol s.Semicolon ts) (λ z. parser.pure x)) Always (IsEnd x) Any (At r) (At r)
+  end_exact x = exact_bind (exact_symbol s.Semicolon r refl) (λ z. exact_pure x Always Any (At r)) (λ z mid rest y d g. tt)
+
+  returning_exact : Exact 1 spec.returning (IsFirst (k.Keyword w.Return)) IsStatement Any (At r) (At r)
+  unfolding spec.returning
+  returning_exact = exact_token (k.Keyword w.Return) refl {R = IsStatement} (λ p. exact_iff (end_exact (t.Return p)) (returning_to p) (returning_from p))
+
+  exiting_exact : Exact 1 spec.exiting (IsFirst (k.Keyword w.Exit)) IsStatement Any (At r) (At r)
+  unfolding spec.exiting
+  exiting_exact = exact_token (k.Keyword w.Exit) refl {R = IsStatement} (λ p. exact_iff (end_exact (t.Exit p)) (exiting_to p) (exiting_from p))
+
+  named_by : (n : List ℕ) (b : Bool) → Exact 1 (spec.named_by r b) (λ ts. (is_open (kind (next ts)) ≡ b) × IsFirst (k.Word n) ts) IsStatement Any (At r) (At r)
+  unfolding spec.invocation spec.assignment
+  named_by n true = exact_as (exact_before (k.Symbol s.Semicolon) (call_exact r (inside_of r) (inside_exact r)) tt (exact_symbol s.Semicolon r refl) (λ c q. exact_pure (t.Call c) Always Any (At r)))
+      (λ ts p. open_is (kind (next ts)) p.0) (λ ts x rest p d. invocation_to ts x rest d)
+      (λ ts x rest p g d. at_first (k.Word n) (λ us. (x : Statement) (rest : List Tok) → is_open (kind (next us)) ≡ true → IsStatement us x rest → IsInvocation us x rest) (invocation_from n) ts p.1 x rest p.0 d) (λ t g. g)
+  named_by n false = exact_as (exact_before (k.Symbol s.Assign) (variable_exact r (inside_of r) (inside_exact r)) tt (exact_symbol s.Assign r refl)
+          (λ v q. exact_before (k.Symbol s.Semicolon) (expression_exact r) tt (exact_symbol s.Semicolon r refl) (λ x z. exact_pure (t.Assignment v x) Always Any (At r))))
+      (λ ts p. tt) (λ ts x rest p d. assignment_to ts x rest d)
+      (λ ts x rest p g d. at_first (k.Word n) (λ us. (x : Statement) (rest : List Tok) → is_open (kind (next us)) ≡ false → IsStatement us x rest → IsAssignment us x rest) (assignment_from n) ts p.1 x rest p.0 d) (λ t g. g)
+
+  named_exact : (n : List ℕ) → Exact 1 (spec.named r) (IsFirst (k.Word n)) IsStatement Any (At r) (At r)
+  unfolding spec.named
+  named_exact n = exact_on (λ ts. is_open (kind (next ts))) (spec.named_by r) (IsFirst (k.Word n)) IsStatement Any (At r) (At r) (named_by n)
+
+-- ---- parts of statements
+
+-- a list of statements ends
+abbrev pub EndsBlock : Option Kind → Type 0
+EndsBlock = Ends begins_statement Any
+
+-- what is read behind one more open level is read exactly
+abbrev pub ExactDeeper : ℕ → Deeper → Type 0
+ExactDeeper zero d = Unit {0}
+ExactDeeper (suc r) d = (Exact 1 d.expression Always (IsRank 7) (Stops 7) (At r) (At r)) × (Exact 0 d.statements Always IsStatements EndsBlock (At r) (At r))
+
+data IsElsif : List Tok → ConditionalPart → List Tok → Type 0 where
+  elsif : {p : Place} {ts rest : List Tok} {x : ConditionalPart} → IsConditional ts x rest → IsElsif ((p, k.Keyword w.Elsif) ∷ ts) x rest
+
+elsif_begins : (ts : List Tok) (x : ConditionalPart) (rest : List Tok) → IsElsif ts x rest → is_elsif (kind ts) ≡ true
+elsif_begins ts x rest (elsif d) = refl
+
+elsif_from : (p : Place) (ts : List Tok) (x : ConditionalPart) (rest : List Tok) → IsElsif ((p, k.Keyword w.Elsif) ∷ ts) x rest → IsConditional ts x rest
+elsif_from p ts x rest (elsif d) = d
+
+elsif_is : (t : Option Kind) → is_elsif t ≡ true → t ≡ Some (k.Keyword w.Elsif)
+elsif_is (Some (k.Keyword w.Elsif)) h = refl
+elsif_is _ h = absurd (cc)
+
+to_elsifs : {ts rest : List Tok} {xs : List ConditionalPart} → IsMany IsElsif ts xs rest → IsElsifs ts xs rest
+to_elsifs none = no_elsif
+to_elsifs (more (elsif d) m) = elsifs d (to_elsifs m)
+
+from_elsifs : {ts rest : List Tok} {xs : List ConditionalPart} → IsElsifs ts xs rest → IsMany IsElsif ts xs rest
+from_elsifs no_elsif = none
+from_elsifs (elsifs d m) = more (elsif d) (from_elsifs m)
+
+-- the parts of IF and ELSIF
+data AreConditionals : List Tok → List ConditionalPart → List Tok → Type 0 where
+  conditionals : {ts mid rest : List Tok} {x : ConditionalPart} {xs : List ConditionalPart} → IsConditional ts x mid → IsElsifs mid xs rest → AreConditionals ts (x ∷ xs) rest
+
+abbrev Leading : {A : Type 0} → Relation A → Relation A → Relation (List A)
+Leading R S = Then R (λ x. Then (IsMany S) (λ xs. IsPure (x ∷ xs)))
+
+conditionals_to : (ts : List Tok) (x : List ConditionalPart) (rest : List Tok) → Leading IsConditional IsElsif ts x rest → AreConditionals ts x rest
+conditionals_to ts x rest (seq d (seq m e)) = made e (λ y us. AreConditionals ts y us) (conditionals d (to_elsifs m))
+
+conditionals_from : (ts : List Tok) (x : List ConditionalPart) (rest : List Tok) → AreConditionals ts x rest → Leading IsConditional IsElsif ts x rest
+conditionals_from ts x rest (conditionals d m) = seq d (seq (from_elsifs m) done)
+
+-- the cases of CASE
+data AreCases : List Tok → List CaseElement → List Tok → Type 0 where
+  all_cases : {ts mid rest : List Tok} {x : CaseElement} {xs : List CaseElement} → IsCase ts x mid → IsCases mid xs rest → AreCases ts (x ∷ xs) rest
+
+to_cases : {ts rest : List Tok} {xs : List CaseElement} → IsMany IsCase ts xs rest → IsCases ts xs rest
+to_cases none = no_case
+to_cases (more d m) = cases d (to_cases m)
+
+from_cases : {ts rest : List Tok} {xs : List CaseElement} → IsCases ts xs rest → IsMany IsCase ts xs rest
+from_cases no_case = none
+from_cases (cases d m) = more d (from_cases m)
+
+cases_to : (ts : List Tok) (x : List CaseElement) (rest : List Tok) → Leading IsCase IsCase ts x rest → AreCases ts x rest
+cases_to ts x rest (seq d (seq m e)) = made e (λ y us. AreCases ts y us) (all_cases d (to_cases m))
+
+cases_from : (ts : List Tok) (x : List CaseElement) (rest : List Tok) → AreCases ts x rest → Leading IsCase IsCase ts x rest
+cases_from ts x rest (all_cases d m) = seq d (seq (from_cases m) done)
+
+label_test : (t : Option Kind) → begins_constant t ≡ true → begins_label t ≡ true
+label_test (Some (k.Typed v)) h = refl
+label_test (Some (k.Duration d)) h = refl
+label_test (Some (k.Keyword w.True)) h = refl
+label_test (Some (k.Keyword w.False)) h = refl
+label_test (Some (k.Number n)) h = refl
+label_test (Some (k.Symbol s.Plus)) h = refl
+label_test (Some (k.Symbol s.Minus)) h = refl
+label_test _ h = absurd (cc)
+
+case_begins : (ts : List Tok) (x : CaseElement) (rest : List Tok) → IsCase ts x rest → begins_label (kind ts) ≡ true
+case_begins ts x rest (case (listed (value d) m) e) = label_test (kind ts) (constant_begins d)
+case_begins ts x rest (case (listed (range d f) m) e) = label_test (kind ts) (constant_begins d)
+
+label_ends : (t : Option Kind) → begins_label t ≡ true → EndsBlock t
+label_ends (Some (k.Typed v)) h = (refl, tt)
+label_ends (Some (k.Duration d)) h = (refl, tt)
+label_ends (Some (k.Keyword w.True)) h = (refl, tt)
+label_ends (Some (k.Keyword w.False)) h = (refl, tt)
+label_ends (Some (k.Number n)) h = (refl, tt)
+label_ends (Some (k.Symbol s.Plus)) h = (refl, tt)
+label_ends (Some (k.Symbol s.Minus)) h = (refl, tt)
+label_ends _ h = absurd (cc)
+
+abbrev ConditionalRule : Relation ConditionalPart
+ConditionalRule = Then (IsRank 7) (λ x. Then (IsOne (k.Keyword w.Then)) (λ q. Then IsStatements (λ ss. IsPure (part_of x ss))))
+
+conditional_to : (ts : List Tok) (x : ConditionalPart) (rest : List Tok) → ConditionalRule ts x rest → IsConditional ts x rest
+conditional_to ts x rest (seq d (seq one (seq e m))) = made m (λ y us. IsConditional ts y us) (conditional d e)
+
+conditional_from : (ts : List Tok) (x : ConditionalPart) (rest : List Tok) → IsConditional ts x rest → ConditionalRule ts x rest
+conditional_from ts x rest (conditional d e) = seq d (seq one (seq e done))
+
+abbrev CaseRule : Relation CaseElement
+CaseRule = Then (IsListed IsLabel) (λ ls. Then (IsOne (k.Symbol s.Colon)) (λ q. Then IsStatements (λ ss. IsPure (case_of ls ss))))
+
+case_to : (ts : List Tok) (x : CaseElement) (rest : List Tok) → CaseRule ts x rest → IsCase ts x rest
+case_to ts x rest (seq d (seq one (seq e m))) = made m (λ y us. IsCase ts y us) (case d e)
+
+case_from : (ts : List Tok) (x : CaseElement) (rest : List Tok) → IsCase ts x rest → CaseRule ts x rest
+case_from ts x rest (case d e) = seq d (seq one (seq e done))
+
+-- ELSE may not follow, nor a statement
+abbrev EndsElse : Option Kind → Type 0
+EndsElse t = (is_else t ≡ false) × EndsBlock t
+
+else_is : (t : Option Kind) → is_else t ≡ true → t ≡ Some (k.Keyword w.Else)
+else_is (Some (k.Keyword w.Else)) h = refl
+else_is _ h = absurd (cc)
+
+else_from : (p : Place) (ts : List Tok) (x : List Statement) (rest : List Tok) → EndsElse (kind rest) → IsElse ((p, k.Keyword w.Else) ∷ ts) x rest → IsStatements ts x rest
+else_from p ts x rest g (otherwise d) = d
+else_from p ts x rest g no_else = absurd (let wrong = g.0 in cc)
+
+no_else_to : (ts : List Tok) (x : List Statement) (rest : List Tok) → IsPure [] ts x rest → IsElse ts x rest
+no_else_to ts x rest d = made d (λ y us. IsElse ts y us) no_else
+
+no_else_from : (ts : List Tok) (x : List Statement) (rest : List Tok) → is_else (kind ts) ≡ false → IsElse ts x rest → IsPure [] ts x rest
+no_else_from ts x rest h no_else = done
+no_else_from ts x rest h (otherwise d) = absurd (cc)
+
+-- BY may not follow
+abbrev EndsBy : Option Kind → Type 0
+EndsBy t = (is_by t ≡ false) × Stops 7 t
+
+by_is : (t : Option Kind) → is_by t ≡ true → t ≡ Some (k.Keyword w.By)
+by_is (Some (k.Keyword w.By)) h = refl
+by_is _ h = absurd (cc)
+
+by_to : (p : Place) (ts : List Tok) (x : Option Expression) (rest : List Tok) → Then (IsRank 7) (λ y. IsPure (Some y)) ts x rest → IsBy ((p, k.Keyword w.By) ∷ ts) x rest
+by_to p ts x rest (seq d m) = made m (λ y us. IsBy ((p, k.Keyword w.By) ∷ ts) y us) (by_step d)
+
+by_from : (p : Place) (ts : List Tok) (x : Option Expression) (rest : List Tok) → EndsBy (kind rest) → IsBy ((p, k.Keyword w.By) ∷ ts) x rest → Then (IsRank 7) (λ y. IsPure (Some y)) ts x rest
+by_from p ts x rest g (by_step d) = seq d done
+by_from p ts x rest g no_by = absurd (let wrong = g.0 in cc)
+
+no_by_to : (ts : List Tok) (x : Option Expression) (rest : List Tok) → IsPure None ts x rest → IsBy ts x rest
+no_by_to ts x rest d = made d (λ y us. IsBy ts y us) no_by
+
+no_by_from : (ts : List Tok) (x : Option Expression) (rest : List Tok) → is_by (kind ts) ≡ false → IsBy ts x rest → IsPure None ts x rest
+no_by_from ts x rest h no_by = done
+no_by_from ts x rest h (by_step d) = absurd (cc)
+
+module _ (r : ℕ) (d : Deeper) (e : ExactDeeper (suc r) d) where
+  conditional_exact : Exact 1 (spec.conditional d) Always IsConditional EndsBlock (At r) (At r)
+  unfolding spec.conditional
+  conditional_exact = exact_iff (exact_before (k.Keyword w.Then) e.0 tt (exact_keyword w.Then r refl) (λ x q. exact_last e.1 (part_of x))) conditional_to conditional_from
+
+  elsif_exact : Exact 1 (spec.elsif d) (λ ts. is_elsif (kind ts) ≡ true) IsElsif EndsBlock (At r) (At r)
+  unfolding spec.elsif
+  elsif_exact = exact_under (exact_token (k.Keyword w.Elsif) refl {R = IsElsif} (λ p. exact_iff conditional_exact (λ ts x rest c. elsif c) (elsif_from p))) (λ ts h. elsif_is (kind ts) h) (λ t g. g)
+
+  elsif_fits : (t : Option Kind) → is_elsif t ≡ true → EndsBlock t
+  elsif_fits t h = subst EndsBlock (sym (elsif_is t h)) (refl, tt)
+
+  conditionals_follow : (x : ConditionalPart) (mid rest : List Tok) (y : List ConditionalPart) → Then (IsMany IsElsif) (λ xs. IsPure (x ∷ xs)) mid y rest → Ends is_elsif EndsBlock (kind rest) → EndsBlock (kind mid)
+  conditionals_follow x mid rest y (seq none c) g = made c (λ z us. Ends is_elsif EndsBlock (kind us) → EndsBlock (kind mid)) (λ f. f.1) g
+  conditionals_follow x mid rest y (seq (more (elsif i) m) c) g = (refl, tt)
+
+  conditionals_exact : Exact 1 (spec.conditionals d) Always AreConditionals (Ends is_elsif EndsBlock) (At r) (At r)
+  unfolding parser.leading
+  conditionals_exact = exact_iff (exact_bind conditional_exact (λ x. exact_last (exact_many is_elsif (spec.elsif d) IsElsif EndsBlock (At r) elsif_exact elsif_begins elsif_fits) (λ xs. x ∷ xs)) conditionals_follow)
+      conditionals_to conditionals_from
+
+  otherwise_by : (b : Bool) → Exact 0 (spec.otherwise_by d b) (λ ts. (is_else (kind ts) ≡ b) × Always ts) IsElse EndsElse (At r) (At r)
+  otherwise_by true = exact_zero (exact_under (exact_token (k.Keyword w.Else) refl {R = IsElse} (λ p. exact_as e.1 (λ ts u. u) (λ ts x rest u i. otherwise i) (λ ts x rest u g i. else_from p ts x rest g i) (λ t g. g.1)))
+      (λ ts h. else_is (kind ts) h.0) (λ t g. g))
+  otherwise_by false = exact_as (exact_pure [] Always Any (At r)) (λ ts h. tt) (λ ts x rest h i. no_else_to ts x rest i) (λ ts x rest h g i. no_else_from ts x rest h.0 i) (λ t g. tt)
+
+  otherwise_exact : Exact 0 (spec.otherwise d) Always IsElse EndsElse (At r) (At r)
+  unfolding spec.otherwise
+  otherwise_exact = exact_on (λ ts. is_else (kind ts)) (spec.otherwise_by d) Always IsElse EndsElse (At r) (At r) otherwise_by
+
+  step_by : (b : Bool) → Exact 0 (spec.step_by d b) (λ ts. (is_by (kind ts) ≡ b) × Always ts) IsBy EndsBy (At r) (At r)
+  step_by true = exact_zero (exact_under (exact_token (k.Keyword w.By) refl {R = IsBy} (λ p. exact_as (exact_last e.0 (λ x. Some x)) (λ ts u. u) (λ ts x rest u i. by_to p ts x rest i) (λ ts x rest u g i. by_from p ts x rest g i) (λ t g. g.1)))
+      (λ ts h. by_is (kind ts) h.0) (λ t g. g))
+  step_by false = exact_as (exact_pure None Always Any (At r)) (λ ts h. tt) (λ ts x rest h i. no_by_to ts x rest i) (λ ts x rest h g i. no_by_from ts x rest h.0 i) (λ t g. tt)
+
+  step_exact : Exact 0 (spec.step d) Always IsBy EndsBy (At r) (At r)
+  unfolding spec.step
+  step_exact = exact_on (λ ts. is_by (kind ts)) (spec.step_by d) Always IsBy EndsBy (At r) (At r) step_by
+
+  case_exact : Exact 1 (spec.case d) Always IsCase EndsBlock (At r) (At r)
+  unfolding spec.case
+  case_exact = exact_iff (exact_before (k.Symbol s.Colon) (exact_listed spec.label IsLabel NoRange r (label_exact r) refl) (refl, refl) (exact_symbol s.Colon r refl) (λ ls q. exact_last e.1 (case_of ls))) case_to case_from
+
+  cases_follow : (x : CaseElement) (mid rest : List Tok) (y : List CaseElement) → Then (IsMany IsCase) (λ xs. IsPure (x ∷ xs)) mid y rest → Ends begins_label EndsBlock (kind rest) → EndsBlock (kind mid)
+  cases_follow x mid rest y (seq none c) g = made c (λ z us. Ends begins_label EndsBlock (kind us) → EndsBlock (kind mid)) (λ f. f.1) g
+  cases_follow x mid rest y (seq (more {mid = last} {x = z} i m) c) g = label_ends (kind mid) (case_begins mid z last i)
+
+  cases_exact : Exact 1 (spec.cases d) Always AreCases (Ends begins_label EndsBlock) (At r) (At r)
+  unfolding parser.leading
+  cases_exact = exact_iff (exact_bind case_exact (λ x. exact_last (exact_many begins_label (spec.case d) IsCase EndsBlock (At r) (exact_under case_exact (λ ts h. tt) (λ t g. g)) case_begins label_ends) (λ xs. x ∷ xs)) cases_follow)
+      cases_to cases_from
+
+-- ---- statements with statements in them
+
+-- a word that closes a level, and ';'
+abbrev Closing : Kind → Statement → Relation Statement
+Closing x y = Then (IsOne x) (λ q. Then (IsOne (k.Symbol s.Semicolon)) (λ z. IsPure y))
+
+abbrev SelectionRule : Place → Relation Statement
+SelectionRule p = Then AreConditionals (λ xs. Then IsElse (λ ys. Closing (k.Keyword w.EndIf) (t.If p xs ys)))
+
+selection_to : (p : Place) (ts : List Tok) (x : Statement) (rest : List Tok) → SelectionRule p ts x rest → IsStatement ((p, k.Keyword w.If) ∷ ts) x rest
+selection_to p ts x rest (seq (conditionals a m) (seq b (seq one (seq one c)))) = made c (λ y us. IsStatement ((p, k.Keyword w.If) ∷ ts) y us) (selection a m b)
+
+selection_from : (p : Place) (ts : List Tok) (x : Statement) (rest : List Tok) → IsStatement ((p, k.Keyword w.If) ∷ ts) x rest → SelectionRule p ts x rest
+selection_from p ts x rest (selection a m b) = seq (conditionals a m) (seq b (seq one (seq one done)))
+selection_from p ts x rest (assignment d e) = elim d [ ]
+selection_from p ts x rest (invocation d) = elim d [ ]
+
+abbrev ChoiceRule : Place → Relation Statement
+ChoiceRule p = Then (IsRank 7) (λ a. Then (IsOne (k.Keyword w.Of)) (λ q. Then AreCases (λ cs. Then IsElse (λ ys. Closing (k.Keyword w.EndCase) (t.Case p a cs ys)))))
+
+choice_to : (p : Place) (ts : List Tok) (x : Statement) (rest : List Tok) → ChoiceRule p ts x rest → IsStatement ((p, k.Keyword w.Case) ∷ ts) x rest
+choice_to p ts x rest (seq a (seq one (seq (all_cases b m) (seq o (seq one (seq one c)))))) = made c (λ y us. IsStatement ((p, k.Keyword w.Case) ∷ ts) y us) (choice a b m o)
+
+choice_from : (p : Place) (ts : List Tok) (x : Statement) (rest : List Tok) → IsStatement ((p, k.Keyword w.Case) ∷ ts) x rest → ChoiceRule p ts x rest
+choice_from p ts x rest (choice a b m o) = seq a (seq one (seq (all_cases b m) (seq o (seq one (seq one done)))))
+choice_from p ts x rest (assignment d e) = elim d [ ]
+choice_from p ts x rest (invocation d) = elim d [ ]
+
+abbrev CountingRule : Place → Relation Statement
+CountingRule p = Then IsWord (λ n. Then (IsOne (k.Symbol s.Assign)) (λ q. Then (IsRank 7) (λ a. Then (IsOne (k.Keyword w.To)) (λ u. Then (IsRank 7) (λ b. Then IsBy (λ c.
+    Then (IsOne (k.Keyword w.Do)) (λ v. Then IsStatements (λ ss. Closing (k.Keyword w.EndFor) (t.For p n a b c ss)))))))))
+
+counting_to : (p : Place) (ts : List Tok) (x : Statement) (rest : List Tok) → CountingRule p ts x rest → IsStatement ((p, k.Keyword w.For) ∷ ts) x rest
+counting_to p ts x rest (seq a_word (seq one (seq a (seq one (seq b (seq c (seq one (seq m (seq one (seq one e)))))))))) = made e (λ y us. IsStatement ((p, k.Keyword w.For) ∷ ts) y us) (counting a b c m)
+
+counting_from : (p : Place) (ts : List Tok) (x : Statement) (rest : List Tok) → IsStatement ((p, k.Keyword w.For) ∷ ts) x rest → CountingRule p ts x rest
+counting_from p ts x rest (counting a b c m) = seq a_word (seq one (seq a (seq one (seq b (seq c (seq one (seq m (seq one (seq one done)))))))))
+counting_from p ts x rest (assignment d e) = elim d [ ]
+counting_from p ts x rest (invocation d) = elim d [ ]
+
+abbrev WhileRule : Place → Relation Statement
+WhileRule p = Then (IsRank 7) (λ a. Then (IsOne (k.Keyword w.Do)) (λ q. Then IsStatements (λ ss. Closing (k.Keyword w.EndWhile) (t.While p a ss))))
+
+while_to : (p : Place) (ts : List Tok) (x : Statement) (rest : List Tok) → WhileRule p ts x rest → IsStatement ((p, k.Keyword w.While) ∷ ts) x rest
+while_to p ts x rest (seq a (seq one (seq m (seq one (seq one c))))) = made c (λ y us. IsStatement ((p, k.Keyword w.While) ∷ ts) y us) (while_loop a m)
+
+while_from : (p : Place) (ts : List Tok) (x : Statement) (rest : List Tok) → IsStatement ((p, k.Keyword w.While) ∷ ts) x rest → WhileRule p ts x rest
+while_from p ts x rest (while_loop a m) = seq a (seq one (seq m (seq one (seq one done))))
+while_from p ts x rest (assignment d e) = elim d [ ]
+while_from p ts x rest (invocation d) = elim d [ ]
+
+abbrev RepeatRule : Place → Relation Statement
+RepeatRule p = Then IsStatements (λ ss. Then (IsOne (k.Keyword w.Until)) (λ q. Then (IsRank 7) (λ a. Closing (k.Keyword w.EndRepeat) (t.Repeat p ss a))))
+
+repeat_to : (p : Place) (ts : List Tok) (x : Statement) (rest : List Tok) → RepeatRule p ts x rest → IsStatement ((p, k.Keyword w.Repeat) ∷ ts) x rest
+repeat_to p ts x rest (seq m (seq one (seq a (seq one (seq one c))))) = made c (λ y us. IsStatement ((p, k.Keyword w.Repeat) ∷ ts) y us) (repeat_loop m a)
+
+repeat_from : (p : Place) (ts : List Tok) (x : Statement) (rest : List Tok) → IsStatement ((p, k.Keyword w.Repeat) ∷ ts) x rest → RepeatRule p ts x rest
+repeat_from p ts x rest (repeat_loop m a) = seq m (seq one (seq a (seq one (seq one done))))
+repeat_from p ts x rest (assignment d e) = elim d [ ]
+repeat_from p ts x rest (invocation d) = elim d [ ]
+
+selection_follow : {p : Place} (xs : List ConditionalPart) (mid rest : List Tok) (y : Statement) → Then IsElse (λ ys. Closing (k.Keyword w.EndIf) (t.If p xs ys)) mid y rest → Any (kind rest) → Ends is_elsif EndsBlock (kind mid)
+selection_follow xs mid rest y (seq (otherwise d) c) g = (refl, (refl, tt))
+selection_follow xs mid rest y (seq no_else (seq one c)) g = (refl, (refl, tt))
+
+choice_follow : {p : Place} {a : Expression} (xs : List CaseElement) (mid rest : List Tok) (y : Statement) → Then IsElse (λ ys. Closing (k.Keyword w.EndCase) (t.Case p a xs ys)) mid y rest → Any (kind rest) → Ends begins_label EndsBlock (kind mid)
+choice_follow xs mid rest y (seq (otherwise d) c) g = (refl, (refl, tt))
+choice_follow xs mid rest y (seq no_else (seq one c)) g = (refl, (refl, tt))
+
+by_follow : {S : Option Expression → Relation Statement} (mid rest : List Tok) (y : Statement) → Then IsBy (λ c. Then (IsOne (k.Keyword w.Do)) (λ v. S c)) mid y rest → Stops 7 (kind mid)
+by_follow mid rest y (seq (by_step d) c) = tt
+by_follow mid rest y (seq no_by (seq one c)) = tt
+
+closing_if : (r : ℕ) (y : Statement) → Exact 1 (λ ts. and_then (parser.keyword w.EndIf ts) (λ q us. and_then (parser.symbol s.Semicolon us) (λ z. parser.pure y))) Always (Closing (k.Keyword w.EndIf) y) Any (At r) (At (suc r))
+closing_if r y = exact_bind (exact_keyword w.EndIf r refl) (λ q. exact_bind (exact_symbol s.Semicolon (suc r) refl) (λ z. exact_pure y Always Any (At (suc r))) (λ z mid rest x d g. tt)) (λ q mid rest x d g. tt)
+
+closing_case : (r : ℕ) (y : Statement) → Exact 1 (λ ts. and_then (parser.keyword w.EndCase ts) (λ q us. and_then (parser.symbol s.Semicolon us) (λ z. parser.pure y))) Always (Closing (k.Keyword w.EndCase) y) Any (At r) (At (suc r))
+closing_case r y = exact_bind (exact_keyword w.EndCase r refl) (λ q. exact_bind (exact_symbol s.Semicolon (suc r) refl) (λ z. exact_pure y Always Any (At (suc r))) (λ z mid rest x d g. tt)) (λ q mid rest x d g. tt)
+
+closing_for : (r : ℕ) (y : Statement) → Exact 1 (λ ts. and_then (parser.keyword w.EndFor ts) (λ q us. and_then (parser.symbol s.Semicolon us) (λ z. parser.pure y))) Always (Closing (k.Keyword w.EndFor) y) Any (At r) (At (suc r))
+closing_for r y = exact_bind (exact_keyword w.EndFor r refl) (λ q. exact_bind (exact_symbol s.Semicolon (suc r) refl) (λ z. exact_pure y Always Any (At (suc r))) (λ z mid rest x d g. tt)) (λ q mid rest x d g. tt)
+
+closing_while : (r : ℕ) (y : Statement) → Exact 1 (λ ts. and_then (parser.keyword w.EndWhile ts) (λ q us. and_then (parser.symbol s.Semicolon us) (λ z. parser.pure y))) Always (Closing (k.Keyword w.EndWhile) y) Any (At r) (At (suc r))
+closing_while r y = exact_bind (exact_keyword w.EndWhile r refl) (λ q. exact_bind (exact_symbol s.Semicolon (suc r) refl) (λ z. exact_pure y Always Any (At (suc r))) (λ z mid rest x d g. tt)) (λ q mid rest x d g. tt)
+
+closing_repeat : (r : ℕ) (y : Statement) → Exact 1 (λ ts. and_then (parser.keyword w.EndRepeat ts) (λ q us. and_then (parser.symbol s.Semicolon us) (λ z. parser.pure y))) Always (Closing (k.Keyword w.EndRepeat) y) Any (At r) (At (suc r))
+closing_repeat r y = exact_bind (exact_keyword w.EndRepeat r refl) (λ q. exact_bind (exact_symbol s.Semicolon (suc r) refl) (λ z. exact_pure y Always Any (At (suc r))) (λ z mid rest x d g. tt)) (λ q mid rest x d g. tt)
+
+-- what the reading functions do behind the word that opens a level
+module _ (d : Deeper) where
+  abbrev after_if : Place → Parser Statement
+  after_if p = λ ts. and_then (spec.conditionals d ts) (λ xs us. and_then (spec.otherwise d us) (λ ys vs. and_then (parser.keyword w.EndIf vs) (λ q ws. and_then (parser.symbol s.Semicolon ws) (λ z. parser.pure (t.If p xs ys)))))
+
+  abbrev after_case : Place → Parser Statement
+  after_case p = λ ts. and_then (d.expression ts) (λ a us. and_then (parser.keyword w.Of us) (λ u vs. and_then (spec.cases d vs) (λ cs ws. and_then (spec.otherwise d ws)
+      (λ ys xs. and_then (parser.keyword w.EndCase xs) (λ q zs. and_then (parser.symbol s.Semicolon zs) (λ z. parser.pure (t.Case p a cs ys)))))))
+
+  abbrev after_for : Place → Parser Statement
+  after_for p = λ ts. and_then (parser.word ts) (λ n us. and_then (parser.symbol s.Assign us) (λ q vs. and_then (d.expression vs) (λ a ws. and_then (parser.keyword w.To ws) (λ u xs. and_then (d.expression xs)
+      (λ b ys. and_then (spec.step d ys) (λ c zs. and_then (parser.keyword w.Do zs) (λ v ks. and_then (d.statements ks) (λ ss bs. and_then (parser.keyword w.EndFor bs)
+          (λ y cs. and_then (parser.symbol s.Semicolon cs) (λ z. parser.pure (t.For p n a b c ss)))))))))))
+
+  abbrev after_while : Place → Parser Statement
+  after_while p = λ ts. and_then (d.expression ts) (λ a us. and_then (parser.keyword w.Do us) (λ u vs. and_then (d.statements vs) (λ ss ws. and_then (parser.keyword w.EndWhile ws) (λ q xs. and_then (parser.symbol s.Semicolon xs) (λ z. parser.pure (t.While p a ss))))))
+
+  abbrev after_repeat : Place → Parser Statement
+  after_repeat p = λ ts. and_then (d.statements ts) (λ ss us. and_then (parser.keyword w.Until us) (λ u vs. and_then (d.expression vs) (λ a ws. and_then (parser.keyword w.EndRepeat ws) (λ q xs. and_then (parser.symbol s.Semicolon xs) (λ z. parser.pure (t.Repeat p ss a))))))
+
+  if_behind : (r : ℕ) → ExactDeeper r d → Behind 1 r after_if (k.Keyword w.If) IsStatement Any
+  if_behind zero e = tt
+  if_behind (suc r) e = λ p. exact_iff
+      (exact_bind (conditionals_exact r d e) (λ xs. exact_bind (otherwise_exact r d e) (λ ys. closing_if r (t.If p xs ys)) (λ ys mid rest y c g. before_token EndsElse (refl, (refl, tt)) c)) selection_follow)
+      (selection_to p) (selection_from p)
+
+  case_behind : (r : ℕ) → ExactDeeper r d → Behind 1 r after_case (k.Keyword w.Case) IsStatement Any
+  case_behind zero e = tt
+  case_behind (suc r) e = λ p. exact_iff
+      (exact_before (k.Keyword w.Of) e.0 tt (exact_keyword w.Of r refl) (λ a q. exact_bind (cases_exact r d e)
+          (λ cs. exact_bind (otherwise_exact r d e) (λ ys. closing_case r (t.Case p a cs ys)) (λ ys mid rest y c g. before_token EndsElse (refl, (refl, tt)) c)) choice_follow))
+      (choice_to p) (choice_from p)
+
+  for_behind : (r : ℕ) → ExactDeeper r d → Behind 1 r after_for (k.Keyword w.For) IsStatement Any
+  for_behind zero e = tt
+  for_behind (suc r) e = λ p. exact_iff
+      (exact_bind (exact_word r) (λ n. exact_bind (exact_symbol s.Assign r refl) (λ q. exact_before (k.Keyword w.To) e.0 tt (exact_keyword w.To r refl) (λ a u.
+          exact_bind e.0 (λ b. exact_before (k.Keyword w.Do) (step_exact r d e) (refl, tt) (exact_keyword w.Do r refl) (λ c v.
+              exact_bind e.1 (λ ss. closing_for r (t.For p n a b c ss)) (λ ss mid rest y c' g. before_token EndsBlock (refl, tt) c')))
+              (λ b mid rest y c g. by_follow mid rest y c)))
+          (λ q mid rest y c g. tt)) (λ n mid rest y c g. tt))
+      (counting_to p) (counting_from p)
+
+  while_behind : (r : ℕ) → ExactDeeper r d → Behind 1 r after_while (k.Keyword w.While) IsStatement Any
+  while_behind zero e = tt
+  while_behind (suc r) e = λ p. exact_iff
+      (exact_before (k.Keyword w.Do) e.0 tt (exact_keyword w.Do r refl) (λ a q. exact_bind e.1 (λ ss. closing_while r (t.While p a ss)) (λ ss mid rest y c g. before_token EndsBlock (refl, tt) c)))
+      (while_to p) (while_from p)
+
+  repeat_behind : (r : ℕ) → ExactDeeper r d → Behind 0 r after_repeat (k.Keyword w.Repeat) IsStatement Any
+  repeat_behind zero e = tt
+  repeat_behind (suc r) e = λ p. exact_iff
+      (exact_before (k.Keyword w.Until) e.1 (refl, tt) (exact_keyword w.Until r refl) (λ ss q. exact_bind e.0 (λ a. closing_repeat r (t.Repeat p ss a)) (λ a mid rest y c g. before_token (Stops 7) tt c)))
+      (repeat_to p) (repeat_from p)
+
+-- ---- statements
+
+statement_begins : {ts rest : List Tok} {x : Statement} → IsStatement ts x rest → begins_statement (kind ts) ≡ true
+statement_begins empty = refl
+statement_begins (assignment (is_named d) e) = refl
+statement_begins (invocation (called d)) = refl
+statement_begins returning = refl
+statement_begins exiting = refl
+statement_begins (selection a m b) = refl
+statement_begins (choice a b m o) = refl
+statement_begins (counting a b c m) = refl
+statement_begins (while_loop a m) = refl
+statement_begins (repeat_loop m a) = refl
+
+pub begins_is : (ts : List Tok) (x : Statement) (rest : List Tok) → IsStatement ts x rest → begins_statement (kind ts) ≡ true
+begins_is ts x rest d = statement_begins d
+
+to_statements : {ts rest : List Tok} {xs : List Statement} → IsMany IsStatement ts xs rest → IsStatements ts xs rest
+to_statements none = no_statement
+to_statements (more d m) = statements d (to_statements m)
+
+from_statements : {ts rest : List Tok} {xs : List Statement} → IsStatements ts xs rest → IsMany IsStatement ts xs rest
+from_statements no_statement = none
+from_statements (statements d m) = more d (from_statements m)
+
+module _ (r : ℕ) (d : Deeper) (e : ExactDeeper r d) where
+  selection_exact : Exact 1 (spec.selection r d) (IsFirst (k.Keyword w.If)) IsStatement Any (At r) (At r)
+  unfolding spec.selection
+  selection_exact = exact_enter 1 r (after_if d) (k.Keyword w.If) refl (if_behind d r e)
+
+  choice_exact : Exact 1 (spec.choice r d) (IsFirst (k.Keyword w.Case)) IsStatement Any (At r) (At r)
+  unfolding spec.choice
+  choice_exact = exact_enter 1 r (after_case d) (k.Keyword w.Case) refl (case_behind d r e)
+
+  counting_exact : Exact 1 (spec.counting r d) (IsFirst (k.Keyword w.For)) IsStatement Any (At r) (At r)
+  unfolding spec.counting
+  counting_exact = exact_enter 1 r (after_for d) (k.Keyword w.For) refl (for_behind d r e)
+
+  while_exact : Exact 1 (spec.while_loop r d) (IsFirst (k.Keyword w.While)) IsStatement Any (At r) (At r)
+  unfolding spec.while_loop
+  while_exact = exact_enter 1 r (after_while d) (k.Keyword w.While) refl (while_behind d r e)
+
+  repeat_exact : Exact 1 (spec.repeat_loop r d) (IsFirst (k.Keyword w.Repeat)) IsStatement Any (At r) (At r)
+  unfolding spec.repeat_loop
+  repeat_exact = exact_enter 0 r (after_repeat d) (k.Keyword w.Repeat) refl (repeat_behind d r e)
+
+  statement_by : (t : Option Kind) → Exact 1 (spec.statement_by r d t) (λ ts. (kind ts ≡ t) × Always ts) IsStatement Any (At r) (At r)
+  statement_by (Some (k.Word n)) = exact_under (named_exact r n) (λ ts p. p.0) (λ t g. g)
+  statement_by (Some (k.Symbol s.Semicolon)) = exact_under (empty_exact r) (λ ts p. p.0) (λ t g. g)
+  statement_by (Some (k.Keyword w.Return)) = exact_under (returning_exact r) (λ ts p. p.0) (λ t g. g)
+  statement_by (Some (k.Keyword w.Exit)) = exact_under (exiting_exact r) (λ ts p. p.0) (λ t g. g)
+  statement_by (Some (k.Keyword w.If)) = exact_under selection_exact (λ ts p. p.0) (λ t g. g)
+  statement_by (Some (k.Keyword w.Case)) = exact_under choice_exact (λ ts p. p.0) (λ t g. g)
+  statement_by (Some (k.Keyword w.For)) = exact_under counting_exact (λ ts p. p.0) (λ t g. g)
+  statement_by (Some (k.Keyword w.While)) = exact_under while_exact (λ ts p. p.0) (λ t g. g)
+  statement_by (Some (k.Keyword w.Repeat)) = exact_under repeat_exact (λ ts p. p.0) (λ t g. g)
+  statement_by _ = exact_refuse 1 _ IsStatement Any (At r) (At r) (λ ts x rest p i. let wrong = subst (λ t. begins_statement t ≡ true) p.0 (statement_begins i) in cc)
+
+  statement_exact : Exact 1 (spec.statement r d) Always IsStatement Any (At r) (At r)
+  unfolding spec.statement
+  statement_exact = exact_on kind (spec.statement_by r d) Always IsStatement Any (At r) (At r) statement_by
+
+  block_exact : Exact 0 (spec.block r d) Always IsStatements EndsBlock (At r) (At r)
+  block_exact = exact_iff (exact_many begins_statement (spec.statement r d) IsStatement Any (At r) (exact_under statement_exact (λ ts h. tt) (λ t g. g)) begins_is (λ t h. tt))
+      (λ ts x rest m. to_statements m) (λ ts x rest m. from_statements m)
+
+pub deeper_exact : (r : ℕ) → ExactDeeper r (spec.deeper_of r)
+unfolding spec.deeper_of
+deeper_exact zero = tt
+deeper_exact (suc r) = (expression_exact r, block_exact r (spec.deeper_of r) (deeper_exact r))
+
+-- statements are read exactly
+pub statements_exact : (r : ℕ) → Exact 0 (spec.statements r) Always IsStatements EndsBlock (At r) (At r)
+statements_exact r = block_exact r (spec.deeper_of r) (deeper_exact r)

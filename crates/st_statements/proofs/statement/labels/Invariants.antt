@@ -1,0 +1,14 @@
+use Rattle.std.proofs.Common.{◌≡◌, ◌≤◌, List, [], ◌∷◌, length}
+use Rattle.st_expressions.specs.Parsers as parser
+use Rattle.st_statements.specs.Reading as spec
+use Rattle.st_expressions.proofs.Loops.{Left}
+use Rattle.st_statements.proofs.statement.labels.Given as goal
+
+abbrev pub decreases-items : goal.decreases-items
+decreases-items l = length l.ts
+
+abbrev pub invariant-items : goal.invariant-items
+invariant-items l = record {
+  left : Left parser.is_comma (parser.next_item spec.label) l.initial.found l.initial.ts l.found l.ts;
+  shorter : length l.ts ≤ length l.initial.ts;
+}

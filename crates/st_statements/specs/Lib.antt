@@ -1,0 +1,4 @@
+pub mod ChartReading
+pub mod Charts
+pub mod Grammar
+pub mod Reading

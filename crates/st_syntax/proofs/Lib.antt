@@ -1,0 +1,3 @@
+pub mod DeclarationsExact
+pub mod Top
+pub mod UnitsExact

@@ -1,0 +1,93 @@
+-- The tokens of a whole text.
+use Rattle.std.proofs.Common.{◌≡◌, ℕ, zero, suc, ◌+◌, ◌<◌, ◌≤◌, List, [], ◌∷◌, length, refl, sym, ap, subst, ◌∙◌, true, false, arith}
+use Rattle.std.specs.Prelude.{Option, Some, None, Result, Ok, Err}
+use Rattle.st_tokens.specs.declared.fault.SyntaxFault.{SyntaxFault}
+use Rattle.st_tokens.specs.declared.fault.SyntaxFault.TheVariants as fault
+use Rattle.st_tokens.specs.declared.scan.TheConstants.{MOST_BYTES}
+use Rattle.st_tokens.specs.declared.token.Kind.{Kind}
+use Rattle.st_tokens.specs.declared.token.Token.{Token}
+use Rattle.st_tokens.specs.Text.{HasTokens}
+use Rattle.st_tokens.proofs.Reading.{one_list}
+use Rattle.st_tree.specs.declared.tree.unit.Unit as unit
+use Rattle.st_expressions.specs.Levels.{IsWithin}
+use Rattle.st_expressions.specs.Lists.{IsMany}
+use Rattle.st_expressions.specs.Parsers.{Outcome, Refuses, Wrong, Deep}
+use Rattle.st_expressions.specs.Tokens.{Tok, kind, numbered}
+use Rattle.st_expressions.proofs.Exact.{Exact, Always, Any, Ends}
+use Rattle.st_expressions.proofs.Loops.{ok_parts}
+use Rattle.st_expressions.proofs.Room.{At, Room, room_from, within_from}
+use Rattle.st_syntax.specs.Texts.{IsTextOf, IsOutside, IsDeep, Explains}
+use Rattle.st_syntax.specs.UnitReading.{units, begins_unit}
+use Rattle.st_syntax.specs.Units.{IsUnit, AreUnits}
+use Rattle.st_syntax.proofs.UnitsExact.{units_exact}
+
+top : Exact 0 (units 63) Always (IsMany IsUnit) (Ends begins_unit Any) (At 64) (At 64)
+top = units_exact 62
+
+nothing : (rest : List Tok) → kind rest ≡ None → rest ≡ []
+nothing [] h = refl
+nothing (t ∷ rest) h = absurd (cc)
+
+-- what is in the grammar is read, up to the last token
+read_all : (ts : List Tok) (us : List unit.Unit) → AreUnits ts us → IsWithin 64 ts → units 63 ts ≡ Ok (us, [])
+read_all ts us are within = top.read ts us [] tt are (refl, tt) (room_from ts 64 within)
+
+pub found : (text : List ℕ) (tokens : List Token) (us : List unit.Unit) (rest : List Tok) → HasTokens 1 text tokens
+    → units 63 (numbered 0 tokens) ≡ Ok (us, rest) → kind rest ≡ None → IsTextOf text us
+found text tokens us rest has read last =
+    let u = top.reads (numbered 0 tokens) us rest tt read in
+    let empty = nothing rest last in
+    record {
+      tokens = tokens;
+      has = has;
+      are = subst (λ r. IsMany IsUnit (numbered 0 tokens) us r) empty u.is;
+      within = within_from (numbered 0 tokens) 64 (u.before (subst (At 64) (sym empty) tt));
+    }
+
+pub left_over : (text : List ℕ) (tokens : List Token) (us : List unit.Unit) (rest : List Tok) (t : Kind) → HasTokens 1 text tokens
+    → units 63 (numbered 0 tokens) ≡ Ok (us, rest) → kind rest ≡ Some t → IsOutside text
+left_over text tokens us rest t has read more = record {
+  tokens = tokens;
+  has = has;
+  never = λ vs are within. let all = ap kind (ok_parts (sym read ∙ read_all (numbered 0 tokens) vs are within)).1 in absurd (cc (all, more));
+}
+
+pub refused : (text : List ℕ) (tokens : List Token) (f : SyntaxFault) → HasTokens 1 text tokens → Refuses (units 63 (numbered 0 tokens)) f → Explains f text
+refused text tokens fault.Memory has h = tt
+refused text tokens (fault.NotInGrammar line) has h = record {
+  tokens = tokens;
+  has = has;
+  never = λ us are within. let wrong = sym h ∙ read_all (numbered 0 tokens) us are within in absurd (cc);
+}
+refused text tokens (fault.TooDeep line) has h = record {
+  tokens = tokens;
+  has = has;
+  deeper = λ within. top.deep (numbered 0 tokens) tt h (room_from (numbered 0 tokens) 64 within);
+}
+refused text tokens _ has h = absurd h
+
+same_tokens : (text : List ℕ) (a b : List Token) (M : List Token → Type 0) → HasTokens 1 text a → HasTokens 1 text b → M a → M b
+same_tokens text a b M h k m = subst M (one_list h k) m
+
+pub one_text : (text : List ℕ) (us vs : List unit.Unit) → IsTextOf text us → IsTextOf text vs → us ≡ vs
+one_text text us vs a b =
+    let are = same_tokens text b.tokens a.tokens (λ ts. AreUnits (numbered 0 ts) vs) b.has a.has b.are in
+    (ok_parts (sym (read_all (numbered 0 a.tokens) us a.are a.within) ∙ read_all (numbered 0 a.tokens) vs are a.within)).0
+
+-- a text that is units is refused for want of memory alone
+pub only_memory : (text : List ℕ) (f : SyntaxFault) (us : List unit.Unit) → Explains f text → length text ≤ MOST_BYTES → IsTextOf text us → f ≡ fault.Memory
+only_memory text fault.Memory us h short t = refl
+only_memory text (fault.NoToken line) us h short t = absurd (h t.tokens t.has)
+only_memory text (fault.NotInGrammar line) us h short t =
+    absurd (h.never us (same_tokens text t.tokens h.tokens (λ ts. AreUnits (numbered 0 ts) us) t.has h.has t.are) (same_tokens text t.tokens h.tokens (λ ts. IsWithin 64 (numbered 0 ts)) t.has h.has t.within))
+only_memory text (fault.TooDeep line) us h short t =
+    absurd (h.deeper (same_tokens text t.tokens h.tokens (λ ts. IsWithin 64 (numbered 0 ts)) t.has h.has t.within))
+only_memory text fault.TooLong us h short t = absurd (omega (arith, h, short))
+
+-- the fault of a text without tokens, or too long
+pub from_tokens : (text : List ℕ) (f : SyntaxFault) → Rattle.st_tokens.specs.Text.Explains f text → Explains f text
+from_tokens text fault.Memory h = tt
+from_tokens text (fault.NoToken line) h = h
+from_tokens text fault.TooLong h = h
+from_tokens text (fault.NotInGrammar line) h = absurd h
+from_tokens text (fault.TooDeep line) h = absurd h

@@ -1,0 +1,317 @@
+-- The reading functions of units read their grammar exactly.
+use Rattle.std.proofs.Common.{◌≡◌, ℕ, zero, suc, ◌+◌, ◌<◌, ◌≤◌, List, [], ◌∷◌, length, refl, sym, ap, subst, ◌∙◌, Bool, true, false, arith}
+use Rattle.std.specs.Prelude.{Option, Some, None, Result, Ok, Err}
+use Rattle.st_tokens.specs.declared.keyword.Keyword.TheVariants as w
+use Rattle.st_tokens.specs.declared.symbol.Symbol.TheVariants as s
+use Rattle.st_tokens.specs.declared.token.Kind.{Kind}
+use Rattle.st_tokens.specs.declared.token.Kind.TheVariants as k
+use Rattle.st_tree.specs.declared.elem.Elem.{Elem}
+use Rattle.st_tree.specs.declared.tree.declaration.Declaration.{Declaration}
+use Rattle.st_tree.specs.declared.tree.declaration.DeclaredType.{DeclaredType}
+use Rattle.st_tree.specs.declared.tree.declaration.DeclaredType.TheVariants as d
+use Rattle.st_tree.specs.declared.tree.declaration.VarBlock.{VarBlock}
+use Rattle.st_tree.specs.declared.tree.place.Identifier.{Identifier}
+use Rattle.st_tree.specs.declared.tree.place.Place.{Place}
+use Rattle.st_tree.specs.declared.tree.unit.Body.{Body}
+use Rattle.st_tree.specs.declared.tree.unit.Body.TheVariants as b
+use Rattle.st_tree.specs.declared.tree.unit.Organization.{Organization}
+use Rattle.st_tree.specs.declared.tree.unit.TypeDeclaration.{TypeDeclaration}
+use Rattle.st_tree.specs.declared.tree.unit.Unit as unit
+use Rattle.st_tree.specs.declared.tree.unit.Unit.TheVariants as u
+use Rattle.st_expressions.specs.Lists.{IsMany, none, more}
+use Rattle.st_expressions.specs.Parsers as parser
+use Rattle.st_expressions.specs.Parsers.{Parser, and_then, identifier, Deep}
+use Rattle.st_expressions.specs.Tokens.{Tok, kind, next, place}
+use Rattle.st_expressions.proofs.Exact.{Relation, Found, Exact, Always, Any, Then, seq, IsOne, one, IsPure, done, IsWord, a_word, exact_bind, exact_as, exact_iff, exact_last, exact_under, exact_zero, exact_pure, made, exact_refuse, exact_on, IsFirst, exact_token, exact_symbol, exact_keyword, exact_word, exact_before, before_token, Ends, exact_many}
+use Rattle.st_expressions.proofs.Loops.{ok_parts}
+use Rattle.st_expressions.proofs.Room.{At}
+use Rattle.st_statements.specs.ChartReading.{is_word, begins_element}
+use Rattle.st_statements.specs.Charts.{IsElement, initial_step, plain_step, transition, action, IsChart, chart}
+use Rattle.st_statements.specs.Grammar.{IsStatements, no_statement, statements, IsStatement}
+use Rattle.st_statements.specs.Reading.{begins_statement}
+use Rattle.st_statements.proofs.ChartsExact.{chart_exact}
+use Rattle.st_statements.proofs.Statements.{EndsBlock, statements_exact, begins_is}
+use Rattle.st_syntax.specs.DeclarationReading as declarations
+use Rattle.st_syntax.specs.DeclarationReading.{begins_block}
+use Rattle.st_syntax.specs.Declarations.{IsSpecification, simple, array, elementary, declared, IsInitialized, IsMember, member, IsVarBlock}
+use Rattle.st_syntax.specs.UnitReading as spec
+use Rattle.st_syntax.specs.UnitReading.{is_struct, begins_unit}
+use Rattle.st_syntax.specs.Units.{type_of, function_of, organization_of, IsDeclared, derived, structure, IsTypeDeclaration, type_declaration, IsBody, plain_body, chart_body, IsOrganization, organization, IsUnit, types, function, function_block, program}
+use Rattle.st_syntax.proofs.DeclarationsExact.{specification_exact, initialized_exact, member_exact, member_begins, variables_exact}
+
+-- ---- types
+
+struct_is : (t : Option Kind) → is_struct t ≡ true → t ≡ Some (k.Keyword w.Struct)
+struct_is (Some (k.Keyword w.Struct)) h = refl
+struct_is _ h = absurd (cc)
+
+-- the members of a structure
+data AreMembers : List Tok → List Declaration → List Tok → Type 0 where
+  members : {ts mid rest : List Tok} {x : Declaration} {xs : List Declaration} → IsMember ts x mid → IsMany IsMember mid xs rest → AreMembers ts (x ∷ xs) rest
+
+members_to : (ts : List Tok) (x : List Declaration) (rest : List Tok) → Then IsMember (λ y. Then (IsMany IsMember) (λ ys. IsPure (y ∷ ys))) ts x rest → AreMembers ts x rest
+members_to ts x rest (seq e (seq m f)) = made f (λ y us. AreMembers ts y us) (members e m)
+
+members_from : (ts : List Tok) (x : List Declaration) (rest : List Tok) → AreMembers ts x rest → Then IsMember (λ y. Then (IsMany IsMember) (λ ys. IsPure (y ∷ ys))) ts x rest
+members_from ts x rest (members e m) = seq e (seq m done)
+
+abbrev StructureRule : Place → Relation DeclaredType
+StructureRule p = Then AreMembers (λ xs. Then (IsOne (k.Keyword w.EndStruct)) (λ q. Then (IsOne (k.Symbol s.Semicolon)) (λ z. IsPure (d.Structure p xs))))
+
+structure_to : (p : Place) (ts : List Tok) (x : DeclaredType) (rest : List Tok) → StructureRule p ts x rest → IsDeclared ((p, k.Keyword w.Struct) ∷ ts) x rest
+structure_to p ts x rest (seq (members e m) (seq one (seq one f))) = made f (λ y us. IsDeclared ((p, k.Keyword w.Struct) ∷ ts) y us) (structure e m)
+
+structure_from : (p : Place) (ts : List Tok) (x : DeclaredType) (rest : List Tok) → IsDeclared ((p, k.Keyword w.Struct) ∷ ts) x rest → StructureRule p ts x rest
+structure_from p ts x rest (structure e m) = seq (members e m) (seq one (seq one done))
+structure_from p ts x rest (derived (simple e) f) = elim e [ ]
+
+abbrev DerivedRule : Relation DeclaredType
+DerivedRule = Then IsSpecification (λ x. Then IsInitialized (λ y. IsPure (d.Derived x y)))
+
+derived_to : (ts : List Tok) (x : DeclaredType) (rest : List Tok) → DerivedRule ts x rest → IsDeclared ts x rest
+derived_to ts x rest (seq e (seq f m)) = made m (λ y us. IsDeclared ts y us) (derived e f)
+
+derived_from : (ts : List Tok) (x : DeclaredType) (rest : List Tok) → is_struct (kind ts) ≡ false → IsDeclared ts x rest → DerivedRule ts x rest
+derived_from ts x rest h (derived e f) = seq e (seq f done)
+derived_from ts x rest h (structure e m) = absurd (cc)
+
+abbrev TypeRule : Relation TypeDeclaration
+TypeRule = Then IsWord (λ n. Then (IsOne (k.Symbol s.Colon)) (λ q. Then IsDeclared (λ x. IsPure (type_of n x))))
+
+type_to : (ts : List Tok) (x : TypeDeclaration) (rest : List Tok) → TypeRule ts x rest → IsTypeDeclaration ts x rest
+type_to ts x rest (seq a_word (seq one (seq e m))) = made m (λ y us. IsTypeDeclaration ts y us) (type_declaration e)
+
+type_from : (ts : List Tok) (x : TypeDeclaration) (rest : List Tok) → IsTypeDeclaration ts x rest → TypeRule ts x rest
+type_from ts x rest (type_declaration e) = seq a_word (seq one (seq e done))
+
+type_begins : (ts : List Tok) (x : TypeDeclaration) (rest : List Tok) → IsTypeDeclaration ts x rest → is_word (kind ts) ≡ true
+type_begins ts x rest (type_declaration e) = refl
+
+abbrev TypesRule : Place → Relation unit.Unit
+TypesRule p = Then (IsMany IsTypeDeclaration) (λ xs. Then (IsOne (k.Keyword w.EndType)) (λ q. IsPure (u.Types p xs)))
+
+types_to : (p : Place) (ts : List Tok) (x : unit.Unit) (rest : List Tok) → TypesRule p ts x rest → IsUnit ((p, k.Keyword w.Type) ∷ ts) x rest
+types_to p ts x rest (seq e (seq one m)) = made m (λ y us. IsUnit ((p, k.Keyword w.Type) ∷ ts) y us) (types e)
+
+types_from : (p : Place) (ts : List Tok) (x : unit.Unit) (rest : List Tok) → IsUnit ((p, k.Keyword w.Type) ∷ ts) x rest → TypesRule p ts x rest
+types_from p ts x rest (types e) = seq e (seq one done)
+
+module _ (r : ℕ) where
+  members_exact : Exact 1 (spec.members (suc r)) Always AreMembers (Ends is_word Any) (At (suc (suc r))) (At (suc (suc r)))
+  unfolding parser.leading
+  members_exact = exact_iff (exact_bind (member_exact r) (λ x. exact_last (exact_many is_word (declarations.member (suc r)) IsMember Any (At (suc (suc r))) (exact_under (member_exact r) (λ ts h. tt) (λ t g. g)) member_begins (λ t h. tt)) (λ xs. x ∷ xs)) (λ x mid rest y e g. tt))
+      members_to members_from
+
+  declared_by : (c : Bool) → Exact 1 (spec.declared_by (suc r) c) (λ ts. (is_struct (kind ts) ≡ c) × Always ts) IsDeclared Any (At (suc (suc r))) (At (suc (suc r)))
+  unfolding spec.structure spec.derived
+  declared_by true = exact_under (exact_token (k.Keyword w.Struct) refl {R = IsDeclared} (λ p. exact_iff
+          (exact_before (k.Keyword w.EndStruct) members_exact (refl, tt) (exact_keyword w.EndStruct (suc (suc r)) refl) (λ xs q. exact_bind (exact_symbol s.Semicolon (suc (suc r)) refl) (λ z. exact_pure (d.Structure p xs) Always Any (At (suc (suc r)))) (λ z mid rest y e g. tt)))
+          (structure_to p) (structure_from p))) (λ ts h. struct_is (kind ts) h.0) (λ t g. g)
+  declared_by false = exact_as (exact_bind (specification_exact (suc r)) (λ x. exact_last (initialized_exact r) (d.Derived x)) (λ x mid rest y e g. tt)) (λ ts h. tt)
+      (λ ts x rest h e. derived_to ts x rest e) (λ ts x rest h g e. derived_from ts x rest h.0 e) (λ t g. g)
+
+  declared_exact : Exact 1 (spec.declared (suc r)) Always IsDeclared Any (At (suc (suc r))) (At (suc (suc r)))
+  unfolding spec.declared
+  declared_exact = exact_on (λ ts. is_struct (kind ts)) (spec.declared_by (suc r)) Always IsDeclared Any (At (suc (suc r))) (At (suc (suc r))) declared_by
+
+  type_exact : Exact 1 (spec.type_declaration (suc r)) Always IsTypeDeclaration Any (At (suc (suc r))) (At (suc (suc r)))
+  unfolding spec.type_declaration
+  type_exact = exact_iff (exact_bind (exact_word (suc (suc r))) (λ n. exact_bind (exact_symbol s.Colon (suc (suc r)) refl) (λ q. exact_last declared_exact (type_of n)) (λ q mid rest y e g. tt)) (λ n mid rest y e g. tt)) type_to type_from
+
+  types_exact : Exact 1 (spec.types (suc r)) (IsFirst (k.Keyword w.Type)) IsUnit Any (At (suc (suc r))) (At (suc (suc r)))
+  unfolding spec.types
+  types_exact = exact_token (k.Keyword w.Type) refl {R = IsUnit} (λ p. exact_iff
+      (exact_before (k.Keyword w.EndType) (exact_many is_word (spec.type_declaration (suc r)) IsTypeDeclaration Any (At (suc (suc r))) (exact_under type_exact (λ ts h. tt) (λ t g. g)) type_begins (λ t h. tt)) (refl, tt)
+          (exact_keyword w.EndType (suc (suc r)) refl) (λ xs q. exact_pure (u.Types p xs) Always Any (At (suc (suc r)))))
+      (types_to p) (types_from p))
+
+-- ---- functions
+
+data IsElementary : List Tok → Elem → List Tok → Type 0 where
+  an_elem : {p : Place} {e : Elem} {rest : List Tok} → IsElementary ((p, k.Type e) ∷ rest) e rest
+
+elementary_exact : (r : ℕ) → Exact 1 spec.elementary Always IsElementary Any (At r) (At r)
+unfolding spec.elementary
+elementary_exact r = record { reads = λ ts x rest t h. reads ts x rest h; deep = λ ts t h q. deep ts h; read = λ ts x rest t c g q. read c } where
+  reads : (ts : List Tok) (x : Elem) (rest : List Tok) → spec.elementary_by (kind ts) ts ≡ Ok (x, rest) → Found 1 IsElementary (At r) (At r) ts x rest
+  reads ((p, k.Type e) ∷ ts) x rest h = let same = ok_parts h in
+      subst (λ z. Found 1 IsElementary (At r) (At r) ((p, k.Type e) ∷ ts) z rest) same.0
+          (subst (λ us. Found 1 IsElementary (At r) (At r) ((p, k.Type e) ∷ ts) e us) same.1
+              (record { is = an_elem; takes = omega arith; after = λ q. q; before = λ q. q }))
+  reads [] x rest h = absurd (cc)
+  reads ((p, _) ∷ ts) x rest h = absurd (cc)
+
+  deep : (ts : List Tok) → spec.elementary_by (kind ts) ts ≡ Err Deep → ⊥
+  deep ((p, k.Type e) ∷ ts) h = cc
+  deep [] h = cc
+  deep ((p, _) ∷ ts) h = cc
+
+  read : {ts rest : List Tok} {x : Elem} → IsElementary ts x rest → spec.elementary_by (kind ts) ts ≡ Ok (x, rest)
+  read an_elem = refl
+
+abbrev FunctionRule : Place → Relation unit.Unit
+FunctionRule p = Then IsWord (λ n. Then (IsOne (k.Symbol s.Colon)) (λ q. Then IsElementary (λ e. Then (IsMany IsVarBlock) (λ vs. Then IsStatements (λ ss. Then (IsOne (k.Keyword w.EndFunction)) (λ z. IsPure (u.Function (function_of p n e vs ss))))))))
+
+function_to : (p : Place) (ts : List Tok) (x : unit.Unit) (rest : List Tok) → FunctionRule p ts x rest → IsUnit ((p, k.Keyword w.Function) ∷ ts) x rest
+function_to p ts x rest (seq a_word (seq one (seq an_elem (seq e (seq f (seq one m)))))) = made m (λ y us. IsUnit ((p, k.Keyword w.Function) ∷ ts) y us) (function e f)
+
+function_from : (p : Place) (ts : List Tok) (x : unit.Unit) (rest : List Tok) → IsUnit ((p, k.Keyword w.Function) ∷ ts) x rest → FunctionRule p ts x rest
+function_from p ts x rest (function e f) = seq a_word (seq one (seq an_elem (seq e (seq f (seq one done)))))
+
+-- the first token of a statement begins no declarations
+statement_no_block : (t : Option Kind) → begins_statement t ≡ true → Ends begins_block Any t
+statement_no_block (Some (k.Word n)) h = (refl, tt)
+statement_no_block (Some (k.Symbol s.Semicolon)) h = (refl, tt)
+statement_no_block (Some (k.Keyword w.Return)) h = (refl, tt)
+statement_no_block (Some (k.Keyword w.Exit)) h = (refl, tt)
+statement_no_block (Some (k.Keyword w.If)) h = (refl, tt)
+statement_no_block (Some (k.Keyword w.Case)) h = (refl, tt)
+statement_no_block (Some (k.Keyword w.For)) h = (refl, tt)
+statement_no_block (Some (k.Keyword w.While)) h = (refl, tt)
+statement_no_block (Some (k.Keyword w.Repeat)) h = (refl, tt)
+statement_no_block _ h = absurd (cc)
+
+statements_begin : {ts rest : List Tok} {x : _} {xs : _} → IsStatements ts (x ∷ xs) rest → begins_statement (kind ts) ≡ true
+statements_begin {ts} {rest} {x} (statements {mid = mid} e m) = begins_is ts x mid e
+
+function_follow : {S : _ → Relation unit.Unit} (mid rest : List Tok) (y : unit.Unit) → Then IsStatements (λ ss. Then (IsOne (k.Keyword w.EndFunction)) (λ z. S ss)) mid y rest → Ends begins_block Any (kind mid)
+function_follow mid rest y (seq no_statement (seq one f)) = (refl, tt)
+function_follow mid rest y (seq (statements {mid = last} {x = x} e m) f) = statement_no_block (kind mid) (begins_is mid x last e)
+
+-- ---- function blocks and programs
+
+chart_as : (ts : List Tok) (x : Body) (rest : List Tok) → Then IsChart (λ y. IsPure (b.Chart y)) ts x rest → IsBody ts x rest
+chart_as ts x rest (seq e m) = made m (λ y us. IsBody ts y us) (chart_body e)
+
+-- neither an element of a chart nor a statement follows
+abbrev EndsBody : Option Kind → Type 0
+EndsBody t = (begins_element t ≡ false) × EndsBlock t
+
+element_no_statement : (t : Option Kind) → begins_element t ≡ true → begins_statement t ≡ true → ⊥
+element_no_statement (Some (k.Keyword w.InitialStep)) h g = cc
+element_no_statement (Some (k.Keyword w.Step)) h g = cc
+element_no_statement (Some (k.Keyword w.Transition)) h g = cc
+element_no_statement (Some (k.Keyword w.Action)) h g = cc
+element_no_statement _ h g = cc
+
+element_begins : (ts : List Tok) (x : _) (rest : List Tok) → IsElement ts x rest → begins_element (kind ts) ≡ true
+element_begins ts x rest (initial_step e) = refl
+element_begins ts x rest (plain_step e) = refl
+element_begins ts x rest (transition e) = refl
+element_begins ts x rest (action e) = refl
+
+chart_back : (ts : List Tok) (x : Body) (rest : List Tok) → begins_element (kind ts) ≡ true → EndsBody (kind rest) → IsBody ts x rest → Then IsChart (λ y. IsPure (b.Chart y)) ts x rest
+chart_back ts x rest h g (chart_body e) = seq e done
+chart_back ts x rest h g (plain_body no_statement) = absurd (let wrong = sym h ∙ g.0 in cc)
+chart_back ts x rest h g (plain_body (statements {mid = last} {x = y} e m)) = absurd (element_no_statement (kind ts) h (begins_is ts y last e))
+
+plain_as : (ts : List Tok) (x : Body) (rest : List Tok) → Then IsStatements (λ y. IsPure (b.Statements y)) ts x rest → IsBody ts x rest
+plain_as ts x rest (seq e m) = made m (λ y us. IsBody ts y us) (plain_body e)
+
+plain_back : (ts : List Tok) (x : Body) (rest : List Tok) → begins_element (kind ts) ≡ false → IsBody ts x rest → Then IsStatements (λ y. IsPure (b.Statements y)) ts x rest
+plain_back ts x rest h (plain_body e) = seq e done
+plain_back ts x rest h (chart_body (chart {mid = last} {x = y} e m)) = absurd (let wrong = sym h ∙ element_begins ts y last e in cc)
+
+module _ (r : ℕ) where
+  function_exact : Exact 1 (spec.function (suc r)) (IsFirst (k.Keyword w.Function)) IsUnit Any (At (suc (suc r))) (At (suc (suc r)))
+  unfolding spec.function
+  function_exact = exact_token (k.Keyword w.Function) refl {R = IsUnit} (λ p. exact_iff
+      (exact_bind (exact_word (suc (suc r))) (λ n. exact_bind (exact_symbol s.Colon (suc (suc r)) refl) (λ q. exact_bind (elementary_exact (suc (suc r))) (λ e. exact_bind (variables_exact r)
+          (λ vs. exact_before (k.Keyword w.EndFunction) (statements_exact (suc (suc r))) (refl, tt) (exact_keyword w.EndFunction (suc (suc r)) refl) (λ ss z. exact_pure (u.Function (function_of p n e vs ss)) Always Any (At (suc (suc r)))))
+          (λ vs mid rest y f g. function_follow mid rest y f)) (λ e mid rest y f g. tt)) (λ q mid rest y f g. tt)) (λ n mid rest y f g. tt))
+      (function_to p) (function_from p))
+
+  body_by : (c : Bool) → Exact 0 (spec.body_by (suc r) c) (λ ts. (begins_element (kind ts) ≡ c) × Always ts) IsBody EndsBody (At (suc (suc r))) (At (suc (suc r)))
+  unfolding spec.chart_body spec.plain_body
+  body_by true = exact_zero (exact_as (exact_last (chart_exact (suc r)) b.Chart) (λ ts h. tt) (λ ts x rest h e. chart_as ts x rest e) (λ ts x rest h g e. chart_back ts x rest h.0 g e) (λ t g. (g.0, tt)))
+  body_by false = exact_as (exact_last (statements_exact (suc (suc r))) b.Statements) (λ ts h. tt) (λ ts x rest h e. plain_as ts x rest e) (λ ts x rest h g e. plain_back ts x rest h.0 e) (λ t g. g.1)
+
+  body_exact : Exact 0 (spec.body (suc r)) Always IsBody EndsBody (At (suc (suc r))) (At (suc (suc r)))
+  unfolding spec.body
+  body_exact = exact_on (λ ts. begins_element (kind ts)) (spec.body_by (suc r)) Always IsBody EndsBody (At (suc (suc r))) (At (suc (suc r))) body_by
+
+-- the first token of a chart's element begins no declarations
+element_no_block : (t : Option Kind) → begins_element t ≡ true → Ends begins_block Any t
+element_no_block (Some (k.Keyword w.InitialStep)) h = (refl, tt)
+element_no_block (Some (k.Keyword w.Step)) h = (refl, tt)
+element_no_block (Some (k.Keyword w.Transition)) h = (refl, tt)
+element_no_block (Some (k.Keyword w.Action)) h = (refl, tt)
+element_no_block _ h = absurd (cc)
+
+-- declarations end before a body and a last word that begins none
+body_follow : (x : Kind) → Ends begins_block Any (Some x) → (mid rest : List Tok) (y : Organization) {S : Body → Relation Organization} → Then IsBody (λ c. Then (IsOne x) (λ z. S c)) mid y rest → Ends begins_block Any (kind mid)
+body_follow x fits mid rest y (seq (plain_body no_statement) (seq one f)) = fits
+body_follow x fits mid rest y (seq (plain_body (statements {mid = last} {x = z} e m)) f) = statement_no_block (kind mid) (begins_is mid z last e)
+body_follow x fits mid rest y (seq (chart_body (chart {mid = last} {x = z} e m)) f) = element_no_block (kind mid) (element_begins mid z last e)
+
+abbrev OrganizationRule : Kind → Place → Relation Organization
+OrganizationRule x p = Then IsWord (λ n. Then (IsMany IsVarBlock) (λ vs. Then IsBody (λ c. Then (IsOne x) (λ z. IsPure (organization_of p n vs c)))))
+
+-- a function block or a program, up to its last word, and that word
+data IsWhole (x : Kind) (p : Place) : List Tok → Organization → List Tok → Type 0 where
+  whole : {q : Place} {ts rest : List Tok} {y : Organization} → IsOrganization p ts y ((q, x) ∷ rest) → IsWhole x p ts y rest
+
+whole_to : (x : Kind) (p : Place) (ts : List Tok) (y : Organization) (rest : List Tok) → OrganizationRule x p ts y rest → IsWhole x p ts y rest
+whole_to x p ts y rest (seq a_word (seq e (seq f (seq one m)))) = made m (λ z us. IsWhole x p ts z us) (whole (organization e f))
+
+whole_from : (x : Kind) (p : Place) (ts : List Tok) (y : Organization) (rest : List Tok) → IsWhole x p ts y rest → OrganizationRule x p ts y rest
+whole_from x p ts y rest (whole (organization e f)) = seq a_word (seq e (seq f (seq one done)))
+
+block_to : (p : Place) (ts : List Tok) (x : unit.Unit) (rest : List Tok) → Then (IsWhole (k.Keyword w.EndFunctionBlock) p) (λ y. IsPure (u.FunctionBlock y)) ts x rest → IsUnit ((p, k.Keyword w.FunctionBlock) ∷ ts) x rest
+block_to p ts x rest (seq (whole e) m) = made m (λ y us. IsUnit ((p, k.Keyword w.FunctionBlock) ∷ ts) y us) (function_block e)
+
+block_from : (p : Place) (ts : List Tok) (x : unit.Unit) (rest : List Tok) → IsUnit ((p, k.Keyword w.FunctionBlock) ∷ ts) x rest → Then (IsWhole (k.Keyword w.EndFunctionBlock) p) (λ y. IsPure (u.FunctionBlock y)) ts x rest
+block_from p ts x rest (function_block e) = seq (whole e) done
+
+program_to : (p : Place) (ts : List Tok) (x : unit.Unit) (rest : List Tok) → Then (IsWhole (k.Keyword w.EndProgram) p) (λ y. IsPure (u.Program y)) ts x rest → IsUnit ((p, k.Keyword w.Program) ∷ ts) x rest
+program_to p ts x rest (seq (whole e) m) = made m (λ y us. IsUnit ((p, k.Keyword w.Program) ∷ ts) y us) (program e)
+
+program_from : (p : Place) (ts : List Tok) (x : unit.Unit) (rest : List Tok) → IsUnit ((p, k.Keyword w.Program) ∷ ts) x rest → Then (IsWhole (k.Keyword w.EndProgram) p) (λ y. IsPure (u.Program y)) ts x rest
+program_from p ts x rest (program e) = seq (whole e) done
+
+unit_begins : (ts : List Tok) (x : unit.Unit) (rest : List Tok) → IsUnit ts x rest → begins_unit (kind ts) ≡ true
+unit_begins ts x rest (types e) = refl
+unit_begins ts x rest (function e f) = refl
+unit_begins ts x rest (function_block e) = refl
+unit_begins ts x rest (program e) = refl
+
+module _ (r : ℕ) where
+  block_rule : (p : Place) → Exact 1 (λ ts. and_then (parser.word ts) (λ n us. and_then (declarations.variables (suc r) us) (λ vs ws. and_then (spec.body (suc r) ws) (λ c xs. and_then (parser.keyword w.EndFunctionBlock xs) (λ z. parser.pure (organization_of p n vs c))))))
+      Always (IsWhole (k.Keyword w.EndFunctionBlock) p) Any (At (suc (suc r))) (At (suc (suc r)))
+  block_rule p = exact_iff (exact_bind (exact_word (suc (suc r))) (λ n. exact_bind (variables_exact r) (λ vs. exact_before (k.Keyword w.EndFunctionBlock) (body_exact r) (refl, (refl, tt)) (exact_keyword w.EndFunctionBlock (suc (suc r)) refl)
+          (λ c z. exact_pure (organization_of p n vs c) Always Any (At (suc (suc r))))) (λ vs mid rest y f g. body_follow (k.Keyword w.EndFunctionBlock) (refl, tt) mid rest y f)) (λ n mid rest y f g. tt))
+      (whole_to (k.Keyword w.EndFunctionBlock) p) (whole_from (k.Keyword w.EndFunctionBlock) p)
+
+  program_rule : (p : Place) → Exact 1 (λ ts. and_then (parser.word ts) (λ n us. and_then (declarations.variables (suc r) us) (λ vs ws. and_then (spec.body (suc r) ws) (λ c xs. and_then (parser.keyword w.EndProgram xs) (λ z. parser.pure (organization_of p n vs c))))))
+      Always (IsWhole (k.Keyword w.EndProgram) p) Any (At (suc (suc r))) (At (suc (suc r)))
+  program_rule p = exact_iff (exact_bind (exact_word (suc (suc r))) (λ n. exact_bind (variables_exact r) (λ vs. exact_before (k.Keyword w.EndProgram) (body_exact r) (refl, (refl, tt)) (exact_keyword w.EndProgram (suc (suc r)) refl)
+          (λ c z. exact_pure (organization_of p n vs c) Always Any (At (suc (suc r))))) (λ vs mid rest y f g. body_follow (k.Keyword w.EndProgram) (refl, tt) mid rest y f)) (λ n mid rest y f g. tt))
+      (whole_to (k.Keyword w.EndProgram) p) (whole_from (k.Keyword w.EndProgram) p)
+
+  -- what is made of what was read behind a word
+  regroup : {A B C : Type 0} (o : parser.Outcome A) (f : A → Parser B) (g : B → C) → and_then (and_then o f) (λ x. parser.pure (g x)) ≡ and_then o (λ x ts. and_then (f x ts) (λ y. parser.pure (g y)))
+  regroup (Ok z) f g = refl
+  regroup (Err e) f g = refl
+
+  block_exact : Exact 1 (spec.function_block (suc r)) (IsFirst (k.Keyword w.FunctionBlock)) IsUnit Any (At (suc (suc r))) (At (suc (suc r)))
+  unfolding spec.function_block spec.organization
+  block_exact = exact_token (k.Keyword w.FunctionBlock) refl {R = IsUnit} (λ p. exact_iff (exact_last (block_rule p) u.FunctionBlock) (block_to p) (block_from p))
+
+  program_exact : Exact 1 (spec.program (suc r)) (IsFirst (k.Keyword w.Program)) IsUnit Any (At (suc (suc r))) (At (suc (suc r)))
+  unfolding spec.program spec.organization
+  program_exact = exact_token (k.Keyword w.Program) refl {R = IsUnit} (λ p. exact_iff (exact_last (program_rule p) u.Program) (program_to p) (program_from p))
+
+  unit_by : (t : Option Kind) → Exact 1 (spec.unit_by (suc r) t) (λ ts. (kind ts ≡ t) × Always ts) IsUnit Any (At (suc (suc r))) (At (suc (suc r)))
+  unit_by (Some (k.Keyword w.Type)) = exact_under (types_exact r) (λ ts p. p.0) (λ t g. g)
+  unit_by (Some (k.Keyword w.Function)) = exact_under (function_exact r) (λ ts p. p.0) (λ t g. g)
+  unit_by (Some (k.Keyword w.FunctionBlock)) = exact_under block_exact (λ ts p. p.0) (λ t g. g)
+  unit_by (Some (k.Keyword w.Program)) = exact_under program_exact (λ ts p. p.0) (λ t g. g)
+  unit_by _ = exact_refuse 1 _ IsUnit Any (At (suc (suc r))) (At (suc (suc r))) (λ ts x rest p e. let wrong = subst (λ t. begins_unit t ≡ true) p.0 (unit_begins ts x rest e) in cc)
+
+  unit_exact : Exact 1 (spec.unit_of (suc r)) Always IsUnit Any (At (suc (suc r))) (At (suc (suc r)))
+  unfolding spec.unit_of
+  unit_exact = exact_on kind (spec.unit_by (suc r)) Always IsUnit Any (At (suc (suc r))) (At (suc (suc r))) unit_by
+
+  -- units are read exactly
+  pub units_exact : Exact 0 (spec.units (suc r)) Always (IsMany IsUnit) (Ends begins_unit Any) (At (suc (suc r))) (At (suc (suc r)))
+  units_exact = exact_many begins_unit (spec.unit_of (suc r)) IsUnit Any (At (suc (suc r))) (exact_under unit_exact (λ ts h. tt) (λ t g. g)) unit_begins (λ t h. tt)

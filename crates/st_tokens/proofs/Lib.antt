@@ -1,0 +1,12 @@
+pub mod Cases
+pub mod Comments
+pub mod Firsts
+pub mod Intervals
+pub mod Literals
+pub mod Longest
+pub mod Marks
+pub mod Names
+pub mod Numbers
+pub mod Reading
+pub mod Runs
+pub mod SignedIntervals

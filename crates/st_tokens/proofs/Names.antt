@@ -1,0 +1,239 @@
+-- Words, reserved words and names of types.
+use Rattle.std.proofs.Common.{◌≡◌, ℕ, ◌+◌, ◌≤◌, List, [], ◌∷◌, ◌++◌, refl, sym, ap, ◌∙◌, Bool, true, false, arith, subst, map, nat_lt}
+use Rattle.std.specs.Prelude.{Option, Some, None, ◌==◌, ◌&&◌, not, codes, ◌⊎◌}
+use Rattle.std.specs.Char.{to_ascii_lowercase, is_ascii_digit}
+use Rattle.std.specs.List.{find, list_all}
+use Rattle.std.specs.Str.{bytes_eq}
+use Rattle.std.proofs.lemmas.Bool.Decides.{nat_tests}
+use Rattle.std.proofs.lemmas.Slice.Eq.{bytes_eq-Decides}
+use Rattle.std.proofs.Common.{inl, inr}
+use Rattle.st_tree.specs.declared.elem.Elem.{Elem}
+use Rattle.st_tree.specs.declared.elem.Elem.TheVariants as E
+use Rattle.st_tree.specs.Words.{is_word}
+use Rattle.st_tree.specs.Types.{name_of}
+use Rattle.st_tokens.specs.declared.keyword.Keyword.{Keyword}
+use Rattle.st_tokens.specs.declared.keyword.Keyword.TheVariants as K
+use Rattle.st_tokens.specs.declared.keyword.TheConstants.{KEYWORDS}
+use Rattle.st_tokens.specs.declared.word.TheConstants.{ELEMS}
+use Rattle.st_tokens.specs.Characters.{begins_word, is_word_byte, AreWordBytes}
+use Rattle.st_tokens.specs.Scanning.{is_clean_after, is_clean}
+use Rattle.st_tokens.specs.Words.{spelling_of, keyword_of, elem_of, IsSame, IsWord, IsReserved, IsUnclean}
+use Rattle.st_tokens.proofs.Cases.{by_test, both, is_equal}
+
+lower_is : (b : ℕ) → (to_ascii_lowercase b ≡ b) ⊎ ((65 ≤ b) × (b ≤ 90) × (to_ascii_lowercase b ≡ b + 32))
+lower_is b = by_test (nat_lt b 65) (λ t. inl (rw t refl)) (λ t. by_test (nat_lt b 91)
+    (λ u. inr (grind (arith, nat_tests), grind (arith, nat_tests), rw (t, u) refl)) (λ u. inl (rw (t, u) refl)))
+
+pub lower_word_byte : (b : ℕ) → is_word_byte (to_ascii_lowercase b) ≡ is_word_byte b
+lower_word_byte b = at (lower_is b) where
+  at : (to_ascii_lowercase b ≡ b) ⊎ ((65 ≤ b) × (b ≤ 90) × (to_ascii_lowercase b ≡ b + 32)) → is_word_byte (to_ascii_lowercase b) ≡ is_word_byte b
+  at (inl e) = ap is_word_byte e
+  at (inr w) = let low = w.0 in let high = w.1 in let t : is_word_byte b ≡ true = grind (arith, nat_tests) in let u : is_word_byte (b + 32) ≡ true = grind (arith, nat_tests) in
+      ap is_word_byte w.2 ∙ u ∙ sym t
+
+pub lower_begins : (b : ℕ) → begins_word (to_ascii_lowercase b) ≡ begins_word b
+lower_begins b = at (lower_is b) where
+  at : (to_ascii_lowercase b ≡ b) ⊎ ((65 ≤ b) × (b ≤ 90) × (to_ascii_lowercase b ≡ b + 32)) → begins_word (to_ascii_lowercase b) ≡ begins_word b
+  at (inl e) = ap begins_word e
+  at (inr w) = let low = w.0 in let high = w.1 in let t : begins_word b ≡ true = grind (arith, nat_tests) in let u : begins_word (b + 32) ≡ true = grind (arith, nat_tests) in
+      ap begins_word w.2 ∙ u ∙ sym t
+
+pub lower_line : (b : ℕ) → (to_ascii_lowercase b == 95) ≡ (b == 95)
+lower_line b = at (lower_is b) where
+  at : (to_ascii_lowercase b ≡ b) ⊎ ((65 ≤ b) × (b ≤ 90) × (to_ascii_lowercase b ≡ b + 32)) → (to_ascii_lowercase b == 95) ≡ (b == 95)
+  at (inl e) = ap (λ (n : ℕ). n == 95) e
+  at (inr w) = let low = w.0 in let high = w.1 in let t : (b == 95) ≡ false = grind (arith, nat_tests) in let u : (b + 32 == 95) ≡ false = grind (arith, nat_tests) in
+      ap (λ (n : ℕ). n == 95) w.2 ∙ u ∙ sym t
+
+-- `IsWord` without unclean ones, as a test
+abbrev pub is_name : List ℕ → Bool
+is_name [] = false
+is_name (b ∷ bs) = begins_word b && (list_all is_word_byte bs && is_clean (b ∷ bs))
+
+pub keyword_facts : (x : Keyword) → (keyword_of (spelling_of x) ≡ Some x) × (is_name (map to_ascii_lowercase (spelling_of x)) ≡ true)
+unfolding keyword_of
+keyword_facts K.Action = (refl, refl)
+keyword_facts _ = (refl, refl)
+
+pub elem_facts : (x : Elem) → (elem_of (name_of x) ≡ Some x) × (keyword_of (name_of x) ≡ None) × (is_name (map to_ascii_lowercase (name_of x)) ≡ true)
+unfolding keyword_of elem_of
+elem_facts E.Bool = (refl, refl, refl)
+elem_facts _ = (refl, refl, refl)
+
+find_some : {X : Type 0} (p : X → Bool) (xs : List X) (x : X) → find p xs ≡ Some x → p x ≡ true
+find_some p [] x h = absurd (cc)
+find_some p (y ∷ ys) x h = by_test (p y)
+    (λ t. let h' : ◌≡◌ {A = Option _} (Some y) (Some x) = rw t at h in let e : y ≡ x = cc in subst (λ z. p z ≡ true) e t)
+    (λ t. find_some p ys x (rw t at h))
+
+-- only the word without regard to case counts
+keyword_same : (a b : List ℕ) → IsSame a b → keyword_of a ≡ keyword_of b
+unfolding keyword_of
+keyword_same a b e = ap (λ lower. find (λ keyword. bytes_eq lower (map to_ascii_lowercase (spelling_of keyword))) KEYWORDS) e
+
+elem_same : (a b : List ℕ) → IsSame a b → elem_of a ≡ elem_of b
+unfolding elem_of
+elem_same a b e = ap (λ lower. find (λ elem. bytes_eq lower (map to_ascii_lowercase (name_of elem))) ELEMS) e
+
+-- `T` is no type
+pub short_no_elem : (w : List ℕ) → IsSame w (codes "T") → elem_of w ≡ None
+unfolding elem_of
+short_no_elem w h = elem_same w (codes "T") h ∙ refl
+
+pub keyword_in : (w : List ℕ) (x : Keyword) → IsSame w (spelling_of x) → keyword_of w ≡ Some x
+keyword_in w x e = keyword_same w (spelling_of x) e ∙ (keyword_facts x).0
+
+pub keyword_is : (w : List ℕ) (x : Keyword) → keyword_of w ≡ Some x → IsSame w (spelling_of x)
+unfolding keyword_of
+keyword_is w x h = (bytes_eq-Decides (map to_ascii_lowercase w) (map to_ascii_lowercase (spelling_of x))).0
+    (find_some (λ keyword. is_word (spelling_of keyword) w) KEYWORDS x h)
+
+pub elem_in : (w : List ℕ) (x : Elem) → IsSame w (name_of x) → elem_of w ≡ Some x
+elem_in w x e = elem_same w (name_of x) e ∙ (elem_facts x).0
+
+pub elem_no_keyword : (w : List ℕ) (x : Elem) → IsSame w (name_of x) → keyword_of w ≡ None
+elem_no_keyword w x e = keyword_same w (name_of x) e ∙ (elem_facts x).1
+
+pub elem_is : (w : List ℕ) (x : Elem) → elem_of w ≡ Some x → IsSame w (name_of x)
+unfolding elem_of
+elem_is w x h = (bytes_eq-Decides (map to_ascii_lowercase w) (map to_ascii_lowercase (name_of x))).0
+    (find_some (λ elem. is_word (name_of elem) w) ELEMS x h)
+
+-- what isn't reserved is neither
+pub not_keyword : (w : List ℕ) → (IsReserved w → ⊥) → keyword_of w ≡ None
+not_keyword w n = at (keyword_of w) refl where
+  at : (o : Option Keyword) → keyword_of w ≡ o → o ≡ None
+  at None e = refl
+  at (Some x) e = absurd (n (inl (x, keyword_is w x e)))
+
+pub not_elem : (w : List ℕ) → (IsReserved w → ⊥) → elem_of w ≡ None
+not_elem w n = at (elem_of w) refl where
+  at : (o : Option Elem) → elem_of w ≡ o → o ≡ None
+  at None e = refl
+  at (Some x) e = absurd (n (inr (x, elem_is w x e)))
+
+pub not_reserved : (w : List ℕ) → keyword_of w ≡ None → elem_of w ≡ None → IsReserved w → ⊥
+not_reserved w k e (inl r) = let h = keyword_in w r.0 r.1 in cc
+not_reserved w k e (inr r) = let h = elem_in w r.0 r.1 in cc
+
+all_lower : (w : List ℕ) → list_all is_word_byte (map to_ascii_lowercase w) ≡ list_all is_word_byte w
+all_lower [] = refl
+all_lower (b ∷ bs) = ap (λ (x : Bool). x && list_all is_word_byte (map to_ascii_lowercase bs)) (lower_word_byte b) ∙ ap (λ (x : Bool). is_word_byte b && x) (all_lower bs)
+
+clean_lower : (underscore : Bool) (w : List ℕ) → is_clean_after underscore (map to_ascii_lowercase w) ≡ is_clean_after underscore w
+clean_lower underscore [] = refl
+clean_lower underscore (b ∷ bs) =
+    ap (λ (x : Bool). not (underscore && x) && is_clean_after x (map to_ascii_lowercase bs)) (lower_line b)
+    ∙ ap (λ (x : Bool). not (underscore && b == 95) && x) (clean_lower (b == 95) bs)
+
+name_lower : (w : List ℕ) → is_name (map to_ascii_lowercase w) ≡ is_name w
+name_lower [] = refl
+name_lower (b ∷ bs) =
+    ap (λ (x : Bool). x && (list_all is_word_byte (map to_ascii_lowercase bs) && is_clean (map to_ascii_lowercase (b ∷ bs)))) (lower_begins b)
+    ∙ ap (λ (x : Bool). begins_word b && (x && is_clean (map to_ascii_lowercase (b ∷ bs)))) (all_lower bs)
+    ∙ ap (λ (x : Bool). begins_word b && (list_all is_word_byte bs && x)) (clean_lower false (b ∷ bs))
+
+pub keyword_name : (w : List ℕ) (x : Keyword) → IsSame w (spelling_of x) → is_name w ≡ true
+keyword_name w x e = sym (name_lower w) ∙ ap is_name e ∙ (keyword_facts x).1
+
+pub elem_name : (w : List ℕ) (x : Elem) → IsSame w (name_of x) → is_name w ≡ true
+elem_name w x e = sym (name_lower w) ∙ ap is_name e ∙ (elem_facts x).2
+
+-- a name of another spelling, as `T`
+pub same_name : (w name : List ℕ) → IsSame w name → is_name (map to_ascii_lowercase name) ≡ true → is_name w ≡ true
+same_name w name e h = sym (name_lower w) ∙ ap is_name e ∙ h
+
+all_words : (w : List ℕ) → list_all is_word_byte w ≡ true → AreWordBytes w
+all_words [] h = tt
+all_words (b ∷ bs) h = let p = both (is_word_byte b) (list_all is_word_byte bs) h in (p.0, all_words bs p.1)
+
+pub name_word : (w : List ℕ) → is_name w ≡ true → IsWord w
+name_word [] h = absurd (cc)
+name_word (b ∷ bs) h =
+    let p = both (begins_word b) (list_all is_word_byte bs && is_clean (b ∷ bs)) h in
+    let q = both (list_all is_word_byte bs) (is_clean (b ∷ bs)) p.1 in (p.0, all_words bs q.0)
+
+pub name_clean : (w : List ℕ) → is_name w ≡ true → is_clean w ≡ true
+name_clean [] h = absurd (cc)
+name_clean (b ∷ bs) h =
+    let p = both (begins_word b) (list_all is_word_byte bs && is_clean (b ∷ bs)) h in
+    (both (list_all is_word_byte bs) (is_clean (b ∷ bs)) p.1).1
+
+pub begins_word_byte : (b : ℕ) → begins_word b ≡ true → is_word_byte b ≡ true
+begins_word_byte b h = grind (arith, nat_tests)
+
+pub digit_word_byte : (b : ℕ) → is_ascii_digit b ≡ true → is_word_byte b ≡ true
+digit_word_byte b h = grind (arith, nat_tests)
+
+pub begins_no_digit : (b : ℕ) → begins_word b ≡ true → is_ascii_digit b ≡ false
+begins_no_digit b h = grind (arith, nat_tests)
+
+pub word_byte_kind : (b : ℕ) → is_ascii_digit b ≡ false → begins_word b ≡ false → is_word_byte b ≡ false
+word_byte_kind b h k = grind (arith, nat_tests)
+
+pub word_words : (w : List ℕ) → IsWord w → AreWordBytes w
+word_words [] h = absurd h
+word_words (b ∷ bs) h = (begins_word_byte b h.0, h.1)
+
+-- ---- clean words
+
+unclean_more : (b : ℕ) (bs : List ℕ) → IsUnclean bs → IsUnclean (b ∷ bs)
+unclean_more b bs (inl w) = inl (b ∷ w.0, w.1, ap (λ (zs : List ℕ). b ∷ zs) w.2)
+unclean_more b bs (inr w) = inr (b ∷ w.0, ap (λ (zs : List ℕ). b ∷ zs) w.1)
+
+-- nothing more, or a '_', comes
+abbrev LineNext : List ℕ → Type 0
+LineNext [] = Unit {0}
+LineNext (b ∷ bs) = b ≡ 95
+
+unclean_line : (bs : List ℕ) → LineNext bs → IsUnclean (95 ∷ bs)
+unclean_line [] h = inr ([], refl)
+unclean_line (b ∷ bs) h = inl ([], bs, ap (λ (x : ℕ). 95 ∷ x ∷ bs) h)
+
+unclean_after : (underscore : Bool) (w : List ℕ) → is_clean_after underscore w ≡ false → ((underscore ≡ true) × LineNext w) ⊎ IsUnclean w
+unclean_after true [] h = inl (refl, tt)
+unclean_after false [] h = absurd (cc)
+unclean_after underscore (b ∷ bs) h = by_test (b == 95)
+    (λ t. by_flag (λ g. unclean_after true bs g) underscore t (rw t at h))
+    (λ t. by_rest (unclean_after false bs (by_false underscore (rw t at h)))) where
+      by_false : (flag : Bool) → (not (flag && false) && is_clean_after false bs) ≡ false → is_clean_after false bs ≡ false
+      by_false true g = g
+      by_false false g = g
+
+      by_rest : ((false ≡ true) × LineNext bs) ⊎ IsUnclean bs → ((underscore ≡ true) × LineNext (b ∷ bs)) ⊎ IsUnclean (b ∷ bs)
+      by_rest (inl v) = let e = v.0 in absurd (cc)
+      by_rest (inr u) = inr (unclean_more b bs u)
+
+      by_line : b ≡ 95 → ((true ≡ true) × LineNext bs) ⊎ IsUnclean bs → IsUnclean (b ∷ bs)
+      by_line e (inl v) = subst (λ x. IsUnclean (x ∷ bs)) (sym e) (unclean_line bs v.1)
+      by_line e (inr u) = unclean_more b bs u
+
+      by_flag : (is_clean_after true bs ≡ false → ((true ≡ true) × LineNext bs) ⊎ IsUnclean bs) → (flag : Bool) → (b == 95) ≡ true → (not (flag && true) && is_clean_after true bs) ≡ false → ((flag ≡ true) × LineNext (b ∷ bs)) ⊎ IsUnclean (b ∷ bs)
+      by_flag ih true t g = inl (refl, is_equal b 95 t)
+      by_flag ih false t g = inr (by_line (is_equal b 95 t) (ih g))
+
+pub unclean : (w : List ℕ) → is_clean w ≡ false → IsUnclean w
+unclean w h = at (unclean_after false w h) where
+  at : ((false ≡ true) × LineNext w) ⊎ IsUnclean w → IsUnclean w
+  at (inl v) = let e = v.0 in absurd (cc)
+  at (inr u) = u
+
+second : (flag t : Bool) (rest : Bool) → (not (flag && t) && rest) ≡ true → rest ≡ true
+second flag t rest h = (both (not (flag && t)) rest h).1
+
+not_double : (underscore : Bool) (front back : List ℕ) → is_clean_after underscore (front ++ 95 ∷ 95 ∷ back) ≡ true → ⊥
+not_double true [] back h = cc
+not_double false [] back h = cc
+not_double underscore (x ∷ front) back h = not_double (x == 95) front back (second underscore (x == 95) _ h)
+
+not_last : (underscore : Bool) (front : List ℕ) → is_clean_after underscore (front ++ 95 ∷ []) ≡ true → ⊥
+not_last true [] h = cc
+not_last false [] h = cc
+not_last underscore (x ∷ front) h = not_last (x == 95) front (second underscore (x == 95) _ h)
+
+pub not_unclean : (w : List ℕ) → is_clean w ≡ true → IsUnclean w → ⊥
+not_unclean w h (inl u) = not_double false u.0 u.1 (subst (λ zs. is_clean zs ≡ true) u.2 h)
+not_unclean w h (inr u) = not_last false u.0 (subst (λ zs. is_clean zs ≡ true) u.1 h)
+
+pub clean : (w : List ℕ) → (IsUnclean w → ⊥) → is_clean w ≡ true
+clean w n = by_test (is_clean w) (λ t. t) (λ t. absurd (n (unclean w t)))

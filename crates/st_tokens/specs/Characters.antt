@@ -1,0 +1,32 @@
+-- The character set (IEC 61131-3:2003, 2.1.1) and blanks (2.1.4).
+use Rattle.std.specs.Prelude.{◌≡◌, ℕ, ◌+◌, Bool, true, ◌||◌, ◌==◌, if◌then◌else◌, List, [], ◌∷◌}
+use Rattle.std.specs.Char.{is_ascii_alphabetic, is_ascii_alphanumeric}
+
+-- a word begins with a letter or '_'
+abbrev pub begins_word : ℕ → Bool
+begins_word b = is_ascii_alphabetic b || b == 95
+
+-- it goes on with letters, digits and '_'
+abbrev pub is_word_byte : ℕ → Bool
+is_word_byte b = is_ascii_alphanumeric b || b == 95
+
+abbrev pub AreWordBytes : List ℕ → Type 0
+AreWordBytes [] = Unit {0}
+AreWordBytes (b ∷ bs) = (is_word_byte b ≡ true) × AreWordBytes bs
+
+-- a letter, a digit or '_' comes first
+abbrev pub BeginsWord : List ℕ → Type 0
+BeginsWord [] = ⊥
+BeginsWord (b ∷ bs) = is_word_byte b ≡ true
+
+-- tab, line feed, carriage return, space
+abbrev pub is_blank : ℕ → Bool
+is_blank b = b == 9 || b == 10 || b == 13 || b == 32
+
+-- behind a line feed begins another line
+abbrev pub line_end : ℕ → ℕ
+line_end b = if b == 10 then 1 else 0
+
+abbrev pub line_ends : List ℕ → ℕ
+line_ends [] = 0
+line_ends (b ∷ bs) = line_end b + line_ends bs

@@ -1,0 +1,39 @@
+-- The forms of tokens (IEC 61131-3:2003, 2.1.2, 2.1.3, 2.2).
+use Rattle.std.specs.Prelude.{◌≡◌, ◌≢◌, ℕ, true, ◌⊎◌, List, ◌∷◌, ◌++◌, ℤ, pos, codes, Some, if◌then◌else◌}
+use Rattle.st_tree.specs.declared.elem.Elem.{Elem}
+use Rattle.st_tree.specs.declared.elem.Elem.TheVariants.{Time}
+use Rattle.st_tree.specs.declared.value.Value.{Value}
+use Rattle.st_tree.specs.Durations.{signed_interval_read}
+use Rattle.st_tree.specs.Numbers.{capped, capped_signed, number_read, too_much}
+use Rattle.st_tree.specs.Readings.{literal_read}
+use Rattle.st_tree.specs.Types.{name_of, class_of}
+use Rattle.st_tree.specs.Values.{in_range}
+use Rattle.st_tokens.specs.declared.keyword.Keyword.{Keyword}
+use Rattle.st_tokens.specs.declared.symbol.Symbol.{Symbol}
+use Rattle.st_tokens.specs.declared.token.Kind.{Kind}
+use Rattle.st_tokens.specs.declared.token.Kind.TheVariants as K
+use Rattle.st_tokens.specs.Symbols.{symbol_text}
+use Rattle.st_tokens.specs.Words.{IsWord, IsSame, IsReserved, spelling_of}
+
+abbrev pub value : Elem → ℤ → Value
+value elem n = record { elem = elem; bits = n }
+
+-- what a duration counts as: what TIME doesn't hold counts as what no type holds
+abbrev pub time_of : ℤ → ℤ
+time_of ms = if in_range Time ms then ms else pos too_much
+
+-- what stands before the `#` of a duration (2.2.3.1)
+abbrev pub IsDurationWord : List ℕ → Type 0
+IsDurationWord w = IsSame w (codes "T") ⊎ IsSame w (codes "TIME")
+
+-- these bytes have the form of this token
+pub data HasForm : List ℕ → Kind → Type 0 where
+  word : {w : List ℕ} → IsWord w → (IsReserved w → ⊥) → HasForm w (K.Word w)
+  keyword : {w : List ℕ} {x : Keyword} → IsSame w (spelling_of x) → HasForm w (K.Keyword x)
+  type_name : {w : List ℕ} {elem : Elem} → IsSame w (name_of elem) → HasForm w (K.Type elem)
+  number : {digits : List ℕ} (n : ℕ) → number_read digits ≡ Some n → HasForm digits (K.Number (capped n))
+  typed : (name literal : List ℕ) (elem : Elem) (n : ℤ) → IsSame name (name_of elem) → elem ≢ Time
+      → literal_read (class_of elem) true literal ≡ Some n → HasForm (name ++ 35 ∷ literal) (K.Typed (value elem (capped_signed n)))
+  duration : (name literal : List ℕ) (ms : ℤ) → IsDurationWord name
+      → signed_interval_read literal ≡ Some ms → HasForm (name ++ 35 ∷ literal) (K.Duration (time_of ms))
+  symbol : (x : Symbol) → HasForm (symbol_text x) (K.Symbol x)

@@ -1,0 +1,226 @@
+//! What no clause says: the line of a fault, that memory suffices, and the standard's own examples.
+use crate::{Keyword, Kind, Spelling, Symbol, SyntaxFault, tokens};
+use st_tree::{Elem, Value};
+use std::alloc::Global;
+use std::process::Abort;
+use std::test::Fail;
+
+/// Whether two tokens are of the same kind and value.
+fn is_same(a: &Kind<'_>, b: &Kind<'_>) -> bool {
+    match (a, b) {
+        (Kind::Word(a), Kind::Word(b)) => a.bytes() == b.bytes(),
+        (Kind::Keyword(a), Kind::Keyword(b)) => a == b,
+        (Kind::Type(a), Kind::Type(b)) => a == b,
+        (Kind::Number(a), Kind::Number(b)) => a == b,
+        (Kind::Typed(a), Kind::Typed(b)) => a == b,
+        (Kind::Duration(a), Kind::Duration(b)) => a == b,
+        (Kind::Symbol(a), Kind::Symbol(b)) => a == b,
+        _ => false,
+    }
+}
+
+/// Asserts that a text has these tokens.
+fn has(rt: &impl Abort, alloc: Global, text: &[u8], expected: &[Kind<'_>]) -> Result<(), Fail> {
+    let found = tokens(alloc, text)?;
+    assert_eq!(rt; found.len(), expected.len(), "in {text:?}");
+    for (token, kind) in found.iter().zip(expected) {
+        assert!(rt; is_same(&token.kind, kind), "in {text:?}");
+    }
+    Ok(())
+}
+
+/// Asserts that a text has no tokens, because of this line.
+fn has_none(rt: &impl Abort, alloc: Global, text: &[u8], line: u32) {
+    match tokens(alloc, text) {
+        Ok(_) => assert!(rt; false, "in {text:?}"),
+        Err(fault) => assert_eq!(rt; fault, SyntaxFault::NoToken { line }, "in {text:?}"),
+    }
+}
+
+fn word(bytes: &[u8]) -> Kind<'_> {
+    Kind::Word(Spelling::of(bytes))
+}
+
+fn typed<'a>(elem: Elem, bits: i128) -> Kind<'a> {
+    Kind::Typed(Value { elem, bits })
+}
+
+#[test]
+fn each_kind(rt: HostRuntime) -> Result<(), Fail> {
+    let alloc = rt.alloc();
+    let text = b"a:=T#1h30m(*x*)16#F_F;";
+    let expected = [
+        word(b"a"),
+        Kind::Symbol(Symbol::Assign),
+        Kind::Duration(5_400_000),
+        Kind::Number(255),
+        Kind::Symbol(Symbol::Semicolon),
+    ];
+    has(&rt, alloc, text, &expected)?;
+    let expected = [
+        Kind::Number(1),
+        Kind::Symbol(Symbol::Range),
+        Kind::Number(4),
+    ];
+    has(&rt, alloc, b"1..4", &expected)?;
+    let expected = [
+        Kind::Keyword(Keyword::EndIf),
+        Kind::Keyword(Keyword::True),
+        Kind::Type(Elem::Time),
+        typed(Elem::Int, -5),
+    ];
+    has(&rt, alloc, b"End_If true Time INT#-5", &expected)?;
+    has(&rt, alloc, b" \t\r\n(* *)", &[])
+}
+
+#[test]
+fn words_of_the_standard(rt: HostRuntime) -> Result<(), Fail> {
+    // 2.1.2, table 2
+    let text = b"IW215 QX75 IDENT LIM_SW_2 ab_Cd _MAIN _12V7 T Priority";
+    let expected = [
+        word(b"IW215"),
+        word(b"QX75"),
+        word(b"IDENT"),
+        word(b"LIM_SW_2"),
+        word(b"ab_Cd"),
+        word(b"_MAIN"),
+        word(b"_12V7"),
+        word(b"T"),
+        word(b"Priority"),
+    ];
+    has(&rt, rt.alloc(), text, &expected)
+}
+
+#[test]
+fn numbers_of_the_standard(rt: HostRuntime) -> Result<(), Fail> {
+    // 2.2.1, table 4
+    let text = b"0 123_456 2#1111_1111 2#1110_0000 8#377 8#340 16#FF 16#ff 16#E0";
+    let expected = [
+        Kind::Number(0),
+        Kind::Number(123_456),
+        Kind::Number(255),
+        Kind::Number(224),
+        Kind::Number(255),
+        Kind::Number(224),
+        Kind::Number(255),
+        Kind::Number(255),
+        Kind::Number(224),
+    ];
+    has(&rt, rt.alloc(), text, &expected)?;
+    let text = b"DINT#5 UINT#16#9AF bool#0 BOOL#1 BOOL#FALSE Bool#true";
+    let expected = [
+        typed(Elem::Dint, 5),
+        typed(Elem::Uint, 2479),
+        typed(Elem::Bool, 0),
+        typed(Elem::Bool, 1),
+        typed(Elem::Bool, 0),
+        typed(Elem::Bool, 1),
+    ];
+    has(&rt, rt.alloc(), text, &expected)?;
+    let text = b"18446744073709551615 18446744073709551616 LINT#-99999999999999999999";
+    let expected = [
+        Kind::Number(18_446_744_073_709_551_615),
+        Kind::Number(18_446_744_073_709_551_616),
+        typed(Elem::Lint, -18_446_744_073_709_551_616),
+    ];
+    has(&rt, rt.alloc(), text, &expected)
+}
+
+#[test]
+fn durations_of_the_standard(rt: HostRuntime) -> Result<(), Fail> {
+    // 2.2.3.1, table 7
+    let text = b"T#14ms T#-14ms T#14.7s T#14.7m T#14.7h t#14.7d t#25h15m TIME#25h_15m time#14.7s";
+    let expected = [
+        Kind::Duration(14),
+        Kind::Duration(-14),
+        Kind::Duration(14_700),
+        Kind::Duration(882_000),
+        Kind::Duration(52_920_000),
+        Kind::Duration(1_270_080_000),
+        Kind::Duration(90_900_000),
+        Kind::Duration(90_900_000),
+        Kind::Duration(14_700),
+    ];
+    has(&rt, rt.alloc(), text, &expected)?;
+    let text = b"t#5d_14h_12m_18s_3ms T#1m..T#2m T#1.000s";
+    let expected = [
+        Kind::Duration(483_138_003),
+        Kind::Duration(60_000),
+        Kind::Symbol(Symbol::Range),
+        Kind::Duration(120_000),
+        Kind::Duration(1_000),
+    ];
+    has(&rt, rt.alloc(), text, &expected)?;
+    let text =
+        b"T#9223372036854775807ms T#9223372036854775808ms T#-9223372036854775808ms T#-9223372036854775809ms";
+    let expected = [
+        Kind::Duration(9_223_372_036_854_775_807),
+        Kind::Duration(18_446_744_073_709_551_616),
+        Kind::Duration(-9_223_372_036_854_775_808),
+        Kind::Duration(18_446_744_073_709_551_616),
+    ];
+    has(&rt, rt.alloc(), text, &expected)
+}
+
+#[test]
+fn faults_on_line_1(rt: HostRuntime) {
+    let texts: [&[u8]; 24] = [
+        b"T#1m1h",
+        b"A__B",
+        b"B_",
+        b"2#12",
+        b"1_",
+        b"1__2",
+        b"5a",
+        b"16#FG",
+        b"16#",
+        b"2#",
+        b"INT#",
+        b"INT#5a",
+        b"INT#-16#F",
+        b"BOOL#TRUEX",
+        b"DINT#TRUE",
+        b"REAL#1",
+        b"T#",
+        b"T#5",
+        b"T#1.5ms",
+        b"T#1.0005s",
+        b"TIME#1s_",
+        b"t#5d_14h_12m_18s_3.5ms",
+        b"#",
+        b"(* (* *",
+    ];
+    for text in texts {
+        has_none(&rt, rt.alloc(), text, 1);
+    }
+}
+
+#[test]
+fn faults_on_later_lines(rt: HostRuntime) {
+    has_none(&rt, rt.alloc(), b"A\n(*\n\n*)\r\n?", 5);
+    has_none(&rt, rt.alloc(), b"A\n (*)\n\n", 2);
+    has_none(&rt, rt.alloc(), b"\n\nB_\n", 3);
+    has_none(&rt, rt.alloc(), b"(*\x80\xff\n*)\x80", 2);
+}
+
+#[test]
+fn lines(rt: HostRuntime) -> Result<(), Fail> {
+    let found = tokens(rt.alloc(), b"A (*\n*) B\r\n\n:=\n")?;
+    assert_eq!(rt; found.len(), 3);
+    assert_eq!(rt; found[0].line, 1);
+    assert_eq!(rt; found[1].line, 2);
+    assert_eq!(rt; found[2].line, 4);
+    Ok(())
+}
+
+#[test]
+fn longest_text(rt: HostRuntime) -> Result<(), Fail> {
+    let mut text = vec![in rt.alloc(); b'A'; 1_048_576]?;
+    assert_eq!(rt; tokens(rt.alloc(), &text)?.len(), 1);
+    text.push(b'A')?;
+    match tokens(rt.alloc(), &text) {
+        Ok(_) => assert!(rt; false),
+        Err(fault) => assert_eq!(rt; fault, SyntaxFault::TooLong),
+    }
+    Ok(())
+}
