@@ -1,11 +1,7 @@
 pub mod Changes
 pub mod Histories
 pub mod Steps
+pub mod Texts
 pub mod ThinDeclarations
-pub mod ThinLeaves
-pub mod ThinLexemes
 pub mod ThinPrograms
-pub mod ThinReads
-pub mod ThinUnits
-pub mod ThinVariables
 pub mod Undone

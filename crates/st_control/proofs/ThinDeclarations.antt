@@ -10,8 +10,8 @@ use Rattle.st_layout.specs.Layout.{no_leaf, paths_of}
 use Rattle.st_tree.specs.declared.leaf.Leaf.{Leaf}
 use Rattle.st_tree.specs.declared.tree.declaration.Declaration.{Declaration}
 use Rattle.st_control.specs.ThinLists.{Joins, Refuses}
-use Rattle.st_control.specs.declared.thin_program.fault.ThinFault.{ThinFault}
-use Rattle.st_control.specs.declared.thin_program.fault.ThinFault.TheVariants.{Memory, NotThin}
+use Rattle.st_control.specs.declared.thin.fault.ThinFault.{ThinFault}
+use Rattle.st_control.specs.declared.thin.fault.ThinFault.TheVariants.{Memory, NotThin}
 use Rattle.st_control.specs.ThinPrograms.{Declares, leaf_of}
 
 abbrev IsShort : Leaf → Type 0

@@ -1,8 +1,8 @@
 -- What is read of the declarations of a thin program, one after another.
 use Rattle.std.specs.Prelude.{◌≡◌, ◌≢◌, ◌<◌, ◌≤◌, List, length, Option, None}
 use Rattle.std.specs.List.{All}
-use Rattle.st_control.specs.declared.thin_program.fault.ThinFault.{ThinFault}
-use Rattle.st_control.specs.declared.thin_program.fault.ThinFault.TheVariants.{NotThin, Memory}
+use Rattle.st_control.specs.declared.thin.fault.ThinFault.{ThinFault}
+use Rattle.st_control.specs.declared.thin.fault.ThinFault.TheVariants.{NotThin, Memory}
 use Rattle.st_tree.specs.declared.leaf.Leaf.{Leaf}
 
 -- where a declaration is refused it gives nothing

@@ -6,8 +6,9 @@ mod laws;
 mod record;
 mod refusal;
 mod state;
+#[cfg(test)]
+mod tests;
 mod thin;
-mod thin_program;
 mod undoing;
 
 pub use controller::{Controller, Report};
@@ -15,6 +16,5 @@ pub use laws::{command_changes_one_path, undos_give_back_states};
 pub use record::Record;
 pub use refusal::Refusal;
 pub use state::{RunFault, RunFaultKind, State, Status};
-pub use thin::texts_give_one_list;
-pub use thin_program::units_give_one_list;
+pub use thin::{texts_give_one_list, units_give_one_list};
 pub use undoing::revert;
