@@ -2,6 +2,8 @@
 #![tactic(auto)]
 
 mod declaration;
+#[cfg(test)]
+mod tests;
 mod text;
 mod unit;
 

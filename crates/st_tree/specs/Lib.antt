@@ -3,6 +3,7 @@ pub mod Name
 pub mod Numbers
 pub mod Readings
 pub mod Texts
+pub mod Trees
 pub mod Types
 pub mod Values
 pub mod Words

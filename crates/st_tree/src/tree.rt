@@ -5,6 +5,7 @@ mod constant;
 mod declaration;
 mod expression;
 mod place;
+mod search;
 mod statement;
 mod unit;
 
@@ -15,6 +16,7 @@ pub use declaration::{
 };
 pub use expression::{Argument, Call, Expression, Operation, Part, Variable};
 pub use place::{Identifier, Place};
+pub use search::{has_call, has_exit};
 pub use statement::{CaseElement, ConditionalPart, Label, Statement};
 pub use unit::{
     Action, ActionQualifier, Association, Body, ChartElement, Function, Organization, Step,

@@ -1,0 +1,226 @@
+//! What no clause says: that memory suffices, which fault comes at which line, and the standard's own examples.
+use crate::parse;
+use st_tokens::SyntaxFault;
+use std::alloc::Global;
+use std::process::Abort;
+use std::test::Fail;
+
+/// Asserts that a text is read as this many units.
+fn is_read(rt: &impl Abort, alloc: Global, text: &[u8], count: usize) -> Result<(), Fail> {
+    let found = parse(alloc, text)?;
+    assert_eq!(rt; found.len(), count, "in {text:?}");
+    Ok(())
+}
+
+/// Asserts that a text is refused with this fault.
+fn is_refused(rt: &impl Abort, alloc: Global, text: &[u8], expected: SyntaxFault) {
+    match parse(alloc, text) {
+        Ok(_) => assert!(rt; false, "in {text:?}"),
+        Err(fault) => assert_eq!(rt; fault, expected, "in {text:?}"),
+    }
+}
+
+/// Asserts that a program is read which has these declarations and this body.
+fn body_is_read(
+    rt: &impl Abort,
+    alloc: Global,
+    declarations: &[u8],
+    body: &[u8],
+) -> Result<(), Fail> {
+    let mut text = Vec::new(alloc);
+    text.extend_from_slice(b"PROGRAM Main ")?;
+    text.extend_from_slice(declarations)?;
+    text.extend_from_slice(body)?;
+    text.extend_from_slice(b" END_PROGRAM")?;
+    is_read(rt, alloc, &text, 1)
+}
+
+/// A program with an expression in so many parentheses.
+fn in_parentheses(alloc: Global, levels: usize) -> Result<Vec<u8>, Fail> {
+    let mut text = Vec::new(alloc);
+    text.extend_from_slice(b"PROGRAM Main\nA :=\n")?;
+    for _ in 0..levels {
+        text.push(b'(')?;
+    }
+    text.push(b'1')?;
+    for _ in 0..levels {
+        text.push(b')')?;
+    }
+    text.extend_from_slice(b"; END_PROGRAM")?;
+    Ok(text)
+}
+
+/// A program with a statement in so many IFs, each on its own line.
+fn in_conditions(alloc: Global, levels: usize) -> Result<Vec<u8>, Fail> {
+    let mut text = Vec::new(alloc);
+    text.extend_from_slice(b"PROGRAM Main")?;
+    for _ in 0..levels {
+        text.extend_from_slice(b"\nIF A THEN ;")?;
+    }
+    for _ in 0..levels {
+        text.extend_from_slice(b" END_IF;")?;
+    }
+    text.extend_from_slice(b" END_PROGRAM")?;
+    Ok(text)
+}
+
+#[test]
+fn counts_levels(rt: HostRuntime) -> Result<(), Fail> {
+    let alloc = rt.alloc();
+    is_read(&rt, alloc, &in_parentheses(alloc, 64)?, 1)?;
+    let fault = SyntaxFault::TooDeep { line: 3 };
+    is_refused(&rt, alloc, &in_parentheses(alloc, 65)?, fault);
+    is_read(&rt, alloc, &in_conditions(alloc, 64)?, 1)?;
+    let fault = SyntaxFault::TooDeep { line: 66 };
+    is_refused(&rt, alloc, &in_conditions(alloc, 65)?, fault);
+    Ok(())
+}
+
+#[test]
+fn earlier_fault_decides(rt: HostRuntime) -> Result<(), Fail> {
+    let alloc = rt.alloc();
+    let mut text = Vec::new(alloc);
+    text.extend_from_slice(b"PROGRAM Main\nA :=")?;
+    for _ in 0..64 {
+        text.push(b'(')?;
+    }
+    text.extend_from_slice(b"\nIF")?;
+    is_refused(&rt, alloc, &text, SyntaxFault::NotInGrammar { line: 3 });
+    let mut text = Vec::new(alloc);
+    text.extend_from_slice(b"PROGRAM Main\nA := ) ")?;
+    for _ in 0..65 {
+        text.push(b'(')?;
+    }
+    is_refused(&rt, alloc, &text, SyntaxFault::NotInGrammar { line: 2 });
+    Ok(())
+}
+
+#[test]
+fn refuses_each_beginning(rt: HostRuntime) -> Result<(), Fail> {
+    let alloc = rt.alloc();
+    let text = b"PROGRAM Main VAR A : INT := 3; B : BOOL; END_VAR A := A + 1; END_PROGRAM";
+    is_read(&rt, alloc, text, 1)?;
+    is_read(&rt, alloc, b"", 0)?;
+    for end in 1..text.len() {
+        let front = &text[..end];
+        let fault = if front.ends_with(b"END_") {
+            SyntaxFault::NoToken { line: 1 }
+        } else {
+            SyntaxFault::NotInGrammar { line: 1 }
+        };
+        is_refused(&rt, alloc, front, fault);
+    }
+    Ok(())
+}
+
+#[test]
+fn fault_at_its_line(rt: HostRuntime) -> Result<(), Fail> {
+    let alloc = rt.alloc();
+    let cases: [(&[u8], u32); 12] = [
+        (b"PROGRAM Main\nVAR A : INT; END_VAR\nA = 5; END_PROGRAM", 3),
+        (b"VAR_GLOBAL\nPROGRAM Main END_PROGRAM", 1),
+        (b"PROGRAM Main\n\n", 2),
+        (b"PROGRAM Main IF A THEN ;\nEND_PROGRAM", 2),
+        (b"PROGRAM Main F(A,\n); END_PROGRAM", 2),
+        (b"PROGRAM Main A := - -\n- 5; END_PROGRAM", 2),
+        (b"PROGRAM Main A := +\nB; END_PROGRAM", 2),
+        (b"PROGRAM Main STEP S: END_STEP\nA := 1; END_PROGRAM", 2),
+        (b"FUNCTION F : T\nEND_FUNCTION", 1),
+        (b"PROGRAM Main TRANSITION\n(LEVEL := 1) FROM A TO B := C; END_TRANSITION END_PROGRAM", 2),
+        (b"PROGRAM Main VAR_INPUT\nCONSTANT A : INT; END_VAR END_PROGRAM", 2),
+        (b"TYPE T : STRUCT\nEND_STRUCT; END_TYPE", 2),
+    ];
+    for (text, line) in cases {
+        is_refused(&rt, alloc, text, SyntaxFault::NotInGrammar { line });
+    }
+    Ok(())
+}
+
+#[test]
+fn text_without_tokens(rt: HostRuntime) -> Result<(), Fail> {
+    let alloc = rt.alloc();
+    for text in [&b"1_"[..], b"2#12", b"A__B", b"B_", b"T#1m1h", b"(* open"] {
+        is_refused(&rt, alloc, text, SyntaxFault::NoToken { line: 1 });
+    }
+    Ok(())
+}
+
+/// Examples of the standard's table 56, with integers for reals and a word for a string.
+#[test]
+fn reads_statements_of_the_standard(rt: HostRuntime) -> Result<(), Fail> {
+    let alloc = rt.alloc();
+    let bodies: [&[u8]; 9] = [
+        b"A := B; CV := CV+1; C := SIN(X);",
+        b"CMD_TMR(IN:=IX5, PT:=T#300ms); A := CMD_TMR.Q;",
+        b"RETURN ;",
+        b"D := B*B - 4*A*C ;
+IF D < 0 THEN NROOTS := 0 ;
+ELSIF D = 0 THEN
+  NROOTS := 1 ;
+  X1 := - B/(2*A) ;
+ELSE
+  NROOTS := 2 ;
+  X1 := (- B + SQRT(D))/(2*A) ;
+  X2 := (- B - SQRT(D))/(2*A) ;
+END_IF ;",
+        b"TW := BCD_TO_INT(THUMBWHEEL);
+TW_ERROR := 0;
+CASE TW OF
+  1,5: DISPLAY := OVEN_TEMP;
+  2: DISPLAY := MOTOR_SPEED;
+  3: DISPLAY := GROSS - TARE;
+  4,6..10: DISPLAY := STATUS(TW - 4);
+ELSE DISPLAY := 0 ;
+  TW_ERROR := 1;
+END_CASE;
+QW100 := INT_TO_BCD(DISPLAY);",
+        b"J := 101 ;
+FOR I := 1 TO 100 BY 2 DO
+  IF WORDS[I] = KEY THEN
+    J := I ;
+    EXIT ;
+  END_IF ;
+END_FOR ;",
+        b"J := 1;
+WHILE J <= 100 & WORDS[J] <> KEY DO
+  J := J+2 ;
+END_WHILE ;",
+        b"J := -1 ;
+REPEAT
+  J := J+2 ;
+UNTIL J = 101 OR WORDS[J] = KEY
+END_REPEAT ;",
+        b";",
+    ];
+    for body in bodies {
+        body_is_read(&rt, alloc, b"", body)?;
+    }
+    Ok(())
+}
+
+/// Examples of the standard's tables 12, 17 and 18, of its 2.4.3, and of its charts in 2.6.
+#[test]
+fn reads_declarations_of_the_standard(rt: HostRuntime) -> Result<(), Fail> {
+    let alloc = rt.alloc();
+    let declarations: [&[u8]; 5] = [
+        b"VAR MYBIT : BOOL := 1 ; OKAY : BOOL ; END_VAR ",
+        b"VAR BITS : ARRAY[0..7] OF BOOL := [1,1,0,0,0,1,0,0] ; END_VAR ",
+        b"VAR_OUTPUT RETAIN TBT : ARRAY [1..2,1..3] OF INT := [1,2,3(4),6] ; END_VAR ",
+        b"VAR CONSTANT BIG, BIGGER : DINT := -16#7FFF_FFFF ; END_VAR ",
+        b"VAR_INPUT NON_RETAIN X : ARRAY [-1..1] OF ANALOG_DATA := [2(), 1(TRUE)]; END_VAR ",
+    ];
+    for declaration in declarations {
+        body_is_read(&rt, alloc, declaration, b"")?;
+    }
+    let types = b"TYPE ANALOG_CHANNEL_CONFIGURATION :
+  STRUCT RANGE : ANALOG_SIGNAL_RANGE; MIN_SCALE : ANALOG_DATA := -4095 ; MAX_SCALE : ANALOG_DATA := 4095 ; END_STRUCT ;
+  FREQ : INT := 50 ; LIST : ARRAY [1..16] OF INT ; END_TYPE
+FUNCTION SIMPLE_FUN : INT VAR_INPUT A, B : INT ; C : INT := 1; END_VAR SIMPLE_FUN := A*B/C; END_FUNCTION";
+    is_read(&rt, alloc, types, 2)?;
+    let chart = b"INITIAL_STEP START: END_STEP
+STEP S8: ACTION_3(L, t#10s); ACTION_4(); A(N); END_STEP
+TRANSITION FROM START TO S8 := X & Y; END_TRANSITION
+TRANSITION T2 (priority := 1) FROM (S8, START) TO (START) := NOT S8.X; END_TRANSITION
+ACTION ACTION_4: A := B; END_ACTION";
+    body_is_read(&rt, alloc, b"", chart)
+}
