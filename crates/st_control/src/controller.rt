@@ -10,7 +10,7 @@ ghost use Rattle.st_tree.specs.Values.{IsValue};
 use crate::record::Record;
 use crate::refusal::Refusal;
 use crate::state::{State, Status};
-use crate::thin::read_thin;
+use crate::thin::{ThinFault, read_thin};
 use crate::undoing::revert;
 use st_layout::{Layout, Memory};
 use st_syntax::parse;
@@ -20,12 +20,6 @@ use std::marker::Model;
 
 /// How many commands can be undone.
 const MOST_RECORDS: usize = 256;
-
-/// Why a text that is no program of the name is refused.
-const NO_PROGRAM: Refusal = Refusal::C {
-    number: 10,
-    line: 0,
-};
 
 /// What an operator is told of a controller as a whole.
 #[derive(Clone, Copy)]
@@ -76,7 +70,7 @@ impl<M: Memory> Controller<M> {
     {
         let units = parse(alloc, text)?;
         let leaves = read_thin(alloc, units.as_slice(), main)?;
-        let name = Name::of(main).ok_or(NO_PROGRAM)?;
+        let name = Name::of(main).ok_or(ThinFault::NotThin)?;
         match Layout::of(alloc, leaves) {
             Ok(layout) => Controller::start(alloc, layout, name, limit),
             Err(_) => Err(Refusal::M),
