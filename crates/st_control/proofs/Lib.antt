@@ -1,9 +1,7 @@
 pub mod Changes
 pub mod Histories
 pub mod Steps
-pub mod ThinLeaves
-pub mod ThinLexemes
+pub mod Texts
+pub mod ThinDeclarations
 pub mod ThinPrograms
-pub mod ThinReads
-pub mod ThinVariables
 pub mod Undone

@@ -1,157 +1,109 @@
--- Whole programs: what is read is a program, and a program is read.
-use Rattle.std.proofs.Common.{◌≡◌, ℕ, ◌≤◌, true, false, ◌&&◌, List, [], ◌∷◌, ◌++◌, length, nat_le, refl, sym, ap, ◌∙◌, subst, Option, Some, None, codes}
-use Rattle.std.proofs.lemmas.Bool.{and_parts, le-leb, leb-true}
-use Rattle.std.specs.List.{flat_map}
-use Rattle.std.specs.Option.{is_none, option_map_or}
-use Rattle.st_tree.specs.Words.{is_word}
+-- Whole programs: units that are one, and what holds of its leaves.
+use Rattle.std.proofs.Common.{◌≡◌, ℕ, ◌≤◌, Bool, true, false, cond, List, [], ◌∷◌, map, length, refl, sym, ap, ◌∙◌, subst, Option, Some, None, ℤ, pos, arith}
+use Rattle.std.proofs.lemmas.List.Elements.{All-cons}
+use Rattle.std.specs.List.{All}
+use Rattle.std.specs.Option.{option_and_then}
+use Rattle.st_layout.specs.Layout.{IsSound, IsValueOf, raised}
+use Rattle.st_tree.specs.Readings.{value_of}
+use Rattle.st_tree.specs.Values.{IsValue, in_range}
+use Rattle.st_tree.specs.declared.elem.Elem.{Elem}
+use Rattle.st_tree.specs.declared.elem.Elem.TheVariants as E
 use Rattle.st_tree.specs.declared.leaf.Leaf.{Leaf}
-use Rattle.st_control.specs.ThinReadings.{Lexemes, Variables, ends, heading, next, word}
-use Rattle.st_control.specs.ThinTexts.{IsProgram, declaration_lexemes, is_name, lexemes}
-use Rattle.st_control.proofs.ThinReads.{first_of, given-test, next-Some, some_parts, word-Some, word-cons}
-use Rattle.st_control.proofs.ThinVariables.{Variables-one}
+use Rattle.st_tree.specs.declared.tree.constant.Constant.{Constant}
+use Rattle.st_tree.specs.declared.tree.constant.Constant.TheVariants as constants
+use Rattle.st_tree.specs.declared.tree.declaration.Declaration.{Declaration}
+use Rattle.st_tree.specs.declared.tree.declaration.Initial.{Initial}
+use Rattle.st_tree.specs.declared.tree.declaration.Initial.TheVariants as initials
+use Rattle.st_tree.specs.declared.tree.declaration.VarBlock.{VarBlock}
+use Rattle.st_tree.specs.declared.tree.unit.Organization.{Organization}
+use Rattle.st_tree.specs.declared.tree.unit.Unit.{Unit as ProgramUnit}
+use Rattle.st_tree.specs.declared.value.Value.{Value}
+use Rattle.st_control.specs.ThinPrograms.{Declares, IsOnlyBlock, IsThinProgram, UnitsGiveOneList, initial_value, leaf, leaf_of, literal_value, only_name, type_of}
+use Rattle.st_control.proofs.ThinDeclarations.{one_list as one_list_of_declarations}
 
--- ---- the heading
+-- ---- one leaf
 
-record HeadingSo (main : List ℕ) (lexemes : Lexemes) (name : List ℕ) (rest : Lexemes) : Type 0 where
-  program_word : List ℕ
-  var_word : List ℕ
-  spelled : lexemes ≡ program_word ∷ name ∷ var_word ∷ rest
-  program : is_word (codes "PROGRAM") program_word ≡ true
-  var : is_word (codes "VAR") var_word ≡ true
-  is_named : is_name name ≡ true
-  is_main : is_word main name ≡ true
-  short : length name ≤ 128
+-- zero is a value of each type
+zero_fits : (elem : Elem) → IsValue (record { elem = elem; bits = pos 0 })
+zero_fits E.Bool = refl
+zero_fits _ = refl
 
-heading-Some : (main : List ℕ) (lexemes : Lexemes) {name : List ℕ} {rest : Lexemes} → heading main lexemes ≡ Some (name, rest) → HeadingSo main lexemes name rest
-unfolding heading
-heading-Some main lexemes reads =
-    let program = first_of (word (codes "PROGRAM")) reads in
-    let one = first_of next program.goes_on in
-    let var = first_of (word (codes "VAR")) one.goes_on in
-    let test = given-test (is_name one.first && is_word main one.first && nat_le (length one.first) 128) one.first var.goes_on in
-    let passes = and_parts (is_name one.first && is_word main one.first) (nat_le (length one.first) 128) test.0 in
-    let names = and_parts (is_name one.first) (is_word main one.first) passes.0 in
-    let is_program = word-Some (codes "PROGRAM") lexemes program.reads in
-    let is_var = word-Some (codes "VAR") one.left var.reads in
+value_of-fits : (elem : Elem) (number : ℤ) (value : Value) → value_of elem number ≡ Some value → IsValue value
+value_of-fits elem number value reads = by_range (in_range elem number) refl reads where
+  by_range : (test : Bool) → in_range elem number ≡ test → cond test (Some (record { elem = elem; bits = number })) None ≡ Some value → IsValue value
+  by_range true fits is_value = let same : record { elem = elem; bits = number } ≡ value = cc in subst IsValue same fits
+  by_range false fits is_value = absurd (cc)
+
+-- what a truth value is as a number
+truth_fits : (truth : Bool) → IsValue (record { elem = E.Bool; bits = cond truth (pos 1) (pos 0) })
+truth_fits true = refl
+truth_fits false = refl
+
+literal_value-fits : (elem : Elem) (literal : Constant) (value : Value) → literal_value elem literal ≡ Some value → IsValue value
+literal_value-fits elem (constants.Integer number) value is_value = by_sign number.is_negative is_value where
+  by_sign : (negative : Bool) → cond negative None (value_of elem (pos number.size)) ≡ Some value → IsValue value
+  by_sign true is_value = absurd (cc)
+  by_sign false is_value = value_of-fits elem (pos number.size) value is_value
+literal_value-fits E.Bool (constants.Truth place truth) value is_value =
+    let same : record { elem = E.Bool; bits = cond truth (pos 1) (pos 0) } ≡ value = cc in subst IsValue same (truth_fits truth)
+literal_value-fits _ _ value is_value = absurd (cc)
+
+initial_value-fits : (elem : Elem) (initial : Option Initial) (value : Value) → initial_value elem initial ≡ Some value → IsValue value
+initial_value-fits elem None value is_value = let same : record { elem = elem; bits = pos 0 } ≡ value = cc in subst IsValue same (zero_fits elem)
+initial_value-fits elem (Some (initials.Constant literal)) value is_value = literal_value-fits elem literal value is_value
+initial_value-fits elem (Some (initials.Array place elements)) value is_value = absurd (cc)
+
+-- what holds of the leaf of a declaration
+record LeafSo (found : Leaf) : Type 0 where
+  shown : found.path ≡ raised found.shown
+  initial : IsValueOf found found.initial
+
+leaf_of-so : (program : List ℕ) (declaration : Declaration) (found : Leaf) → leaf_of program declaration ≡ Some found → LeafSo found
+leaf_of-so program declaration found gives = by_name (only_name declaration.names) gives where
+  by_value : (name : List ℕ) (elem : Elem) (value : Option Value) → initial_value elem declaration.initial ≡ value → option_and_then (λ it. Some (leaf program name it)) value ≡ Some found → LeafSo found
+  by_value name elem None is_value gives = absurd (cc)
+  by_value name elem (Some value) is_value gives =
+      let same : leaf program name value ≡ found = cc in
+      subst LeafSo same (record { shown = refl; initial = record { elem = refl; in_range = initial_value-fits elem declaration.initial value is_value } })
+
+  by_type : (name : List ℕ) (elem : Option Elem) → option_and_then (λ it. option_and_then (λ value. Some (leaf program name value)) (initial_value it declaration.initial)) elem ≡ Some found → LeafSo found
+  by_type name None gives = absurd (cc)
+  by_type name (Some elem) gives = by_value name elem (initial_value elem declaration.initial) refl gives
+
+  by_name : (name : Option (List ℕ)) → option_and_then (λ it. option_and_then (λ elem. option_and_then (λ value. Some (leaf program it value)) (initial_value elem declaration.initial)) (type_of declaration.specification)) name ≡ Some found → LeafSo found
+  by_name None gives = absurd (cc)
+  by_name (Some name) gives = by_type name (type_of declaration.specification) gives
+
+-- what holds of the leaves of declarations
+leaves_so : (program : List ℕ) (declarations : List Declaration) (leaves : List Leaf) → map (leaf_of program) declarations ≡ map Some leaves → All LeafSo leaves
+leaves_so program [] [] gives = λ k d below. absurd (omega arith)
+leaves_so program [] (leaf ∷ leaves) gives = absurd (cc)
+leaves_so program (declaration ∷ declarations) [] gives = absurd (cc)
+leaves_so program (declaration ∷ declarations) (leaf ∷ leaves) gives =
+    All-cons LeafSo leaf leaves (leaf_of-so program declaration leaf (cc)) (leaves_so program declarations leaves (cc))
+
+pub IsSound-of : (program : List ℕ) (declarations : List Declaration) (leaves : List Leaf) → Declares program declarations leaves → IsSound leaves
+IsSound-of program declarations leaves declares =
+    let each = leaves_so program declarations leaves declares.gives in
     record {
-      program_word = program.first;
-      var_word = var.first;
-      spelled = cc (is_program.0, next-Some program.left one.reads, is_var.0, test.1, test.2);
-      program = is_program.1;
-      var = is_var.1;
-      is_named = subst (λ it. is_name it ≡ true) test.1 names.0;
-      is_main = subst (λ it. is_word main it ≡ true) test.1 names.1;
-      short = subst (λ it. length it ≤ 128) test.1 (leb-true (length one.first) 128 passes.1);
+      distinct = declares.distinct;
+      shown = λ k d below. (each k d below).shown;
+      short = declares.short;
+      few = declares.few;
+      initial = λ k d below. (each k d below).initial;
     }
-
-heading-of : (main program_word name var_word : List ℕ) (rest : Lexemes) → is_word (codes "PROGRAM") program_word ≡ true
-    → is_word (codes "VAR") var_word ≡ true → is_name name ≡ true → is_word main name ≡ true → length name ≤ 128
-    → heading main (program_word ∷ name ∷ var_word ∷ rest) ≡ Some (name, rest)
-unfolding heading word next
-heading-of main program_word name var_word rest program var is_named is_main short =
-    rw (program, var, is_named, is_main, le-leb (length name) 128 short) refl
-
--- ---- the end
-
-record EndSo (lexemes : Lexemes) : Type 0 where
-  end_word : List ℕ
-  spelled : lexemes ≡ end_word ∷ []
-  is_end : is_word (codes "END_PROGRAM") end_word ≡ true
-
-nothing_left : (lexemes : Lexemes) → is_none (next lexemes) ≡ true → lexemes ≡ []
-unfolding next
-nothing_left [] none = refl
-nothing_left (lexeme ∷ lexemes) none = absurd (cc)
-
-ends-true : (lexemes : Lexemes) → ends lexemes ≡ true → EndSo lexemes
-unfolding ends
-ends-true lexemes is_end = by_word (word (codes "END_PROGRAM") lexemes) refl is_end where
-  by_word : (found : Option (List ℕ × Lexemes)) → word (codes "END_PROGRAM") lexemes ≡ found
-      → option_map_or (λ it. is_none (next it.1)) found false ≡ true → EndSo lexemes
-  by_word None reads is_end = absurd (cc)
-  by_word (Some found) reads is_end =
-      let is_word = word-Some (codes "END_PROGRAM") lexemes reads in
-      record { end_word = found.0; spelled = is_word.0 ∙ ap (λ it. found.0 ∷ it) (nothing_left found.1 is_end); is_end = is_word.1 }
-
-ends-of : (end_word : List ℕ) → is_word (codes "END_PROGRAM") end_word ≡ true → ends (end_word ∷ []) ≡ true
-unfolding ends next
-ends-of end_word is_end = rw (word-cons (codes "END_PROGRAM") end_word [] is_end) refl
 
 -- ---- programs
 
-pub IsProgram-of : (text main name : List ℕ) (left rest : Lexemes) (leaves : List Leaf) → heading main (lexemes text) ≡ Some (name, left)
-    → Variables name left leaves rest → ends rest ≡ true → IsProgram text main leaves
-IsProgram-of text main name left rest leaves reads variables is_end =
-    let head = heading-Some main (lexemes text) reads in
-    let end = ends-true rest is_end in
-    let behind = variables.spelled ∙ ap (λ it. flat_map declaration_lexemes variables.declarations ++ variables.end_word ∷ it) end.spelled in
-    record {
-      program_word = head.program_word;
-      name = name;
-      var_word = head.var_word;
-      declarations = variables.declarations;
-      end_var_word = variables.end_word;
-      end_program_word = end.end_word;
-      spelled = head.spelled ∙ ap (λ it. head.program_word ∷ name ∷ head.var_word ∷ it) behind;
-      program = head.program;
-      var = head.var;
-      end_var = variables.is_end;
-      end_program = end.is_end;
-      is_named = head.is_named;
-      is_main = head.is_main;
-      short = head.short;
-      declared = variables.declared;
-    }
+-- a program has one block at most that is its only one
+one_block : (program : Organization) (block other : VarBlock) → IsOnlyBlock program block → IsOnlyBlock program other → block ≡ other
+one_block program block other one two = let same = sym one.is_only ∙ two.is_only in cc
 
--- how a program is read
-record Read (text main : List ℕ) (leaves : List Leaf) : Type 0 where
-  name : List ℕ
-  left : Lexemes
-  rest : Lexemes
-  head : heading main (lexemes text) ≡ Some (name, left)
-  variables : Variables name left leaves rest
-  end : ends rest ≡ true
-
-IsProgram-read : (text main : List ℕ) (leaves : List Leaf) → IsProgram text main leaves → Read text main leaves
-IsProgram-read text main leaves it =
-    let left = flat_map declaration_lexemes it.declarations ++ it.end_var_word ∷ it.end_program_word ∷ [] in
-    record {
-      name = it.name;
-      left = left;
-      rest = it.end_program_word ∷ [];
-      head = ap (heading main) it.spelled ∙ heading-of main it.program_word it.name it.var_word left it.program it.var it.is_named it.is_main it.short;
-      variables = record { declarations = it.declarations; end_word = it.end_var_word; spelled = refl; is_end = it.end_var; declared = it.declared };
-      end = ends-of it.end_program_word it.end_program;
-    }
-
-pub no_heading : (text main : List ℕ) (leaves : List Leaf) → heading main (lexemes text) ≡ None → IsProgram text main leaves → ⊥
-no_heading text main leaves refused it = let read = IsProgram-read text main leaves it in absurd (cc (refused, read.head))
-
--- what follows the heading
-pub record Rest (name : List ℕ) (left : Lexemes) (leaves : List Leaf) : Type 0 where
-  pub rest : Lexemes
-  pub variables : Variables name left leaves rest
-  pub end : ends rest ≡ true
-
-pub rest_of : (text main name : List ℕ) (left : Lexemes) (leaves : List Leaf) → heading main (lexemes text) ≡ Some (name, left)
-    → IsProgram text main leaves → Rest name left leaves
-rest_of text main name left leaves reads it =
-    let read = IsProgram-read text main leaves it in
-    let parts = some_parts (sym read.head ∙ reads) in
-    let named : Variables name read.left leaves read.rest = subst (λ it. Variables it read.left leaves read.rest) parts.0 read.variables in
-    record { rest = read.rest; variables = subst (λ it. Variables name it leaves read.rest) parts.1 named; end = read.end }
-
--- where the end is none, the text is no program
-pub no_end : (text main name : List ℕ) (left rest : Lexemes) (leaves all : List Leaf) → heading main (lexemes text) ≡ Some (name, left)
-    → Variables name left leaves rest → ends rest ≡ false → IsProgram text main all → ⊥
-no_end text main name left rest leaves all reads variables refused it =
-    let other = rest_of text main name left all reads it in
-    let same = Variables-one variables other.variables in
-    absurd (cc (refused, other.end, same.1))
-
--- a text is the program of one list of leaves
-pub one_list : (text main : List ℕ) (leaves others : List Leaf) → IsProgram text main leaves → IsProgram text main others → leaves ≡ others
-one_list text main leaves others one other =
-    let read = IsProgram-read text main leaves one in
-    let more = rest_of text main read.name read.left others read.head other in
-    (Variables-one read.variables more.variables).0
+-- units are the program of a name with one list of leaves at most
+pub one_list : UnitsGiveOneList
+one_list units main leaves others one other =
+    let program : one.program ≡ other.program = cc (one.is_only, other.is_only) in
+    let block = one_block other.program one.block other.block (subst (λ it. IsOnlyBlock it one.block) program one.has_block) other.has_block in
+    one_list_of_declarations other.program.name.spelling other.block.declarations leaves others
+    (subst (λ it. Declares it.name.spelling other.block.declarations leaves) program (subst (λ it. Declares one.program.name.spelling it.declarations leaves) block one.declared))
+    other.declared

@@ -2,11 +2,11 @@
 use Rattle.std.specs.Prelude.{ℕ, ◌≡◌, ◌⊎◌, Bool, List, [], ◌∷◌, ◌++◌, reverse, count_by, unwrap_or, Option, Some, None, Result, Ok, Err, IsOk}
 use Rattle.st_control.specs.Machine.{Machine}
 use Rattle.st_control.specs.States.{StateView, first_state, leaf_of, undone, FitsRecord}
-use Rattle.st_control.specs.ThinTexts.{IsProgram}
+use Rattle.st_control.specs.Texts.{IsFaultOf, IsOtherText, IsProgram}
 use Rattle.st_control.specs.declared.record.Record.{Record}
 use Rattle.st_control.specs.declared.record.Record.TheVariants.{Force, Release, Write}
 use Rattle.st_control.specs.declared.refusal.Refusal.{Refusal}
-use Rattle.st_control.specs.declared.refusal.Refusal.TheVariants.{M, O, S}
+use Rattle.st_control.specs.declared.refusal.Refusal.TheVariants.{C, M, O}
 use Rattle.st_layout.specs.Memory.{value_at, forced_at}
 use Rattle.st_tree.specs.declared.leaf.Leaf.{Leaf}
 use Rattle.st_tree.specs.declared.value.Value.{Value}
@@ -27,9 +27,9 @@ first_controller leaves main limit = record { state = first_state leaves; record
 abbrev pub IsLoaded : List ℕ → List ℕ → ℕ → ControllerView → Type 0
 IsLoaded text main limit c = (leaves : List Leaf) × IsProgram text main leaves × (c ≡ first_controller leaves main limit)
 
--- a load is refused as S2 line 1 where the text is no program of this name, and else for want of memory
+-- a load is refused by a fault of the text, as C10 line 0 where the text is no program of this name, or for want of memory
 abbrev pub RefusesLoad : List ℕ → List ℕ → Refusal → Type 0
-RefusesLoad text main refusal = (refusal ≡ M) ⊎ ((refusal ≡ S 2 1) × ((leaves : List Leaf) → ¬ IsProgram text main leaves))
+RefusesLoad text main refusal = (refusal ≡ M) ⊎ (IsFaultOf text refusal ⊎ ((refusal ≡ C 10 0) × IsOtherText text main))
 
 -- the states that undoing the records gives, one after another, from the newest record on
 abbrev pub states_before : StateView → List Record → List StateView

@@ -2,5 +2,6 @@ pub mod Controllers
 pub mod Laws
 pub mod Machine
 pub mod States
-pub mod ThinReadings
-pub mod ThinTexts
+pub mod Texts
+pub mod ThinLists
+pub mod ThinPrograms

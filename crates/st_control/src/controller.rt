@@ -13,15 +13,13 @@ use crate::state::{State, Status};
 use crate::thin::{ThinFault, read_thin};
 use crate::undoing::revert;
 use st_layout::{Layout, Memory};
+use st_syntax::parse;
 use st_tree::{Elem, Name, Value};
 use std::alloc::Global;
 use std::marker::Model;
 
 /// How many commands can be undone.
 const MOST_RECORDS: usize = 256;
-
-/// Why a text that is no program is refused.
-const NO_PROGRAM: Refusal = Refusal::S { number: 2, line: 1 };
 
 /// What an operator is told of a controller as a whole.
 #[derive(Clone, Copy)]
@@ -63,19 +61,16 @@ impl<M: Memory> Controller<M> {
     /// Loads the program of the name `main`, in any case, from a text: initial values, no force, moment 0, running, and
     /// nothing to undo. `limit` is the step limit of a scan, which is kept.
     ///
-    /// Refused as S2 line 1 exactly where the text is no such program, and else for want of memory alone.
+    /// Refused as S1 where the text has no tokens, S2 where the tokens aren't in the grammar, S3 where more levels are open
+    /// than may be, each with a line, S4 line 1 where the text is too long, C10 line 0 where it is no such program, and
+    /// else for want of memory alone.
     pub fn load(alloc: Global, text: &[u8], main: &[u8], limit: u32) -> Result<Self, Refusal>
         ensures ok { IfOk result (λ controller. IsLoaded text.now main.now limit controller) }
         ensures refused { IfErr result (λ refusal. RefusesLoad text.now main.now refusal) }
     {
-        let leaves = match read_thin(alloc, text, main) {
-            Ok(leaves) => leaves,
-            Err(ThinFault::NotThin) => return Err(NO_PROGRAM),
-            Err(ThinFault::Memory) => return Err(Refusal::M),
-        };
-        let Some(name) = Name::of(main) else {
-            return Err(NO_PROGRAM);
-        };
+        let units = parse(alloc, text)?;
+        let leaves = read_thin(alloc, units.as_slice(), main)?;
+        let name = Name::of(main).ok_or(ThinFault::NotThin)?;
         match Layout::of(alloc, leaves) {
             Ok(layout) => Controller::start(alloc, layout, name, limit),
             Err(_) => Err(Refusal::M),

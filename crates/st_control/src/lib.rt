@@ -6,6 +6,8 @@ mod laws;
 mod record;
 mod refusal;
 mod state;
+#[cfg(test)]
+mod tests;
 mod thin;
 mod undoing;
 
@@ -14,5 +16,5 @@ pub use laws::{command_changes_one_path, undos_give_back_states};
 pub use record::Record;
 pub use refusal::Refusal;
 pub use state::{RunFault, RunFaultKind, State, Status};
-pub use thin::texts_give_one_list;
+pub use thin::{texts_give_one_list, units_give_one_list};
 pub use undoing::revert;

@@ -1,46 +1,77 @@
-//! Thin program texts: one program whose variables are of type BOOL and INT (IEC 61131-3:2003, 2.4.3 and 2.5.3).
-ghost use Rattle.std.specs.Prelude.{◌≡◌, ◌≤◌, IfOk, OnOk, Err, length};
-ghost use Rattle.st_control.specs.ThinTexts.{IsProgram, TextsGiveOneList};
+//! Thin programs: one program whose variables are of type BOOL and INT, and which does nothing
+//! (IEC 61131-3:2003, 2.4.3 and 2.5.3).
+ghost use Rattle.std.specs.Prelude.{◌≡◌, ◌≤◌, ◌↔◌, [], IfOk, IsTrue, OnOk, Err, MatchOption, length};
+ghost use Rattle.st_control.specs.Texts.{TextsGiveOneList};
+ghost use Rattle.st_control.specs.ThinPrograms.{IsOnlyBlock, IsThinProgram, UnitsGiveOneList};
 ghost use Rattle.st_layout.specs.Layout.{IsSound};
 
 mod fault;
-mod lexemes;
-mod names;
-mod reading;
-#[cfg(test)]
-mod tests;
+mod variable;
 mod variables;
 
 pub(crate) use fault::ThinFault;
-use lexemes::Lexemes;
-use reading::{read_ending, read_heading};
+use st_tree::tree::{Body, Organization, Section, Unit, VarBlock};
 use st_tree::{Leaf, List};
 use std::alloc::Global;
 use variables::read_variables;
 
-/// Reads a text as the program of this name, in any case, and gives the leaves of its variables, in order.
+/// The most bytes of a program's name.
+const MOST_NAME_BYTES: usize = 128;
+
+/// Reads units as the program of this name, in any case, and gives the leaves of its variables, in order.
 ///
 /// # Errors
-/// `NotThin` where the text is no such program, `Memory` where memory ran out.
-pub(crate) fn read_thin(alloc: Global, text: &[u8], main: &[u8]) -> Result<List<Leaf>, ThinFault>
-    ensures ok { IfOk result (λ leaves. IsProgram text.now main.now leaves) }
+/// `NotThin` where the units are no such program, `Memory` where memory ran out.
+pub(crate) fn read_thin(
+    alloc: Global,
+    units: &[Unit],
+    main: &[u8],
+) -> Result<List<Leaf>, ThinFault>
+    ensures ok { IfOk result (λ leaves. IsThinProgram units.now main.now leaves) }
     ensures sound { IfOk result (λ leaves. IsSound leaves) }
     ensures short { OnOk result (length main.now ≤ 128) }
-    ensures refused { result ≡ Err ThinFault.NotThin → (leaves : _) → IsProgram text.now main.now leaves → ⊥ }
+    ensures refused { result ≡ Err ThinFault.NotThin → (leaves : _) → IsThinProgram units.now main.now leaves → ⊥ }
 {
-    let mut lexemes = Lexemes::of(text);
-    let Some(program) = read_heading(&mut lexemes, main) else {
+    let [Unit::Program(program)] = units else {
         return Err(ThinFault::NotThin);
     };
-    let leaves = read_variables(alloc, &mut lexemes, program)?;
-    if read_ending(&mut lexemes) {
-        Ok(leaves)
-    } else {
-        Err(ThinFault::NotThin)
+    let name = program.name.spelling.as_slice();
+    if !name.eq_ignore_ascii_case(main) || name.len() > MOST_NAME_BYTES {
+        return Err(ThinFault::NotThin);
+    }
+    if !does_nothing(&program.body) {
+        return Err(ThinFault::NotThin);
+    }
+    let block = only_block(program).ok_or(ThinFault::NotThin)?;
+    read_variables(alloc, name, block.declarations.as_slice())
+}
+
+/// A program's only block of variables, where VAR begins it.
+fn only_block(program: &Organization) -> Option<&VarBlock>
+    ensures { MatchOption result ((block : _) → IsOnlyBlock program.now block → ⊥) (λ block. IsOnlyBlock program.now block.now) }
+{
+    match program.variables.as_slice() {
+        [block] if matches!(block.section, Section::Internal) => Some(block),
+        _ => None,
+    }
+}
+
+/// Tests whether there are no statements.
+fn does_nothing(body: &Body) -> bool
+    ensures { IsTrue result ↔ (body.now ≡ Body.Statements []) }
+{
+    match body {
+        Body::Statements(statements) => statements.is_empty(),
+        Body::Chart(_) => false,
     }
 }
 
 /// A text is the program of a name with one list of leaves at most. A law, with nothing to run.
 pub fn texts_give_one_list()
     ensures { TextsGiveOneList }
+{}
+
+/// Units are the program of a name with one list of leaves at most. A law, with nothing to run.
+pub fn units_give_one_list()
+    ensures { UnitsGiveOneList }
 {}

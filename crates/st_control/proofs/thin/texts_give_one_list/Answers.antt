@@ -1,4 +1,4 @@
-use Rattle.st_control.proofs.ThinPrograms.{one_list}
+use Rattle.st_control.proofs.Texts.{one_list}
 use Rattle.st_control.proofs.thin.texts_give_one_list.Goals as goal
 
 pub returns : goal.returns

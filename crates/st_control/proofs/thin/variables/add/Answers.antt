@@ -3,7 +3,7 @@ use Rattle.std.proofs.lemmas.Grind.{common_steps}
 use Rattle.std.specs.List.{list_any}
 use Rattle.std.specs.Str.{bytes_eq}
 use Rattle.st_layout.specs.Layout.{paths_of}
-use Rattle.st_control.proofs.ThinVariables.{paths-among, paths-apart}
+use Rattle.st_control.proofs.ThinDeclarations.{paths-among, paths-apart}
 use Rattle.st_control.proofs.thin.variables.add.Goals as goal
 
 pub returns-then-not-branch-clause-refused : goal.returns-then-not-branch-clause-refused

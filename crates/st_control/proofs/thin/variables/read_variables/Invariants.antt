@@ -1,13 +1,11 @@
-use Rattle.std.proofs.Common.{◌≡◌, map, length}
+use Rattle.std.proofs.Common.{◌≡◌, map, take}
+use Rattle.st_control.specs.ThinPrograms.{Declares}
 use Rattle.st_layout.specs.Layout.{paths_of}
-use Rattle.st_control.proofs.ThinVariables.{HasRead}
 use Rattle.st_control.proofs.thin.variables.read_variables.Given as goal
 
-abbrev pub invariant-loop-name : goal.invariant-loop-name
-invariant-loop-name l = record {
-  read : HasRead l.program l.fn.lexemes l.leaves l.lexemes;
+-- the leaves of the declarations so far, and their paths
+abbrev pub invariant-loop-declaration : goal.invariant-loop-declaration
+invariant-loop-declaration l = record {
+  declared : Declares l.program (take l.declaration-index l.declarations) l.leaves;
   paths : map (λ path. path.items) l.paths.keys ≡ paths_of l.leaves;
 }
-
-abbrev pub decreases-loop-name : goal.decreases-loop-name
-decreases-loop-name l = length l.lexemes
