@@ -10,4 +10,6 @@ mod first_path;
 #[cfg(test)]
 mod force_release_status;
 #[cfg(test)]
+mod refused_texts;
+#[cfg(test)]
 mod running;

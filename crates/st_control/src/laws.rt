@@ -12,5 +12,4 @@ pub fn undos_give_back_states()
 /// A command that is accepted changes the value or the force at its own path, and at no other.
 pub fn command_changes_one_path()
     ensures { ChangesOnePath }
-{
-}
+{}

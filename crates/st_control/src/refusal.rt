@@ -40,7 +40,10 @@ impl From<ThinFault> for Refusal {
     fn from(fault: ThinFault) -> Refusal {
         match fault {
             ThinFault::Memory => Refusal::M,
-            ThinFault::NotThin => Refusal::C { number: 10, line: 0 },
+            ThinFault::NotThin => Refusal::C {
+                number: 10,
+                line: 0,
+            },
         }
     }
 }

@@ -15,8 +15,12 @@ fn refusal_of(alloc: Global, text: &[u8]) -> Option<Refusal> {
 
 #[test]
 fn loads_the_first_program(rt: HostRuntime) -> Result<(), Fail> {
-    let loaded: Result<Controller<Cells>, Refusal> =
-        Controller::load(rt.alloc(), FIRST, b"mAIN", 1);
+    let loaded: Result<Controller<Cells>, Refusal> = Controller::load(
+        rt.alloc(),
+        FIRST,
+        b"mAIN",
+        1,
+    );
     let Ok(controller) = loaded else {
         panic!(rt; "the program isn't loaded");
     };
@@ -54,7 +58,10 @@ fn loads_other_spellings(rt: HostRuntime) {
 #[test]
 fn refuses_each_beginning(rt: HostRuntime) {
     for len in 0..FIRST.len() {
-        assert!(rt; refusal_of(rt.alloc(), &FIRST[..len]).is_some(), "{len} bytes");
+        assert!(rt;
+            refusal_of(rt.alloc(), &FIRST[..len]).is_some(),
+            "{len} bytes"
+        );
     }
 }
 
@@ -63,11 +70,19 @@ fn refuses_texts_that_are_no_tokens_or_not_in_the_grammar(rt: HostRuntime) {
     let texts: [(&[u8], u8, u32); 9] = [
         (b"PROGRAM Main VAR A$ : INT; END_VAR END_PROGRAM", 1, 1),
         (b"PROGRAM Main VAR\nA__B : INT; END_VAR END_PROGRAM", 1, 2),
-        (b"PROGRAM Main VAR A : INT := 1__0; END_VAR END_PROGRAM", 1, 1),
+        (
+            b"PROGRAM Main VAR A : INT := 1__0; END_VAR END_PROGRAM",
+            1,
+            1,
+        ),
         (b"PROGRAM Main\n\n(* VAR END_VAR END_PROGRAM", 1, 3),
         (b"PROGRAM Main VAR END_VAR END_PROGRAM;", 2, 1),
         (b"PROGRAM Main\nVAR\nIF : INT; END_VAR END_PROGRAM", 2, 3),
-        (b"PROGRAM Main VAR A : INT\n: = 3; END_VAR END_PROGRAM", 2, 2),
+        (
+            b"PROGRAM Main VAR A : INT\n: = 3; END_VAR END_PROGRAM",
+            2,
+            2,
+        ),
         (b"PROGRAMMain VAR END_VAR END_PROGRAM", 2, 1),
         (b"PROGRAM Main VAR END_VAR\n", 2, 1),
     ];
@@ -100,6 +115,12 @@ fn refuses_other_programs(rt: HostRuntime) {
     ];
     for text in texts {
         let refusal = refusal_of(rt.alloc(), text);
-        assert_eq!(rt; refusal, Some(Refusal::C { number: 10, line: 0 }));
+        assert_eq!(rt;
+            refusal,
+            Some(Refusal::C {
+                number: 10,
+                line: 0
+            })
+        );
     }
 }

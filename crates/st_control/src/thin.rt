@@ -22,11 +22,7 @@ const MOST_NAME_BYTES: usize = 128;
 ///
 /// # Errors
 /// `NotThin` where the units are no such program, `Memory` where memory ran out.
-pub(crate) fn read_thin(
-    alloc: Global,
-    units: &[Unit],
-    main: &[u8],
-) -> Result<List<Leaf>, ThinFault>
+pub(crate) fn read_thin(alloc: Global, units: &[Unit], main: &[u8]) -> Result<List<Leaf>, ThinFault>
     ensures ok { IfOk result (λ leaves. IsThinProgram units.now main.now leaves) }
     ensures sound { IfOk result (λ leaves. IsSound leaves) }
     ensures short { OnOk result (length main.now ≤ 128) }

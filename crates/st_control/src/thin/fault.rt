@@ -15,6 +15,7 @@ pub(crate) enum ThinFault {
     #[error("out of memory")]
     Memory,
 }
+
 impl From<AllocError> for ThinFault {
     ghost from_gives = { λ _ fault. fault ≡ Memory };
 
