@@ -1,17 +1,17 @@
 -- What an accepted command changes.
-use Rattle.std.proofs.Common.{ℕ, Bool, true, false, ◌≡◌, List, [], ◌∷◌, refl, sym, ◌∙◌, ap, subst}
+use Rattle.std.proofs.Common.{ℕ, Bool, true, false, ◌≡◌, List, [], ◌∷◌, refl, sym, ap, subst}
 use Rattle.std.specs.Prelude.{Err, None, Ok, Option, Result, Some, cond, if◌then◌else◌}
 use Rattle.std.specs.Option.{option_map_or}
 use Rattle.std.specs.Str.{bytes_eq}
 use Rattle.st_control.specs.Laws.{Changes, ChangesOnePath, is_same_path}
-use Rattle.st_control.specs.Machine.{Cause, Machine, accept, accept_at, force_causes, is_full, leaf_unless, release_causes, step, unless, write_causes}
+use Rattle.st_control.specs.Machine.{Cause, Machine, accept, accept_at, force_causes, is_full, leaf_unless, release_causes, unless, write_causes}
 use Rattle.st_control.specs.Machine.Command.{force, release, write}
 use Rattle.st_control.specs.States.{IsWhole, StateView, forced, leaf_of, released, written}
 use Rattle.st_layout.proofs.Maps.{mark_changes_one_force, set_changes_one_value}
 use Rattle.st_layout.proofs.Paths.{number-Some}
 use Rattle.st_layout.specs.Layout.{leaf_at, raised}
 use Rattle.st_layout.specs.Laws.{is_forced, value_of}
-use Rattle.st_layout.specs.Memory.{Content, with_force, with_value}
+use Rattle.st_layout.specs.Memory.{with_force, with_value}
 use Rattle.st_tree.specs.declared.value.Value.{Value}
 
 -- what isn't refused is the result

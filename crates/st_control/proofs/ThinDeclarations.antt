@@ -1,10 +1,10 @@
 -- Declarations one after another: what was read of them, and what must follow.
-use Rattle.std.proofs.Common.{◌≡◌, ◌≢◌, ℕ, suc, ◌<◌, ◌≤◌, ◌+◌, ◌||◌, Bool, true, false, List, [], ◌∷◌, ◌++◌, get_or, map, length, take, refl, sym, ap, ◌∙◌, subst, Option, Some, None, arith}
+use Rattle.std.proofs.Common.{◌≡◌, ◌≢◌, ℕ, suc, ◌<◌, ◌≤◌, ◌+◌, ◌||◌, Bool, true, false, List, [], ◌∷◌, ◌++◌, get_or, map, length, take, refl, sym, ap, ◌∙◌, subst, Some, None, arith}
 use Rattle.std.proofs.lemmas.List.{get_or-map, get_or-take, get_or_default, length-append, length-map, length-take, map-append, map_more, take-map}
 use Rattle.std.proofs.lemmas.List.Elements.{All-cons, All-push}
 use Rattle.std.proofs.lemmas.List.Quantifiers.{all_pairs_push}
 use Rattle.std.proofs.lemmas.Slice.Eq.{bytes_eq-Decides}
-use Rattle.std.specs.List.{All, AllPairs, list_any}
+use Rattle.std.specs.List.{All, list_any}
 use Rattle.std.specs.Str.{bytes_eq}
 use Rattle.st_layout.specs.Layout.{no_leaf, paths_of}
 use Rattle.st_tree.specs.declared.leaf.Leaf.{Leaf}
@@ -14,21 +14,26 @@ use Rattle.st_control.specs.declared.thin.fault.ThinFault.{ThinFault}
 use Rattle.st_control.specs.declared.thin.fault.ThinFault.TheVariants.{Memory, NotThin}
 use Rattle.st_control.specs.ThinPrograms.{Declares, leaf_of}
 
+-- a path of at most 255 bytes
 abbrev IsShort : Leaf → Type 0
 IsShort leaf = length leaf.path ≤ 255
 
+-- another path than that of an earlier leaf
 abbrev IsApart : Leaf → Leaf → Type 0
 IsApart earlier later = earlier.path ≢ later.path
 
+-- what follows from a test that holds, and from one that fails
 by_test : {P : Type 0} (test : Bool) → (test ≡ true → P) → (test ≡ false → P) → P
 by_test true holds fails = holds refl
 by_test false holds fails = fails refl
 
 -- ---- elements
 
+-- the first
 All-head : {X : Type 0} (P : X → Type 0) (x : X) (xs : List X) → All P (x ∷ xs) → P x
 All-head P x xs each = each 0 x (omega arith)
 
+-- and the others
 All-tail : {X : Type 0} (P : X → Type 0) (x : X) (xs : List X) → All P (x ∷ xs) → All P xs
 All-tail P x xs each = λ k d below. each (suc k) d (omega arith)
 
@@ -43,12 +48,14 @@ paths-apart path (leaf ∷ leaves) absent = by_test (bytes_eq path leaf.path)
     (λ same. let equal : bytes_eq path leaf.path ≡ true = (bytes_eq-Decides path leaf.path).1 (sym same) in absurd (cc))
     (paths-apart path leaves (rw other at absent)))
 
+-- one that is
 pub paths-among : (path : List ℕ) (leaves : List Leaf) → list_any (bytes_eq path) (paths_of leaves) ≡ true → All (λ other. other.path ≢ path) leaves → ⊥
 paths-among path [] there apart = absurd (cc)
 paths-among path (leaf ∷ leaves) there apart = by_test (bytes_eq path leaf.path)
     (λ same. All-head (λ it. it.path ≢ path) leaf leaves apart (sym ((bytes_eq-Decides path leaf.path).0 same)))
     (λ other. paths-among path leaves (rw other at there) (All-tail (λ it. it.path ≢ path) leaf leaves apart))
 
+-- a test of what each item is made into
 pub list_any-map : {X Y : Type 0} (f : X → Y) (test : Y → Bool) (xs : List X) → list_any test (map f xs) ≡ list_any (λ x. test (f x)) xs
 list_any-map f test [] = refl
 list_any-map f test (x ∷ xs) = ap (λ others. test (f x) || others) (list_any-map f test xs)
@@ -57,6 +64,7 @@ pub ruleset any_items = (list_any-map)
 
 -- ---- one more declaration
 
+-- the leaves of the first declarations, and that of the next one
 pub Declares-more : (program : List ℕ) (declarations : List Declaration) (i : ℕ) (none one : Declaration) (leaves : List Leaf) (leaf : Leaf) → i < length declarations → one ≡ get_or declarations i none
     → Declares program (take i declarations) leaves → leaf_of program one ≡ Some leaf → Joins leaves leaf → Declares program (take (i + 1) declarations) (leaves ++ leaf ∷ [])
 Declares-more program declarations i none one leaves leaf below is_one declares gives joins = record {

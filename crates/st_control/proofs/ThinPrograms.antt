@@ -1,5 +1,5 @@
 -- Whole programs: units that are one, and what holds of its leaves.
-use Rattle.std.proofs.Common.{◌≡◌, ℕ, ◌≤◌, Bool, true, false, cond, List, [], ◌∷◌, map, length, refl, sym, ap, ◌∙◌, subst, Option, Some, None, ℤ, pos, arith}
+use Rattle.std.proofs.Common.{◌≡◌, ℕ, Bool, true, false, cond, List, [], ◌∷◌, map, refl, sym, ◌∙◌, subst, Option, Some, None, ℤ, pos, arith}
 use Rattle.std.proofs.lemmas.List.Elements.{All-cons}
 use Rattle.std.specs.List.{All}
 use Rattle.std.specs.Option.{option_and_then}
@@ -16,9 +16,8 @@ use Rattle.st_tree.specs.declared.tree.declaration.Initial.{Initial}
 use Rattle.st_tree.specs.declared.tree.declaration.Initial.TheVariants as initials
 use Rattle.st_tree.specs.declared.tree.declaration.VarBlock.{VarBlock}
 use Rattle.st_tree.specs.declared.tree.unit.Organization.{Organization}
-use Rattle.st_tree.specs.declared.tree.unit.Unit.{Unit as ProgramUnit}
 use Rattle.st_tree.specs.declared.value.Value.{Value}
-use Rattle.st_control.specs.ThinPrograms.{Declares, IsOnlyBlock, IsThinProgram, UnitsGiveOneList, initial_value, leaf, leaf_of, literal_value, only_name, type_of}
+use Rattle.st_control.specs.ThinPrograms.{Declares, IsOnlyBlock, UnitsGiveOneList, initial_value, leaf, leaf_of, literal_value, only_name, type_of}
 use Rattle.st_control.proofs.ThinDeclarations.{one_list as one_list_of_declarations}
 
 -- ---- one leaf
@@ -28,6 +27,7 @@ zero_fits : (elem : Elem) → IsValue (record { elem = elem; bits = pos 0 })
 zero_fits E.Bool = refl
 zero_fits _ = refl
 
+-- what is in range is a value
 value_of-fits : (elem : Elem) (number : ℤ) (value : Value) → value_of elem number ≡ Some value → IsValue value
 value_of-fits elem number value reads = by_range (in_range elem number) refl reads where
   by_range : (test : Bool) → in_range elem number ≡ test → cond test (Some (record { elem = elem; bits = number })) None ≡ Some value → IsValue value
@@ -39,6 +39,7 @@ truth_fits : (truth : Bool) → IsValue (record { elem = E.Bool; bits = cond tru
 truth_fits true = refl
 truth_fits false = refl
 
+-- what a literal is, is a value
 literal_value-fits : (elem : Elem) (literal : Constant) (value : Value) → literal_value elem literal ≡ Some value → IsValue value
 literal_value-fits elem (constants.Integer number) value is_value = by_sign number.is_negative is_value where
   by_sign : (negative : Bool) → cond negative None (value_of elem (pos number.size)) ≡ Some value → IsValue value
@@ -48,6 +49,7 @@ literal_value-fits E.Bool (constants.Truth place truth) value is_value =
     let same : record { elem = E.Bool; bits = cond truth (pos 1) (pos 0) } ≡ value = cc in subst IsValue same (truth_fits truth)
 literal_value-fits _ _ value is_value = absurd (cc)
 
+-- and what a variable begins with
 initial_value-fits : (elem : Elem) (initial : Option Initial) (value : Value) → initial_value elem initial ≡ Some value → IsValue value
 initial_value-fits elem None value is_value = let same : record { elem = elem; bits = pos 0 } ≡ value = cc in subst IsValue same (zero_fits elem)
 initial_value-fits elem (Some (initials.Constant literal)) value is_value = literal_value-fits elem literal value is_value
@@ -58,6 +60,7 @@ record LeafSo (found : Leaf) : Type 0 where
   shown : found.path ≡ raised found.shown
   initial : IsValueOf found found.initial
 
+-- it holds of the leaf of each declaration that gives one
 leaf_of-so : (program : List ℕ) (declaration : Declaration) (found : Leaf) → leaf_of program declaration ≡ Some found → LeafSo found
 leaf_of-so program declaration found gives = by_name (only_name declaration.names) gives where
   by_value : (name : List ℕ) (elem : Elem) (value : Option Value) → initial_value elem declaration.initial ≡ value → option_and_then (λ it. Some (leaf program name it)) value ≡ Some found → LeafSo found
@@ -74,7 +77,7 @@ leaf_of-so program declaration found gives = by_name (only_name declaration.name
   by_name None gives = absurd (cc)
   by_name (Some name) gives = by_type name (type_of declaration.specification) gives
 
--- what holds of the leaves of declarations
+-- and of the leaves of a list of declarations
 leaves_so : (program : List ℕ) (declarations : List Declaration) (leaves : List Leaf) → map (leaf_of program) declarations ≡ map Some leaves → All LeafSo leaves
 leaves_so program [] [] gives = λ k d below. absurd (omega arith)
 leaves_so program [] (leaf ∷ leaves) gives = absurd (cc)
@@ -82,6 +85,7 @@ leaves_so program (declaration ∷ declarations) [] gives = absurd (cc)
 leaves_so program (declaration ∷ declarations) (leaf ∷ leaves) gives =
     All-cons LeafSo leaf leaves (leaf_of-so program declaration leaf (cc)) (leaves_so program declarations leaves (cc))
 
+-- the leaves of declarations make a layout
 pub IsSound-of : (program : List ℕ) (declarations : List Declaration) (leaves : List Leaf) → Declares program declarations leaves → IsSound leaves
 IsSound-of program declarations leaves declares =
     let each = leaves_so program declarations leaves declares.gives in

@@ -1,13 +1,13 @@
 -- Texts that are programs, and why others aren't loaded.
-use Rattle.std.specs.Prelude.{ℕ, ◌≡◌, ◌⊎◌, List}
+use Rattle.std.specs.Prelude.{ℕ, ◌≡◌, List}
 use Rattle.st_control.specs.ThinPrograms.{IsThinProgram}
 use Rattle.st_control.specs.declared.refusal.Refusal.{Refusal}
 use Rattle.st_control.specs.declared.refusal.Refusal.TheVariants.{C, M, S}
 use Rattle.st_control.specs.declared.thin.fault.ThinFault.{ThinFault}
-use Rattle.st_control.specs.declared.thin.fault.ThinFault.TheVariants as thin_fault
+use Rattle.st_control.specs.declared.thin.fault.ThinFault.TheVariants as thin_faults
 use Rattle.st_syntax.specs.Texts.{Explains, IsTextOf}
 use Rattle.st_tokens.specs.declared.fault.SyntaxFault.{SyntaxFault}
-use Rattle.st_tokens.specs.declared.fault.SyntaxFault.TheVariants as fault
+use Rattle.st_tokens.specs.declared.fault.SyntaxFault.TheVariants as faults
 use Rattle.st_tree.specs.declared.leaf.Leaf.{Leaf}
 use Rattle.st_tree.specs.declared.tree.unit.Unit.{Unit as ProgramUnit}
 
@@ -24,16 +24,16 @@ TextsGiveOneList = (text main : List ℕ) (leaves others : List Leaf) →
 
 -- how a fault of the parser is answered: S1 to S4, and the line that it names
 abbrev pub refusal_of : SyntaxFault → Refusal
-refusal_of fault.Memory = M
-refusal_of (fault.NoToken line) = S 1 line
-refusal_of (fault.NotInGrammar line) = S 2 line
-refusal_of (fault.TooDeep line) = S 3 line
-refusal_of fault.TooLong = S 4 1
+refusal_of faults.Memory = M
+refusal_of (faults.NoToken line) = S 1 line
+refusal_of (faults.NotInGrammar line) = S 2 line
+refusal_of (faults.TooDeep line) = S 3 line
+refusal_of faults.TooLong = S 4 1
 
 -- how units that are no thin program are answered: C10, with line 0
 abbrev pub refusal_of_units : ThinFault → Refusal
-refusal_of_units thin_fault.Memory = M
-refusal_of_units thin_fault.NotThin = C 10 0
+refusal_of_units thin_faults.Memory = M
+refusal_of_units thin_faults.NotThin = C 10 0
 
 -- the refusal is the answer to a fault that the text has
 abbrev pub IsFaultOf : List ℕ → Refusal → Type 0

@@ -1,5 +1,5 @@
 -- Thin programs: one program, whose variables are of type BOOL or INT and which does nothing (IEC 61131-3:2003, 2.4.3 and 2.5.3).
-use Rattle.std.specs.Prelude.{ℕ, ◌≡◌, ◌≢◌, ◌≤◌, Bool, true, List, [], ◌∷◌, ◌++◌, map, length, pos, codes, if◌then◌else◌, Option, Some, None, option_and_then}
+use Rattle.std.specs.Prelude.{ℕ, ◌≡◌, ◌≢◌, ◌≤◌, true, List, [], ◌∷◌, ◌++◌, map, length, pos, codes, if◌then◌else◌, Option, Some, None, option_and_then}
 use Rattle.std.specs.List.{All, AllPairs}
 use Rattle.st_layout.specs.Layout.{raised}
 use Rattle.st_tree.specs.Readings.{value_of}
@@ -22,7 +22,7 @@ use Rattle.st_tree.specs.declared.tree.place.Identifier.{Identifier}
 use Rattle.st_tree.specs.declared.tree.unit.Body.TheVariants as bodies
 use Rattle.st_tree.specs.declared.tree.unit.Organization.{Organization}
 use Rattle.st_tree.specs.declared.tree.unit.Unit.{Unit as ProgramUnit}
-use Rattle.st_tree.specs.declared.tree.unit.Unit.TheVariants as units
+use Rattle.st_tree.specs.declared.tree.unit.Unit.TheVariants as unit
 use Rattle.st_tree.specs.declared.value.Value.{Value}
 
 -- ---- variables (2.4.3)
@@ -83,10 +83,10 @@ pub record IsOnlyBlock (program : Organization) (block : VarBlock) : Type 0 wher
   pub is_internal : block.section ≡ sections.Internal
 
 -- The units are one program, of the name in question in any case, with one block of variables and no statements.
-pub record IsThinProgram (units' : List ProgramUnit) (main : List ℕ) (leaves : List Leaf) : Type 0 where
+pub record IsThinProgram (units : List ProgramUnit) (main : List ℕ) (leaves : List Leaf) : Type 0 where
   pub program : Organization
   pub block : VarBlock
-  pub is_only : units' ≡ units.Program program ∷ []
+  pub is_only : units ≡ unit.Program program ∷ []
   pub is_main : is_word main program.name.spelling ≡ true
   pub short : length program.name.spelling ≤ 128
   pub has_block : IsOnlyBlock program block
@@ -95,5 +95,5 @@ pub record IsThinProgram (units' : List ProgramUnit) (main : List ℕ) (leaves :
 
 -- units are the program of a name with one list of leaves at most
 abbrev pub UnitsGiveOneList : Type 0
-UnitsGiveOneList = (units' : List ProgramUnit) (main : List ℕ) (leaves others : List Leaf) →
-    IsThinProgram units' main leaves → IsThinProgram units' main others → leaves ≡ others
+UnitsGiveOneList = (units : List ProgramUnit) (main : List ℕ) (leaves others : List Leaf) →
+    IsThinProgram units main leaves → IsThinProgram units main others → leaves ≡ others

@@ -32,7 +32,10 @@ fn loads_the_first_program(rt: HostRuntime) -> Result<(), Fail> {
     };
     assert_eq!(rt; (a.bits, a_forced), (3, false));
     assert_eq!(rt; (b.bits, b_forced), (0, false));
-    assert_eq!(rt; controller.shown(0), b"Main.A".as_slice());
+    let Some(leaf) = controller.find(b"MAIN.A") else {
+        panic!(rt; "A has no number");
+    };
+    assert_eq!(rt; controller.shown(leaf), b"Main.A".as_slice());
     assert!(rt; matches!(controller.get(b"Main.C"), Err(Refusal::O(1))));
     Ok(())
 }
