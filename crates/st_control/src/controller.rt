@@ -1,10 +1,11 @@
 //! The controller.
-ghost use Rattle.std.specs.Prelude.{◌≡◌, ◌+◌, ◌<◌, ◌≤◌, ◌++◌, ◌∷◌, [], IfErr, IfOk, IfSome, OnOk, length, vec_capacity, vec_len};
+ghost use Rattle.std.specs.Prelude.{◌≡◌, ◌+◌, ◌<◌, ◌≤◌, ◌++◌, ◌∷◌, [], Err, IfErr, IfOk, IfSome, OnOk, length, vec_capacity, vec_len};
 ghost use Rattle.st_control.specs.Controllers.{DropsNewest, IsLoaded, Keeps, RefusesLoad, Takes, first_controller, force_count, force_record, machine_of, release_record, shown_to, write_record};
 ghost use Rattle.st_control.specs.Machine.{step, undo_step};
 ghost use Rattle.st_control.specs.Machine.Command.{force, release, write};
 ghost use Rattle.st_control.specs.States.{IsWhole, leaf_of};
 ghost use Rattle.st_layout.specs.Layout.{leaf_at};
+ghost use Rattle.st_tokens.specs.declared.scan.TheConstants.{MOST_BYTES};
 ghost use Rattle.st_tree.specs.Values.{IsValue};
 
 use crate::record::Record;
@@ -67,6 +68,7 @@ impl<M: Memory> Controller<M> {
     pub fn load(alloc: Global, text: &[u8], main: &[u8], limit: u32) -> Result<Self, Refusal>
         ensures ok { IfOk result (λ controller. IsLoaded text.now main.now limit controller) }
         ensures refused { IfErr result (λ refusal. RefusesLoad text.now main.now refusal) }
+        ensures long { MOST_BYTES < length text.now → result ≡ Err (Refusal.S 4 1) }
     {
         let units = parse(alloc, text)?;
         let leaves = read_thin(alloc, units.as_slice(), main)?;
