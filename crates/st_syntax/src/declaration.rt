@@ -13,8 +13,8 @@ use st_statements::chart::{alone, is_word, opening, words};
 use st_tokens::{Keyword, Kind, Symbol, SyntaxFault};
 use st_tree::List;
 use st_tree::tree::{
-    ArrayElement, Constant, Declaration, Initial, Place, Section, Specification,
-    Subrange, TypeName, VarBlock,
+    ArrayElement, Constant, Declaration, Initial, Place, Section, Specification, Subrange,
+    TypeName, VarBlock,
 };
 use std::alloc::Global;
 
