@@ -15,8 +15,8 @@ use Rattle.st_tree.specs.declared.tree.place.Identifier.{Identifier}
 use Rattle.st_expressions.specs.Levels.{opens, closes}
 use Rattle.st_expressions.specs.Lists.{IsMany, none, more, IsNext, comma, IsListed, listed}
 use Rattle.st_expressions.specs.Parsers as parser
-use Rattle.st_expressions.specs.Parsers.{Refusal, Wrong, Deep, Outcome, Parser, and_then, identifier, many_from, many, is_comma}
-use Rattle.st_expressions.specs.Tokens.{Tok, kind, next, place, same_symbol, same_keyword}
+use Rattle.st_expressions.specs.Parsers.{Refusal, Wrong, Deep, Outcome, Parser, and_then, many_from, many, is_comma}
+use Rattle.st_expressions.specs.Tokens.{identifier, Tok, kind, next, place, same_symbol, same_keyword}
 use Rattle.st_expressions.proofs.Loops.{ahead, at_item, at_end, at_err, ahead_ok, ahead_err, ok_parts}
 use Rattle.st_expressions.proofs.Room.{At, past, Leads, leads, enters, full}
 

@@ -22,8 +22,7 @@ use Rattle.st_tree.specs.declared.tree.expression.Part.TheVariants as part
 use Rattle.st_tree.specs.declared.tree.expression.Call.{Call, roll-Call}
 use Rattle.st_tree.specs.declared.tree.expression.Argument.{Argument}
 use Rattle.st_tree.specs.declared.tree.expression.Argument.TheVariants as a
-use Rattle.st_expressions.specs.Tokens.{Tok, kind, place}
-use Rattle.st_expressions.specs.Parsers.{identifier}
+use Rattle.st_expressions.specs.Tokens.{identifier, Tok, kind, place}
 
 -- ---- what the nodes are made of
 

@@ -9,7 +9,7 @@ use Rattle.st_tokens.specs.declared.token.Kind.{Kind}
 use Rattle.st_tokens.specs.declared.token.Kind.TheVariants as k
 use Rattle.st_tree.specs.declared.tree.place.Place.{Place}
 use Rattle.st_tree.specs.declared.tree.place.Identifier.{Identifier}
-use Rattle.st_expressions.specs.Tokens.{Tok, kind, place, next, same_symbol, same_keyword}
+use Rattle.st_expressions.specs.Tokens.{identifier, Tok, kind, place, next, same_symbol, same_keyword}
 
 -- not in the grammar, or too deep
 pub data Refusal : Type 0 where
@@ -81,9 +81,6 @@ keyword x = expect (is_keyword x)
 unfoldable pub enter : ℕ → Parser Place
 enter zero = λ ts. Err Deep
 enter (suc room) = skip
-
-abbrev pub identifier : Place → List ℕ → Identifier
-identifier p w = record { place = p; spelling = w }
 
 abbrev pub word_by : Option Kind → Parser Identifier
 word_by (Some (k.Word w)) = λ ts. Ok (identifier (place ts) w, next ts)

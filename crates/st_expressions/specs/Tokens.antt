@@ -7,6 +7,7 @@ use Rattle.st_tokens.specs.declared.keyword.Keyword.{Keyword}
 use Rattle.st_tokens.specs.declared.symbol.Symbol.{Symbol}
 use Rattle.st_tokens.specs.declared.token.Kind.{Kind}
 use Rattle.st_tokens.specs.declared.token.Token.{Token}
+use Rattle.st_tree.specs.declared.tree.place.Identifier.{Identifier}
 use Rattle.st_tree.specs.declared.tree.place.Place.{Place}
 
 -- a token: where it stands, and what it is
@@ -40,3 +41,7 @@ same_symbol = sameb symbol.the_type
 -- `==` on reserved words
 unfoldable pub same_keyword : Keyword → Keyword → Bool
 same_keyword = sameb keyword.the_type
+
+-- a name, which is a word
+abbrev pub identifier : Place → List ℕ → Identifier
+identifier p w = record { place = p; spelling = w }

@@ -18,8 +18,7 @@ use Rattle.st_tree.specs.declared.tree.unit.Step.{Step}
 use Rattle.st_tree.specs.declared.tree.unit.Transition.{Transition}
 use Rattle.st_expressions.specs.Grammar.{IsExpression, duration_of}
 use Rattle.st_expressions.specs.Lists.{IsMany, IsNext}
-use Rattle.st_expressions.specs.Parsers.{identifier}
-use Rattle.st_expressions.specs.Tokens.{Tok}
+use Rattle.st_expressions.specs.Tokens.{identifier, Tok}
 use Rattle.st_statements.specs.Grammar.{IsStatements}
 
 abbrev pub qualifier_of : Identifier → Option Duration → ActionQualifier

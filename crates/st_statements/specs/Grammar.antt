@@ -16,8 +16,7 @@ use Rattle.st_tree.specs.declared.tree.statement.Label.{Label}
 use Rattle.st_tree.specs.declared.tree.statement.Label.TheVariants as l
 use Rattle.st_expressions.specs.Grammar.{IsConstant, IsExpression, IsVariable, IsCall}
 use Rattle.st_expressions.specs.Lists.{IsListed}
-use Rattle.st_expressions.specs.Parsers.{identifier}
-use Rattle.st_expressions.specs.Tokens.{Tok}
+use Rattle.st_expressions.specs.Tokens.{identifier, Tok}
 
 abbrev pub part_of : Expression → List Statement → ConditionalPart
 part_of x ss = roll-ConditionalPart (record { condition = x; statements = ss })

@@ -23,8 +23,7 @@ use Rattle.st_tree.specs.declared.tree.place.Identifier.{Identifier}
 use Rattle.st_tree.specs.declared.tree.place.Place.{Place}
 use Rattle.st_expressions.specs.Grammar.{IsConstant, IsSignedInteger}
 use Rattle.st_expressions.specs.Lists.{IsMany, IsListed}
-use Rattle.st_expressions.specs.Parsers.{identifier}
-use Rattle.st_expressions.specs.Tokens.{Tok}
+use Rattle.st_expressions.specs.Tokens.{identifier, Tok}
 use Rattle.st_statements.specs.Charts.{IsName}
 
 abbrev pub subrange_of : SignedInteger → SignedInteger → Subrange

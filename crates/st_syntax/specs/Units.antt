@@ -21,8 +21,7 @@ use Rattle.st_tree.specs.declared.tree.unit.TypeDeclaration.{TypeDeclaration}
 use Rattle.st_tree.specs.declared.tree.unit.Unit as unit
 use Rattle.st_tree.specs.declared.tree.unit.Unit.TheVariants as u
 use Rattle.st_expressions.specs.Lists.{IsMany}
-use Rattle.st_expressions.specs.Parsers.{identifier}
-use Rattle.st_expressions.specs.Tokens.{Tok}
+use Rattle.st_expressions.specs.Tokens.{identifier, Tok}
 use Rattle.st_statements.specs.Charts.{IsChart}
 use Rattle.st_statements.specs.Grammar.{IsStatements}
 use Rattle.st_syntax.specs.Declarations.{IsSpecification, IsInitialized, IsMember, IsVarBlock}
