@@ -95,6 +95,6 @@ fn no_program_is_refused(rt: HostRuntime) -> Result<(), Fail> {
     let mut sink = Sheet::new(rt.alloc(), 4096, ALL_GOOD);
     let status = run_text(rt.alloc(), PROGRAM, b"Other", 8, &mut source, &mut sink);
     assert_eq!(rt; status, NO_PROGRAM);
-    assert_eq!(rt; sink.written(), b"refused S2 line 1\n".as_slice());
+    assert_eq!(rt; sink.written(), b"refused C10 line 0\n".as_slice());
     Ok(())
 }
