@@ -5,7 +5,8 @@ ghost use Rattle.st_layout.specs.Layout.{IsSound};
 use st_control::Controller;
 use st_layout::{Cells, Layout};
 use st_session::{Bytes, Outcome, Sheet, session};
-use st_tree::{Elem, Leaf, List, Name, Role, Value};
+use st_tree::{Leaf, List, Name, Role};
+use st_values::{Elem, Value};
 use std::alloc::{AllocError, Global};
 use std::test::Fail;
 

@@ -12,7 +12,7 @@ use Rattle.st_layout.proofs.Paths.{number-Some}
 use Rattle.st_layout.specs.Layout.{leaf_at, raised}
 use Rattle.st_layout.specs.Laws.{is_forced, value_of}
 use Rattle.st_layout.specs.Memory.{with_force, with_value}
-use Rattle.st_tree.specs.declared.value.Value.{Value}
+use Rattle.st_values.specs.declared.value.Value.{Value}
 
 -- what isn't refused is the result
 unless_gives : (causes : List Cause) (result other : ℕ) → unless causes result ≡ Ok other → result ≡ other

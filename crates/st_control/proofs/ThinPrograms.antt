@@ -4,10 +4,10 @@ use Rattle.std.proofs.lemmas.List.Elements.{All-cons}
 use Rattle.std.specs.List.{All}
 use Rattle.std.specs.Option.{option_and_then}
 use Rattle.st_layout.specs.Layout.{IsSound, IsValueOf, raised}
-use Rattle.st_tree.specs.Readings.{value_of}
-use Rattle.st_tree.specs.Values.{IsValue, in_range}
-use Rattle.st_tree.specs.declared.elem.Elem.{Elem}
-use Rattle.st_tree.specs.declared.elem.Elem.TheVariants as E
+use Rattle.st_values.specs.Readings.{value_of}
+use Rattle.st_values.specs.Values.{IsValue, in_range}
+use Rattle.st_values.specs.declared.elem.Elem.{Elem}
+use Rattle.st_values.specs.declared.elem.Elem.TheVariants as E
 use Rattle.st_tree.specs.declared.leaf.Leaf.{Leaf}
 use Rattle.st_tree.specs.declared.tree.constant.Constant.{Constant}
 use Rattle.st_tree.specs.declared.tree.constant.Constant.TheVariants as constants
@@ -16,7 +16,7 @@ use Rattle.st_tree.specs.declared.tree.declaration.Initial.{Initial}
 use Rattle.st_tree.specs.declared.tree.declaration.Initial.TheVariants as initials
 use Rattle.st_tree.specs.declared.tree.declaration.VarBlock.{VarBlock}
 use Rattle.st_tree.specs.declared.tree.unit.Organization.{Organization}
-use Rattle.st_tree.specs.declared.value.Value.{Value}
+use Rattle.st_values.specs.declared.value.Value.{Value}
 use Rattle.st_control.specs.ThinPrograms.{Declares, IsOnlyBlock, UnitsGiveOneList, initial_value, leaf, leaf_of, literal_value, only_name, type_of}
 use Rattle.st_control.proofs.ThinDeclarations.{one_list as one_list_of_declarations}
 

@@ -5,7 +5,7 @@ use Rattle.st_control.specs.States.{StateView, forced, released, undone, with_co
 use Rattle.st_control.specs.declared.record.Record.TheVariants.{Force, Release, Write}
 use Rattle.st_layout.specs.Layout.{no_value}
 use Rattle.st_layout.specs.Memory.{forced_at, value_at}
-use Rattle.st_tree.specs.declared.value.Value.{Value}
+use Rattle.st_values.specs.declared.value.Value.{Value}
 
 -- putting the old item back gives the list before
 set_back : {A : Type 0} (xs : List A) (i : ℕ) (x none : A) → set (set xs i x) i (get_or xs i none) ≡ xs

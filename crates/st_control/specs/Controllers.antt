@@ -9,7 +9,7 @@ use Rattle.st_control.specs.declared.refusal.Refusal.{Refusal}
 use Rattle.st_control.specs.declared.refusal.Refusal.TheVariants.{C, M, O}
 use Rattle.st_layout.specs.Memory.{value_at, forced_at}
 use Rattle.st_tree.specs.declared.leaf.Leaf.{Leaf}
-use Rattle.st_tree.specs.declared.value.Value.{Value}
+use Rattle.st_values.specs.declared.value.Value.{Value}
 
 -- a controller: its state, the records of the commands that can be undone, the oldest first, the name of the main
 -- program and the step limit

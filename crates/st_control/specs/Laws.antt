@@ -6,7 +6,7 @@ use Rattle.st_control.specs.Machine.Command.{force, release, write}
 use Rattle.st_control.specs.States.{IsWhole, StateView}
 use Rattle.st_layout.specs.Laws.{is_forced, value_of}
 use Rattle.st_layout.specs.Layout.{raised}
-use Rattle.st_tree.specs.declared.value.Value.{Value}
+use Rattle.st_values.specs.declared.value.Value.{Value}
 
 -- Whatever commands are given, refused ones between them included, as many undos as were accepted give back the machine
 -- before: its state, and the states that could be gone back to.

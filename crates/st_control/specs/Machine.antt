@@ -6,10 +6,10 @@ use Rattle.std.specs.Result.{result_unwrap_or}
 use Rattle.st_control.specs.States.{StateView, leaf_of, written, forced, released}
 use Rattle.st_layout.specs.Layout.{leaf_at, is_open}
 use Rattle.st_layout.specs.Memory.{forced_at}
-use Rattle.st_tree.specs.Types.{is_same}
-use Rattle.st_tree.specs.Values.{is_value}
+use Rattle.st_values.specs.Types.{is_same}
+use Rattle.st_values.specs.Values.{is_value}
 use Rattle.st_tree.specs.declared.leaf.Leaf.{Leaf}
-use Rattle.st_tree.specs.declared.value.Value.{Value}
+use Rattle.st_values.specs.declared.value.Value.{Value}
 
 -- the states to go back to are those before each command that isn't undone, the newest first
 pub record Machine : Type 0 where

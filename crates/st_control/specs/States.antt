@@ -7,7 +7,7 @@ use Rattle.st_control.specs.declared.state.Status.TheVariants.{Running}
 use Rattle.st_layout.specs.Layout.{IsSound, IsValueAt, number_of}
 use Rattle.st_layout.specs.Memory.{Content, Fits, initial_content, with_value, with_force}
 use Rattle.st_tree.specs.declared.leaf.Leaf.{Leaf}
-use Rattle.st_tree.specs.declared.value.Value.{Value}
+use Rattle.st_values.specs.declared.value.Value.{Value}
 
 -- a state: the leaves of the program, the value of each and whether it is forced, the moment and the status
 pub record StateView : Type 0 where

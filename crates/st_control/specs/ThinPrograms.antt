@@ -2,10 +2,10 @@
 use Rattle.std.specs.Prelude.{ℕ, ◌≡◌, ◌≢◌, ◌≤◌, true, List, [], ◌∷◌, ◌++◌, map, length, pos, codes, if◌then◌else◌, Option, Some, None, option_and_then}
 use Rattle.std.specs.List.{All, AllPairs}
 use Rattle.st_layout.specs.Layout.{raised}
-use Rattle.st_tree.specs.Readings.{value_of}
-use Rattle.st_tree.specs.Words.{is_word}
-use Rattle.st_tree.specs.declared.elem.Elem.{Elem}
-use Rattle.st_tree.specs.declared.elem.Elem.TheVariants as E
+use Rattle.st_values.specs.Readings.{value_of}
+use Rattle.st_values.specs.Words.{is_word}
+use Rattle.st_values.specs.declared.elem.Elem.{Elem}
+use Rattle.st_values.specs.declared.elem.Elem.TheVariants as E
 use Rattle.st_tree.specs.declared.leaf.Leaf.{Leaf}
 use Rattle.st_tree.specs.declared.leaf.Role.TheVariants.{Plain}
 use Rattle.st_tree.specs.declared.tree.constant.Constant.{Constant}
@@ -23,7 +23,7 @@ use Rattle.st_tree.specs.declared.tree.unit.Body.TheVariants as bodies
 use Rattle.st_tree.specs.declared.tree.unit.Organization.{Organization}
 use Rattle.st_tree.specs.declared.tree.unit.Unit.{Unit as ProgramUnit}
 use Rattle.st_tree.specs.declared.tree.unit.Unit.TheVariants as unit
-use Rattle.st_tree.specs.declared.value.Value.{Value}
+use Rattle.st_values.specs.declared.value.Value.{Value}
 
 -- ---- variables (2.4.3)
 

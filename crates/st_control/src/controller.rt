@@ -6,7 +6,7 @@ ghost use Rattle.st_control.specs.Machine.Command.{force, release, write};
 ghost use Rattle.st_control.specs.States.{IsWhole, leaf_of};
 ghost use Rattle.st_layout.specs.Layout.{leaf_at};
 ghost use Rattle.st_tokens.specs.declared.scan.TheConstants.{MOST_BYTES};
-ghost use Rattle.st_tree.specs.Values.{IsValue};
+ghost use Rattle.st_values.specs.Values.{IsValue};
 
 use crate::record::Record;
 use crate::refusal::Refusal;
@@ -15,7 +15,8 @@ use crate::thin::{ThinFault, read_thin};
 use crate::undoing::revert;
 use st_layout::{Layout, Memory};
 use st_syntax::parse;
-use st_tree::{Elem, Name, Value};
+use st_tree::Name;
+use st_values::{Elem, Value};
 use std::alloc::Global;
 use std::marker::Model;
 

@@ -1,5 +1,5 @@
 //! Undo records.
-use st_tree::Value;
+use st_values::Value;
 
 /// What one accepted command overwrote, and no more.
 #[derive(Drop)]

@@ -6,7 +6,8 @@ ghost use Rattle.st_layout.specs.Memory.{forced_at, value_at};
 
 use crate::record::Record;
 use st_layout::{Layout, Memory};
-use st_tree::{Leaf, Name, Role, Value, is_value};
+use st_tree::{Leaf, Name, Role};
+use st_values::{Value, is_value};
 use std::marker::Model;
 
 /// What stops a scan.

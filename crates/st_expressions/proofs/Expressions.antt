@@ -27,7 +27,7 @@ use Rattle.st_expressions.specs.Parsers as parser
 use Rattle.st_expressions.specs.Parsers.{Parser, and_then, many, is_comma}
 use Rattle.st_expressions.specs.Reading as spec
 use Rattle.st_expressions.specs.Reading.{Inside, begins_part}
-use Rattle.st_expressions.specs.Tokens.{identifier, Tok, kind, next, place}
+use Rattle.st_expressions.specs.Tokens.{Tok, kind, next, place}
 use Rattle.st_expressions.proofs.Exact.{Relation, Exact, Always, Any, Then, seq, IsOne, one, IsPure, done, IsWord, a_word, IsNumber, a_number, exact_bind, exact_bind_if, exact_as, exact_iff, exact_last, exact_under, exact_pure, made, exact_refuse, exact_on, IsFirst, exact_token, exact_token_if, exact_enter, Behind, exact_symbol, exact_word, exact_number, exact_before, Ends, exact_many, exact_listed}
 use Rattle.st_expressions.proofs.Follows.{Stops, stops_less, stops_at, stops_part, stops_operator, rank_is, begins_integer, integer_begins, begins_constant, constant_begins, primary_begins, argument_begins, part_begins, operation_begins, rank_word, Ending}
 use Rattle.st_expressions.proofs.Room.{At, past, Leads, leads}

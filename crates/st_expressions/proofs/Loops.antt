@@ -1,8 +1,8 @@
 -- Loops that read items as long as the first token passes a test.
 use Rattle.std.proofs.Common.{◌≡◌, ℕ, zero, suc, ◌<◌, List, [], ◌∷◌, ◌++◌, length, refl, sym, ap, ◌∙◌, Bool, true, false, arith, append_assoc, append-nil}
 use Rattle.std.specs.Prelude.{Option, Ok, Err}
-use Rattle.st_tokens.specs.declared.fault.SyntaxFault.{SyntaxFault}
-use Rattle.st_tokens.specs.declared.fault.SyntaxFault.TheVariants as fault
+use Rattle.st_expressions.specs.declared.fault.ReadFault.{ReadFault}
+use Rattle.st_expressions.specs.declared.fault.ReadFault.TheVariants as fault
 use Rattle.st_tokens.specs.declared.token.Kind.{Kind}
 use Rattle.st_expressions.specs.Tokens.{Tok, kind}
 use Rattle.st_expressions.specs.Parsers.{Refuses, Refusal, Wrong, Deep, Outcome, Parser, and_then, many_from, many, leading}
@@ -81,17 +81,16 @@ module _ {A : Type 0} (test : Option Kind → Bool) (item : Parser A) (front : L
   left_err found ts r w = err_at w.turns found ts r w.enough w.same
 
 -- a refusal that is passed on
-pub refuses_too : {A B : Type 0} (o : Outcome A) (p : Outcome B) (f : SyntaxFault) → ((r : Refusal) → o ≡ Err r → p ≡ Err r) → Refuses o f → Refuses p f
+pub refuses_too : {A B : Type 0} (o : Outcome A) (p : Outcome B) (f : ReadFault) → ((r : Refusal) → o ≡ Err r → p ≡ Err r) → Refuses o f → Refuses p f
 refuses_too o p fault.Memory g h = tt
 refuses_too o p (fault.NotInGrammar line) g h = g Wrong h
 refuses_too o p (fault.TooDeep line) g h = g Deep h
-refuses_too o p _ g h = absurd h
 
 module _ {A : Type 0} (test : Option Kind → Bool) (item : Parser A) (start : List Tok) where
   pub loop_end : (found : List A) (ts : List Tok) → Left test item [] start found ts → test (kind ts) ≡ false → many test item start ≡ Ok (found, ts)
   loop_end found ts w t = sym (ahead_none (many test item start)) ∙ left_end test item [] start found ts w t
 
-  pub loop_err : (found : List A) (ts : List Tok) (f : SyntaxFault) → Left test item [] start found ts → test (kind ts) ≡ true
+  pub loop_err : (found : List A) (ts : List Tok) (f : ReadFault) → Left test item [] start found ts → test (kind ts) ≡ true
       → Refuses (item ts) f → Refuses (many test item start) f
   loop_err found ts f w t = refuses_too _ _ f (λ r h. sym (ahead_none (many test item start)) ∙ left_err test item [] start found ts r w t h)
 
@@ -122,6 +121,6 @@ module _ {A : Type 0} (head : Parser A) (test : Option Kind → Bool) (item : Pa
       → test (kind ts) ≡ false → leading head test item start ≡ Ok (found, ts)
   leading_end one found ts e w t = leading_is ∙ ap (λ zs. ahead zs (many test item mid)) (sym e) ∙ left_end test item one mid found ts w t
 
-  pub leading_err : (one found : List A) (ts : List Tok) (f : SyntaxFault) → one ≡ [] ++ x ∷ [] → Left test item one mid found ts
+  pub leading_err : (one found : List A) (ts : List Tok) (f : ReadFault) → one ≡ [] ++ x ∷ [] → Left test item one mid found ts
       → test (kind ts) ≡ true → Refuses (item ts) f → Refuses (leading head test item start) f
   leading_err one found ts f e w t = refuses_too _ _ f (λ r h. leading_is ∙ ap (λ zs. ahead zs (many test item mid)) (sym e) ∙ left_err test item one mid found ts r w t h)

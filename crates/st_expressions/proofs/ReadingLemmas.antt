@@ -1,8 +1,8 @@
 -- The steps of the reading functions that recurse.
 use Rattle.std.proofs.Common.{◌≡◌, ℕ, zero, suc, ◌-◌, ◌<◌, List, [], ◌∷◌, refl, sym, ap, ◌∙◌, sub-one, arith}
 use Rattle.std.specs.Prelude.{Result, Ok, Err, IfOk, IfErr}
-use Rattle.st_tokens.specs.declared.fault.SyntaxFault.{SyntaxFault}
-use Rattle.st_tokens.specs.declared.fault.SyntaxFault.TheVariants.{Memory}
+use Rattle.st_expressions.specs.declared.fault.ReadFault.{ReadFault}
+use Rattle.st_expressions.specs.declared.fault.ReadFault.TheVariants.{Memory}
 use Rattle.st_tree.specs.declared.tree.place.Place.{Place}
 use Rattle.st_tree.specs.declared.tree.expression.Expression.{Expression}
 use Rattle.st_tree.specs.declared.tree.expression.Expression.TheVariants as e
@@ -23,7 +23,7 @@ enter_some zero ts some = absurd (some refl)
 enter_some (suc r) ts some = refl
 
 -- what is refused only for want of memory
-pub reads_made : {A : Type 0} (o : Outcome A) (y : A) (new : List Tok) (r : Result A SyntaxFault) → o ≡ Ok (y, new)
+pub reads_made : {A : Type 0} (o : Outcome A) (y : A) (new : List Tok) (r : Result A ReadFault) → o ≡ Ok (y, new)
     → IfOk r (λ x. x ≡ y) → IfErr r (λ f. f ≡ Memory) → Reads o r new
 reads_made o y new (Ok x) read same memory = read ∙ ap (λ z. Ok (z, new)) (sym same)
 reads_made o y new (Err f) read same memory = rw memory tt
@@ -49,7 +49,7 @@ module _ (room : ℕ) (inside : Inside) where
       let b' : operations (rank room inside r) r mid ≡ Ok (ls, rest) = rw sub-one at b in
       rw (a', b') refl
 
-  pub rank_err : (r : ℕ) (ts mid : List Tok) (x : Expression) (f : SyntaxFault) → (r ≡ 0 → ⊥)
+  pub rank_err : (r : ℕ) (ts mid : List Tok) (x : Expression) (f : ReadFault) → (r ≡ 0 → ⊥)
       → rank room inside (r - 1) ts ≡ Ok (x, mid) → Refuses (operations (rank room inside (r - 1)) (r - 1) mid) f
       → Refuses (rank room inside r ts) f
   unfolding rank

@@ -6,7 +6,7 @@ use Rattle.st_tokens.specs.declared.token.Kind.{Kind}
 use Rattle.st_tokens.specs.declared.token.Kind.TheVariants as k
 use Rattle.st_tree.specs.declared.operator.BinOp.{BinOp}
 use Rattle.st_tree.specs.declared.operator.BinOp.TheVariants as o
-use Rattle.st_tree.specs.declared.value.Value.{Value}
+use Rattle.st_values.specs.declared.value.Value.{Value}
 use Rattle.st_tree.specs.declared.tree.place.Place.{Place}
 use Rattle.st_tree.specs.declared.tree.place.Identifier.{Identifier}
 use Rattle.st_tree.specs.declared.tree.constant.SignedInteger.{SignedInteger}

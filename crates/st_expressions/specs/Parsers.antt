@@ -1,7 +1,7 @@
 -- Parsers: what is read from the first of some tokens on, or why nothing is.
 use Rattle.std.specs.Prelude.{◌≡◌, ℕ, zero, suc, Bool, true, false, if◌then◌else◌, List, [], ◌∷◌, length, Option, Some, Result, Ok, Err}
-use Rattle.st_tokens.specs.declared.fault.SyntaxFault.{SyntaxFault}
-use Rattle.st_tokens.specs.declared.fault.SyntaxFault.TheVariants as fault
+use Rattle.st_expressions.specs.declared.fault.ReadFault.{ReadFault}
+use Rattle.st_expressions.specs.declared.fault.ReadFault.TheVariants as fault
 use Rattle.st_tokens.specs.declared.keyword.Keyword.{Keyword}
 use Rattle.st_tokens.specs.declared.symbol.Symbol.{Symbol}
 use Rattle.st_tokens.specs.declared.symbol.Symbol.TheVariants as s
@@ -129,12 +129,11 @@ listed item = leading item is_comma (next_item item)
 
 -- ---- what a function that reads ensures: the outcome, unless memory runs out
 
-abbrev pub Refuses : {A : Type 0} → Outcome A → SyntaxFault → Type 0
+abbrev pub Refuses : {A : Type 0} → Outcome A → ReadFault → Type 0
 Refuses o fault.Memory = Unit {0}
 Refuses o (fault.NotInGrammar line) = o ≡ Err Wrong
 Refuses o (fault.TooDeep line) = o ≡ Err Deep
-Refuses o _ = ⊥
 
-abbrev pub Reads : {A : Type 0} → Outcome A → Result A SyntaxFault → List Tok → Type 0
+abbrev pub Reads : {A : Type 0} → Outcome A → Result A ReadFault → List Tok → Type 0
 Reads o (Ok a) new = o ≡ Ok (a, new)
 Reads o (Err f) new = Refuses o f

@@ -29,6 +29,11 @@ abbrev pub place : List Tok → Place
 place [] = record { number = 0; line = 0 }
 place (t ∷ ts) = t.0
 
+-- the line of the first token
+abbrev pub line : List Tok → Option ℕ
+line [] = None
+line (t ∷ ts) = Some t.0.line
+
 -- the tokens behind the first
 abbrev pub next : List Tok → List Tok
 next [] = []

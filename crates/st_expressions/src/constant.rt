@@ -4,13 +4,14 @@ ghost use Rattle.st_expressions.specs.Parsers.{Reads};
 ghost use Rattle.st_expressions.specs.Reading as spec;
 
 use crate::cursor::Cursor;
+use crate::fault::ReadFault;
 use crate::token::number;
-use st_tokens::{Keyword, Kind, Symbol, SyntaxFault};
+use st_tokens::{Keyword, Kind, Symbol};
 use st_tree::tree::{Constant, Duration, SignedInteger};
 
 /// A sign, and its number.
 #[tactic(auto, unfolding(crate::specs::Reading::signed))]
-fn signed(ts: &mut Cursor<'_>, is_negative: bool) -> Result<SignedInteger, SyntaxFault>
+fn signed(ts: &mut Cursor<'_>, is_negative: bool) -> Result<SignedInteger, ReadFault>
     ensures read { Reads (spec.signed is_negative ts.old) result ts.new }
     ensures shorter { OnOk result (length ts.new < length ts.old) }
 {
@@ -25,7 +26,7 @@ fn signed(ts: &mut Cursor<'_>, is_negative: bool) -> Result<SignedInteger, Synta
 
 /// Takes a number with or without a sign.
 #[tactic(auto, unfolding(crate::specs::Reading::signed_integer))]
-pub fn signed_integer(ts: &mut Cursor<'_>) -> Result<SignedInteger, SyntaxFault>
+pub fn signed_integer(ts: &mut Cursor<'_>) -> Result<SignedInteger, ReadFault>
     ensures read { Reads (spec.signed_integer ts.old) result ts.new }
     ensures shorter { OnOk result (length ts.new < length ts.old) }
 {
@@ -40,13 +41,13 @@ pub fn signed_integer(ts: &mut Cursor<'_>) -> Result<SignedInteger, SyntaxFault>
         }
         Some(Kind::Symbol(Symbol::Plus)) => signed(ts, false),
         Some(Kind::Symbol(Symbol::Minus)) => signed(ts, true),
-        _ => Err(SyntaxFault::NotInGrammar { line: ts.line() }),
+        _ => Err(ReadFault::NotInGrammar { line: ts.line() }),
     }
 }
 
 /// Takes a literal.
 #[tactic(auto, unfolding(crate::specs::Reading::constant))]
-pub fn constant(ts: &mut Cursor<'_>) -> Result<Constant, SyntaxFault>
+pub fn constant(ts: &mut Cursor<'_>) -> Result<Constant, ReadFault>
     ensures read { Reads (spec.constant ts.old) result ts.new }
     ensures shorter { OnOk result (length ts.new < length ts.old) }
 {

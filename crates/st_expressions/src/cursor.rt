@@ -1,6 +1,6 @@
 //! A place among the tokens of a text.
 ghost use Rattle.std.specs.Prelude.{◌≡◌, ◌<◌, ◌≤◌, ◌-◌, length, IsSome};
-ghost use Rattle.st_expressions.specs.Tokens.{numbered, kind, place, next};
+ghost use Rattle.st_expressions.specs.Tokens.{numbered, kind, line, place, next};
 
 use st_tokens::{Kind, Spelling, Symbol, Token};
 use st_tree::tree::Place;
@@ -11,8 +11,6 @@ use std::marker::Model;
 pub struct Cursor<'a> {
     rest: &'a [Token<'a>],
     number: usize,
-    /// The line of the text's last byte.
-    last_line: u32,
 }
 
 impl<'a> Model for Cursor<'a> {
@@ -28,14 +26,10 @@ impl<'a> Model for Cursor<'a> {
 
 impl<'a> Cursor<'a> {
     /// All tokens of a text.
-    pub fn new(rest: &'a [Token<'a>], last_line: u32) -> Cursor<'a>
+    pub fn new(rest: &'a [Token<'a>]) -> Cursor<'a>
         ensures { result ≡ numbered 0 rest.now }
     {
-        Cursor {
-            rest,
-            number: 0,
-            last_line,
-        }
+        Cursor { rest, number: 0 }
     }
 
     /// What the first token is.
@@ -76,11 +70,13 @@ impl<'a> Cursor<'a> {
         }
     }
 
-    /// The line of the first token, or of the text's last byte where there is none.
-    pub fn line(&self) -> u32 {
+    /// The line of the first token.
+    pub fn line(&self) -> Option<u32>
+        ensures { result ≡ line self.now }
+    {
         match self.rest {
-            [] => self.last_line,
-            [token, ..] => token.line,
+            [] => None,
+            [token, ..] => Some(token.line),
         }
     }
 

@@ -5,12 +5,13 @@ ghost use Rattle.st_expressions.specs.Parsers as parser;
 ghost use Rattle.st_expressions.specs.Parsers.{Reads};
 ghost use Rattle.st_expressions.specs.Reading as spec;
 ghost use Rattle.st_expressions.specs.Tokens.{kind, next};
-ghost use Rattle.st_tokens.specs.declared.fault.SyntaxFault.TheVariants.{Memory};
+ghost use Rattle.st_expressions.specs.declared.fault.ReadFault.TheVariants.{Memory};
 
 use crate::constant::constant;
 use crate::cursor::Cursor;
+use crate::fault::ReadFault;
 use crate::token::{boxed, enter, is_close, is_comma, symbol, word};
-use st_tokens::{Keyword, Kind, Symbol, SyntaxFault};
+use st_tokens::{Keyword, Kind, Symbol};
 use st_tree::tree::{Argument, Call, Expression, Operation, Part, Place, Variable};
 use st_tree::{BinOp, List};
 use std::alloc::Global;
@@ -94,7 +95,7 @@ fn is_before_number(ts: &Cursor<'_>) -> bool
 }
 
 #[tactic(auto, unfolding(crate::specs::Reading::field))]
-fn field(alloc: Global, ts: &mut Cursor<'_>) -> Result<Part, SyntaxFault>
+fn field(alloc: Global, ts: &mut Cursor<'_>) -> Result<Part, ReadFault>
     ensures read { Reads (spec.field ts.old) result ts.new }
     ensures shorter { OnOk result (length ts.new < length ts.old) }
 {
@@ -104,7 +105,7 @@ fn field(alloc: Global, ts: &mut Cursor<'_>) -> Result<Part, SyntaxFault>
 
 /// An expression behind one more open level.
 #[cycle(parser)]
-fn inside(alloc: Global, ts: &mut Cursor<'_>, room: u8) -> Result<Expression, SyntaxFault>
+fn inside(alloc: Global, ts: &mut Cursor<'_>, room: u8) -> Result<Expression, ReadFault>
     requires { 0 < room }
     ensures read { Reads ((spec.inside_of room).expression ts.old) result ts.new }
     ensures shorter { OnOk result (length ts.new < length ts.old) }
@@ -114,7 +115,7 @@ fn inside(alloc: Global, ts: &mut Cursor<'_>, room: u8) -> Result<Expression, Sy
 
 /// A variable behind one more open level.
 #[cycle(parser)]
-fn target(alloc: Global, ts: &mut Cursor<'_>, room: u8) -> Result<Variable, SyntaxFault>
+fn target(alloc: Global, ts: &mut Cursor<'_>, room: u8) -> Result<Variable, ReadFault>
     requires { 0 < room }
     ensures read { Reads ((spec.inside_of room).variable ts.old) result ts.new }
     ensures shorter { OnOk result (length ts.new < length ts.old) }
@@ -124,7 +125,7 @@ fn target(alloc: Global, ts: &mut Cursor<'_>, room: u8) -> Result<Variable, Synt
 
 #[cycle(parser)]
 #[tactic(auto, unfolding(crate::specs::Parsers::next_item))]
-fn next_expression(alloc: Global, ts: &mut Cursor<'_>, room: u8) -> Result<Expression, SyntaxFault>
+fn next_expression(alloc: Global, ts: &mut Cursor<'_>, room: u8) -> Result<Expression, ReadFault>
     requires { 0 < room }
     ensures read { Reads (parser.next_item (spec.inside_of room).expression ts.old) result ts.new }
     ensures shorter { OnOk result (length ts.new < length ts.old) }
@@ -136,11 +137,7 @@ fn next_expression(alloc: Global, ts: &mut Cursor<'_>, room: u8) -> Result<Expre
 /// The expressions in brackets.
 #[cycle(parser)]
 #[tactic(auto, unfolding(crate::specs::Parsers::leading))]
-fn expressions(
-    alloc: Global,
-    ts: &mut Cursor<'_>,
-    room: u8,
-) -> Result<List<Expression>, SyntaxFault>
+fn expressions(alloc: Global, ts: &mut Cursor<'_>, room: u8) -> Result<List<Expression>, ReadFault>
     requires { 0 < room }
     ensures read { Reads (parser.listed (spec.inside_of room).expression ts.old) result ts.new }
     ensures shorter { OnOk result (length ts.new < length ts.old) }
@@ -157,7 +154,7 @@ fn expressions(
 
 #[cycle(parser)]
 #[tactic(auto, unfolding(crate::specs::Reading::subscripts))]
-fn subscripts(alloc: Global, ts: &mut Cursor<'_>, room: u8) -> Result<Part, SyntaxFault>
+fn subscripts(alloc: Global, ts: &mut Cursor<'_>, room: u8) -> Result<Part, ReadFault>
     ensures read { Reads (spec.subscripts room (spec.inside_of room) ts.old) result ts.new }
     ensures shorter { OnOk result (length ts.new < length ts.old) }
 {
@@ -169,7 +166,7 @@ fn subscripts(alloc: Global, ts: &mut Cursor<'_>, room: u8) -> Result<Part, Synt
 
 #[cycle(parser)]
 #[tactic(auto, unfolding(crate::specs::Reading::part_of))]
-fn part(alloc: Global, ts: &mut Cursor<'_>, room: u8) -> Result<Part, SyntaxFault>
+fn part(alloc: Global, ts: &mut Cursor<'_>, room: u8) -> Result<Part, ReadFault>
     ensures read { Reads (spec.part_of room (spec.inside_of room) ts.old) result ts.new }
     ensures shorter { OnOk result (length ts.new < length ts.old) }
 {
@@ -180,7 +177,7 @@ fn part(alloc: Global, ts: &mut Cursor<'_>, room: u8) -> Result<Part, SyntaxFaul
 }
 
 #[cycle(parser)]
-fn parts(alloc: Global, ts: &mut Cursor<'_>, room: u8) -> Result<List<Part>, SyntaxFault>
+fn parts(alloc: Global, ts: &mut Cursor<'_>, room: u8) -> Result<List<Part>, ReadFault>
     ensures read { Reads (spec.parts room (spec.inside_of room) ts.old) result ts.new }
     ensures shorter { OnOk result (length ts.new ≤ length ts.old) }
 {
@@ -195,7 +192,7 @@ fn parts(alloc: Global, ts: &mut Cursor<'_>, room: u8) -> Result<List<Part>, Syn
 /// Takes a variable, or a part of one. `room` more levels may be opened.
 #[cycle(parser)]
 #[tactic(auto, unfolding(crate::specs::Reading::variable))]
-pub fn variable(alloc: Global, ts: &mut Cursor<'_>, room: u8) -> Result<Variable, SyntaxFault>
+pub fn variable(alloc: Global, ts: &mut Cursor<'_>, room: u8) -> Result<Variable, ReadFault>
     ensures read { Reads (spec.variable room (spec.inside_of room) ts.old) result ts.new }
     ensures shorter { OnOk result (length ts.new < length ts.old) }
 {
@@ -206,7 +203,7 @@ pub fn variable(alloc: Global, ts: &mut Cursor<'_>, room: u8) -> Result<Variable
 
 #[cycle(parser)]
 #[tactic(auto, unfolding(crate::specs::Reading::input))]
-fn input(alloc: Global, ts: &mut Cursor<'_>, room: u8) -> Result<Argument, SyntaxFault>
+fn input(alloc: Global, ts: &mut Cursor<'_>, room: u8) -> Result<Argument, ReadFault>
     requires { 0 < room }
     ensures read { Reads (spec.input (spec.inside_of room) ts.old) result ts.new }
     ensures shorter { OnOk result (length ts.new < length ts.old) }
@@ -219,7 +216,7 @@ fn input(alloc: Global, ts: &mut Cursor<'_>, room: u8) -> Result<Argument, Synta
 
 #[cycle(parser)]
 #[tactic(auto, unfolding(crate::specs::Reading::output))]
-fn output(alloc: Global, ts: &mut Cursor<'_>, room: u8) -> Result<Argument, SyntaxFault>
+fn output(alloc: Global, ts: &mut Cursor<'_>, room: u8) -> Result<Argument, ReadFault>
     requires { 0 < room }
     ensures read { Reads (spec.output (spec.inside_of room) ts.old) result ts.new }
     ensures shorter { OnOk result (length ts.new < length ts.old) }
@@ -232,7 +229,7 @@ fn output(alloc: Global, ts: &mut Cursor<'_>, room: u8) -> Result<Argument, Synt
 
 #[cycle(parser)]
 #[tactic(auto, unfolding(crate::specs::Reading::positional))]
-fn positional(alloc: Global, ts: &mut Cursor<'_>, room: u8) -> Result<Argument, SyntaxFault>
+fn positional(alloc: Global, ts: &mut Cursor<'_>, room: u8) -> Result<Argument, ReadFault>
     requires { 0 < room }
     ensures read { Reads (spec.positional (spec.inside_of room) ts.old) result ts.new }
     ensures shorter { OnOk result (length ts.new < length ts.old) }
@@ -243,7 +240,7 @@ fn positional(alloc: Global, ts: &mut Cursor<'_>, room: u8) -> Result<Argument, 
 /// An argument of a call, which the token behind its first tells apart.
 #[cycle(parser)]
 #[tactic(auto, unfolding(crate::specs::Reading::argument))]
-fn argument(alloc: Global, ts: &mut Cursor<'_>, room: u8) -> Result<Argument, SyntaxFault>
+fn argument(alloc: Global, ts: &mut Cursor<'_>, room: u8) -> Result<Argument, ReadFault>
     requires { 0 < room }
     ensures read { Reads (spec.argument (spec.inside_of room) ts.old) result ts.new }
     ensures shorter { OnOk result (length ts.new < length ts.old) }
@@ -260,7 +257,7 @@ fn argument(alloc: Global, ts: &mut Cursor<'_>, room: u8) -> Result<Argument, Sy
 
 #[cycle(parser)]
 #[tactic(auto, unfolding(crate::specs::Parsers::next_item))]
-fn next_argument(alloc: Global, ts: &mut Cursor<'_>, room: u8) -> Result<Argument, SyntaxFault>
+fn next_argument(alloc: Global, ts: &mut Cursor<'_>, room: u8) -> Result<Argument, ReadFault>
     requires { 0 < room }
     ensures read { Reads (parser.next_item (spec.argument (spec.inside_of room)) ts.old) result ts.new }
     ensures shorter { OnOk result (length ts.new < length ts.old) }
@@ -271,11 +268,7 @@ fn next_argument(alloc: Global, ts: &mut Cursor<'_>, room: u8) -> Result<Argumen
 
 #[cycle(parser)]
 #[tactic(auto, unfolding(crate::specs::Parsers::leading))]
-fn argument_list(
-    alloc: Global,
-    ts: &mut Cursor<'_>,
-    room: u8,
-) -> Result<List<Argument>, SyntaxFault>
+fn argument_list(alloc: Global, ts: &mut Cursor<'_>, room: u8) -> Result<List<Argument>, ReadFault>
     requires { 0 < room }
     ensures read { Reads (parser.listed (spec.argument (spec.inside_of room)) ts.old) result ts.new }
     ensures shorter { OnOk result (length ts.new < length ts.old) }
@@ -293,7 +286,7 @@ fn argument_list(
 /// What stands behind the `(` of a call.
 #[cycle(parser)]
 #[tactic(auto, unfolding(crate::specs::Reading::arguments))]
-fn arguments(alloc: Global, ts: &mut Cursor<'_>, room: u8) -> Result<List<Argument>, SyntaxFault>
+fn arguments(alloc: Global, ts: &mut Cursor<'_>, room: u8) -> Result<List<Argument>, ReadFault>
     requires { 0 < room }
     ensures read { Reads (spec.arguments (spec.inside_of room) ts.old) result ts.new }
     ensures shorter { OnOk result (length ts.new ≤ length ts.old) }
@@ -310,7 +303,7 @@ fn arguments(alloc: Global, ts: &mut Cursor<'_>, room: u8) -> Result<List<Argume
 /// Takes a call. `room` more levels may be opened.
 #[cycle(parser)]
 #[tactic(auto, unfolding(crate::specs::Reading::call))]
-pub fn call(alloc: Global, ts: &mut Cursor<'_>, room: u8) -> Result<Call, SyntaxFault>
+pub fn call(alloc: Global, ts: &mut Cursor<'_>, room: u8) -> Result<Call, ReadFault>
     ensures read { Reads (spec.call room (spec.inside_of room) ts.old) result ts.new }
     ensures shorter { OnOk result (length ts.new < length ts.old) }
 {
@@ -322,7 +315,7 @@ pub fn call(alloc: Global, ts: &mut Cursor<'_>, room: u8) -> Result<Call, Syntax
 
 #[cycle(parser)]
 #[tactic(auto, unfolding(crate::specs::Reading::group))]
-fn group(alloc: Global, ts: &mut Cursor<'_>, room: u8) -> Result<Expression, SyntaxFault>
+fn group(alloc: Global, ts: &mut Cursor<'_>, room: u8) -> Result<Expression, ReadFault>
     ensures read { Reads (spec.group room (spec.inside_of room) ts.old) result ts.new }
     ensures shorter { OnOk result (length ts.new < length ts.old) }
 {
@@ -335,7 +328,7 @@ fn group(alloc: Global, ts: &mut Cursor<'_>, room: u8) -> Result<Expression, Syn
 /// What begins with a word: a call or a variable.
 #[cycle(parser)]
 #[tactic(auto, unfolding(crate::specs::Reading::named))]
-fn named(alloc: Global, ts: &mut Cursor<'_>, room: u8) -> Result<Expression, SyntaxFault>
+fn named(alloc: Global, ts: &mut Cursor<'_>, room: u8) -> Result<Expression, ReadFault>
     ensures read { Reads (spec.named room (spec.inside_of room) ts.old) result ts.new }
     ensures shorter { OnOk result (length ts.new < length ts.old) }
 {
@@ -347,7 +340,7 @@ fn named(alloc: Global, ts: &mut Cursor<'_>, room: u8) -> Result<Expression, Syn
 
 #[cycle(parser)]
 #[tactic(auto, unfolding(crate::specs::Reading::primary))]
-fn primary(alloc: Global, ts: &mut Cursor<'_>, room: u8) -> Result<Expression, SyntaxFault>
+fn primary(alloc: Global, ts: &mut Cursor<'_>, room: u8) -> Result<Expression, ReadFault>
     ensures read { Reads (spec.primary room (spec.inside_of room) ts.old) result ts.new }
     ensures shorter { OnOk result (length ts.new < length ts.old) }
 {
@@ -360,7 +353,7 @@ fn primary(alloc: Global, ts: &mut Cursor<'_>, room: u8) -> Result<Expression, S
 
 #[cycle(parser)]
 #[tactic(auto, unfolding(crate::specs::Reading::negation))]
-fn negation(alloc: Global, ts: &mut Cursor<'_>, room: u8) -> Result<Expression, SyntaxFault>
+fn negation(alloc: Global, ts: &mut Cursor<'_>, room: u8) -> Result<Expression, ReadFault>
     ensures read { Reads (spec.negation room (spec.inside_of room) ts.old) result ts.new }
     ensures shorter { OnOk result (length ts.new < length ts.old) }
 {
@@ -371,7 +364,7 @@ fn negation(alloc: Global, ts: &mut Cursor<'_>, room: u8) -> Result<Expression, 
 
 #[cycle(parser)]
 #[tactic(auto, unfolding(crate::specs::Reading::complement))]
-fn complement(alloc: Global, ts: &mut Cursor<'_>, room: u8) -> Result<Expression, SyntaxFault>
+fn complement(alloc: Global, ts: &mut Cursor<'_>, room: u8) -> Result<Expression, ReadFault>
     ensures read { Reads (spec.complement room (spec.inside_of room) ts.old) result ts.new }
     ensures shorter { OnOk result (length ts.new < length ts.old) }
 {
@@ -383,7 +376,7 @@ fn complement(alloc: Global, ts: &mut Cursor<'_>, room: u8) -> Result<Expression
 /// An operand. A `-` before a number belongs to the number.
 #[cycle(parser)]
 #[tactic(auto, unfolding(crate::specs::Reading::unary))]
-fn unary(alloc: Global, ts: &mut Cursor<'_>, room: u8) -> Result<Expression, SyntaxFault>
+fn unary(alloc: Global, ts: &mut Cursor<'_>, room: u8) -> Result<Expression, ReadFault>
     ensures read { Reads (spec.unary room (spec.inside_of room) ts.old) result ts.new }
     ensures shorter { OnOk result (length ts.new < length ts.old) }
 {
@@ -402,12 +395,7 @@ fn unary(alloc: Global, ts: &mut Cursor<'_>, room: u8) -> Result<Expression, Syn
 
 #[cycle(parser)]
 #[tactic(auto, unfolding(crate::specs::Reading::operation))]
-fn operation(
-    alloc: Global,
-    ts: &mut Cursor<'_>,
-    room: u8,
-    rank: u8,
-) -> Result<Operation, SyntaxFault>
+fn operation(alloc: Global, ts: &mut Cursor<'_>, room: u8, rank: u8) -> Result<Operation, ReadFault>
     requires { rank < 7 }
     ensures read { Reads (spec.operation (spec.rank room (spec.inside_of room) rank) ts.old) result ts.new }
     ensures shorter { OnOk result (length ts.new < length ts.old) }
@@ -423,7 +411,7 @@ fn operation(
                 operand,
             })
         }
-        None => Err(SyntaxFault::NotInGrammar { line: ts.line() }),
+        None => Err(ReadFault::NotInGrammar { line: ts.line() }),
     }
 }
 
@@ -433,7 +421,7 @@ fn operations(
     ts: &mut Cursor<'_>,
     room: u8,
     rank: u8,
-) -> Result<List<Operation>, SyntaxFault>
+) -> Result<List<Operation>, ReadFault>
     requires { rank < 7 }
     ensures read { Reads (spec.operations (spec.rank room (spec.inside_of room) rank) rank ts.old) result ts.new }
     ensures shorter { OnOk result (length ts.new ≤ length ts.old) }
@@ -451,7 +439,7 @@ fn chain(
     place: Place,
     first: Expression,
     operations: List<Operation>,
-) -> Result<Expression, SyntaxFault>
+) -> Result<Expression, ReadFault>
     ensures ok { IfOk result (λ chain. chain ≡ spec.chain place first operations) }
     ensures err { IfErr result (λ fault. fault ≡ Memory) }
 {
@@ -464,7 +452,7 @@ fn chain(
 /// An expression whose operators are of this rank or lower.
 #[cycle(parser)]
 #[tactic(auto, unfolding(crate::specs::Reading::rank))]
-fn level(alloc: Global, ts: &mut Cursor<'_>, room: u8, rank: u8) -> Result<Expression, SyntaxFault>
+fn level(alloc: Global, ts: &mut Cursor<'_>, room: u8, rank: u8) -> Result<Expression, ReadFault>
     requires { rank ≤ 7 }
     ensures read { Reads (spec.rank room (spec.inside_of room) rank ts.old) result ts.new }
     ensures shorter { OnOk result (length ts.new < length ts.old) }
@@ -480,7 +468,7 @@ fn level(alloc: Global, ts: &mut Cursor<'_>, room: u8, rank: u8) -> Result<Expre
 
 /// Takes an expression. `room` more levels may be opened.
 #[tactic(auto, unfolding(crate::specs::Reading::expression))]
-pub fn expression(alloc: Global, ts: &mut Cursor<'_>, room: u8) -> Result<Expression, SyntaxFault>
+pub fn expression(alloc: Global, ts: &mut Cursor<'_>, room: u8) -> Result<Expression, ReadFault>
     ensures read { Reads (spec.expression room ts.old) result ts.new }
     ensures shorter { OnOk result (length ts.new < length ts.old) }
 {

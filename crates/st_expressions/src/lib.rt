@@ -4,4 +4,5 @@
 pub mod constant;
 pub mod cursor;
 pub mod expression;
+pub mod fault;
 pub mod token;

@@ -4,10 +4,11 @@ ghost use Rattle.st_expressions.specs.Parsers as spec;
 ghost use Rattle.st_expressions.specs.Parsers.{Reads};
 ghost use Rattle.st_expressions.specs.Reading.{is_close, is_open};
 ghost use Rattle.st_expressions.specs.Tokens.{kind};
-ghost use Rattle.st_tokens.specs.declared.fault.SyntaxFault.TheVariants.{Memory};
+ghost use Rattle.st_expressions.specs.declared.fault.ReadFault.TheVariants.{Memory};
 
 use crate::cursor::Cursor;
-use st_tokens::{Keyword, Kind, Symbol, SyntaxFault};
+use crate::fault::ReadFault;
+use st_tokens::{Keyword, Kind, Symbol};
 use st_tree::tree::{Identifier, Place};
 use st_tree::{Boxed, List};
 use std::alloc::Global;
@@ -57,45 +58,45 @@ pub fn is_close(ts: &Cursor<'_>) -> bool
 
 /// Takes this symbol.
 #[tactic(auto, unfolding(crate::specs::Parsers::expect))]
-pub fn symbol(ts: &mut Cursor<'_>, symbol: Symbol) -> Result<Place, SyntaxFault>
+pub fn symbol(ts: &mut Cursor<'_>, symbol: Symbol) -> Result<Place, ReadFault>
     ensures read { Reads (spec.symbol symbol ts.old) result ts.new }
     ensures shorter { OnOk result (length ts.new < length ts.old) }
 {
     if is_symbol(ts, symbol) {
         Ok(ts.skip())
     } else {
-        Err(SyntaxFault::NotInGrammar { line: ts.line() })
+        Err(ReadFault::NotInGrammar { line: ts.line() })
     }
 }
 
 /// Takes this reserved word.
 #[tactic(auto, unfolding(crate::specs::Parsers::expect))]
-pub fn keyword(ts: &mut Cursor<'_>, keyword: Keyword) -> Result<Place, SyntaxFault>
+pub fn keyword(ts: &mut Cursor<'_>, keyword: Keyword) -> Result<Place, ReadFault>
     ensures read { Reads (spec.keyword keyword ts.old) result ts.new }
     ensures shorter { OnOk result (length ts.new < length ts.old) }
 {
     if is_keyword(ts, keyword) {
         Ok(ts.skip())
     } else {
-        Err(SyntaxFault::NotInGrammar { line: ts.line() })
+        Err(ReadFault::NotInGrammar { line: ts.line() })
     }
 }
 
 /// Takes a token that opens a level, where `room` more may be open.
-pub fn enter(ts: &mut Cursor<'_>, room: u8) -> Result<Place, SyntaxFault>
+pub fn enter(ts: &mut Cursor<'_>, room: u8) -> Result<Place, ReadFault>
     ensures read { Reads (spec.enter room ts.old) result ts.new }
     ensures room { OnOk result (0 < room) }
     ensures shorter { length ts.new ≤ length ts.old }
 {
     if room == 0 {
-        return Err(SyntaxFault::TooDeep { line: ts.line() });
+        return Err(ReadFault::TooDeep { line: ts.line() });
     }
     Ok(ts.skip())
 }
 
 /// Takes a word.
 #[tactic(auto, unfolding(crate::specs::Parsers::word))]
-pub fn word(alloc: Global, ts: &mut Cursor<'_>) -> Result<Identifier, SyntaxFault>
+pub fn word(alloc: Global, ts: &mut Cursor<'_>) -> Result<Identifier, ReadFault>
     ensures read { Reads (spec.word ts.old) result ts.new }
     ensures shorter { OnOk result (length ts.new < length ts.old) }
 {
@@ -105,13 +106,13 @@ pub fn word(alloc: Global, ts: &mut Cursor<'_>) -> Result<Identifier, SyntaxFaul
             let place = ts.skip();
             Ok(Identifier { place, spelling })
         }
-        _ => Err(SyntaxFault::NotInGrammar { line: ts.line() }),
+        _ => Err(ReadFault::NotInGrammar { line: ts.line() }),
     }
 }
 
 /// Takes a number.
 #[tactic(auto, unfolding(crate::specs::Parsers::number))]
-pub fn number(ts: &mut Cursor<'_>) -> Result<u128, SyntaxFault>
+pub fn number(ts: &mut Cursor<'_>) -> Result<u128, ReadFault>
     ensures read { Reads (spec.number ts.old) result ts.new }
     ensures shorter { OnOk result (length ts.new < length ts.old) }
 {
@@ -120,12 +121,12 @@ pub fn number(ts: &mut Cursor<'_>) -> Result<u128, SyntaxFault>
             ts.skip();
             Ok(number)
         }
-        _ => Err(SyntaxFault::NotInGrammar { line: ts.line() }),
+        _ => Err(ReadFault::NotInGrammar { line: ts.line() }),
     }
 }
 
 /// Puts a part of a tree into a box.
-pub fn boxed<T: Drop>(alloc: Global, part: T) -> Result<Boxed<T>, SyntaxFault>
+pub fn boxed<T: Drop>(alloc: Global, part: T) -> Result<Boxed<T>, ReadFault>
     ensures ok { IfOk result (λ boxed. boxed ≡ part) }
     ensures err { IfErr result (λ fault. fault ≡ Memory) }
 {

@@ -2,9 +2,9 @@
 use Rattle.std.proofs.Common.{ℕ, ◌≡◌, ◌+◌, ◌<◌, ◌≤◌, List, length, take, arith, ap}
 use Rattle.std.proofs.lemmas.List.{take_all, take-take}
 use Rattle.std.proofs.lemmas.List.Sums.{sum_by-take-le, sum_by_more}
-use Rattle.st_tree.specs.Types.{width_of}
-use Rattle.st_tree.specs.declared.elem.Elem.{Elem}
-use Rattle.st_tree.specs.declared.elem.Elem.TheVariants as E
+use Rattle.st_values.specs.Types.{width_of}
+use Rattle.st_values.specs.declared.elem.Elem.{Elem}
+use Rattle.st_values.specs.declared.elem.Elem.TheVariants as E
 use Rattle.st_tree.specs.declared.leaf.Leaf.{Leaf}
 use Rattle.st_layout.specs.Layout.{leaf_at, no_leaf, offset_of, total_width}
 

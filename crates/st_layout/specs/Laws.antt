@@ -3,9 +3,9 @@ use Rattle.std.specs.Prelude.{ℕ, ◌≡◌, ◌+◌, ◌<◌, ◌≤◌, ◌�
 use Rattle.std.specs.List.{Contains}
 use Rattle.std.specs.Option.{option_map, option_map_or}
 use Rattle.std.specs.Str.{bytes_eq}
-use Rattle.st_tree.specs.Types.{width_of}
+use Rattle.st_values.specs.Types.{width_of}
 use Rattle.st_tree.specs.declared.leaf.Leaf.{Leaf}
-use Rattle.st_tree.specs.declared.value.Value.{Value}
+use Rattle.st_values.specs.declared.value.Value.{Value}
 use Rattle.st_layout.specs.Layout.{IsSound, IsValueAt, leaf_at, number_of, offset_of, paths_of, raised, total_width}
 use Rattle.st_layout.specs.Memory.{Content, Fits, forced_at, value_at, with_force, with_value}
 

@@ -3,13 +3,13 @@ use Rattle.std.specs.Prelude.{ℕ, pos, ◌≡◌, ◌≢◌, ◌≤◌, Bool, t
 use Rattle.std.specs.Char.{to_ascii_uppercase}
 use Rattle.std.specs.List.{All, AllPairs, position, sum_by}
 use Rattle.std.specs.Str.{bytes_eq}
-use Rattle.st_tree.specs.Types.{width_of}
-use Rattle.st_tree.specs.Values.{IsValue}
-use Rattle.st_tree.specs.declared.elem.Elem.TheVariants as E
+use Rattle.st_values.specs.Types.{width_of}
+use Rattle.st_values.specs.Values.{IsValue}
+use Rattle.st_values.specs.declared.elem.Elem.TheVariants as E
 use Rattle.st_tree.specs.declared.leaf.Leaf.{Leaf}
 use Rattle.st_tree.specs.declared.leaf.Role.{Role}
 use Rattle.st_tree.specs.declared.leaf.Role.TheVariants.{Plain, ProcessInput, Hidden}
-use Rattle.st_tree.specs.declared.value.Value.{Value}
+use Rattle.st_values.specs.declared.value.Value.{Value}
 
 -- what stands past the end of a list of values
 abbrev pub no_value : Value

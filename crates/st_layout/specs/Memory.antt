@@ -3,7 +3,7 @@ use Rattle.std.specs.Prelude.{ℕ, ◌≡◌, Bool, false, List, map, length, ge
 use Rattle.std.specs.List.{AllZip}
 use Rattle.st_layout.specs.Layout.{IsValueOf, no_value}
 use Rattle.st_tree.specs.declared.leaf.Leaf.{Leaf}
-use Rattle.st_tree.specs.declared.value.Value.{Value}
+use Rattle.st_values.specs.declared.value.Value.{Value}
 
 -- the value of each leaf, and whether it is forced
 pub record Content : Type 0 where

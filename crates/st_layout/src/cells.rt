@@ -4,7 +4,7 @@ ghost use Rattle.st_layout.specs.Memory.{AreValues};
 
 use crate::layout::Layout;
 use crate::memory::Memory;
-use st_tree::Value;
+use st_values::Value;
 use std::alloc::{AllocError, Global};
 
 /// A memory of one value and one mark a leaf.

@@ -5,7 +5,7 @@ ghost use Rattle.st_layout.specs.Memory.{Content, Fits, forced_at, initial_conte
 ghost use Rattle.st_tree.specs.declared.leaf.Leaf.{Leaf};
 
 use crate::layout::Layout;
-use st_tree::Value;
+use st_values::Value;
 use std::alloc::{AllocError, Global};
 
 /// A memory: the value of each leaf of a layout, and whether the leaf is forced.

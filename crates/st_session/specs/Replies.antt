@@ -18,10 +18,10 @@ use Rattle.st_session.specs.Lines.{Line}
 use Rattle.st_session.specs.Requests.{Request, request_in}
 use Rattle.st_session.specs.Requests.{Request as Ask}
 use Rattle.st_session.specs.Words.{words_of}
-use Rattle.st_tree.specs.Readings.{reads}
-use Rattle.st_tree.specs.Texts.{signed_text, text}
-use Rattle.st_tree.specs.declared.elem.Elem.TheVariants.{Bool as BOOL}
-use Rattle.st_tree.specs.declared.value.Value.{Value}
+use Rattle.st_values.specs.Readings.{reads}
+use Rattle.st_values.specs.Texts.{signed_text, text}
+use Rattle.st_values.specs.declared.elem.Elem.TheVariants.{Bool as BOOL}
+use Rattle.st_values.specs.declared.value.Value.{Value}
 
 -- ---- texts
 

@@ -14,7 +14,7 @@ use crate::reply::Reply;
 use crate::request::{Request, read_request};
 use st_control::{Controller, Refusal};
 use st_layout::Memory;
-use st_tree::{Elem, Value, read_value};
+use st_values::{Elem, Value, read_value};
 use std::alloc::{AllocError, Global};
 
 /// How a session ended.

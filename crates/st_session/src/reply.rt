@@ -2,11 +2,11 @@
 ghost use Rattle.std.specs.Prelude.{◌≡◌, ◌≤◌, ◌+◌, ◌<◌, ◌++◌, [], IfOk, OnOk, OnErr, is_err, length, true, false, if◌then◌else◌, codes};
 ghost use Rattle.std.specs.Fmt.{decimal};
 ghost use Rattle.st_session.specs.Replies.{ended, fault_name, refusal_text, report_text, result_text, shown_text, status_text};
-ghost use Rattle.st_tree.specs.Texts.{signed_text, text};
-ghost use Rattle.st_tree.specs.Values.{IsValue};
+ghost use Rattle.st_values.specs.Texts.{signed_text, text};
+ghost use Rattle.st_values.specs.Values.{IsValue};
 
 use st_control::{Refusal, Report, RunFaultKind, Status};
-use st_tree::{Elem, Value, put_value};
+use st_values::{Elem, Value, put_value};
 use std::alloc::{AllocError, Global};
 use std::marker::Model;
 

@@ -5,7 +5,7 @@ use crate::{
 };
 use st_control::Controller;
 use st_layout::Cells;
-use st_tree::{Elem, Value};
+use st_values::{Elem, Value};
 use std::test::Fail;
 
 const PROGRAM: &[u8] = b"PROGRAM Main VAR A : INT := 3; B : BOOL; END_VAR END_PROGRAM";

@@ -17,7 +17,7 @@ use Rattle.st_expressions.specs.Lists.{IsMany, IsListed, listed}
 use Rattle.st_expressions.specs.Parsers as parser
 use Rattle.st_expressions.specs.Parsers.{Outcome, Parser, and_then, is_comma, Deep, Wrong}
 use Rattle.st_expressions.specs.Reading.{is_open, is_close}
-use Rattle.st_expressions.specs.Tokens.{identifier, Tok, kind}
+use Rattle.st_expressions.specs.Tokens.{Tok, kind}
 use Rattle.st_expressions.proofs.Exact.{Relation, Found, Exact, Always, Any, Then, seq, IsOne, one, IsPure, done, IsWord, a_word, IsNumber, a_number, exact_bind, exact_as, exact_iff, exact_last, exact_under, exact_zero, exact_pure, made, exact_refuse, exact_on, IsFirst, exact_token, exact_token_if, exact_symbol, exact_keyword, exact_word, exact_number, exact_before, Ends, exact_many, exact_listed}
 use Rattle.st_expressions.proofs.Expressions.{expression_exact, open_is}
 use Rattle.st_expressions.proofs.Loops.{ok_parts}

@@ -21,7 +21,7 @@ use Rattle.st_expressions.specs.Lists.{IsMany, none, more, IsListed, listed}
 use Rattle.st_expressions.specs.Parsers as parser
 use Rattle.st_expressions.specs.Parsers.{Parser, and_then, many, is_comma}
 use Rattle.st_expressions.specs.Reading.{inside_of, is_open}
-use Rattle.st_expressions.specs.Tokens.{identifier, Tok, kind, next}
+use Rattle.st_expressions.specs.Tokens.{Tok, kind, next}
 use Rattle.st_expressions.proofs.Exact.{Relation, Exact, Always, Any, Then, seq, IsOne, one, IsPure, done, IsWord, a_word, exact_bind, exact_as, exact_iff, exact_last, exact_under, exact_zero, exact_pure, made, exact_refuse, exact_on, IsFirst, at_first, exact_token, exact_enter, Behind, exact_symbol, exact_keyword, exact_word, exact_before, before_token, Ends, exact_many, exact_listed}
 use Rattle.st_expressions.proofs.Expressions.{constant_exact, variable_exact, call_exact, inside_exact, expression_exact, open_is}
 use Rattle.st_expressions.proofs.Follows.{Stops, constant_begins, begins_constant}

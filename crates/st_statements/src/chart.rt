@@ -5,13 +5,14 @@ ghost use Rattle.st_expressions.specs.Parsers.{Reads};
 ghost use Rattle.st_expressions.specs.Tokens.{kind};
 ghost use Rattle.st_statements.specs.ChartReading as spec;
 ghost use Rattle.st_statements.specs.Charts.{is_priority};
-ghost use Rattle.st_tokens.specs.declared.fault.SyntaxFault.TheVariants.{Memory};
+ghost use Rattle.st_expressions.specs.declared.fault.ReadFault.TheVariants.{Memory};
 
 use crate::statement::statements;
 use st_expressions::cursor::Cursor;
 use st_expressions::expression::expression;
+use st_expressions::fault::ReadFault;
 use st_expressions::token::{enter, is_close, is_comma, is_open, keyword, number, symbol, word};
-use st_tokens::{Keyword, Kind, Symbol, SyntaxFault};
+use st_tokens::{Keyword, Kind, Symbol};
 use st_tree::List;
 use st_tree::tree::{
     Action, ActionQualifier, Association, ChartElement, Duration, Identifier, Place, Step,
@@ -39,18 +40,18 @@ pub fn begins_element(ts: &Cursor<'_>) -> bool
 
 /// Takes `(`, where `room` more levels may be opened.
 #[tactic(auto, unfolding(crate::specs::ChartReading::opening))]
-pub fn opening(ts: &mut Cursor<'_>, room: u8) -> Result<Place, SyntaxFault>
+pub fn opening(ts: &mut Cursor<'_>, room: u8) -> Result<Place, ReadFault>
     ensures read { Reads (spec.opening room ts.old) result ts.new }
     ensures shorter { OnOk result (length ts.new ≤ length ts.old) }
 {
     if is_open(ts) {
         return enter(ts, room);
     }
-    Err(SyntaxFault::NotInGrammar { line: ts.line() })
+    Err(ReadFault::NotInGrammar { line: ts.line() })
 }
 
 #[tactic(auto, unfolding(crate::specs::ChartReading::duration))]
-fn duration(ts: &mut Cursor<'_>) -> Result<Duration, SyntaxFault>
+fn duration(ts: &mut Cursor<'_>) -> Result<Duration, ReadFault>
     ensures read { Reads (spec.duration ts.old) result ts.new }
     ensures shorter { OnOk result (length ts.new < length ts.old) }
 {
@@ -62,13 +63,13 @@ fn duration(ts: &mut Cursor<'_>) -> Result<Duration, SyntaxFault>
                 milliseconds,
             })
         }
-        _ => Err(SyntaxFault::NotInGrammar { line: ts.line() }),
+        _ => Err(ReadFault::NotInGrammar { line: ts.line() }),
     }
 }
 
 /// The duration of a qualifier, where it has one.
 #[tactic(auto, unfolding(crate::specs::ChartReading::time))]
-fn time(ts: &mut Cursor<'_>) -> Result<Option<Duration>, SyntaxFault>
+fn time(ts: &mut Cursor<'_>) -> Result<Option<Duration>, ReadFault>
     ensures read { Reads (spec.time ts.old) result ts.new }
     ensures shorter { OnOk result (length ts.new ≤ length ts.old) }
 {
@@ -80,7 +81,7 @@ fn time(ts: &mut Cursor<'_>) -> Result<Option<Duration>, SyntaxFault>
 }
 
 #[tactic(auto, unfolding(crate::specs::ChartReading::qualifier))]
-fn qualifier(alloc: Global, ts: &mut Cursor<'_>) -> Result<ActionQualifier, SyntaxFault>
+fn qualifier(alloc: Global, ts: &mut Cursor<'_>) -> Result<ActionQualifier, ReadFault>
     ensures read { Reads (spec.qualifier ts.old) result ts.new }
     ensures shorter { OnOk result (length ts.new < length ts.old) }
 {
@@ -90,7 +91,7 @@ fn qualifier(alloc: Global, ts: &mut Cursor<'_>) -> Result<ActionQualifier, Synt
 }
 
 #[tactic(auto, unfolding(crate::specs::ChartReading::qualified))]
-fn qualified(alloc: Global, ts: &mut Cursor<'_>) -> Result<Option<ActionQualifier>, SyntaxFault>
+fn qualified(alloc: Global, ts: &mut Cursor<'_>) -> Result<Option<ActionQualifier>, ReadFault>
     ensures read { Reads (spec.qualified ts.old) result ts.new }
     ensures shorter { OnOk result (length ts.new ≤ length ts.old) }
 {
@@ -101,7 +102,7 @@ fn qualified(alloc: Global, ts: &mut Cursor<'_>) -> Result<Option<ActionQualifie
 }
 
 #[tactic(auto, unfolding(crate::specs::ChartReading::association))]
-fn association(alloc: Global, ts: &mut Cursor<'_>, room: u8) -> Result<Association, SyntaxFault>
+fn association(alloc: Global, ts: &mut Cursor<'_>, room: u8) -> Result<Association, ReadFault>
     ensures read { Reads (spec.association room ts.old) result ts.new }
     ensures shorter { OnOk result (length ts.new < length ts.old) }
 {
@@ -117,7 +118,7 @@ fn associations(
     alloc: Global,
     ts: &mut Cursor<'_>,
     room: u8,
-) -> Result<List<Association>, SyntaxFault>
+) -> Result<List<Association>, ReadFault>
     ensures read { Reads (spec.associations room ts.old) result ts.new }
     ensures shorter { OnOk result (length ts.new ≤ length ts.old) }
 {
@@ -135,7 +136,7 @@ fn step(
     ts: &mut Cursor<'_>,
     room: u8,
     is_initial: bool,
-) -> Result<ChartElement, SyntaxFault>
+) -> Result<ChartElement, ReadFault>
     ensures read { Reads (spec.step room is_initial ts.old) result ts.new }
     ensures shorter { OnOk result (length ts.new < length ts.old) }
 {
@@ -153,7 +154,7 @@ fn step(
 }
 
 #[tactic(auto, unfolding(crate::specs::ChartReading::optional_name))]
-fn optional_name(alloc: Global, ts: &mut Cursor<'_>) -> Result<Option<Identifier>, SyntaxFault>
+fn optional_name(alloc: Global, ts: &mut Cursor<'_>) -> Result<Option<Identifier>, ReadFault>
     ensures read { Reads (spec.optional_name ts.old) result ts.new }
     ensures shorter { OnOk result (length ts.new ≤ length ts.old) }
 {
@@ -171,7 +172,7 @@ fn is_priority(word: &[u8]) -> bool
 }
 
 #[tactic(auto, unfolding(crate::specs::ChartReading::priority_word))]
-fn priority_word(ts: &mut Cursor<'_>) -> Result<Place, SyntaxFault>
+fn priority_word(ts: &mut Cursor<'_>) -> Result<Place, ReadFault>
     ensures read { Reads (spec.priority_word ts.old) result ts.new }
     ensures shorter { OnOk result (length ts.new < length ts.old) }
 {
@@ -180,12 +181,12 @@ fn priority_word(ts: &mut Cursor<'_>) -> Result<Place, SyntaxFault>
             return Ok(ts.skip());
         }
     }
-    Err(SyntaxFault::NotInGrammar { line: ts.line() })
+    Err(ReadFault::NotInGrammar { line: ts.line() })
 }
 
 /// The priority of a transition, where it has one.
 #[tactic(auto, unfolding(crate::specs::ChartReading::priority))]
-fn priority(ts: &mut Cursor<'_>, room: u8) -> Result<Option<u128>, SyntaxFault>
+fn priority(ts: &mut Cursor<'_>, room: u8) -> Result<Option<u128>, ReadFault>
     ensures read { Reads (spec.priority room ts.old) result ts.new }
     ensures shorter { OnOk result (length ts.new ≤ length ts.old) }
 {
@@ -201,7 +202,7 @@ fn priority(ts: &mut Cursor<'_>, room: u8) -> Result<Option<u128>, SyntaxFault>
 }
 
 #[tactic(auto, unfolding(st_expressions::specs::Parsers::next_item))]
-fn next_word(alloc: Global, ts: &mut Cursor<'_>) -> Result<Identifier, SyntaxFault>
+fn next_word(alloc: Global, ts: &mut Cursor<'_>) -> Result<Identifier, ReadFault>
     ensures read { Reads (parser.next_item parser.word ts.old) result ts.new }
     ensures shorter { OnOk result (length ts.new < length ts.old) }
 {
@@ -211,7 +212,7 @@ fn next_word(alloc: Global, ts: &mut Cursor<'_>) -> Result<Identifier, SyntaxFau
 
 /// Takes one or more words with commas between them.
 #[tactic(auto, unfolding(st_expressions::specs::Parsers::leading))]
-pub fn words(alloc: Global, ts: &mut Cursor<'_>) -> Result<List<Identifier>, SyntaxFault>
+pub fn words(alloc: Global, ts: &mut Cursor<'_>) -> Result<List<Identifier>, ReadFault>
     ensures read { Reads (parser.listed parser.word ts.old) result ts.new }
     ensures shorter { OnOk result (length ts.new < length ts.old) }
 {
@@ -226,7 +227,7 @@ pub fn words(alloc: Global, ts: &mut Cursor<'_>) -> Result<List<Identifier>, Syn
 }
 
 /// A list of one name.
-pub fn alone(alloc: Global, item: Identifier) -> Result<List<Identifier>, SyntaxFault>
+pub fn alone(alloc: Global, item: Identifier) -> Result<List<Identifier>, ReadFault>
     ensures ok { IfOk result (λ list. list ≡ item ∷ []) }
     ensures err { IfErr result (λ fault. fault ≡ Memory) }
 {
@@ -237,7 +238,7 @@ pub fn alone(alloc: Global, item: Identifier) -> Result<List<Identifier>, Syntax
 
 /// The steps before or behind a transition.
 #[tactic(auto, unfolding(crate::specs::ChartReading::names))]
-fn names(alloc: Global, ts: &mut Cursor<'_>, room: u8) -> Result<List<Identifier>, SyntaxFault>
+fn names(alloc: Global, ts: &mut Cursor<'_>, room: u8) -> Result<List<Identifier>, ReadFault>
     ensures read { Reads (spec.names room ts.old) result ts.new }
     ensures shorter { OnOk result (length ts.new ≤ length ts.old) }
 {
@@ -252,7 +253,7 @@ fn names(alloc: Global, ts: &mut Cursor<'_>, room: u8) -> Result<List<Identifier
 }
 
 #[tactic(auto, unfolding(crate::specs::ChartReading::transition))]
-fn transition(alloc: Global, ts: &mut Cursor<'_>, room: u8) -> Result<ChartElement, SyntaxFault>
+fn transition(alloc: Global, ts: &mut Cursor<'_>, room: u8) -> Result<ChartElement, ReadFault>
     ensures read { Reads (spec.transition room ts.old) result ts.new }
     ensures shorter { OnOk result (length ts.new < length ts.old) }
 {
@@ -278,7 +279,7 @@ fn transition(alloc: Global, ts: &mut Cursor<'_>, room: u8) -> Result<ChartEleme
 }
 
 #[tactic(auto, unfolding(crate::specs::ChartReading::action))]
-fn action(alloc: Global, ts: &mut Cursor<'_>, room: u8) -> Result<ChartElement, SyntaxFault>
+fn action(alloc: Global, ts: &mut Cursor<'_>, room: u8) -> Result<ChartElement, ReadFault>
     ensures read { Reads (spec.action room ts.old) result ts.new }
     ensures shorter { OnOk result (length ts.new < length ts.old) }
 {
@@ -295,7 +296,7 @@ fn action(alloc: Global, ts: &mut Cursor<'_>, room: u8) -> Result<ChartElement, 
 }
 
 #[tactic(auto, unfolding(crate::specs::ChartReading::element))]
-fn element(alloc: Global, ts: &mut Cursor<'_>, room: u8) -> Result<ChartElement, SyntaxFault>
+fn element(alloc: Global, ts: &mut Cursor<'_>, room: u8) -> Result<ChartElement, ReadFault>
     ensures read { Reads (spec.element room ts.old) result ts.new }
     ensures shorter { OnOk result (length ts.new < length ts.old) }
 {
@@ -304,17 +305,13 @@ fn element(alloc: Global, ts: &mut Cursor<'_>, room: u8) -> Result<ChartElement,
         Some(Kind::Keyword(Keyword::Step)) => step(alloc, ts, room, false),
         Some(Kind::Keyword(Keyword::Transition)) => transition(alloc, ts, room),
         Some(Kind::Keyword(Keyword::Action)) => action(alloc, ts, room),
-        _ => Err(SyntaxFault::NotInGrammar { line: ts.line() }),
+        _ => Err(ReadFault::NotInGrammar { line: ts.line() }),
     }
 }
 
 /// Takes the elements of a chart, of which there is one or more. `room` more levels may be opened.
 #[tactic(auto, unfolding(st_expressions::specs::Parsers::leading))]
-pub fn chart(
-    alloc: Global,
-    ts: &mut Cursor<'_>,
-    room: u8,
-) -> Result<List<ChartElement>, SyntaxFault>
+pub fn chart(alloc: Global, ts: &mut Cursor<'_>, room: u8) -> Result<List<ChartElement>, ReadFault>
     ensures read { Reads (spec.chart room ts.old) result ts.new }
     ensures shorter { OnOk result (length ts.new < length ts.old) }
 {

@@ -8,8 +8,9 @@ ghost use Rattle.st_statements.specs.Reading as spec;
 use st_expressions::constant::constant;
 use st_expressions::cursor::Cursor;
 use st_expressions::expression::{call, expression, is_call, variable};
+use st_expressions::fault::ReadFault;
 use st_expressions::token::{enter, is_comma, keyword, symbol, word};
-use st_tokens::{Keyword, Kind, Symbol, SyntaxFault};
+use st_tokens::{Keyword, Kind, Symbol};
 use st_tree::List;
 use st_tree::tree::{CaseElement, ConditionalPart, Expression, Label, Statement};
 use std::alloc::Global;
@@ -70,7 +71,7 @@ fn is_by(ts: &Cursor<'_>) -> bool
 
 /// A label: a literal, or a range between two.
 #[tactic(auto, unfolding(crate::specs::Reading::label))]
-fn label(ts: &mut Cursor<'_>) -> Result<Label, SyntaxFault>
+fn label(ts: &mut Cursor<'_>) -> Result<Label, ReadFault>
     ensures read { Reads (spec.label ts.old) result ts.new }
     ensures shorter { OnOk result (length ts.new < length ts.old) }
 {
@@ -84,7 +85,7 @@ fn label(ts: &mut Cursor<'_>) -> Result<Label, SyntaxFault>
 }
 
 #[tactic(auto, unfolding(st_expressions::specs::Parsers::next_item))]
-fn next_label(ts: &mut Cursor<'_>) -> Result<Label, SyntaxFault>
+fn next_label(ts: &mut Cursor<'_>) -> Result<Label, ReadFault>
     ensures read { Reads (parser.next_item spec.label ts.old) result ts.new }
     ensures shorter { OnOk result (length ts.new < length ts.old) }
 {
@@ -93,7 +94,7 @@ fn next_label(ts: &mut Cursor<'_>) -> Result<Label, SyntaxFault>
 }
 
 #[tactic(auto, unfolding(st_expressions::specs::Parsers::leading))]
-fn labels(alloc: Global, ts: &mut Cursor<'_>) -> Result<List<Label>, SyntaxFault>
+fn labels(alloc: Global, ts: &mut Cursor<'_>) -> Result<List<Label>, ReadFault>
     ensures read { Reads (parser.listed spec.label ts.old) result ts.new }
     ensures shorter { OnOk result (length ts.new < length ts.old) }
 {
@@ -108,7 +109,7 @@ fn labels(alloc: Global, ts: &mut Cursor<'_>) -> Result<List<Label>, SyntaxFault
 }
 
 #[tactic(auto, unfolding(crate::specs::Reading::empty))]
-fn empty(ts: &mut Cursor<'_>) -> Result<Statement, SyntaxFault>
+fn empty(ts: &mut Cursor<'_>) -> Result<Statement, ReadFault>
     requires { 0 < length ts.old }
     ensures read { Reads (spec.empty ts.old) result ts.new }
     ensures shorter { OnOk result (length ts.new < length ts.old) }
@@ -117,7 +118,7 @@ fn empty(ts: &mut Cursor<'_>) -> Result<Statement, SyntaxFault>
 }
 
 #[tactic(auto, unfolding(crate::specs::Reading::returning))]
-fn returning(ts: &mut Cursor<'_>) -> Result<Statement, SyntaxFault>
+fn returning(ts: &mut Cursor<'_>) -> Result<Statement, ReadFault>
     ensures read { Reads (spec.returning ts.old) result ts.new }
     ensures shorter { OnOk result (length ts.new < length ts.old) }
 {
@@ -127,7 +128,7 @@ fn returning(ts: &mut Cursor<'_>) -> Result<Statement, SyntaxFault>
 }
 
 #[tactic(auto, unfolding(crate::specs::Reading::exiting))]
-fn exiting(ts: &mut Cursor<'_>) -> Result<Statement, SyntaxFault>
+fn exiting(ts: &mut Cursor<'_>) -> Result<Statement, ReadFault>
     ensures read { Reads (spec.exiting ts.old) result ts.new }
     ensures shorter { OnOk result (length ts.new < length ts.old) }
 {
@@ -137,7 +138,7 @@ fn exiting(ts: &mut Cursor<'_>) -> Result<Statement, SyntaxFault>
 }
 
 #[tactic(auto, unfolding(crate::specs::Reading::assignment))]
-fn assignment(alloc: Global, ts: &mut Cursor<'_>, room: u8) -> Result<Statement, SyntaxFault>
+fn assignment(alloc: Global, ts: &mut Cursor<'_>, room: u8) -> Result<Statement, ReadFault>
     ensures read { Reads (spec.assignment room ts.old) result ts.new }
     ensures shorter { OnOk result (length ts.new < length ts.old) }
 {
@@ -149,7 +150,7 @@ fn assignment(alloc: Global, ts: &mut Cursor<'_>, room: u8) -> Result<Statement,
 }
 
 #[tactic(auto, unfolding(crate::specs::Reading::invocation))]
-fn invocation(alloc: Global, ts: &mut Cursor<'_>, room: u8) -> Result<Statement, SyntaxFault>
+fn invocation(alloc: Global, ts: &mut Cursor<'_>, room: u8) -> Result<Statement, ReadFault>
     ensures read { Reads (spec.invocation room ts.old) result ts.new }
     ensures shorter { OnOk result (length ts.new < length ts.old) }
 {
@@ -160,7 +161,7 @@ fn invocation(alloc: Global, ts: &mut Cursor<'_>, room: u8) -> Result<Statement,
 
 /// What begins with a word: an invocation or an assignment.
 #[tactic(auto, unfolding(crate::specs::Reading::named))]
-fn named(alloc: Global, ts: &mut Cursor<'_>, room: u8) -> Result<Statement, SyntaxFault>
+fn named(alloc: Global, ts: &mut Cursor<'_>, room: u8) -> Result<Statement, ReadFault>
     ensures read { Reads (spec.named room ts.old) result ts.new }
     ensures shorter { OnOk result (length ts.new < length ts.old) }
 {
@@ -172,7 +173,7 @@ fn named(alloc: Global, ts: &mut Cursor<'_>, room: u8) -> Result<Statement, Synt
 }
 
 /// An expression behind one more open level.
-fn inner(alloc: Global, ts: &mut Cursor<'_>, room: u8) -> Result<Expression, SyntaxFault>
+fn inner(alloc: Global, ts: &mut Cursor<'_>, room: u8) -> Result<Expression, ReadFault>
     requires { 0 < room }
     ensures read { Reads ((spec.deeper_of room).expression ts.old) result ts.new }
     ensures shorter { OnOk result (length ts.new < length ts.old) }
@@ -182,7 +183,7 @@ fn inner(alloc: Global, ts: &mut Cursor<'_>, room: u8) -> Result<Expression, Syn
 
 /// The expression behind BY, where there is one.
 #[tactic(auto, unfolding(crate::specs::Reading::step))]
-fn step(alloc: Global, ts: &mut Cursor<'_>, room: u8) -> Result<Option<Expression>, SyntaxFault>
+fn step(alloc: Global, ts: &mut Cursor<'_>, room: u8) -> Result<Option<Expression>, ReadFault>
     requires { 0 < room }
     ensures read { Reads (spec.step (spec.deeper_of room) ts.old) result ts.new }
     ensures shorter { OnOk result (length ts.new ≤ length ts.old) }
@@ -196,7 +197,7 @@ fn step(alloc: Global, ts: &mut Cursor<'_>, room: u8) -> Result<Option<Expressio
 
 /// Statements behind one more open level.
 #[cycle(parser)]
-fn block(alloc: Global, ts: &mut Cursor<'_>, room: u8) -> Result<List<Statement>, SyntaxFault>
+fn block(alloc: Global, ts: &mut Cursor<'_>, room: u8) -> Result<List<Statement>, ReadFault>
     requires { 0 < room }
     ensures read { Reads ((spec.deeper_of room).statements ts.old) result ts.new }
     ensures shorter { OnOk result (length ts.new ≤ length ts.old) }
@@ -206,7 +207,7 @@ fn block(alloc: Global, ts: &mut Cursor<'_>, room: u8) -> Result<List<Statement>
 
 #[cycle(parser)]
 #[tactic(auto, unfolding(crate::specs::Reading::conditional))]
-fn conditional(alloc: Global, ts: &mut Cursor<'_>, room: u8) -> Result<ConditionalPart, SyntaxFault>
+fn conditional(alloc: Global, ts: &mut Cursor<'_>, room: u8) -> Result<ConditionalPart, ReadFault>
     requires { 0 < room }
     ensures read { Reads (spec.conditional (spec.deeper_of room) ts.old) result ts.new }
     ensures shorter { OnOk result (length ts.new < length ts.old) }
@@ -222,7 +223,7 @@ fn conditional(alloc: Global, ts: &mut Cursor<'_>, room: u8) -> Result<Condition
 
 #[cycle(parser)]
 #[tactic(auto, unfolding(crate::specs::Reading::elsif))]
-fn elsif(alloc: Global, ts: &mut Cursor<'_>, room: u8) -> Result<ConditionalPart, SyntaxFault>
+fn elsif(alloc: Global, ts: &mut Cursor<'_>, room: u8) -> Result<ConditionalPart, ReadFault>
     requires { 0 < room }
     ensures read { Reads (spec.elsif (spec.deeper_of room) ts.old) result ts.new }
     ensures shorter { OnOk result (length ts.new < length ts.old) }
@@ -238,7 +239,7 @@ fn conditionals(
     alloc: Global,
     ts: &mut Cursor<'_>,
     room: u8,
-) -> Result<List<ConditionalPart>, SyntaxFault>
+) -> Result<List<ConditionalPart>, ReadFault>
     requires { 0 < room }
     ensures read { Reads (spec.conditionals (spec.deeper_of room) ts.old) result ts.new }
     ensures shorter { OnOk result (length ts.new < length ts.old) }
@@ -256,7 +257,7 @@ fn conditionals(
 /// The statements behind ELSE, where there is one.
 #[cycle(parser)]
 #[tactic(auto, unfolding(crate::specs::Reading::otherwise))]
-fn otherwise(alloc: Global, ts: &mut Cursor<'_>, room: u8) -> Result<List<Statement>, SyntaxFault>
+fn otherwise(alloc: Global, ts: &mut Cursor<'_>, room: u8) -> Result<List<Statement>, ReadFault>
     requires { 0 < room }
     ensures read { Reads (spec.otherwise (spec.deeper_of room) ts.old) result ts.new }
     ensures shorter { OnOk result (length ts.new ≤ length ts.old) }
@@ -270,7 +271,7 @@ fn otherwise(alloc: Global, ts: &mut Cursor<'_>, room: u8) -> Result<List<Statem
 
 #[cycle(parser)]
 #[tactic(auto, unfolding(crate::specs::Reading::selection))]
-fn selection(alloc: Global, ts: &mut Cursor<'_>, room: u8) -> Result<Statement, SyntaxFault>
+fn selection(alloc: Global, ts: &mut Cursor<'_>, room: u8) -> Result<Statement, ReadFault>
     ensures read { Reads (spec.selection room (spec.deeper_of room) ts.old) result ts.new }
     ensures shorter { OnOk result (length ts.new < length ts.old) }
 {
@@ -284,7 +285,7 @@ fn selection(alloc: Global, ts: &mut Cursor<'_>, room: u8) -> Result<Statement, 
 
 #[cycle(parser)]
 #[tactic(auto, unfolding(crate::specs::Reading::case))]
-fn case(alloc: Global, ts: &mut Cursor<'_>, room: u8) -> Result<CaseElement, SyntaxFault>
+fn case(alloc: Global, ts: &mut Cursor<'_>, room: u8) -> Result<CaseElement, ReadFault>
     requires { 0 < room }
     ensures read { Reads (spec.case (spec.deeper_of room) ts.old) result ts.new }
     ensures shorter { OnOk result (length ts.new < length ts.old) }
@@ -297,7 +298,7 @@ fn case(alloc: Global, ts: &mut Cursor<'_>, room: u8) -> Result<CaseElement, Syn
 
 #[cycle(parser)]
 #[tactic(auto, unfolding(st_expressions::specs::Parsers::leading))]
-fn cases(alloc: Global, ts: &mut Cursor<'_>, room: u8) -> Result<List<CaseElement>, SyntaxFault>
+fn cases(alloc: Global, ts: &mut Cursor<'_>, room: u8) -> Result<List<CaseElement>, ReadFault>
     requires { 0 < room }
     ensures read { Reads (spec.cases (spec.deeper_of room) ts.old) result ts.new }
     ensures shorter { OnOk result (length ts.new < length ts.old) }
@@ -314,7 +315,7 @@ fn cases(alloc: Global, ts: &mut Cursor<'_>, room: u8) -> Result<List<CaseElemen
 
 #[cycle(parser)]
 #[tactic(auto, unfolding(crate::specs::Reading::choice))]
-fn choice(alloc: Global, ts: &mut Cursor<'_>, room: u8) -> Result<Statement, SyntaxFault>
+fn choice(alloc: Global, ts: &mut Cursor<'_>, room: u8) -> Result<Statement, ReadFault>
     ensures read { Reads (spec.choice room (spec.deeper_of room) ts.old) result ts.new }
     ensures shorter { OnOk result (length ts.new < length ts.old) }
 {
@@ -330,7 +331,7 @@ fn choice(alloc: Global, ts: &mut Cursor<'_>, room: u8) -> Result<Statement, Syn
 
 #[cycle(parser)]
 #[tactic(auto, unfolding(crate::specs::Reading::counting))]
-fn counting(alloc: Global, ts: &mut Cursor<'_>, room: u8) -> Result<Statement, SyntaxFault>
+fn counting(alloc: Global, ts: &mut Cursor<'_>, room: u8) -> Result<Statement, ReadFault>
     ensures read { Reads (spec.counting room (spec.deeper_of room) ts.old) result ts.new }
     ensures shorter { OnOk result (length ts.new < length ts.old) }
 {
@@ -350,7 +351,7 @@ fn counting(alloc: Global, ts: &mut Cursor<'_>, room: u8) -> Result<Statement, S
 
 #[cycle(parser)]
 #[tactic(auto, unfolding(crate::specs::Reading::while_loop))]
-fn while_loop(alloc: Global, ts: &mut Cursor<'_>, room: u8) -> Result<Statement, SyntaxFault>
+fn while_loop(alloc: Global, ts: &mut Cursor<'_>, room: u8) -> Result<Statement, ReadFault>
     ensures read { Reads (spec.while_loop room (spec.deeper_of room) ts.old) result ts.new }
     ensures shorter { OnOk result (length ts.new < length ts.old) }
 {
@@ -365,7 +366,7 @@ fn while_loop(alloc: Global, ts: &mut Cursor<'_>, room: u8) -> Result<Statement,
 
 #[cycle(parser)]
 #[tactic(auto, unfolding(crate::specs::Reading::repeat_loop))]
-fn repeat_loop(alloc: Global, ts: &mut Cursor<'_>, room: u8) -> Result<Statement, SyntaxFault>
+fn repeat_loop(alloc: Global, ts: &mut Cursor<'_>, room: u8) -> Result<Statement, ReadFault>
     ensures read { Reads (spec.repeat_loop room (spec.deeper_of room) ts.old) result ts.new }
     ensures shorter { OnOk result (length ts.new < length ts.old) }
 {
@@ -380,7 +381,7 @@ fn repeat_loop(alloc: Global, ts: &mut Cursor<'_>, room: u8) -> Result<Statement
 
 #[cycle(parser)]
 #[tactic(auto, unfolding(crate::specs::Reading::statement))]
-fn statement(alloc: Global, ts: &mut Cursor<'_>, room: u8) -> Result<Statement, SyntaxFault>
+fn statement(alloc: Global, ts: &mut Cursor<'_>, room: u8) -> Result<Statement, ReadFault>
     ensures read { Reads (spec.statement room (spec.deeper_of room) ts.old) result ts.new }
     ensures shorter { OnOk result (length ts.new < length ts.old) }
 {
@@ -394,7 +395,7 @@ fn statement(alloc: Global, ts: &mut Cursor<'_>, room: u8) -> Result<Statement, 
         Some(Kind::Keyword(Keyword::For)) => counting(alloc, ts, room),
         Some(Kind::Keyword(Keyword::While)) => while_loop(alloc, ts, room),
         Some(Kind::Keyword(Keyword::Repeat)) => repeat_loop(alloc, ts, room),
-        _ => Err(SyntaxFault::NotInGrammar { line: ts.line() }),
+        _ => Err(ReadFault::NotInGrammar { line: ts.line() }),
     }
 }
 
@@ -404,7 +405,7 @@ pub fn statements(
     alloc: Global,
     ts: &mut Cursor<'_>,
     room: u8,
-) -> Result<List<Statement>, SyntaxFault>
+) -> Result<List<Statement>, ReadFault>
     ensures read { Reads (spec.statements room ts.old) result ts.new }
     ensures shorter { OnOk result (length ts.new ≤ length ts.old) }
 {

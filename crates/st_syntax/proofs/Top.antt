@@ -4,15 +4,17 @@ use Rattle.std.specs.Prelude.{Some, None, Ok}
 use Rattle.st_tokens.specs.declared.fault.SyntaxFault.{SyntaxFault}
 use Rattle.st_tokens.specs.declared.fault.SyntaxFault.TheVariants as fault
 use Rattle.st_tokens.specs.declared.scan.TheConstants.{MOST_BYTES}
-use Rattle.st_tokens.specs.declared.token.Kind.{Kind}
 use Rattle.st_tokens.specs.declared.token.Token.{Token}
 use Rattle.st_tokens.specs.Text.{HasTokens}
 use Rattle.st_tokens.proofs.Reading.{one_list}
 use Rattle.st_tree.specs.declared.tree.unit.Unit as unit
 use Rattle.st_expressions.specs.Levels.{IsWithin}
 use Rattle.st_expressions.specs.Lists.{IsMany}
+use Rattle.st_expressions.specs.Faults.{in_text}
 use Rattle.st_expressions.specs.Parsers.{Refuses}
-use Rattle.st_expressions.specs.Tokens.{Tok, kind, numbered}
+use Rattle.st_expressions.specs.Tokens.{Tok, line, numbered}
+use Rattle.st_expressions.specs.declared.fault.ReadFault.{ReadFault}
+use Rattle.st_expressions.specs.declared.fault.ReadFault.TheVariants as of_tokens
 use Rattle.st_expressions.proofs.Exact.{Exact, Always, Any, Ends}
 use Rattle.st_expressions.proofs.Loops.{ok_parts}
 use Rattle.st_expressions.proofs.Room.{At, room_from, within_from}
@@ -24,7 +26,7 @@ use Rattle.st_syntax.proofs.UnitsExact.{units_exact}
 top : Exact 0 (units 63) Always (IsMany IsUnit) (Ends begins_unit Any) (At 64) (At 64)
 top = units_exact 62
 
-nothing : (rest : List Tok) → kind rest ≡ None → rest ≡ []
+nothing : (rest : List Tok) → line rest ≡ None → rest ≡ []
 nothing [] h = refl
 nothing (t ∷ rest) h = absurd (cc)
 
@@ -33,7 +35,7 @@ read_all : (ts : List Tok) (us : List unit.Unit) → AreUnits ts us → IsWithin
 read_all ts us are within = top.read ts us [] tt are (refl, tt) (room_from ts 64 within)
 
 pub found : (text : List ℕ) (tokens : List Token) (us : List unit.Unit) (rest : List Tok) → HasTokens 1 text tokens
-    → units 63 (numbered 0 tokens) ≡ Ok (us, rest) → kind rest ≡ None → IsTextOf text us
+    → units 63 (numbered 0 tokens) ≡ Ok (us, rest) → line rest ≡ None → IsTextOf text us
 found text tokens us rest has read last =
     let u = top.reads (numbered 0 tokens) us rest tt read in
     let empty = nothing rest last in
@@ -44,27 +46,27 @@ found text tokens us rest has read last =
       within = within_from (numbered 0 tokens) 64 (u.before (subst (At 64) (sym empty) tt));
     }
 
-pub left_over : (text : List ℕ) (tokens : List Token) (us : List unit.Unit) (rest : List Tok) (t : Kind) → HasTokens 1 text tokens
-    → units 63 (numbered 0 tokens) ≡ Ok (us, rest) → kind rest ≡ Some t → IsOutside text
-left_over text tokens us rest t has read more = record {
+pub left_over : (text : List ℕ) (tokens : List Token) (us : List unit.Unit) (rest : List Tok) (n : ℕ) → HasTokens 1 text tokens
+    → units 63 (numbered 0 tokens) ≡ Ok (us, rest) → line rest ≡ Some n → IsOutside text
+left_over text tokens us rest n has read more = record {
   tokens = tokens;
   has = has;
-  never = λ vs are within. let all = ap kind (ok_parts (sym read ∙ read_all (numbered 0 tokens) vs are within)).1 in absurd (cc (all, more));
+  never = λ vs are within. let all = ap line (ok_parts (sym read ∙ read_all (numbered 0 tokens) vs are within)).1 in absurd (cc (all, more));
 }
 
-pub refused : (text : List ℕ) (tokens : List Token) (f : SyntaxFault) → HasTokens 1 text tokens → Refuses (units 63 (numbered 0 tokens)) f → Explains f text
-refused text tokens fault.Memory has h = tt
-refused text tokens (fault.NotInGrammar line) has h = record {
+pub refused : (text : List ℕ) (tokens : List Token) (last : ℕ) (f : ReadFault) → HasTokens 1 text tokens → Refuses (units 63 (numbered 0 tokens)) f
+    → Explains (in_text last f) text
+refused text tokens last of_tokens.Memory has h = tt
+refused text tokens last (of_tokens.NotInGrammar line) has h = record {
   tokens = tokens;
   has = has;
   never = λ us are within. let wrong = sym h ∙ read_all (numbered 0 tokens) us are within in absurd (cc);
 }
-refused text tokens (fault.TooDeep line) has h = record {
+refused text tokens last (of_tokens.TooDeep line) has h = record {
   tokens = tokens;
   has = has;
   deeper = λ within. top.deep (numbered 0 tokens) tt h (room_from (numbered 0 tokens) 64 within);
 }
-refused text tokens _ has h = absurd h
 
 same_tokens : (text : List ℕ) (a b : List Token) (M : List Token → Type 0) → HasTokens 1 text a → HasTokens 1 text b → M a → M b
 same_tokens text a b M h k m = subst M (one_list h k) m

@@ -5,7 +5,7 @@ use Rattle.st_tokens.specs.declared.keyword.Keyword.TheVariants as w
 use Rattle.st_tokens.specs.declared.symbol.Symbol.TheVariants as s
 use Rattle.st_tokens.specs.declared.token.Kind.{Kind}
 use Rattle.st_tokens.specs.declared.token.Kind.TheVariants as k
-use Rattle.st_tree.specs.declared.elem.Elem.{Elem}
+use Rattle.st_values.specs.declared.elem.Elem.{Elem}
 use Rattle.st_tree.specs.declared.tree.declaration.Declaration.{Declaration}
 use Rattle.st_tree.specs.declared.tree.declaration.DeclaredType.{DeclaredType}
 use Rattle.st_tree.specs.declared.tree.declaration.DeclaredType.TheVariants as d
@@ -19,7 +19,7 @@ use Rattle.st_tree.specs.declared.tree.unit.Unit.TheVariants as u
 use Rattle.st_expressions.specs.Lists.{IsMany}
 use Rattle.st_expressions.specs.Parsers as parser
 use Rattle.st_expressions.specs.Parsers.{Parser, and_then, Deep}
-use Rattle.st_expressions.specs.Tokens.{identifier, Tok, kind}
+use Rattle.st_expressions.specs.Tokens.{Tok, kind}
 use Rattle.st_expressions.proofs.Exact.{Relation, Found, Exact, Always, Any, Then, seq, IsOne, one, IsPure, done, IsWord, a_word, exact_bind, exact_as, exact_iff, exact_last, exact_under, exact_zero, exact_pure, made, exact_refuse, exact_on, IsFirst, exact_token, exact_symbol, exact_keyword, exact_word, exact_before, Ends, exact_many}
 use Rattle.st_expressions.proofs.Loops.{ok_parts}
 use Rattle.st_expressions.proofs.Room.{At}

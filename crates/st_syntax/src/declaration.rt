@@ -4,13 +4,14 @@ ghost use Rattle.st_expressions.specs.Parsers as parser;
 ghost use Rattle.st_expressions.specs.Parsers.{Reads};
 ghost use Rattle.st_expressions.specs.Tokens.{kind, next};
 ghost use Rattle.st_syntax.specs.DeclarationReading as spec;
-ghost use Rattle.st_tokens.specs.declared.fault.SyntaxFault.TheVariants.{Memory};
+ghost use Rattle.st_expressions.specs.declared.fault.ReadFault.TheVariants.{Memory};
 
 use st_expressions::constant::{constant, signed_integer};
 use st_expressions::cursor::Cursor;
+use st_expressions::fault::ReadFault;
 use st_expressions::token::{enter, is_close, is_comma, keyword, number, symbol, word};
 use st_statements::chart::{alone, is_word, opening, words};
-use st_tokens::{Keyword, Kind, Symbol, SyntaxFault};
+use st_tokens::{Keyword, Kind, Symbol};
 use st_tree::List;
 use st_tree::tree::{
     ArrayElement, Constant, Declaration, Initial, Place, Section, Specification, Subrange,
@@ -81,18 +82,18 @@ fn is_repeated(ts: &Cursor<'_>) -> bool
 
 /// Takes `[`, where `room` more levels may be opened.
 #[tactic(auto, unfolding(crate::specs::DeclarationReading::bracket))]
-fn bracket(ts: &mut Cursor<'_>, room: u8) -> Result<Place, SyntaxFault>
+fn bracket(ts: &mut Cursor<'_>, room: u8) -> Result<Place, ReadFault>
     ensures read { Reads (spec.bracket room ts.old) result ts.new }
     ensures shorter { OnOk result (length ts.new ≤ length ts.old) }
 {
     if is_bracket(ts) {
         return enter(ts, room);
     }
-    Err(SyntaxFault::NotInGrammar { line: ts.line() })
+    Err(ReadFault::NotInGrammar { line: ts.line() })
 }
 
 #[tactic(auto, unfolding(crate::specs::DeclarationReading::type_name))]
-fn type_name(alloc: Global, ts: &mut Cursor<'_>) -> Result<TypeName, SyntaxFault>
+fn type_name(alloc: Global, ts: &mut Cursor<'_>) -> Result<TypeName, ReadFault>
     ensures read { Reads (spec.type_name ts.old) result ts.new }
     ensures shorter { OnOk result (length ts.new < length ts.old) }
 {
@@ -103,7 +104,7 @@ fn type_name(alloc: Global, ts: &mut Cursor<'_>) -> Result<TypeName, SyntaxFault
 }
 
 #[tactic(auto, unfolding(crate::specs::DeclarationReading::subrange))]
-fn subrange(ts: &mut Cursor<'_>) -> Result<Subrange, SyntaxFault>
+fn subrange(ts: &mut Cursor<'_>) -> Result<Subrange, ReadFault>
     ensures read { Reads (spec.subrange ts.old) result ts.new }
     ensures shorter { OnOk result (length ts.new < length ts.old) }
 {
@@ -114,7 +115,7 @@ fn subrange(ts: &mut Cursor<'_>) -> Result<Subrange, SyntaxFault>
 }
 
 #[tactic(auto, unfolding(st_expressions::specs::Parsers::next_item))]
-fn next_subrange(ts: &mut Cursor<'_>) -> Result<Subrange, SyntaxFault>
+fn next_subrange(ts: &mut Cursor<'_>) -> Result<Subrange, ReadFault>
     ensures read { Reads (parser.next_item spec.subrange ts.old) result ts.new }
     ensures shorter { OnOk result (length ts.new < length ts.old) }
 {
@@ -123,7 +124,7 @@ fn next_subrange(ts: &mut Cursor<'_>) -> Result<Subrange, SyntaxFault>
 }
 
 #[tactic(auto, unfolding(st_expressions::specs::Parsers::leading))]
-fn subranges(alloc: Global, ts: &mut Cursor<'_>) -> Result<List<Subrange>, SyntaxFault>
+fn subranges(alloc: Global, ts: &mut Cursor<'_>) -> Result<List<Subrange>, ReadFault>
     ensures read { Reads (parser.listed spec.subrange ts.old) result ts.new }
     ensures shorter { OnOk result (length ts.new < length ts.old) }
 {
@@ -138,7 +139,7 @@ fn subranges(alloc: Global, ts: &mut Cursor<'_>) -> Result<List<Subrange>, Synta
 }
 
 #[tactic(auto, unfolding(crate::specs::DeclarationReading::array))]
-fn array(alloc: Global, ts: &mut Cursor<'_>) -> Result<Specification, SyntaxFault>
+fn array(alloc: Global, ts: &mut Cursor<'_>) -> Result<Specification, ReadFault>
     ensures read { Reads (spec.array 63 ts.old) result ts.new }
     ensures shorter { OnOk result (length ts.new < length ts.old) }
 {
@@ -152,7 +153,7 @@ fn array(alloc: Global, ts: &mut Cursor<'_>) -> Result<Specification, SyntaxFaul
 }
 
 #[tactic(auto, unfolding(crate::specs::DeclarationReading::simple))]
-fn simple(alloc: Global, ts: &mut Cursor<'_>) -> Result<Specification, SyntaxFault>
+fn simple(alloc: Global, ts: &mut Cursor<'_>) -> Result<Specification, ReadFault>
     ensures read { Reads (spec.simple ts.old) result ts.new }
     ensures shorter { OnOk result (length ts.new < length ts.old) }
 {
@@ -161,7 +162,7 @@ fn simple(alloc: Global, ts: &mut Cursor<'_>) -> Result<Specification, SyntaxFau
 
 /// Takes what a variable, a member or a type is.
 #[tactic(auto, unfolding(crate::specs::DeclarationReading::specification))]
-pub fn specification(alloc: Global, ts: &mut Cursor<'_>) -> Result<Specification, SyntaxFault>
+pub fn specification(alloc: Global, ts: &mut Cursor<'_>) -> Result<Specification, ReadFault>
     ensures read { Reads (spec.specification 63 ts.old) result ts.new }
     ensures shorter { OnOk result (length ts.new < length ts.old) }
 {
@@ -173,7 +174,7 @@ pub fn specification(alloc: Global, ts: &mut Cursor<'_>) -> Result<Specification
 }
 
 #[tactic(auto, unfolding(crate::specs::DeclarationReading::repeated_value))]
-fn repeated_value(ts: &mut Cursor<'_>) -> Result<Option<Constant>, SyntaxFault>
+fn repeated_value(ts: &mut Cursor<'_>) -> Result<Option<Constant>, ReadFault>
     ensures read { Reads (spec.repeated_value ts.old) result ts.new }
     ensures shorter { OnOk result (length ts.new ≤ length ts.old) }
 {
@@ -184,7 +185,7 @@ fn repeated_value(ts: &mut Cursor<'_>) -> Result<Option<Constant>, SyntaxFault>
 }
 
 #[tactic(auto, unfolding(crate::specs::DeclarationReading::repeated))]
-fn repeated(ts: &mut Cursor<'_>) -> Result<ArrayElement, SyntaxFault>
+fn repeated(ts: &mut Cursor<'_>) -> Result<ArrayElement, ReadFault>
     ensures read { Reads (spec.repeated 63 ts.old) result ts.new }
     ensures shorter { OnOk result (length ts.new < length ts.old) }
 {
@@ -197,7 +198,7 @@ fn repeated(ts: &mut Cursor<'_>) -> Result<ArrayElement, SyntaxFault>
 }
 
 #[tactic(auto, unfolding(crate::specs::DeclarationReading::single))]
-fn single(ts: &mut Cursor<'_>) -> Result<ArrayElement, SyntaxFault>
+fn single(ts: &mut Cursor<'_>) -> Result<ArrayElement, ReadFault>
     ensures read { Reads (spec.single ts.old) result ts.new }
     ensures shorter { OnOk result (length ts.new < length ts.old) }
 {
@@ -205,7 +206,7 @@ fn single(ts: &mut Cursor<'_>) -> Result<ArrayElement, SyntaxFault>
 }
 
 #[tactic(auto, unfolding(crate::specs::DeclarationReading::element))]
-fn element(ts: &mut Cursor<'_>) -> Result<ArrayElement, SyntaxFault>
+fn element(ts: &mut Cursor<'_>) -> Result<ArrayElement, ReadFault>
     ensures read { Reads (spec.element 63 ts.old) result ts.new }
     ensures shorter { OnOk result (length ts.new < length ts.old) }
 {
@@ -217,7 +218,7 @@ fn element(ts: &mut Cursor<'_>) -> Result<ArrayElement, SyntaxFault>
 }
 
 #[tactic(auto, unfolding(st_expressions::specs::Parsers::next_item))]
-fn next_element(ts: &mut Cursor<'_>) -> Result<ArrayElement, SyntaxFault>
+fn next_element(ts: &mut Cursor<'_>) -> Result<ArrayElement, ReadFault>
     ensures read { Reads (parser.next_item (spec.element 63) ts.old) result ts.new }
     ensures shorter { OnOk result (length ts.new < length ts.old) }
 {
@@ -226,7 +227,7 @@ fn next_element(ts: &mut Cursor<'_>) -> Result<ArrayElement, SyntaxFault>
 }
 
 #[tactic(auto, unfolding(st_expressions::specs::Parsers::leading))]
-fn elements(alloc: Global, ts: &mut Cursor<'_>) -> Result<List<ArrayElement>, SyntaxFault>
+fn elements(alloc: Global, ts: &mut Cursor<'_>) -> Result<List<ArrayElement>, ReadFault>
     ensures read { Reads (parser.listed (spec.element 63) ts.old) result ts.new }
     ensures shorter { OnOk result (length ts.new < length ts.old) }
 {
@@ -241,7 +242,7 @@ fn elements(alloc: Global, ts: &mut Cursor<'_>) -> Result<List<ArrayElement>, Sy
 }
 
 #[tactic(auto, unfolding(crate::specs::DeclarationReading::initial_array))]
-fn initial_array(alloc: Global, ts: &mut Cursor<'_>) -> Result<Initial, SyntaxFault>
+fn initial_array(alloc: Global, ts: &mut Cursor<'_>) -> Result<Initial, ReadFault>
     ensures read { Reads (spec.initial_array 63 ts.old) result ts.new }
     ensures shorter { OnOk result (length ts.new < length ts.old) }
 {
@@ -252,7 +253,7 @@ fn initial_array(alloc: Global, ts: &mut Cursor<'_>) -> Result<Initial, SyntaxFa
 }
 
 #[tactic(auto, unfolding(crate::specs::DeclarationReading::initial_constant))]
-fn initial_constant(ts: &mut Cursor<'_>) -> Result<Initial, SyntaxFault>
+fn initial_constant(ts: &mut Cursor<'_>) -> Result<Initial, ReadFault>
     ensures read { Reads (spec.initial_constant ts.old) result ts.new }
     ensures shorter { OnOk result (length ts.new < length ts.old) }
 {
@@ -260,7 +261,7 @@ fn initial_constant(ts: &mut Cursor<'_>) -> Result<Initial, SyntaxFault>
 }
 
 #[tactic(auto, unfolding(crate::specs::DeclarationReading::initial))]
-fn initial(alloc: Global, ts: &mut Cursor<'_>) -> Result<Initial, SyntaxFault>
+fn initial(alloc: Global, ts: &mut Cursor<'_>) -> Result<Initial, ReadFault>
     ensures read { Reads (spec.initial 63 ts.old) result ts.new }
     ensures shorter { OnOk result (length ts.new < length ts.old) }
 {
@@ -273,7 +274,7 @@ fn initial(alloc: Global, ts: &mut Cursor<'_>) -> Result<Initial, SyntaxFault>
 
 /// Takes an initial value, where there is one, and the `;` behind it.
 #[tactic(auto, unfolding(crate::specs::DeclarationReading::initialized))]
-pub fn initialized(alloc: Global, ts: &mut Cursor<'_>) -> Result<Option<Initial>, SyntaxFault>
+pub fn initialized(alloc: Global, ts: &mut Cursor<'_>) -> Result<Option<Initial>, ReadFault>
     ensures read { Reads (spec.initialized 63 ts.old) result ts.new }
     ensures shorter { OnOk result (length ts.new < length ts.old) }
 {
@@ -288,7 +289,7 @@ pub fn initialized(alloc: Global, ts: &mut Cursor<'_>) -> Result<Option<Initial>
 }
 
 #[tactic(auto, unfolding(crate::specs::DeclarationReading::declaration))]
-fn declaration(alloc: Global, ts: &mut Cursor<'_>) -> Result<Declaration, SyntaxFault>
+fn declaration(alloc: Global, ts: &mut Cursor<'_>) -> Result<Declaration, ReadFault>
     ensures read { Reads (spec.declaration 63 ts.old) result ts.new }
     ensures shorter { OnOk result (length ts.new < length ts.old) }
 {
@@ -305,7 +306,7 @@ fn declaration(alloc: Global, ts: &mut Cursor<'_>) -> Result<Declaration, Syntax
 
 /// Takes a member of a structure.
 #[tactic(auto, unfolding(crate::specs::DeclarationReading::member))]
-pub fn member(alloc: Global, ts: &mut Cursor<'_>) -> Result<Declaration, SyntaxFault>
+pub fn member(alloc: Global, ts: &mut Cursor<'_>) -> Result<Declaration, ReadFault>
     ensures read { Reads (spec.member 63 ts.old) result ts.new }
     ensures shorter { OnOk result (length ts.new < length ts.old) }
 {
@@ -346,7 +347,7 @@ fn retention(ts: &mut Cursor<'_>, section: Section) -> Section
     section
 }
 
-fn declarations(alloc: Global, ts: &mut Cursor<'_>) -> Result<List<Declaration>, SyntaxFault>
+fn declarations(alloc: Global, ts: &mut Cursor<'_>) -> Result<List<Declaration>, ReadFault>
     ensures read { Reads (spec.declarations 63 ts.old) result ts.new }
     ensures shorter { OnOk result (length ts.new ≤ length ts.old) }
 {
@@ -364,7 +365,7 @@ fn rest_of_block(
     ts: &mut Cursor<'_>,
     place: Place,
     section: Section,
-) -> Result<VarBlock, SyntaxFault>
+) -> Result<VarBlock, ReadFault>
     ensures read { Reads (spec.block_rest 63 place section ts.old) result ts.new }
     ensures shorter { OnOk result (length ts.new < length ts.old) }
 {
@@ -378,7 +379,7 @@ fn rest_of_block(
 }
 
 #[tactic(auto, unfolding(crate::specs::DeclarationReading::var_block))]
-fn var_block(alloc: Global, ts: &mut Cursor<'_>) -> Result<VarBlock, SyntaxFault>
+fn var_block(alloc: Global, ts: &mut Cursor<'_>) -> Result<VarBlock, ReadFault>
     ensures read { Reads (spec.var_block 63 ts.old) result ts.new }
     ensures shorter { OnOk result (length ts.new < length ts.old) }
 {
@@ -398,12 +399,12 @@ fn var_block(alloc: Global, ts: &mut Cursor<'_>) -> Result<VarBlock, SyntaxFault
             let section = retention(ts, Section::Output);
             rest_of_block(alloc, ts, place, section)
         }
-        _ => Err(SyntaxFault::NotInGrammar { line: ts.line() }),
+        _ => Err(ReadFault::NotInGrammar { line: ts.line() }),
     }
 }
 
 /// Takes as many blocks of declarations as there are.
-pub fn variables(alloc: Global, ts: &mut Cursor<'_>) -> Result<List<VarBlock>, SyntaxFault>
+pub fn variables(alloc: Global, ts: &mut Cursor<'_>) -> Result<List<VarBlock>, ReadFault>
     ensures read { Reads (spec.variables 63 ts.old) result ts.new }
     ensures shorter { OnOk result (length ts.new ≤ length ts.old) }
 {

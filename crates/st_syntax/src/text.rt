@@ -42,13 +42,14 @@ pub fn parse(alloc: Global, text: &[u8]) -> Result<Vec<Unit>, SyntaxFault>
     ensures long { MOST_BYTES < length text.now → result ≡ Err SyntaxFault.TooLong }
 {
     let tokens = tokens(alloc, text)?;
-    let mut cursor = Cursor::new(tokens.as_slice(), last_line(text));
-    let found = units(alloc, &mut cursor)?;
-    match cursor.kind() {
+    let mut cursor = Cursor::new(tokens.as_slice());
+    let found = match units(alloc, &mut cursor) {
+        Ok(found) => found,
+        Err(fault) => return Err(fault.in_text(last_line(text))),
+    };
+    match cursor.line() {
         None => Ok(found.items),
-        Some(_) => Err(SyntaxFault::NotInGrammar {
-            line: cursor.line(),
-        }),
+        Some(line) => Err(SyntaxFault::NotInGrammar { line }),
     }
 }
 

@@ -8,14 +8,16 @@ ghost use Rattle.st_syntax.specs.UnitReading as spec;
 
 use crate::declaration::{LEVELS, initialized, member, specification, variables};
 use st_expressions::cursor::Cursor;
+use st_expressions::fault::ReadFault;
 use st_expressions::token::{keyword, symbol, word};
 use st_statements::chart::{begins_element, chart, is_word};
 use st_statements::statement::statements;
-use st_tokens::{Keyword, Kind, Symbol, SyntaxFault};
+use st_tokens::{Keyword, Kind, Symbol};
+use st_tree::List;
 use st_tree::tree::{
     Body, Declaration, DeclaredType, Function, Organization, TypeDeclaration, Unit,
 };
-use st_tree::{Elem, List};
+use st_values::Elem;
 use std::alloc::Global;
 
 /// Whether the first token is STRUCT.
@@ -37,7 +39,7 @@ fn begins_unit(ts: &Cursor<'_>) -> bool
 }
 
 #[tactic(auto, unfolding(crate::specs::UnitReading::derived))]
-fn derived(alloc: Global, ts: &mut Cursor<'_>) -> Result<DeclaredType, SyntaxFault>
+fn derived(alloc: Global, ts: &mut Cursor<'_>) -> Result<DeclaredType, ReadFault>
     ensures read { Reads (spec.derived 63 ts.old) result ts.new }
     ensures shorter { OnOk result (length ts.new < length ts.old) }
 {
@@ -47,7 +49,7 @@ fn derived(alloc: Global, ts: &mut Cursor<'_>) -> Result<DeclaredType, SyntaxFau
 }
 
 #[tactic(auto, unfolding(st_expressions::specs::Parsers::leading))]
-fn members(alloc: Global, ts: &mut Cursor<'_>) -> Result<List<Declaration>, SyntaxFault>
+fn members(alloc: Global, ts: &mut Cursor<'_>) -> Result<List<Declaration>, ReadFault>
     ensures read { Reads (spec.members 63 ts.old) result ts.new }
     ensures shorter { OnOk result (length ts.new < length ts.old) }
 {
@@ -62,7 +64,7 @@ fn members(alloc: Global, ts: &mut Cursor<'_>) -> Result<List<Declaration>, Synt
 }
 
 #[tactic(auto, unfolding(crate::specs::UnitReading::structure))]
-fn structure(alloc: Global, ts: &mut Cursor<'_>) -> Result<DeclaredType, SyntaxFault>
+fn structure(alloc: Global, ts: &mut Cursor<'_>) -> Result<DeclaredType, ReadFault>
     ensures read { Reads (spec.structure 63 ts.old) result ts.new }
     ensures shorter { OnOk result (length ts.new < length ts.old) }
 {
@@ -74,7 +76,7 @@ fn structure(alloc: Global, ts: &mut Cursor<'_>) -> Result<DeclaredType, SyntaxF
 }
 
 #[tactic(auto, unfolding(crate::specs::UnitReading::declared))]
-fn declared(alloc: Global, ts: &mut Cursor<'_>) -> Result<DeclaredType, SyntaxFault>
+fn declared(alloc: Global, ts: &mut Cursor<'_>) -> Result<DeclaredType, ReadFault>
     ensures read { Reads (spec.declared 63 ts.old) result ts.new }
     ensures shorter { OnOk result (length ts.new < length ts.old) }
 {
@@ -86,7 +88,7 @@ fn declared(alloc: Global, ts: &mut Cursor<'_>) -> Result<DeclaredType, SyntaxFa
 }
 
 #[tactic(auto, unfolding(crate::specs::UnitReading::type_declaration))]
-fn type_declaration(alloc: Global, ts: &mut Cursor<'_>) -> Result<TypeDeclaration, SyntaxFault>
+fn type_declaration(alloc: Global, ts: &mut Cursor<'_>) -> Result<TypeDeclaration, ReadFault>
     ensures read { Reads (spec.type_declaration 63 ts.old) result ts.new }
     ensures shorter { OnOk result (length ts.new < length ts.old) }
 {
@@ -96,10 +98,7 @@ fn type_declaration(alloc: Global, ts: &mut Cursor<'_>) -> Result<TypeDeclaratio
     Ok(TypeDeclaration { name, declared })
 }
 
-fn type_declarations(
-    alloc: Global,
-    ts: &mut Cursor<'_>,
-) -> Result<List<TypeDeclaration>, SyntaxFault>
+fn type_declarations(alloc: Global, ts: &mut Cursor<'_>) -> Result<List<TypeDeclaration>, ReadFault>
     ensures read { Reads (spec.type_declarations 63 ts.old) result ts.new }
     ensures shorter { OnOk result (length ts.new ≤ length ts.old) }
 {
@@ -112,7 +111,7 @@ fn type_declarations(
 }
 
 #[tactic(auto, unfolding(crate::specs::UnitReading::types))]
-fn types(alloc: Global, ts: &mut Cursor<'_>) -> Result<Unit, SyntaxFault>
+fn types(alloc: Global, ts: &mut Cursor<'_>) -> Result<Unit, ReadFault>
     ensures read { Reads (spec.types 63 ts.old) result ts.new }
     ensures shorter { OnOk result (length ts.new < length ts.old) }
 {
@@ -123,7 +122,7 @@ fn types(alloc: Global, ts: &mut Cursor<'_>) -> Result<Unit, SyntaxFault>
 }
 
 #[tactic(auto, unfolding(crate::specs::UnitReading::elementary))]
-fn elementary(ts: &mut Cursor<'_>) -> Result<Elem, SyntaxFault>
+fn elementary(ts: &mut Cursor<'_>) -> Result<Elem, ReadFault>
     ensures read { Reads (spec.elementary ts.old) result ts.new }
     ensures shorter { OnOk result (length ts.new < length ts.old) }
 {
@@ -132,12 +131,12 @@ fn elementary(ts: &mut Cursor<'_>) -> Result<Elem, SyntaxFault>
             ts.skip();
             Ok(elem)
         }
-        _ => Err(SyntaxFault::NotInGrammar { line: ts.line() }),
+        _ => Err(ReadFault::NotInGrammar { line: ts.line() }),
     }
 }
 
 #[tactic(auto, unfolding(crate::specs::UnitReading::function))]
-fn function(alloc: Global, ts: &mut Cursor<'_>) -> Result<Unit, SyntaxFault>
+fn function(alloc: Global, ts: &mut Cursor<'_>) -> Result<Unit, ReadFault>
     ensures read { Reads (spec.function 63 ts.old) result ts.new }
     ensures shorter { OnOk result (length ts.new < length ts.old) }
 {
@@ -158,7 +157,7 @@ fn function(alloc: Global, ts: &mut Cursor<'_>) -> Result<Unit, SyntaxFault>
 }
 
 #[tactic(auto, unfolding(crate::specs::UnitReading::chart_body))]
-fn chart_body(alloc: Global, ts: &mut Cursor<'_>) -> Result<Body, SyntaxFault>
+fn chart_body(alloc: Global, ts: &mut Cursor<'_>) -> Result<Body, ReadFault>
     ensures read { Reads (spec.chart_body 63 ts.old) result ts.new }
     ensures shorter { OnOk result (length ts.new ≤ length ts.old) }
 {
@@ -166,7 +165,7 @@ fn chart_body(alloc: Global, ts: &mut Cursor<'_>) -> Result<Body, SyntaxFault>
 }
 
 #[tactic(auto, unfolding(crate::specs::UnitReading::plain_body))]
-fn plain_body(alloc: Global, ts: &mut Cursor<'_>) -> Result<Body, SyntaxFault>
+fn plain_body(alloc: Global, ts: &mut Cursor<'_>) -> Result<Body, ReadFault>
     ensures read { Reads (spec.plain_body 63 ts.old) result ts.new }
     ensures shorter { OnOk result (length ts.new ≤ length ts.old) }
 {
@@ -174,7 +173,7 @@ fn plain_body(alloc: Global, ts: &mut Cursor<'_>) -> Result<Body, SyntaxFault>
 }
 
 #[tactic(auto, unfolding(crate::specs::UnitReading::body))]
-fn body(alloc: Global, ts: &mut Cursor<'_>) -> Result<Body, SyntaxFault>
+fn body(alloc: Global, ts: &mut Cursor<'_>) -> Result<Body, ReadFault>
     ensures read { Reads (spec.body 63 ts.old) result ts.new }
     ensures shorter { OnOk result (length ts.new ≤ length ts.old) }
 {
@@ -191,7 +190,7 @@ fn organization(
     alloc: Global,
     ts: &mut Cursor<'_>,
     last: Keyword,
-) -> Result<Organization, SyntaxFault>
+) -> Result<Organization, ReadFault>
     ensures read { Reads (spec.organization 63 last ts.old) result ts.new }
     ensures shorter { OnOk result (length ts.new < length ts.old) }
 {
@@ -209,7 +208,7 @@ fn organization(
 }
 
 #[tactic(auto, unfolding(crate::specs::UnitReading::function_block))]
-fn function_block(alloc: Global, ts: &mut Cursor<'_>) -> Result<Unit, SyntaxFault>
+fn function_block(alloc: Global, ts: &mut Cursor<'_>) -> Result<Unit, ReadFault>
     ensures read { Reads (spec.function_block 63 ts.old) result ts.new }
     ensures shorter { OnOk result (length ts.new < length ts.old) }
 {
@@ -217,7 +216,7 @@ fn function_block(alloc: Global, ts: &mut Cursor<'_>) -> Result<Unit, SyntaxFaul
 }
 
 #[tactic(auto, unfolding(crate::specs::UnitReading::program))]
-fn program(alloc: Global, ts: &mut Cursor<'_>) -> Result<Unit, SyntaxFault>
+fn program(alloc: Global, ts: &mut Cursor<'_>) -> Result<Unit, ReadFault>
     ensures read { Reads (spec.program 63 ts.old) result ts.new }
     ensures shorter { OnOk result (length ts.new < length ts.old) }
 {
@@ -225,7 +224,7 @@ fn program(alloc: Global, ts: &mut Cursor<'_>) -> Result<Unit, SyntaxFault>
 }
 
 #[tactic(auto, unfolding(crate::specs::UnitReading::unit_of))]
-fn unit(alloc: Global, ts: &mut Cursor<'_>) -> Result<Unit, SyntaxFault>
+fn unit(alloc: Global, ts: &mut Cursor<'_>) -> Result<Unit, ReadFault>
     ensures read { Reads (spec.unit_of 63 ts.old) result ts.new }
     ensures shorter { OnOk result (length ts.new < length ts.old) }
 {
@@ -234,12 +233,12 @@ fn unit(alloc: Global, ts: &mut Cursor<'_>) -> Result<Unit, SyntaxFault>
         Some(Kind::Keyword(Keyword::Function)) => function(alloc, ts),
         Some(Kind::Keyword(Keyword::FunctionBlock)) => function_block(alloc, ts),
         Some(Kind::Keyword(Keyword::Program)) => program(alloc, ts),
-        _ => Err(SyntaxFault::NotInGrammar { line: ts.line() }),
+        _ => Err(ReadFault::NotInGrammar { line: ts.line() }),
     }
 }
 
 /// Takes as many units as there are.
-pub fn units(alloc: Global, ts: &mut Cursor<'_>) -> Result<List<Unit>, SyntaxFault>
+pub fn units(alloc: Global, ts: &mut Cursor<'_>) -> Result<List<Unit>, ReadFault>
     ensures read { Reads (spec.units 63 ts.old) result ts.new }
     ensures shorter { OnOk result (length ts.new ≤ length ts.old) }
 {

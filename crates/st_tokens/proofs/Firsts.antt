@@ -2,12 +2,12 @@
 use Rattle.std.proofs.Common.{◌≡◌, ℕ, List, [], ◌∷◌, ◌++◌, refl, sym, ap, ◌∙◌, Bool, true, false, subst, ◌⊎◌, inl, inr}
 use Rattle.std.specs.Prelude.{Option, Some, None, ◌||◌, is_some, ℤ, codes}
 use Rattle.std.specs.Char.{is_ascii_digit}
-use Rattle.st_tree.specs.declared.elem.Elem.{Elem}
-use Rattle.st_tree.specs.declared.elem.Elem.TheVariants.{Time}
-use Rattle.st_tree.specs.Durations.{signed_interval_read}
-use Rattle.st_tree.specs.Numbers.{capped, capped_signed, number_read}
-use Rattle.st_tree.specs.Readings.{literal_read}
-use Rattle.st_tree.specs.Types.{class_of, name_of}
+use Rattle.st_values.specs.declared.elem.Elem.{Elem}
+use Rattle.st_values.specs.declared.elem.Elem.TheVariants.{Time}
+use Rattle.st_values.specs.Durations.{signed_interval_read}
+use Rattle.st_values.specs.Numbers.{capped, capped_signed, number_read}
+use Rattle.st_values.specs.Readings.{literal_read}
+use Rattle.st_values.specs.Types.{class_of, name_of}
 use Rattle.st_tokens.specs.declared.keyword.Keyword.{Keyword}
 use Rattle.st_tokens.specs.declared.symbol.Symbol.{Symbol}
 use Rattle.st_tokens.specs.declared.token.Kind.{Kind}

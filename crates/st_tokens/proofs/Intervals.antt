@@ -6,11 +6,11 @@ use Rattle.std.specs.List.{after_first, before_first, list_all, position_or_len}
 use Rattle.std.proofs.Math.Seq.{get_or-append_seam, take-append-add, drop-append-add}
 use Rattle.std.proofs.lemmas.Bool.Decides.{nat_tests}
 use Rattle.std.proofs.lemmas.List.Sums.{split_at_first, passes_at_first}
-use Rattle.st_tree.specs.declared.duration.TimeUnit.{TimeUnit}
-use Rattle.st_tree.specs.declared.duration.TimeUnit.TheVariants.{Days, Hours, Minutes, Seconds, Milliseconds}
-use Rattle.st_tree.specs.Durations.{letters_of, milliseconds_of, units, part_number, part_letters, part_rest, sum_of, amount_read, fraction_read, last_amount_read, is_point, without_underscore, parts_read, interval_read}
-use Rattle.st_tree.specs.Numbers.{are_digits, capped, digits_read}
-use Rattle.st_tree.specs.Words.{after, begins_with, is_word}
+use Rattle.st_values.specs.declared.duration.TimeUnit.{TimeUnit}
+use Rattle.st_values.specs.declared.duration.TimeUnit.TheVariants.{Days, Hours, Minutes, Seconds, Milliseconds}
+use Rattle.st_values.specs.Durations.{letters_of, milliseconds_of, units, part_number, part_letters, part_rest, sum_of, amount_read, fraction_read, last_amount_read, is_point, without_underscore, parts_read, interval_read}
+use Rattle.st_values.specs.Numbers.{are_digits, capped, digits_read}
+use Rattle.st_values.specs.Words.{after, begins_with, is_word}
 use Rattle.st_tokens.specs.Characters.{is_word_byte, AreWordBytes, BeginsWord}
 use Rattle.st_tokens.specs.Scanning.{run, behind, ends_in_digit, has_fraction, fraction_of, interval_front, interval_behind, interval_at}
 use Rattle.st_tokens.proofs.Numbers.{Found, begins, digits_test, read_words, decimal_digit}

@@ -3,11 +3,11 @@ use Rattle.std.proofs.Common.{◌≡◌, ℕ, zero, suc, ◌≤◌, List, [], �
 use Rattle.std.specs.Prelude.{Option, Some, None, option_map, codes, ◌==◌, ℤ, pos}
 use Rattle.std.specs.Char.{to_ascii_lowercase}
 use Rattle.std.proofs.lemmas.Slice.Eq.{bytes_eq-Decides}
-use Rattle.st_tree.specs.declared.elem.Class.{Class}
-use Rattle.st_tree.specs.declared.elem.Class.TheVariants.{Boolean, Integer, BitString, Duration}
-use Rattle.st_tree.specs.Numbers.{capped, capped_signed, digits_read, negative, number_read}
-use Rattle.st_tree.specs.Readings.{literal_read, signed_read}
-use Rattle.st_tree.specs.Words.{is_word}
+use Rattle.st_values.specs.declared.elem.Class.{Class}
+use Rattle.st_values.specs.declared.elem.Class.TheVariants.{Boolean, Integer, BitString, Duration}
+use Rattle.st_values.specs.Numbers.{capped, capped_signed, digits_read, negative, number_read}
+use Rattle.st_values.specs.Readings.{literal_read, signed_read}
+use Rattle.st_values.specs.Words.{is_word}
 use Rattle.st_tokens.specs.Characters.{is_word_byte, AreWordBytes, BeginsWord}
 use Rattle.st_tokens.specs.Scanning.{run, behind, base_of, digits_at, number_at, signed_at, boolean_at, literal_at, positive_found}
 use Rattle.st_tokens.specs.Words.{IsSame}

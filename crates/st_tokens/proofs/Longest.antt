@@ -2,14 +2,14 @@
 use Rattle.std.proofs.Common.{◌≡◌, ℕ, suc, ◌+◌, ◌<◌, ◌≤◌, List, [], ◌∷◌, ◌++◌, length, refl, sym, ap, ◌∙◌, true, false, subst, ◌⊎◌, inl, inr, arith, append_assoc, length-append}
 use Rattle.std.specs.Prelude.{Option, Some, None, option_map, option_and_then, codes, ℤ}
 use Rattle.std.specs.Char.{is_ascii_digit}
-use Rattle.st_tree.specs.declared.elem.Class.TheVariants.{Duration}
-use Rattle.st_tree.specs.declared.elem.Elem.{Elem}
-use Rattle.st_tree.specs.declared.elem.Elem.TheVariants as E
-use Rattle.st_tree.specs.Durations.{signed_interval_read}
-use Rattle.st_tree.specs.Numbers.{capped, capped_signed}
-use Rattle.st_tree.specs.Readings.{literal_read}
-use Rattle.st_tree.specs.Types.{class_of, name_of}
-use Rattle.st_tree.specs.Words.{after, begins_with, is_word}
+use Rattle.st_values.specs.declared.elem.Class.TheVariants.{Duration}
+use Rattle.st_values.specs.declared.elem.Elem.{Elem}
+use Rattle.st_values.specs.declared.elem.Elem.TheVariants as E
+use Rattle.st_values.specs.Durations.{signed_interval_read}
+use Rattle.st_values.specs.Numbers.{capped, capped_signed}
+use Rattle.st_values.specs.Readings.{literal_read}
+use Rattle.st_values.specs.Types.{class_of, name_of}
+use Rattle.st_values.specs.Words.{after, begins_with, is_word}
 use Rattle.st_tokens.specs.declared.keyword.Keyword.{Keyword}
 use Rattle.st_tokens.specs.declared.symbol.Symbol.{Symbol}
 use Rattle.st_tokens.specs.declared.token.Kind.{Kind}

@@ -7,10 +7,10 @@ use Rattle.std.specs.Str.{bytes_eq}
 use Rattle.std.proofs.lemmas.Bool.Decides.{nat_tests}
 use Rattle.std.proofs.lemmas.Slice.Eq.{bytes_eq-Decides}
 use Rattle.std.proofs.Common.{inl, inr}
-use Rattle.st_tree.specs.declared.elem.Elem.{Elem}
-use Rattle.st_tree.specs.declared.elem.Elem.TheVariants as E
-use Rattle.st_tree.specs.Words.{is_word}
-use Rattle.st_tree.specs.Types.{name_of}
+use Rattle.st_values.specs.declared.elem.Elem.{Elem}
+use Rattle.st_values.specs.declared.elem.Elem.TheVariants as E
+use Rattle.st_values.specs.Words.{is_word}
+use Rattle.st_values.specs.Types.{name_of}
 use Rattle.st_tokens.specs.declared.keyword.Keyword.{Keyword}
 use Rattle.st_tokens.specs.declared.keyword.Keyword.TheVariants as K
 use Rattle.st_tokens.specs.declared.keyword.TheConstants.{KEYWORDS}

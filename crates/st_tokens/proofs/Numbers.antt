@@ -6,8 +6,8 @@ use Rattle.std.specs.Str.{bytes_eq}
 use Rattle.std.proofs.lemmas.Bool.Decides.{nat_tests}
 use Rattle.std.proofs.lemmas.List.{take-append-drop}
 use Rattle.std.proofs.lemmas.Slice.Eq.{bytes_eq-Decides}
-use Rattle.st_tree.specs.Numbers.{are_digits, capped, digits_read, number_read}
-use Rattle.st_tree.specs.Words.{after, begins_with}
+use Rattle.st_values.specs.Numbers.{are_digits, capped, digits_read, number_read}
+use Rattle.st_values.specs.Words.{after, begins_with}
 use Rattle.st_tokens.specs.Characters.{is_word_byte, AreWordBytes, BeginsWord}
 use Rattle.st_tokens.specs.Scanning.{run, behind, base_of, digits_at, number_at}
 use Rattle.st_tokens.proofs.Runs.{run_behind, run_words, behind_not, run_is, words_in_run}

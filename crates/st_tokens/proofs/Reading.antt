@@ -1,7 +1,7 @@
 -- What is left of a text, while its tokens are read.
 use Rattle.std.proofs.Common.{◌≡◌, ℕ, suc, ◌+◌, ◌<◌, ◌≤◌, List, [], ◌∷◌, ◌++◌, length, refl, sym, ap, ◌∙◌, true, false, arith, subst, get_or, drop, append_assoc, append-nil, length-append, ◌-◌}
 use mir.Val.{bool_byte}
-use Rattle.st_tree.specs.Words.{begins_with}
+use Rattle.st_values.specs.Words.{begins_with}
 use Rattle.std.specs.Global.{Vec}
 use Rattle.std.specs.Prelude.{nat_eq, Result, Ok, Err, IfOk, IfErr, MatchResult, Some, None, ◌==◌, ◌&&◌, codes}
 use Rattle.st_tokens.specs.declared.fault.SyntaxFault.{SyntaxFault}

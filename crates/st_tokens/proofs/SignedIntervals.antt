@@ -1,8 +1,8 @@
 -- What stands behind the `#` of a duration, at the front of a text.
 use Rattle.std.proofs.Common.{◌≡◌, ℕ, suc, ◌+◌, ◌-◌, ◌≤◌, List, [], ◌∷◌, ◌++◌, length, drop, refl, sym, ap, ◌∙◌, Bool, true, false, cond, arith, subst, slice_index, nat_lt}
 use Rattle.std.specs.Prelude.{Option, Some, option_map, ◌==◌, ℤ, pos, negsuc, neg_ℤ, ◌^◌}
-use Rattle.st_tree.specs.Durations.{interval_read, signed_interval_read}
-use Rattle.st_tree.specs.Numbers.{capped, capped_signed, negative}
+use Rattle.st_values.specs.Durations.{interval_read, signed_interval_read}
+use Rattle.st_values.specs.Numbers.{capped, capped_signed, negative}
 use Rattle.st_tokens.specs.Forms.{time_of}
 use Rattle.st_tokens.specs.Scanning.{run, interval_at, signed_interval_at, positive_found, negative_found}
 use Rattle.st_tokens.proofs.Intervals.{interval_found, interval_only}

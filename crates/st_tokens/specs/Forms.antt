@@ -1,14 +1,14 @@
 -- The forms of tokens (IEC 61131-3:2003, 2.1 and 2.2).
 use Rattle.std.specs.Prelude.{◌≡◌, ◌≢◌, ℕ, true, ◌⊎◌, List, ◌∷◌, ◌++◌, ℤ, pos, codes, Some, if◌then◌else◌}
 use Rattle.std.specs.Str.{byte}
-use Rattle.st_tree.specs.declared.elem.Elem.{Elem}
-use Rattle.st_tree.specs.declared.elem.Elem.TheVariants.{Time}
-use Rattle.st_tree.specs.declared.value.Value.{Value}
-use Rattle.st_tree.specs.Durations.{signed_interval_read}
-use Rattle.st_tree.specs.Numbers.{capped, capped_signed, number_read, too_much}
-use Rattle.st_tree.specs.Readings.{literal_read}
-use Rattle.st_tree.specs.Types.{name_of, class_of}
-use Rattle.st_tree.specs.Values.{in_range}
+use Rattle.st_values.specs.declared.elem.Elem.{Elem}
+use Rattle.st_values.specs.declared.elem.Elem.TheVariants.{Time}
+use Rattle.st_values.specs.declared.value.Value.{Value}
+use Rattle.st_values.specs.Durations.{signed_interval_read}
+use Rattle.st_values.specs.Numbers.{capped, capped_signed, number_read, too_much}
+use Rattle.st_values.specs.Readings.{literal_read}
+use Rattle.st_values.specs.Types.{name_of, class_of}
+use Rattle.st_values.specs.Values.{in_range}
 use Rattle.st_tokens.specs.declared.keyword.Keyword.{Keyword}
 use Rattle.st_tokens.specs.declared.symbol.Symbol.{Symbol}
 use Rattle.st_tokens.specs.declared.token.Kind.{Kind}

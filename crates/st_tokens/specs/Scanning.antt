@@ -3,13 +3,13 @@ use Rattle.std.specs.Prelude.{ℕ, ◌+◌, ◌-◌, Bool, false, ◌&&◌, ◌|
 use Rattle.std.specs.Borrow.{Bor}
 use Rattle.std.specs.Char.{is_ascii_digit}
 use Rattle.std.specs.Str.{byte, bytes_eq}
-use Rattle.st_tree.specs.declared.elem.Class.{Class}
-use Rattle.st_tree.specs.declared.elem.Class.TheVariants.{Boolean, Integer, BitString, Duration}
-use Rattle.st_tree.specs.declared.elem.Elem.{Elem}
-use Rattle.st_tree.specs.Durations.{interval_read}
-use Rattle.st_tree.specs.Numbers.{capped, digits_read, negative}
-use Rattle.st_tree.specs.Words.{after, begins_with, is_word}
-use Rattle.st_tree.specs.Types.{class_of}
+use Rattle.st_values.specs.declared.elem.Class.{Class}
+use Rattle.st_values.specs.declared.elem.Class.TheVariants.{Boolean, Integer, BitString, Duration}
+use Rattle.st_values.specs.declared.elem.Elem.{Elem}
+use Rattle.st_values.specs.Durations.{interval_read}
+use Rattle.st_values.specs.Numbers.{capped, digits_read, negative}
+use Rattle.st_values.specs.Words.{after, begins_with, is_word}
+use Rattle.st_values.specs.Types.{class_of}
 use Rattle.st_tokens.specs.declared.keyword.Keyword.{Keyword}
 use Rattle.st_tokens.specs.declared.symbol.Symbol.{Symbol}
 use Rattle.st_tokens.specs.declared.symbol.Symbol.TheVariants as S

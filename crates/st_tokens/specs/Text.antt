@@ -1,6 +1,6 @@
 -- A text and its tokens (IEC 61131-3:2003, 2.1).
 use Rattle.std.specs.Prelude.{◌≡◌, ℕ, ◌+◌, ◌<◌, ◌≤◌, ◌⊎◌, true, List, [], ◌∷◌, ◌++◌, length, codes}
-use Rattle.st_tree.specs.declared.elem.Elem.TheVariants.{Time}
+use Rattle.st_values.specs.declared.elem.Elem.TheVariants.{Time}
 use Rattle.st_tokens.specs.declared.fault.SyntaxFault.{SyntaxFault}
 use Rattle.st_tokens.specs.declared.fault.SyntaxFault.TheVariants as F
 use Rattle.st_tokens.specs.declared.scan.TheConstants.{MOST_BYTES}

@@ -2,9 +2,9 @@
 use Rattle.std.specs.Prelude.{◌≡◌, ℕ, true, ◌⊎◌, List, [], ◌∷◌, ◌++◌, codes, map, Option}
 use Rattle.std.specs.Char.{to_ascii_lowercase}
 use Rattle.std.specs.List.{find}
-use Rattle.st_tree.specs.declared.elem.Elem.{Elem}
-use Rattle.st_tree.specs.Words.{is_word}
-use Rattle.st_tree.specs.Types.{name_of}
+use Rattle.st_values.specs.declared.elem.Elem.{Elem}
+use Rattle.st_values.specs.Words.{is_word}
+use Rattle.st_values.specs.Types.{name_of}
 use Rattle.st_tokens.specs.declared.word.TheConstants.{ELEMS}
 use Rattle.st_tokens.specs.declared.keyword.TheConstants.{KEYWORDS}
 use Rattle.st_tokens.specs.declared.keyword.Keyword.{Keyword}

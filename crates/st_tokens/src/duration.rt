@@ -5,7 +5,7 @@ ghost use Rattle.st_tokens.specs.Scanning as spec;
 ghost use Rattle.st_tokens.specs.Scanning.{seen};
 
 use crate::run::{run_len, split_run};
-use st_tree::{Elem, Value, is_value, read_interval};
+use st_values::{Elem, Value, is_value, read_interval};
 
 /// Tests whether the last byte is a digit.
 fn ends_in_digit(text: &[u8]) -> bool

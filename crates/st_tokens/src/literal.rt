@@ -4,7 +4,7 @@ ghost use Rattle.st_tokens.specs.Scanning as spec;
 ghost use Rattle.st_tokens.specs.Scanning.{seen};
 
 use crate::run::split_run;
-use st_tree::{Class, read_digits};
+use st_values::{Class, read_digits};
 
 /// The base that a number has before its `#`.
 fn base_of(word: &[u8]) -> Option<u32>

@@ -13,7 +13,7 @@ use crate::run::{begins_word, split_run};
 use crate::symbol::Symbol;
 use crate::token::{Kind, Token};
 use crate::word::{elem_of, is_clean, word_kind};
-use st_tree::Value;
+use st_values::Value;
 use std::alloc::Global;
 
 /// The most bytes of a text.

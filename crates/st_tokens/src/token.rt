@@ -2,7 +2,7 @@
 
 use crate::keyword::Keyword;
 use crate::symbol::Symbol;
-use st_tree::{Elem, Value};
+use st_values::{Elem, Value};
 use std::marker::Model;
 
 /// The bytes of a word as the text has them. They are borrowed from the text, and contracts see them as a list.

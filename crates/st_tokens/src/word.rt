@@ -5,7 +5,7 @@ ghost use Rattle.st_tokens.specs.Words.{elem_of as elem_named};
 
 use crate::keyword::Keyword;
 use crate::token::{Kind, Spelling};
-use st_tree::Elem;
+use st_values::Elem;
 
 /// All elementary types.
 pub const ELEMS: [Elem; 14] = [

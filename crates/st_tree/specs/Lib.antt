@@ -1,10 +1,3 @@
-pub mod Durations
 pub mod Name
-pub mod Numbers
-pub mod Readings
-pub mod Texts
 pub mod Trees
-pub mod Types
-pub mod Values
-pub mod Words
 pub mod formers

@@ -1,7 +1,6 @@
 //! The leaves of a program: what has a value while it runs.
-use crate::elem::Elem;
 use crate::list::List;
-use crate::value::Value;
+use st_values::{Elem, Value};
 
 /// What a leaf is for.
 #[derive(Clone, Copy, Debug, PartialEq, Eq)]

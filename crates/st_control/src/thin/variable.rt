@@ -6,7 +6,8 @@ ghost use Rattle.st_layout.specs.Layout.{raised};
 
 use super::fault::ThinFault;
 use st_tree::tree::{Constant, Declaration, Identifier, Initial, Specification, TypeName};
-use st_tree::{Elem, Leaf, List, Role, Value};
+use st_tree::{Leaf, List, Role};
+use st_values::{Elem, Value};
 use std::alloc::{AllocError, Global};
 
 /// Reads a declaration, and gives the leaf of its variable.

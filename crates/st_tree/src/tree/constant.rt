@@ -1,6 +1,6 @@
 //! Literals (2.2).
 use crate::tree::place::Place;
-use crate::value::Value;
+use st_values::Value;
 
 /// A decimal or based number with its sign (2.2.1).
 #[derive(Clone, Copy, Debug, PartialEq, Eq)]

@@ -1,8 +1,8 @@
 //! Declarations of variables and types (2.3.3, 2.4.3).
-use crate::elem::Elem;
 use crate::list::List;
 use crate::tree::constant::{Constant, SignedInteger};
 use crate::tree::place::{Identifier, Place};
+use st_values::Elem;
 
 /// The name of a type.
 #[derive(Drop)]

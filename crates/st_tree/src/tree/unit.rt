@@ -1,11 +1,11 @@
 //! Units: types, functions, function blocks and programs (2.5), and charts (2.6).
-use crate::elem::Elem;
 use crate::list::List;
 use crate::tree::constant::Duration;
 use crate::tree::declaration::{DeclaredType, VarBlock};
 use crate::tree::expression::Expression;
 use crate::tree::place::{Identifier, Place};
 use crate::tree::statement::Statement;
+use st_values::Elem;
 
 /// A unit of a text.
 #[derive(Drop)]

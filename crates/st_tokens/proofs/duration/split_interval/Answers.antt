@@ -1,6 +1,6 @@
 use Rattle.std.proofs.Common.{◌≡◌, ◌+◌, ◌-◌, ◌≤◌, ℕ, List, ◌∷◌, ◌++◌, length, take, drop, sym, ap, ◌∙◌, true, subst}
 use Rattle.std.specs.Prelude.{codes}
-use Rattle.st_tree.specs.Words.{begins_with}
+use Rattle.st_values.specs.Words.{begins_with}
 use Rattle.st_tokens.specs.Scanning.{run, behind, ends_in_digit, has_fraction, fraction_of}
 use Rattle.st_tokens.proofs.Intervals.{split_at_fraction}
 use Rattle.st_tokens.proofs.Runs.{take_rest}

@@ -1,6 +1,6 @@
 use Rattle.std.proofs.Common.{◌≡◌, ◌+◌, ℕ, List, true, sym, ap, ◌∙◌, subst, arith, drop, take, length, length-drop, get_or, ◌-◌, ◌<◌}
 use Rattle.std.specs.Prelude.{Some, None, codes}
-use Rattle.st_tree.specs.Words.{begins_with}
+use Rattle.st_values.specs.Words.{begins_with}
 use Rattle.st_tokens.specs.Scanning.{seen, comment_at, token_at}
 use Rattle.st_tokens.proofs.Reading.{Reads, reads_end, blank_step, comment_step, open_comment, token_step, stuck, shorter_comment, shorter_token, line_end-bound, line_end-is, blank_room, nothing}
 use Rattle.st_tokens.proofs.Runs.{take_rest}

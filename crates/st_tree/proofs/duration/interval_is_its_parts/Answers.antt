@@ -1,5 +1,0 @@
-use Rattle.st_tree.proofs.Grammar.{interval_read-IsInterval}
-use Rattle.st_tree.proofs.duration.interval_is_its_parts.Goals as goal
-
-pub returns : goal.returns
-returns c = interval_read-IsInterval c.args.text.now

@@ -1,0 +1,111 @@
+-- Numbers with a sign: what is too much stays out of each type's range.
+use Rattle.std.proofs.Common.{◌≡◌, ℕ, zero, suc, ◌+◌, ◌≤◌, ◌^◌, Bool, true, false, List, refl, ap, sym, ◌∙◌, arith, add-one, nat_lt, ℤ, pos, negsuc, ◌⊎◌, ⊎_elim, lit≤, ◌-◌}
+use Rattle.std.proofs.lemmas.Grind.{common_steps}
+use Rattle.std.specs.Prelude.{Option, Some, None, option_map, option_and_then, if◌then◌else◌}
+use Rattle.std.specs.Option.{option_or}
+use Rattle.std.specs.Str.{byte}
+use Rattle.std.specs.Prelude.{codes, slice_index, drop, ◌==◌}
+use Rattle.st_values.specs.Numbers.{capped, capped_signed, negative, number_read, too_much}
+use Rattle.st_values.specs.Readings.{after_sign, signed_read, truth_read, value_of}
+use Rattle.st_values.specs.Words.{is_word}
+use Rattle.st_values.specs.Types.{is_signed, limit_of}
+use Rattle.st_values.specs.Values.{in_range}
+use Rattle.st_values.specs.declared.elem.Elem.{Elem}
+use Rattle.st_values.specs.declared.elem.Elem.TheVariants as E
+use Rattle.st_values.proofs.Cases.{below, both, is_not_below, not_true}
+
+capped_signed-negative : (n : ℕ) → capped_signed (negative n) ≡ negative (capped n)
+capped_signed-negative zero = refl
+capped_signed-negative (suc n) = rw add-one refl
+
+pub map-negative : (size : Option ℕ) → option_map capped_signed (option_map negative size) ≡ option_map negative (option_map capped size)
+map-negative None = refl
+map-negative (Some n) = ap Some (capped_signed-negative n)
+
+pub map-pos : (size : Option ℕ) → option_map capped_signed (option_map pos size) ≡ option_map pos (option_map capped size)
+map-pos None = refl
+map-pos (Some n) = refl
+
+if-or : (p q : Bool) (other : Option ℤ) → option_map capped_signed (option_or (if p then Some (pos 1) else if q then Some (pos 0) else None) other)
+    ≡ option_or (if p then Some (pos 1) else if q then Some (pos 0) else None) (option_map capped_signed other)
+if-or true q other = refl
+if-or false true other = refl
+if-or false false other = refl
+
+pub truth-or : (text : List ℕ) (other : Option ℤ) → option_map capped_signed (option_or (truth_read text) other) ≡ option_or (truth_read text) (option_map capped_signed other)
+truth-or text other = if-or (is_word (codes "TRUE") text) (is_word (codes "FALSE") text) other
+
+pub limit_of-most : (elem : Elem) → limit_of elem ≤ 2 ^ 64
+limit_of-most E.Bool = omega arith
+limit_of-most E.Sint = omega arith
+limit_of-most E.Int = omega arith
+limit_of-most E.Dint = omega arith
+limit_of-most E.Lint = omega arith
+limit_of-most E.Usint = omega arith
+limit_of-most E.Uint = omega arith
+limit_of-most E.Udint = omega arith
+limit_of-most E.Ulint = omega arith
+limit_of-most E.Byte = omega arith
+limit_of-most E.Word = omega arith
+limit_of-most E.Dword = omega arith
+limit_of-most E.Lword = omega arith
+limit_of-most E.Time = omega arith
+
+pub limit_of-signed : (elem : Elem) → is_signed elem ≡ true → limit_of elem ≤ 2 ^ 63
+limit_of-signed E.Sint h = omega arith
+limit_of-signed E.Int h = omega arith
+limit_of-signed E.Dint h = omega arith
+limit_of-signed E.Lint h = omega arith
+limit_of-signed E.Time h = omega arith
+limit_of-signed _ h = cc
+
+below-capped : (n most : ℕ) → most ≤ too_much → nat_lt (capped n) most ≡ nat_lt n most
+below-capped n most h = grind (arith, common_steps)
+
+-- a number that counts as itself, or one out of each range that counts as one out of each range
+counts : (n : ℕ) → (capped n ≡ n) ⊎ ((capped n ≡ too_much) × (too_much ≤ n))
+counts n = grind (arith, common_steps)
+
+value_of-none : (elem : Elem) (number : ℤ) → in_range elem number ≡ false → value_of elem number ≡ None
+value_of-none elem number h = rw h refl
+
+not_in_range : (elem : Elem) (n : ℕ) → 2 ^ 63 ≤ n → in_range elem (negsuc n) ≡ false
+not_in_range elem n big = not_true _ (λ within.
+    let parts = both (is_signed elem) (nat_lt n (limit_of elem)) within in
+    let small = below n (limit_of elem) parts.1 in
+    let most = limit_of-signed elem parts.0 in
+    absurd (omega arith))
+
+pub value_of-capped : (elem : Elem) (number : ℤ) → value_of elem (capped_signed number) ≡ value_of elem number
+value_of-capped elem (pos n) = ⊎_elim
+    (λ same. ap (λ m. value_of elem (pos m)) same)
+    (λ big. value_of-none elem (pos (capped n)) (is_not_below (capped n) (limit_of elem) (omega (arith, limit_of-most elem, big.0)))
+    ∙ sym (value_of-none elem (pos n) (is_not_below n (limit_of elem) (omega (arith, limit_of-most elem, big.1)))))
+    (counts n)
+value_of-capped elem (negsuc n) = ⊎_elim
+    (λ same. ap (λ m. value_of elem (negative m)) same ∙ rw add-one refl)
+    (λ big. rw big.0 (value_of-none elem (negative too_much) (not_in_range elem (2 ^ 64 - 1) (lit≤ tt)))
+    ∙ sym (value_of-none elem (negsuc n) (not_in_range elem n (omega (arith, big.1)))))
+    (counts (n + 1))
+
+pub read-capped : (elem : Elem) (number : Option ℤ) → option_and_then (value_of elem) (option_map capped_signed number) ≡ option_and_then (value_of elem) number
+read-capped elem None = refl
+read-capped elem (Some z) = value_of-capped elem z
+
+if-capped : (p q : Bool) (below above plain : Option ℕ) →
+    option_map capped_signed (if p then option_map negative below else if q then option_map pos above else option_map pos plain)
+    ≡ (if p then option_map negative (option_map capped below) else if q then option_map pos (option_map capped above) else option_map pos (option_map capped plain))
+if-capped true q below above plain = map-negative below
+if-capped false true below above plain = map-pos above
+if-capped false false below above plain = map-pos plain
+
+-- a number with a sign counts as what its size counts as, with the sign
+pub signed_read-capped : (typed : Bool) (text : List ℕ) →
+    option_map capped_signed (signed_read typed text)
+    ≡ (if slice_index text 0 == byte "-" then option_map negative (option_map capped (after_sign typed (drop 1 text)))
+    else if slice_index text 0 == byte "+" then option_map pos (option_map capped (after_sign typed (drop 1 text)))
+    else option_map pos (option_map capped (number_read text)))
+signed_read-capped typed text = if-capped (slice_index text 0 == byte "-") (slice_index text 0 == byte "+") (after_sign typed (drop 1 text)) (after_sign typed (drop 1 text)) (number_read text)
+
+pub value_of-some : (elem : Elem) (number : ℤ) → in_range elem number ≡ true → value_of elem number ≡ Some (record { elem = elem; bits = number })
+value_of-some elem number h = rw h refl

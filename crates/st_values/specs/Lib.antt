@@ -1,0 +1,7 @@
+pub mod Durations
+pub mod Numbers
+pub mod Readings
+pub mod Texts
+pub mod Types
+pub mod Values
+pub mod Words

@@ -1,0 +1,19 @@
+//! Values of the elementary types, and their texts (IEC 61131-3:2003, 2.2 and 2.3.1).
+#![tactic(auto)]
+
+mod duration;
+mod elem;
+mod number;
+mod put;
+mod read;
+#[cfg(test)]
+mod tests;
+mod value;
+mod word;
+
+pub use duration::{interval_is_its_parts, read_interval};
+pub use elem::{Class, Elem};
+pub use number::{read_digits, read_number};
+pub use put::put_value;
+pub use read::{BadValue, read_value, text_is_read_back};
+pub use value::{Value, is_value, wrap};
