@@ -1,6 +1,6 @@
 -- What contracts see of a source over memory.
 use Rattle.std.specs.Prelude.{ℕ, Bool, List}
-use Rattle.st_session.specs.declared.memory_devices.Bytes.{Bytes}
+use Rattle.st_session.specs.declared.memory_source.Bytes.{Bytes}
 
 -- the bytes that a source still has to give
 abbrev pub rest_of : Bytes → List ℕ

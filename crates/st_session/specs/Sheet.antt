@@ -1,6 +1,6 @@
 -- What contracts see of a sink over memory.
 use Rattle.std.specs.Prelude.{ℕ, Bool, List, vec_capacity}
-use Rattle.st_session.specs.declared.memory_devices.Sheet.{Sheet}
+use Rattle.st_session.specs.declared.memory_sink.Sheet.{Sheet}
 
 -- the bytes that a sheet has taken
 abbrev pub written_on : Sheet → List ℕ

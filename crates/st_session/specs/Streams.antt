@@ -1,7 +1,7 @@
 -- What contracts see of the devices over readers and writers.
 use Rattle.std.specs.Prelude.{ℕ, Bool}
-use Rattle.st_session.specs.declared.streams.FromReader.{FromReader}
-use Rattle.st_session.specs.declared.streams.ToWriter.{ToWriter}
+use Rattle.st_session.specs.declared.reader_source.FromReader.{FromReader}
+use Rattle.st_session.specs.declared.writer_sink.ToWriter.{ToWriter}
 
 module _ {R : Type 0} where
   -- the reader that a source reads

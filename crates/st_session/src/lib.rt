@@ -6,17 +6,21 @@
 mod devices;
 mod engine;
 mod input;
-mod memory_devices;
+mod memory_sink;
+mod memory_source;
+mod reader_source;
 mod reply;
 mod request;
 mod run;
-mod streams;
+mod writer_sink;
 
 pub use devices::{DeviceFault, Sink, Source};
 pub use engine::{Outcome, session};
-pub use memory_devices::{Bytes, Sheet};
+pub use memory_sink::Sheet;
+pub use memory_source::Bytes;
+pub use reader_source::FromReader;
 pub use run::{ACCEPTED, DEVICE_FAILED, LINE_REFUSED, NO_MEMORY, NO_PROGRAM, run_text};
-pub use streams::{FromReader, ToWriter};
+pub use writer_sink::ToWriter;
 
 #[cfg(test)]
 mod tests;

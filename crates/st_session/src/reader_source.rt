@@ -1,9 +1,9 @@
-//! The devices over readers and writers.
+//! The source over a reader.
 ghost use Rattle.std.specs.Prelude.{◌≡◌, ◌≤◌, ◌<◌, ◌+◌, ◌-◌, ◌^◌, false, IfOk, OnOk, is_err, length};
 ghost use Rattle.std.specs.Io.KnownBytes.{ReadConsumes};
 
-use crate::devices::{DeviceFault, Sink, Source};
-use std::io::{Read, Write};
+use crate::devices::{DeviceFault, Source};
+use std::io::Read;
 
 /// The most reads that a source over a reader makes. The next one, the 2^62nd, has failed.
 const MOST_READS: u64 = (1 << 62) - 1;
@@ -62,50 +62,6 @@ impl<R: Read> Source for FromReader<R> {
         match self.reader.read(buffer) {
             Ok(count) => Ok(count),
             Err(_) => {
-                self.failed = true;
-                Err(DeviceFault)
-            }
-        }
-    }
-
-    fn failed(&self) -> bool {
-        self.failed
-    }
-}
-
-/// A sink over a writer. Any error of the writer is a failure, an interruption too, and so is a write that takes nothing.
-#[derive(Drop)]
-pub struct ToWriter<W> {
-    writer: W,
-    failed: bool,
-}
-
-impl<W> ToWriter<W> {
-    ghost use Rattle.st_session.specs.Streams.{writer_of, writer_has_failed};
-
-    /// A sink that has not failed, with what the writer has taken.
-    pub fn new(writer: W) -> Self
-        ensures writer { writer_of result ≡ writer }
-        ensures works { writer_has_failed result ≡ false }
-    {
-        ToWriter {
-            writer,
-            failed: false,
-        }
-    }
-}
-
-impl<W: Write> Sink for ToWriter<W> {
-    ghost use Rattle.st_session.specs.Streams.{writer_of, writer_has_failed};
-
-    ghost taken = { λ sink. W.contents (writer_of sink) };
-
-    ghost has_failed = { writer_has_failed };
-
-    fn write_some(&mut self, bytes: &[u8]) -> Result<usize, DeviceFault> {
-        match self.writer.write(bytes) {
-            Ok(count) if count > 0 => Ok(count),
-            _ => {
                 self.failed = true;
                 Err(DeviceFault)
             }
