@@ -230,3 +230,50 @@ TRANSITION T2 (priority := 1) FROM (S8, START) TO (START) := NOT S8.X; END_TRANS
 ACTION ACTION_4: A := B; END_ACTION";
     body_is_read(&rt, alloc, b"", chart)
 }
+
+#[test]
+fn longest_text(rt: HostRuntime) -> Result<(), Fail> {
+    let alloc = rt.alloc();
+    let mut text = Vec::new(alloc);
+    text.extend_from_slice(b"PROGRAM Main ")?;
+    while text.len() < 1_048_500 {
+        text.extend_from_slice(b"A := (B + 1);")?;
+    }
+    text.extend_from_slice(b"END_PROGRAM")?;
+    text.resize(1_048_576, b' ')?;
+    is_read(&rt, alloc, &text, 1)?;
+    text.push(b' ')?;
+    is_refused(&rt, alloc, &text, SyntaxFault::TooLong);
+    Ok(())
+}
+
+/// A text with each line of the grammar.
+const EACH_LINE: &[u8] =
+    b"TYPE T : STRUCT A : INT := -1; B : ARRAY [0..1, 2..3] OF BOOL := [TRUE, 3(FALSE)]; END_STRUCT; END_TYPE
+FUNCTION F : INT VAR_INPUT X, Y : INT; END_VAR F := F(X := Y, E => Z) + G(X, - 1) * (Y MOD 2); END_FUNCTION
+FUNCTION_BLOCK K VAR_OUTPUT Q : T; END_VAR VAR RETAIN D : TIME := T#1s; END_VAR
+  IF NOT Q THEN RETURN; ELSIF Q & D THEN ; ELSE D := BYTE#1; END_IF;
+  CASE D OF 1, -2..3: EXIT; ELSE ; END_CASE;
+  FOR I := 1 TO 9 BY 2 DO A.B[I, 1] := - I; END_FOR;
+  WHILE A DO K2(IN := A); END_WHILE; REPEAT ; UNTIL A OR B END_REPEAT;
+END_FUNCTION_BLOCK
+PROGRAM Main VAR CONSTANT C : DINT := 16#F; END_VAR
+  INITIAL_STEP S1: A(N); B(D, T#1s); END_STEP STEP S2: END_STEP
+  TRANSITION T1 (PRIORITY := 1) FROM S1 TO S2 := A; END_TRANSITION TRANSITION FROM (S1, S2) TO (S2, S1) := B; END_TRANSITION
+  ACTION A: C := 1; END_ACTION
+END_PROGRAM";
+
+/// `tools/refuse-allocations` refuses each allocation of this test in turn.
+#[test]
+fn refused_memory(rt: HostRuntime) {
+    let alloc = rt.alloc();
+    match parse(alloc, EACH_LINE) {
+        Ok(units) => assert_eq!(rt; units.len(), 4),
+        Err(fault) => assert_eq!(rt; fault, SyntaxFault::Memory),
+    }
+    match parse(alloc, EACH_LINE.strip_suffix(b"END_PROGRAM").unwrap_or(b"")) {
+        Ok(_) => assert!(rt; false),
+        Err(SyntaxFault::Memory) => (),
+        Err(fault) => assert_eq!(rt; fault, SyntaxFault::NotInGrammar { line: 12 }),
+    }
+}

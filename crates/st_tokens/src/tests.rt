@@ -1,6 +1,6 @@
 //! What no clause says: the line of a fault, that memory suffices, and the standard's own examples.
 use crate::{Keyword, Kind, Spelling, Symbol, SyntaxFault, tokens};
-use st_tree::{Elem, Value};
+use st_values::{Elem, Value};
 use std::alloc::Global;
 use std::process::Abort;
 use std::test::Fail;
@@ -71,6 +71,35 @@ fn each_kind(rt: HostRuntime) -> Result<(), Fail> {
     ];
     has(&rt, alloc, b"End_If true Time INT#-5", &expected)?;
     has(&rt, alloc, b" \t\r\n(* *)", &[])
+}
+
+#[test]
+fn each_remark(rt: HostRuntime) -> Result<(), Fail> {
+    let alloc = rt.alloc();
+    // a comment ends at the first `*)`
+    has(&rt, alloc, b"(* (* *) 1", &[Kind::Number(1)])?;
+    // single `_` in a duration's numbers, units left out, none held to a range, and other tokens behind it
+    let text = b"T#1_0s T#1d5ms T#100m5s T#5s*x";
+    let expected = [
+        Kind::Duration(10_000),
+        Kind::Duration(86_400_005),
+        Kind::Duration(6_005_000),
+        Kind::Duration(5_000),
+        Kind::Symbol(Symbol::Times),
+        word(b"x"),
+    ];
+    has(&rt, alloc, text, &expected)?;
+    // a typed literal has a base or a sign; other tokens behind it
+    let text = b"BYTE#2#1111_0000+1. WORD#+8 sint";
+    let expected = [
+        typed(Elem::Byte, 240),
+        Kind::Symbol(Symbol::Plus),
+        Kind::Number(1),
+        Kind::Symbol(Symbol::Dot),
+        typed(Elem::Word, 8),
+        Kind::Type(Elem::Sint),
+    ];
+    has(&rt, alloc, text, &expected)
 }
 
 #[test]
@@ -164,7 +193,7 @@ fn durations_of_the_standard(rt: HostRuntime) -> Result<(), Fail> {
 
 #[test]
 fn faults_on_line_1(rt: HostRuntime) {
-    let texts: [&[u8]; 24] = [
+    let texts: [&[u8]; 33] = [
         b"T#1m1h",
         b"A__B",
         b"B_",
@@ -187,6 +216,15 @@ fn faults_on_line_1(rt: HostRuntime) {
         b"T#1.0005s",
         b"TIME#1s_",
         b"t#5d_14h_12m_18s_3.5ms",
+        b"t#25h_15m__3s",
+        b"T#1__0s",
+        b"T#1.5h30m",
+        b"T#1m1m",
+        b"T#5sx",
+        b"T#--5s",
+        b"TIME#5",
+        b"INT# 5",
+        b"_",
         b"#",
         b"(* (* *",
     ];
@@ -211,6 +249,21 @@ fn lines(rt: HostRuntime) -> Result<(), Fail> {
     assert_eq!(rt; found[1].line, 2);
     assert_eq!(rt; found[2].line, 4);
     Ok(())
+}
+
+/// `tools/refuse-allocations` refuses each allocation of this test in turn.
+#[test]
+fn refused_memory(rt: HostRuntime) {
+    let text = [b';'; 1_000];
+    match tokens(rt.alloc(), &text) {
+        Ok(found) => {
+            assert_eq!(rt; found.len(), 1_000);
+            for token in &found {
+                assert!(rt; is_same(&token.kind, &Kind::Symbol(Symbol::Semicolon)));
+            }
+        }
+        Err(fault) => assert_eq!(rt; fault, SyntaxFault::Memory),
+    }
 }
 
 #[test]
