@@ -41,7 +41,7 @@ pub fn signed_integer(ts: &mut Cursor<'_>) -> Result<SignedInteger, ReadFault>
         }
         Some(Kind::Symbol(Symbol::Plus)) => signed(ts, false),
         Some(Kind::Symbol(Symbol::Minus)) => signed(ts, true),
-        _ => Err(ReadFault::NotInGrammar { line: ts.line() }),
+        _ => Err(ts.unexpected()),
     }
 }
 

@@ -1,7 +1,9 @@
 //! A place among the tokens of a text.
 ghost use Rattle.std.specs.Prelude.{◌≡◌, ◌<◌, ◌≤◌, ◌-◌, length, IsSome};
 ghost use Rattle.st_expressions.specs.Tokens.{numbered, kind, line, place, next};
+ghost use Rattle.st_expressions.specs.declared.fault.ReadFault.TheVariants.{NotInGrammar};
 
+use crate::fault::ReadFault;
 use st_tokens::{Kind, Spelling, Symbol, Token};
 use st_tree::tree::Place;
 use std::marker::Model;
@@ -78,6 +80,13 @@ impl<'a> Cursor<'a> {
             [] => None,
             [token, ..] => Some(token.line),
         }
+    }
+
+    /// The fault that the grammar doesn't have the first token here, or that there is none.
+    pub fn unexpected(&self) -> ReadFault
+        ensures { result ≡ NotInGrammar (line self.now) }
+    {
+        ReadFault::NotInGrammar { line: self.line() }
     }
 
     /// Takes the first token.

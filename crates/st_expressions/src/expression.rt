@@ -411,7 +411,7 @@ fn operation(alloc: Global, ts: &mut Cursor<'_>, room: u8, rank: u8) -> Result<O
                 operand,
             })
         }
-        None => Err(ReadFault::NotInGrammar { line: ts.line() }),
+        None => Err(ts.unexpected()),
     }
 }
 

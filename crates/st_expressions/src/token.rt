@@ -65,7 +65,7 @@ pub fn symbol(ts: &mut Cursor<'_>, symbol: Symbol) -> Result<Place, ReadFault>
     if is_symbol(ts, symbol) {
         Ok(ts.skip())
     } else {
-        Err(ReadFault::NotInGrammar { line: ts.line() })
+        Err(ts.unexpected())
     }
 }
 
@@ -78,7 +78,7 @@ pub fn keyword(ts: &mut Cursor<'_>, keyword: Keyword) -> Result<Place, ReadFault
     if is_keyword(ts, keyword) {
         Ok(ts.skip())
     } else {
-        Err(ReadFault::NotInGrammar { line: ts.line() })
+        Err(ts.unexpected())
     }
 }
 
@@ -106,7 +106,7 @@ pub fn word(alloc: Global, ts: &mut Cursor<'_>) -> Result<Identifier, ReadFault>
             let place = ts.skip();
             Ok(Identifier { place, spelling })
         }
-        _ => Err(ReadFault::NotInGrammar { line: ts.line() }),
+        _ => Err(ts.unexpected()),
     }
 }
 
@@ -121,7 +121,7 @@ pub fn number(ts: &mut Cursor<'_>) -> Result<u128, ReadFault>
             ts.skip();
             Ok(number)
         }
-        _ => Err(ReadFault::NotInGrammar { line: ts.line() }),
+        _ => Err(ts.unexpected()),
     }
 }
 

@@ -47,7 +47,7 @@ pub fn opening(ts: &mut Cursor<'_>, room: u8) -> Result<Place, ReadFault>
     if is_open(ts) {
         return enter(ts, room);
     }
-    Err(ReadFault::NotInGrammar { line: ts.line() })
+    Err(ts.unexpected())
 }
 
 #[tactic(auto, unfolding(crate::specs::ChartReading::duration))]
@@ -63,7 +63,7 @@ fn duration(ts: &mut Cursor<'_>) -> Result<Duration, ReadFault>
                 milliseconds,
             })
         }
-        _ => Err(ReadFault::NotInGrammar { line: ts.line() }),
+        _ => Err(ts.unexpected()),
     }
 }
 
@@ -181,7 +181,7 @@ fn priority_word(ts: &mut Cursor<'_>) -> Result<Place, ReadFault>
             return Ok(ts.skip());
         }
     }
-    Err(ReadFault::NotInGrammar { line: ts.line() })
+    Err(ts.unexpected())
 }
 
 /// The priority of a transition, where it has one.
@@ -305,7 +305,7 @@ fn element(alloc: Global, ts: &mut Cursor<'_>, room: u8) -> Result<ChartElement,
         Some(Kind::Keyword(Keyword::Step)) => step(alloc, ts, room, false),
         Some(Kind::Keyword(Keyword::Transition)) => transition(alloc, ts, room),
         Some(Kind::Keyword(Keyword::Action)) => action(alloc, ts, room),
-        _ => Err(ReadFault::NotInGrammar { line: ts.line() }),
+        _ => Err(ts.unexpected()),
     }
 }
 

@@ -395,7 +395,7 @@ fn statement(alloc: Global, ts: &mut Cursor<'_>, room: u8) -> Result<Statement, 
         Some(Kind::Keyword(Keyword::For)) => counting(alloc, ts, room),
         Some(Kind::Keyword(Keyword::While)) => while_loop(alloc, ts, room),
         Some(Kind::Keyword(Keyword::Repeat)) => repeat_loop(alloc, ts, room),
-        _ => Err(ReadFault::NotInGrammar { line: ts.line() }),
+        _ => Err(ts.unexpected()),
     }
 }
 

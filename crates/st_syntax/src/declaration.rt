@@ -89,7 +89,7 @@ fn bracket(ts: &mut Cursor<'_>, room: u8) -> Result<Place, ReadFault>
     if is_bracket(ts) {
         return enter(ts, room);
     }
-    Err(ReadFault::NotInGrammar { line: ts.line() })
+    Err(ts.unexpected())
 }
 
 #[tactic(auto, unfolding(crate::specs::DeclarationReading::type_name))]
@@ -399,7 +399,7 @@ fn var_block(alloc: Global, ts: &mut Cursor<'_>) -> Result<VarBlock, ReadFault>
             let section = retention(ts, Section::Output);
             rest_of_block(alloc, ts, place, section)
         }
-        _ => Err(ReadFault::NotInGrammar { line: ts.line() }),
+        _ => Err(ts.unexpected()),
     }
 }
 

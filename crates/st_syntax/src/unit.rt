@@ -131,7 +131,7 @@ fn elementary(ts: &mut Cursor<'_>) -> Result<Elem, ReadFault>
             ts.skip();
             Ok(elem)
         }
-        _ => Err(ReadFault::NotInGrammar { line: ts.line() }),
+        _ => Err(ts.unexpected()),
     }
 }
 
@@ -233,7 +233,7 @@ fn unit(alloc: Global, ts: &mut Cursor<'_>) -> Result<Unit, ReadFault>
         Some(Kind::Keyword(Keyword::Function)) => function(alloc, ts),
         Some(Kind::Keyword(Keyword::FunctionBlock)) => function_block(alloc, ts),
         Some(Kind::Keyword(Keyword::Program)) => program(alloc, ts),
-        _ => Err(ReadFault::NotInGrammar { line: ts.line() }),
+        _ => Err(ts.unexpected()),
     }
 }
 
