@@ -231,9 +231,9 @@ pub fn alone(alloc: Global, item: Identifier) -> Result<List<Identifier>, ReadFa
     ensures ok { IfOk result (λ list. list ≡ item ∷ []) }
     ensures err { IfErr result (λ fault. fault ≡ Memory) }
 {
-    let mut found = List::new(alloc);
-    found.push(item)?;
-    Ok(found)
+    let mut names = List::new(alloc);
+    names.push(item)?;
+    Ok(names)
 }
 
 /// The steps before or behind a transition.
