@@ -44,5 +44,5 @@ pub data HasForm : List ℕ → Kind → Type 0 where
   -- a duration: `T#` or `TIME#`, an optional `-`, and parts (2.2.3.1)
   duration : (name literal : List ℕ) (ms : ℤ) → IsDurationWord name
       → signed_interval_read literal ≡ Some ms → HasForm (name ++ byte "#" ∷ literal) (K.Duration (time_of ms))
-  -- a symbol
+  -- a symbol: a delimiter of the standard (annex C)
   symbol : (x : Symbol) → HasForm (symbol_text x) (K.Symbol x)
