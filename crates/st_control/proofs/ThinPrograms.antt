@@ -15,7 +15,7 @@ use Rattle.st_tree.specs.declared.tree.declaration.Declaration.{Declaration}
 use Rattle.st_tree.specs.declared.tree.declaration.Initial.{Initial}
 use Rattle.st_tree.specs.declared.tree.declaration.Initial.TheVariants as initials
 use Rattle.st_tree.specs.declared.tree.declaration.VarBlock.{VarBlock}
-use Rattle.st_tree.specs.declared.tree.unit.Organization.{Organization}
+use Rattle.st_tree.specs.declared.tree.unit.Pou.{Pou}
 use Rattle.st_values.specs.declared.value.Value.{Value}
 use Rattle.st_control.specs.ThinPrograms.{Declares, IsOnlyBlock, UnitsGiveOneList, initial_value, leaf, leaf_of, literal_value, only_name, type_of}
 use Rattle.st_control.proofs.ThinDeclarations.{one_list as one_list_of_declarations}
@@ -42,10 +42,10 @@ truth_fits false = refl
 -- what a literal is, is a value
 literal_value-fits : (elem : Elem) (literal : Constant) (value : Value) → literal_value elem literal ≡ Some value → IsValue value
 literal_value-fits elem (constants.Integer number) value is_value = by_sign number.is_negative is_value where
-  by_sign : (negative : Bool) → cond negative None (value_of elem (pos number.size)) ≡ Some value → IsValue value
+  by_sign : (negative : Bool) → cond negative None (value_of elem (pos number.magnitude)) ≡ Some value → IsValue value
   by_sign true is_value = absurd (cc)
-  by_sign false is_value = value_of-fits elem (pos number.size) value is_value
-literal_value-fits E.Bool (constants.Truth place truth) value is_value =
+  by_sign false is_value = value_of-fits elem (pos number.magnitude) value is_value
+literal_value-fits E.Bool (constants.Bool place truth) value is_value =
     let same : record { elem = E.Bool; bits = cond truth (pos 1) (pos 0) } ≡ value = cc in subst IsValue same (truth_fits truth)
 literal_value-fits _ _ value is_value = absurd (cc)
 
@@ -100,7 +100,7 @@ IsSound-of program declarations leaves declares =
 -- ---- programs
 
 -- a program has one block at most that is its only one
-one_block : (program : Organization) (block other : VarBlock) → IsOnlyBlock program block → IsOnlyBlock program other → block ≡ other
+one_block : (program : Pou) (block other : VarBlock) → IsOnlyBlock program block → IsOnlyBlock program other → block ≡ other
 one_block program block other one two = let same = sym one.is_only ∙ two.is_only in cc
 
 -- units are the program of a name with one list of leaves at most

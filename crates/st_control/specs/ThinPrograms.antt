@@ -13,14 +13,14 @@ use Rattle.st_tree.specs.declared.tree.constant.Constant.TheVariants as constant
 use Rattle.st_tree.specs.declared.tree.declaration.Declaration.{Declaration}
 use Rattle.st_tree.specs.declared.tree.declaration.Initial.{Initial}
 use Rattle.st_tree.specs.declared.tree.declaration.Initial.TheVariants as initials
-use Rattle.st_tree.specs.declared.tree.declaration.Section.TheVariants as sections
+use Rattle.st_tree.specs.declared.tree.declaration.VarKind.TheVariants as sections
 use Rattle.st_tree.specs.declared.tree.declaration.Specification.{Specification}
 use Rattle.st_tree.specs.declared.tree.declaration.Specification.TheVariants as specifications
 use Rattle.st_tree.specs.declared.tree.declaration.TypeName.TheVariants as type_names
 use Rattle.st_tree.specs.declared.tree.declaration.VarBlock.{VarBlock}
 use Rattle.st_tree.specs.declared.tree.place.Identifier.{Identifier}
 use Rattle.st_tree.specs.declared.tree.unit.Body.TheVariants as bodies
-use Rattle.st_tree.specs.declared.tree.unit.Organization.{Organization}
+use Rattle.st_tree.specs.declared.tree.unit.Pou.{Pou}
 use Rattle.st_tree.specs.declared.tree.unit.Unit.{Unit as ProgramUnit}
 use Rattle.st_tree.specs.declared.tree.unit.Unit.TheVariants as unit
 use Rattle.st_values.specs.declared.value.Value.{Value}
@@ -44,8 +44,8 @@ type_of _ = None
 
 -- the value that a literal is of a type: a number that isn't below zero and is in the type's range, or TRUE or FALSE of BOOL
 abbrev pub literal_value : Elem → Constant → Option Value
-literal_value elem (constants.Integer number) = if number.is_negative then None else value_of elem (pos number.size)
-literal_value E.Bool (constants.Truth place truth) = Some (record { elem = E.Bool; bits = if truth then pos 1 else pos 0 })
+literal_value elem (constants.Integer number) = if number.is_negative then None else value_of elem (pos number.magnitude)
+literal_value E.Bool (constants.Bool place truth) = Some (record { elem = E.Bool; bits = if truth then pos 1 else pos 0 })
 literal_value elem _ = None
 
 -- the value that a variable of a type begins with: the one that is written, else 0 or FALSE
@@ -78,13 +78,13 @@ pub record Declares (program : List ℕ) (declarations : List Declaration) (leav
 -- ---- programs (2.5.3)
 
 -- a program's only block of variables, which VAR begins
-pub record IsOnlyBlock (program : Organization) (block : VarBlock) : Type 0 where
+pub record IsOnlyBlock (program : Pou) (block : VarBlock) : Type 0 where
   pub is_only : program.variables ≡ block ∷ []
-  pub is_internal : block.section ≡ sections.Internal
+  pub is_internal : block.kind ≡ sections.Internal
 
 -- The units are one program, of the name in question in any case, with one block of variables and no statements.
 pub record IsThinProgram (units : List ProgramUnit) (main : List ℕ) (leaves : List Leaf) : Type 0 where
-  pub program : Organization
+  pub program : Pou
   pub block : VarBlock
   pub is_only : units ≡ unit.Program program ∷ []
   pub is_main : is_word main program.name.spelling ≡ true

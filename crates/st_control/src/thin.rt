@@ -10,7 +10,7 @@ mod variable;
 mod variables;
 
 pub(crate) use fault::ThinFault;
-use st_tree::tree::{Body, Organization, Section, Unit, VarBlock};
+use st_tree::tree::{Body, Pou, VarKind, Unit, VarBlock};
 use st_tree::{Leaf, List};
 use std::alloc::Global;
 use variables::read_variables;
@@ -43,11 +43,11 @@ pub(crate) fn read_thin(alloc: Global, units: &[Unit], main: &[u8]) -> Result<Li
 }
 
 /// A program's only block of variables, where VAR begins it.
-fn only_block(program: &Organization) -> Option<&VarBlock>
+fn only_block(program: &Pou) -> Option<&VarBlock>
     ensures { MatchOption result ((block : _) → IsOnlyBlock program.now block → ⊥) (λ block. IsOnlyBlock program.now block.now) }
 {
     match program.variables.as_slice() {
-        [block] if matches!(block.section, Section::Internal) => Some(block),
+        [block] if matches!(block.kind, VarKind::Internal) => Some(block),
         _ => None,
     }
 }

@@ -10,13 +10,13 @@ use Rattle.st_tokens.specs.declared.symbol.Symbol.{Symbol}
 use Rattle.st_tokens.specs.declared.symbol.Symbol.TheVariants as s
 use Rattle.st_tokens.specs.declared.token.Kind.{Kind}
 use Rattle.st_tokens.specs.declared.token.Kind.TheVariants as k
-use Rattle.st_tree.specs.declared.tree.place.Place.{Place}
-use Rattle.st_tree.specs.declared.tree.place.Identifier.{Identifier}
+use Rattle.st_tree.specs.declared.tree.position.Position.{Position}
+use Rattle.st_tree.specs.declared.tree.position.Identifier.{Identifier}
 use Rattle.st_expressions.specs.Levels.{opens, closes}
 use Rattle.st_expressions.specs.Lists.{IsMany, none, more, IsNext, comma, IsListed, listed}
 use Rattle.st_expressions.specs.Parsers as parser
 use Rattle.st_expressions.specs.Parsers.{Refusal, Wrong, Deep, Outcome, Parser, and_then, many_from, many, is_comma}
-use Rattle.st_expressions.specs.Tokens.{identifier, Tok, kind, next, place, same_symbol, same_keyword}
+use Rattle.st_expressions.specs.Tokens.{identifier, Tok, kind, next, position, same_symbol, same_keyword}
 use Rattle.st_expressions.proofs.Loops.{ahead, at_item, at_end, at_err, ahead_ok, ahead_err, ok_parts}
 use Rattle.st_expressions.proofs.Room.{At, past, Leads, leads, enters, full}
 
@@ -51,18 +51,18 @@ pub data Then {A B : Type 0} (R : Relation A) (S : A → Relation B) : List Tok 
   seq : {ts mid rest : List Tok} {x : A} {y : B} → R ts x mid → S x mid y rest → Then R S ts y rest
 
 -- one token
-pub data IsOne (x : Kind) : List Tok → Place → List Tok → Type 0 where
-  one : {p : Place} {rest : List Tok} → IsOne x ((p, x) ∷ rest) p rest
+pub data IsOne (x : Kind) : List Tok → Position → List Tok → Type 0 where
+  one : {p : Position} {rest : List Tok} → IsOne x ((p, x) ∷ rest) p rest
 
 -- no token
 pub data IsPure {A : Type 0} (a : A) : List Tok → A → List Tok → Type 0 where
   done : {ts : List Tok} → IsPure a ts a ts
 
 pub data IsWord : List Tok → Identifier → List Tok → Type 0 where
-  a_word : {p : Place} {n : List ℕ} {rest : List Tok} → IsWord ((p, k.Word n) ∷ rest) (identifier p n) rest
+  a_word : {p : Position} {n : List ℕ} {rest : List Tok} → IsWord ((p, k.Word n) ∷ rest) (identifier p n) rest
 
 pub data IsNumber : List Tok → ℕ → List Tok → Type 0 where
-  a_number : {p : Place} {n : ℕ} {rest : List Tok} → IsNumber ((p, k.Number n) ∷ rest) n rest
+  a_number : {p : Position} {n : ℕ} {rest : List Tok} → IsNumber ((p, k.Number n) ∷ rest) n rest
 
 -- ---- sequences
 
@@ -183,13 +183,13 @@ exact_on g f pre R F Q Q' a = record {
 abbrev pub IsFirst : Kind → List Tok → Type 0
 IsFirst x ts = kind ts ≡ Some x
 
-pub at_first : (x : Kind) (M : List Tok → Type 0) → ((p : Place) (us : List Tok) → M ((p, x) ∷ us)) → (ts : List Tok) → IsFirst x ts → M ts
+pub at_first : (x : Kind) (M : List Tok → Type 0) → ((p : Position) (us : List Tok) → M ((p, x) ∷ us)) → (ts : List Tok) → IsFirst x ts → M ts
 at_first x M m [] first = absurd (cc)
 at_first x M m (t ∷ ts) first = let same : t.1 ≡ x = cc in subst (λ y. M ((t.0, y) ∷ ts)) (sym same) (m t.0 ts)
 
 -- a token that is there, and then f
-module _ {A : Type 0} {d : ℕ} {f : Place → Parser A} (x : Kind) (pre : List Tok → Type 0) (R : Relation A) (F : Option Kind → Type 0) (Q Q' Q'' : List Tok → Type 0)
-    (l : Leads Q Q' x) (b : (p : Place) → Exact d (f p) (λ us. pre ((p, x) ∷ us)) (λ us. R ((p, x) ∷ us)) F Q' Q'') where
+module _ {A : Type 0} {d : ℕ} {f : Position → Parser A} (x : Kind) (pre : List Tok → Type 0) (R : Relation A) (F : Option Kind → Type 0) (Q Q' Q'' : List Tok → Type 0)
+    (l : Leads Q Q' x) (b : (p : Position) → Exact d (f p) (λ us. pre ((p, x) ∷ us)) (λ us. R ((p, x) ∷ us)) F Q' Q'') where
   token_reads : (ts : List Tok) → IsFirst x ts → (y : A) (rest : List Tok) → pre ts → and_then (parser.skip ts) f ≡ Ok (y, rest) → Found 1 R Q Q'' ts y rest
   token_reads = at_first x (λ ts. (y : A) (rest : List Tok) → pre ts → and_then (parser.skip ts) f ≡ Ok (y, rest) → Found 1 R Q Q'' ts y rest)
       (λ p us y rest i h. let u = (b p).reads us y rest i h in
@@ -209,16 +209,16 @@ module _ {A : Type 0} {d : ℕ} {f : Place → Parser A} (x : Kind) (pre : List 
     read = λ ts y rest i r g q. token_read ts i.0 y rest i.1 r g q;
   }
 
-pub exact_token : {A : Type 0} {d r : ℕ} {f : Place → Parser A} (x : Kind) → opens x ≡ 0 → {R : Relation A} {F : Option Kind → Type 0} {Q'' : List Tok → Type 0}
-    → ((p : Place) → Exact d (f p) Always (λ us. R ((p, x) ∷ us)) F (At (past (closes x) r)) Q'') → Exact 1 (λ ts. and_then (parser.skip ts) f) (IsFirst x) R F (At r) Q''
+pub exact_token : {A : Type 0} {d r : ℕ} {f : Position → Parser A} (x : Kind) → opens x ≡ 0 → {R : Relation A} {F : Option Kind → Type 0} {Q'' : List Tok → Type 0}
+    → ((p : Position) → Exact d (f p) Always (λ us. R ((p, x) ∷ us)) F (At (past (closes x) r)) Q'') → Exact 1 (λ ts. and_then (parser.skip ts) f) (IsFirst x) R F (At r) Q''
 exact_token {r = r} x plain {R} {F} {Q''} b = exact_as (exact_token_if x Always R F (At r) (At (past (closes x) r)) Q'' (leads x r plain) b) (λ ts i. (i, tt)) (λ ts y rest i d. d) (λ ts y rest i g d. d) (λ t g. g)
 
 -- what is behind a token that opens a level
-abbrev pub Behind : {A : Type 0} → ℕ → ℕ → (Place → Parser A) → Kind → Relation A → (Option Kind → Type 0) → Type 0
+abbrev pub Behind : {A : Type 0} → ℕ → ℕ → (Position → Parser A) → Kind → Relation A → (Option Kind → Type 0) → Type 0
 Behind d zero f x R F = Unit {0}
-Behind d (suc r) f x R F = (p : Place) → Exact d (f p) Always (λ us. R ((p, x) ∷ us)) F (At r) (At (suc r))
+Behind d (suc r) f x R F = (p : Position) → Exact d (f p) Always (λ us. R ((p, x) ∷ us)) F (At r) (At (suc r))
 
-pub exact_enter : {A : Type 0} (d r : ℕ) (f : Place → Parser A) (x : Kind) → opens x ≡ 1 → {R : Relation A} {F : Option Kind → Type 0}
+pub exact_enter : {A : Type 0} (d r : ℕ) (f : Position → Parser A) (x : Kind) → opens x ≡ 1 → {R : Relation A} {F : Option Kind → Type 0}
     → Behind d r f x R F → Exact 1 (λ ts. and_then (parser.enter r ts) f) (IsFirst x) R F (At r) (At r)
 unfolding parser.enter
 exact_enter d zero f x opening {R} {F} b = record {
@@ -230,15 +230,15 @@ exact_enter d (suc r) f x opening {R} {F} b = exact_as (exact_token_if x Always 
 
 -- a token that must be there
 module _ (x : Kind) (test : Option Kind → Bool) (r : ℕ) (plain : opens x ≡ 0) (only : (t : Option Kind) → test t ≡ true → t ≡ Some x) (passes : test (Some x) ≡ true) where
-  expected : (ts : List Tok) (p : Place) (rest : List Tok) → IsFirst x ts → ◌≡◌ {A = Outcome Place} (Ok (place ts, next ts)) (Ok (p, rest))
+  expected : (ts : List Tok) (p : Position) (rest : List Tok) → IsFirst x ts → ◌≡◌ {A = Outcome Position} (Ok (position ts, next ts)) (Ok (p, rest))
       → Found 1 (IsOne x) (At r) (At (past (closes x) r)) ts p rest
-  expected ts p rest first h = at_first x (λ us. ◌≡◌ {A = Outcome Place} (Ok (place us, next us)) (Ok (p, rest)) → Found 1 (IsOne x) (At r) (At (past (closes x) r)) us p rest)
+  expected ts p rest first h = at_first x (λ us. ◌≡◌ {A = Outcome Position} (Ok (position us, next us)) (Ok (p, rest)) → Found 1 (IsOne x) (At r) (At (past (closes x) r)) us p rest)
       (λ q us e. let same = ok_parts e in
       subst (λ z. Found 1 (IsOne x) (At r) (At (past (closes x) r)) ((q, x) ∷ us) z rest) same.0
       (subst (λ vs. Found 1 (IsOne x) (At r) (At (past (closes x) r)) ((q, x) ∷ us) q vs) same.1
       (record { is = one; takes = omega arith; after = (leads x r plain q us).0; before = (leads x r plain q us).1 }))) ts first h
 
-  expect_reads : (ts : List Tok) (p : Place) (rest : List Tok) (b : Bool) → test (kind ts) ≡ b → parser.expect test ts ≡ Ok (p, rest) → Found 1 (IsOne x) (At r) (At (past (closes x) r)) ts p rest
+  expect_reads : (ts : List Tok) (p : Position) (rest : List Tok) (b : Bool) → test (kind ts) ≡ b → parser.expect test ts ≡ Ok (p, rest) → Found 1 (IsOne x) (At r) (At (past (closes x) r)) ts p rest
   unfolding parser.expect
   expect_reads ts p rest true t h = expected ts p rest (only (kind ts) t) (rw t at h)
   expect_reads ts p rest false t h = let g = rw t at h in absurd (cc)
@@ -248,7 +248,7 @@ module _ (x : Kind) (test : Option Kind → Bool) (r : ℕ) (plain : opens x ≡
   expect_deep ts true t h = let g = rw t at h in cc
   expect_deep ts false t h = let g = rw t at h in cc
 
-  expect_read : {ts rest : List Tok} {p : Place} → IsOne x ts p rest → parser.expect test ts ≡ Ok (p, rest)
+  expect_read : {ts rest : List Tok} {p : Position} → IsOne x ts p rest → parser.expect test ts ≡ Ok (p, rest)
   unfolding parser.expect
   expect_read one = rw passes refl
 
@@ -326,13 +326,13 @@ exact_number r = record { reads = λ ts x rest u h. reads ts x rest h; deep = λ
 -- ---- what may follow
 
 -- a token of which F holds comes next
-pub before_token : {B : Type 0} {x : Kind} {S : Place → Relation B} (F : Option Kind → Type 0) → F (Some x) → {mid rest : List Tok} {y : B} → Then (IsOne x) S mid y rest → F (kind mid)
+pub before_token : {B : Type 0} {x : Kind} {S : Position → Relation B} (F : Option Kind → Type 0) → F (Some x) → {mid rest : List Tok} {y : B} → Then (IsOne x) S mid y rest → F (kind mid)
 before_token F f (seq one t) = f
 
 -- P, and then a token that must be there
-pub exact_before : {A B : Type 0} {c d e : ℕ} {P : Parser A} {T : Parser Place} {f : A → Place → Parser B} {pre : List Tok → Type 0} {R : Relation A} {S : A → Place → Relation B}
+pub exact_before : {A B : Type 0} {c d e : ℕ} {P : Parser A} {T : Parser Position} {f : A → Position → Parser B} {pre : List Tok → Type 0} {R : Relation A} {S : A → Position → Relation B}
     {F G : Option Kind → Type 0} {Q Q' Q'' Q''' : List Tok → Type 0} (x : Kind) → Exact c P pre R F Q Q' → F (Some x) → Exact d T Always (IsOne x) Any Q' Q''
-    → ((a : A) (p : Place) → Exact e (f a p) Always (S a p) G Q'' Q''')
+    → ((a : A) (p : Position) → Exact e (f a p) Always (S a p) G Q'' Q''')
     → Exact c (λ ts. and_then (P ts) (λ a us. and_then (T us) (f a))) pre (Then R (λ a. Then (IsOne x) (S a))) G Q Q'''
 exact_before {F = F} x a fits t b = exact_bind a (λ y. exact_bind t (b y) (λ p mid rest z s g. tt)) (λ y mid rest z s g. before_token F fits s)
 
@@ -402,7 +402,7 @@ module _ {A : Type 0} (item : Parser A) (R : Relation A) (F : Option Kind → Ty
   next_begins : (ts : List Tok) (x : A) (rest : List Tok) → IsNext R ts x rest → is_comma (kind ts) ≡ true
   next_begins ts x rest (comma d) = refl
 
-  without_comma : (p : Place) (ts : List Tok) (x : A) (rest : List Tok) → IsNext R ((p, k.Symbol s.Comma) ∷ ts) x rest → R ts x rest
+  without_comma : (p : Position) (ts : List Tok) (x : A) (rest : List Tok) → IsNext R ((p, k.Symbol s.Comma) ∷ ts) x rest → R ts x rest
   without_comma p ts x rest (comma d) = d
 
   exact_next : Exact 1 (parser.next_item item) (λ ts. is_comma (kind ts) ≡ true) (IsNext R) F (At r) (At r)

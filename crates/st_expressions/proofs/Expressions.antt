@@ -6,8 +6,8 @@ use Rattle.st_tokens.specs.declared.symbol.Symbol.TheVariants as s
 use Rattle.st_tokens.specs.declared.token.Kind.{Kind}
 use Rattle.st_tokens.specs.declared.token.Kind.TheVariants as k
 use Rattle.st_tree.specs.declared.operator.BinOp.{BinOp}
-use Rattle.st_tree.specs.declared.tree.place.Place.{Place}
-use Rattle.st_tree.specs.declared.tree.place.Identifier.{Identifier}
+use Rattle.st_tree.specs.declared.tree.position.Position.{Position}
+use Rattle.st_tree.specs.declared.tree.position.Identifier.{Identifier}
 use Rattle.st_tree.specs.declared.tree.constant.SignedInteger.{SignedInteger}
 use Rattle.st_tree.specs.declared.tree.constant.Constant.{Constant}
 use Rattle.st_tree.specs.declared.tree.constant.Constant.TheVariants as c
@@ -27,7 +27,7 @@ use Rattle.st_expressions.specs.Parsers as parser
 use Rattle.st_expressions.specs.Parsers.{Parser, and_then, many, is_comma}
 use Rattle.st_expressions.specs.Reading as spec
 use Rattle.st_expressions.specs.Reading.{Inside, begins_part}
-use Rattle.st_expressions.specs.Tokens.{Tok, kind, next, place}
+use Rattle.st_expressions.specs.Tokens.{Tok, kind, next, position}
 use Rattle.st_expressions.proofs.Exact.{Relation, Exact, Always, Any, Then, seq, IsOne, one, IsPure, done, IsWord, a_word, IsNumber, a_number, exact_bind, exact_bind_if, exact_as, exact_iff, exact_last, exact_under, exact_pure, made, exact_refuse, exact_on, IsFirst, exact_token, exact_token_if, exact_enter, Behind, exact_symbol, exact_word, exact_number, exact_before, Ends, exact_many, exact_listed}
 use Rattle.st_expressions.proofs.Follows.{Stops, stops_less, stops_at, stops_part, stops_operator, rank_is, begins_integer, integer_begins, begins_constant, constant_begins, primary_begins, argument_begins, part_begins, operation_begins, rank_word, Ending}
 use Rattle.st_expressions.proofs.Room.{At, past, Leads, leads}
@@ -38,27 +38,27 @@ module _ (r : ℕ) where
   plus_exact : Exact 1 (spec.signed false) (IsFirst (k.Symbol s.Plus)) IsSignedInteger Any (At r) (At r)
   unfolding spec.signed
   plus_exact = exact_token (k.Symbol s.Plus) refl {R = IsSignedInteger} (λ p. exact_iff (exact_last (exact_number r) (λ n. integer_of p false n)) (to p) (from p)) where
-    to : (p : Place) (ts : List Tok) (x : SignedInteger) (rest : List Tok) → Then IsNumber (λ n. IsPure (integer_of p false n)) ts x rest → IsSignedInteger ((p, k.Symbol s.Plus) ∷ ts) x rest
+    to : (p : Position) (ts : List Tok) (x : SignedInteger) (rest : List Tok) → Then IsNumber (λ n. IsPure (integer_of p false n)) ts x rest → IsSignedInteger ((p, k.Symbol s.Plus) ∷ ts) x rest
     to p ts x rest (seq a_number d) = made d (λ y us. IsSignedInteger ((p, k.Symbol s.Plus) ∷ ts) y us) plus
 
-    from : (p : Place) (ts : List Tok) (x : SignedInteger) (rest : List Tok) → IsSignedInteger ((p, k.Symbol s.Plus) ∷ ts) x rest → Then IsNumber (λ n. IsPure (integer_of p false n)) ts x rest
+    from : (p : Position) (ts : List Tok) (x : SignedInteger) (rest : List Tok) → IsSignedInteger ((p, k.Symbol s.Plus) ∷ ts) x rest → Then IsNumber (λ n. IsPure (integer_of p false n)) ts x rest
     from p ts x rest plus = seq a_number done
 
   minus_exact : Exact 1 (spec.signed true) (IsFirst (k.Symbol s.Minus)) IsSignedInteger Any (At r) (At r)
   unfolding spec.signed
   minus_exact = exact_token (k.Symbol s.Minus) refl {R = IsSignedInteger} (λ p. exact_iff (exact_last (exact_number r) (λ n. integer_of p true n)) (to p) (from p)) where
-    to : (p : Place) (ts : List Tok) (x : SignedInteger) (rest : List Tok) → Then IsNumber (λ n. IsPure (integer_of p true n)) ts x rest → IsSignedInteger ((p, k.Symbol s.Minus) ∷ ts) x rest
+    to : (p : Position) (ts : List Tok) (x : SignedInteger) (rest : List Tok) → Then IsNumber (λ n. IsPure (integer_of p true n)) ts x rest → IsSignedInteger ((p, k.Symbol s.Minus) ∷ ts) x rest
     to p ts x rest (seq a_number d) = made d (λ y us. IsSignedInteger ((p, k.Symbol s.Minus) ∷ ts) y us) minus
 
-    from : (p : Place) (ts : List Tok) (x : SignedInteger) (rest : List Tok) → IsSignedInteger ((p, k.Symbol s.Minus) ∷ ts) x rest → Then IsNumber (λ n. IsPure (integer_of p true n)) ts x rest
+    from : (p : Position) (ts : List Tok) (x : SignedInteger) (rest : List Tok) → IsSignedInteger ((p, k.Symbol s.Minus) ∷ ts) x rest → Then IsNumber (λ n. IsPure (integer_of p true n)) ts x rest
     from p ts x rest minus = seq a_number done
 
   integer_by : (t : Option Kind) → Exact 1 (spec.integer_by t) (λ ts. (kind ts ≡ t) × Always ts) IsSignedInteger Any (At r) (At r)
   integer_by (Some (k.Number n)) = exact_under (exact_token (k.Number n) refl {R = IsSignedInteger} (λ p. exact_iff (exact_pure (integer_of p false n) Always Any (At r)) (to p) (from p))) (λ ts p. p.0) (λ t g. g) where
-    to : (p : Place) (ts : List Tok) (x : SignedInteger) (rest : List Tok) → IsPure (integer_of p false n) ts x rest → IsSignedInteger ((p, k.Number n) ∷ ts) x rest
+    to : (p : Position) (ts : List Tok) (x : SignedInteger) (rest : List Tok) → IsPure (integer_of p false n) ts x rest → IsSignedInteger ((p, k.Number n) ∷ ts) x rest
     to p ts x rest d = made d (λ y us. IsSignedInteger ((p, k.Number n) ∷ ts) y us) unsigned
 
-    from : (p : Place) (ts : List Tok) (x : SignedInteger) (rest : List Tok) → IsSignedInteger ((p, k.Number n) ∷ ts) x rest → IsPure (integer_of p false n) ts x rest
+    from : (p : Position) (ts : List Tok) (x : SignedInteger) (rest : List Tok) → IsSignedInteger ((p, k.Number n) ∷ ts) x rest → IsPure (integer_of p false n) ts x rest
     from p ts x rest unsigned = done
   integer_by (Some (k.Symbol s.Plus)) = exact_under plus_exact (λ ts p. p.0) (λ t g. g)
   integer_by (Some (k.Symbol s.Minus)) = exact_under minus_exact (λ ts p. p.0) (λ t g. g)
@@ -68,31 +68,31 @@ module _ (r : ℕ) where
   unfolding spec.signed_integer
   signed_integer_exact = exact_on kind spec.integer_by Always IsSignedInteger Any (At r) (At r) integer_by
 
-  typed_to : (v : _) (p : Place) (ts : List Tok) (x : Constant) (rest : List Tok) → IsPure (c.Typed p v) ts x rest → IsConstant ((p, k.Typed v) ∷ ts) x rest
+  typed_to : (v : _) (p : Position) (ts : List Tok) (x : Constant) (rest : List Tok) → IsPure (c.Typed p v) ts x rest → IsConstant ((p, k.Typed v) ∷ ts) x rest
   typed_to v p ts x rest d = made d (λ y us. IsConstant ((p, k.Typed v) ∷ ts) y us) typed
 
-  typed_from : (v : _) (p : Place) (ts : List Tok) (x : Constant) (rest : List Tok) → IsConstant ((p, k.Typed v) ∷ ts) x rest → IsPure (c.Typed p v) ts x rest
+  typed_from : (v : _) (p : Position) (ts : List Tok) (x : Constant) (rest : List Tok) → IsConstant ((p, k.Typed v) ∷ ts) x rest → IsPure (c.Typed p v) ts x rest
   typed_from v p ts x rest typed = done
   typed_from v p ts x rest (integer d) = absurd (let wrong = integer_begins d in cc)
 
-  duration_to : (v : _) (p : Place) (ts : List Tok) (x : Constant) (rest : List Tok) → IsPure (c.Duration (duration_of p v)) ts x rest → IsConstant ((p, k.Duration v) ∷ ts) x rest
+  duration_to : (v : _) (p : Position) (ts : List Tok) (x : Constant) (rest : List Tok) → IsPure (c.Duration (duration_of p v)) ts x rest → IsConstant ((p, k.Duration v) ∷ ts) x rest
   duration_to v p ts x rest d = made d (λ y us. IsConstant ((p, k.Duration v) ∷ ts) y us) duration
 
-  duration_from : (v : _) (p : Place) (ts : List Tok) (x : Constant) (rest : List Tok) → IsConstant ((p, k.Duration v) ∷ ts) x rest → IsPure (c.Duration (duration_of p v)) ts x rest
+  duration_from : (v : _) (p : Position) (ts : List Tok) (x : Constant) (rest : List Tok) → IsConstant ((p, k.Duration v) ∷ ts) x rest → IsPure (c.Duration (duration_of p v)) ts x rest
   duration_from v p ts x rest duration = done
   duration_from v p ts x rest (integer d) = absurd (let wrong = integer_begins d in cc)
 
-  truth_to : (p : Place) (ts : List Tok) (x : Constant) (rest : List Tok) → IsPure (c.Truth p true) ts x rest → IsConstant ((p, k.Keyword w.True) ∷ ts) x rest
+  truth_to : (p : Position) (ts : List Tok) (x : Constant) (rest : List Tok) → IsPure (c.Bool p true) ts x rest → IsConstant ((p, k.Keyword w.True) ∷ ts) x rest
   truth_to p ts x rest d = made d (λ y us. IsConstant ((p, k.Keyword w.True) ∷ ts) y us) truth
 
-  truth_from : (p : Place) (ts : List Tok) (x : Constant) (rest : List Tok) → IsConstant ((p, k.Keyword w.True) ∷ ts) x rest → IsPure (c.Truth p true) ts x rest
+  truth_from : (p : Position) (ts : List Tok) (x : Constant) (rest : List Tok) → IsConstant ((p, k.Keyword w.True) ∷ ts) x rest → IsPure (c.Bool p true) ts x rest
   truth_from p ts x rest truth = done
   truth_from p ts x rest (integer d) = absurd (let wrong = integer_begins d in cc)
 
-  falsehood_to : (p : Place) (ts : List Tok) (x : Constant) (rest : List Tok) → IsPure (c.Truth p false) ts x rest → IsConstant ((p, k.Keyword w.False) ∷ ts) x rest
+  falsehood_to : (p : Position) (ts : List Tok) (x : Constant) (rest : List Tok) → IsPure (c.Bool p false) ts x rest → IsConstant ((p, k.Keyword w.False) ∷ ts) x rest
   falsehood_to p ts x rest d = made d (λ y us. IsConstant ((p, k.Keyword w.False) ∷ ts) y us) falsehood
 
-  falsehood_from : (p : Place) (ts : List Tok) (x : Constant) (rest : List Tok) → IsConstant ((p, k.Keyword w.False) ∷ ts) x rest → IsPure (c.Truth p false) ts x rest
+  falsehood_from : (p : Position) (ts : List Tok) (x : Constant) (rest : List Tok) → IsConstant ((p, k.Keyword w.False) ∷ ts) x rest → IsPure (c.Bool p false) ts x rest
   falsehood_from p ts x rest falsehood = done
   falsehood_from p ts x rest (integer d) = absurd (let wrong = integer_begins d in cc)
 
@@ -122,8 +122,8 @@ module _ (r : ℕ) where
   constant_by : (t : Option Kind) → Exact 1 (spec.constant_by t) (λ ts. (kind ts ≡ t) × Always ts) IsConstant Any (At r) (At r)
   constant_by (Some (k.Typed v)) = exact_under (exact_token (k.Typed v) refl {R = IsConstant} (λ p. exact_iff (exact_pure (c.Typed p v) Always Any (At r)) (typed_to v p) (typed_from v p))) (λ ts p. p.0) (λ t g. g)
   constant_by (Some (k.Duration v)) = exact_under (exact_token (k.Duration v) refl {R = IsConstant} (λ p. exact_iff (exact_pure (c.Duration (duration_of p v)) Always Any (At r)) (duration_to v p) (duration_from v p))) (λ ts p. p.0) (λ t g. g)
-  constant_by (Some (k.Keyword w.True)) = exact_under (exact_token (k.Keyword w.True) refl {R = IsConstant} (λ p. exact_iff (exact_pure (c.Truth p true) Always Any (At r)) (truth_to p) (truth_from p))) (λ ts p. p.0) (λ t g. g)
-  constant_by (Some (k.Keyword w.False)) = exact_under (exact_token (k.Keyword w.False) refl {R = IsConstant} (λ p. exact_iff (exact_pure (c.Truth p false) Always Any (At r)) (falsehood_to p) (falsehood_from p))) (λ ts p. p.0) (λ t g. g)
+  constant_by (Some (k.Keyword w.True)) = exact_under (exact_token (k.Keyword w.True) refl {R = IsConstant} (λ p. exact_iff (exact_pure (c.Bool p true) Always Any (At r)) (truth_to p) (truth_from p))) (λ ts p. p.0) (λ t g. g)
+  constant_by (Some (k.Keyword w.False)) = exact_under (exact_token (k.Keyword w.False) refl {R = IsConstant} (λ p. exact_iff (exact_pure (c.Bool p false) Always Any (At r)) (falsehood_to p) (falsehood_from p))) (λ ts p. p.0) (λ t g. g)
   constant_by t = number_constant t refl
 
   pub constant_exact : Exact 1 spec.constant Always IsConstant Any (At r) (At r)
@@ -140,10 +140,10 @@ ExactInside (suc r) i = (Exact 1 i.expression Always (IsRank 7) (Stops 7) (At r)
 field_exact : (r : ℕ) → Exact 1 spec.field (IsFirst (k.Symbol s.Dot)) IsPart Any (At r) (At r)
 unfolding spec.field
 field_exact r = exact_token (k.Symbol s.Dot) refl {R = IsPart} (λ p. exact_iff (exact_last (exact_word r) part.Field) (to p) (from p)) where
-  to : (p : Place) (ts : List Tok) (x : Part) (rest : List Tok) → Then IsWord (λ n. IsPure (part.Field n)) ts x rest → IsPart ((p, k.Symbol s.Dot) ∷ ts) x rest
+  to : (p : Position) (ts : List Tok) (x : Part) (rest : List Tok) → Then IsWord (λ n. IsPure (part.Field n)) ts x rest → IsPart ((p, k.Symbol s.Dot) ∷ ts) x rest
   to p ts x rest (seq a_word d) = made d (λ y us. IsPart ((p, k.Symbol s.Dot) ∷ ts) y us) field
 
-  from : (p : Place) (ts : List Tok) (x : Part) (rest : List Tok) → IsPart ((p, k.Symbol s.Dot) ∷ ts) x rest → Then IsWord (λ n. IsPure (part.Field n)) ts x rest
+  from : (p : Position) (ts : List Tok) (x : Part) (rest : List Tok) → IsPart ((p, k.Symbol s.Dot) ∷ ts) x rest → Then IsWord (λ n. IsPure (part.Field n)) ts x rest
   from p ts x rest field = seq a_word done
 
 to_expressions : {ts rest : List Tok} {xs : List Expression} → IsMany (IsNext (IsRank 7)) ts xs rest → IsNextExpressions ts xs rest
@@ -154,13 +154,13 @@ from_expressions : {ts rest : List Tok} {xs : List Expression} → IsNextExpress
 from_expressions no_expression = none
 from_expressions (next_expressions d m) = more (comma d) (from_expressions m)
 
-abbrev AreSubscripts : Place → Relation Part
+abbrev AreSubscripts : Position → Relation Part
 AreSubscripts p = Then (IsListed (IsRank 7)) (λ xs. Then (IsOne (k.Symbol s.CloseBracket)) (λ q. IsPure (part.Subscripts p xs)))
 
-subscripts_to : (p : Place) (ts : List Tok) (x : Part) (rest : List Tok) → AreSubscripts p ts x rest → IsPart ((p, k.Symbol s.OpenBracket) ∷ ts) x rest
+subscripts_to : (p : Position) (ts : List Tok) (x : Part) (rest : List Tok) → AreSubscripts p ts x rest → IsPart ((p, k.Symbol s.OpenBracket) ∷ ts) x rest
 subscripts_to p ts x rest (seq (listed d m) (seq one e)) = made e (λ y us. IsPart ((p, k.Symbol s.OpenBracket) ∷ ts) y us) (subscripts d (to_expressions m))
 
-subscripts_from : (p : Place) (ts : List Tok) (x : Part) (rest : List Tok) → IsPart ((p, k.Symbol s.OpenBracket) ∷ ts) x rest → AreSubscripts p ts x rest
+subscripts_from : (p : Position) (ts : List Tok) (x : Part) (rest : List Tok) → IsPart ((p, k.Symbol s.OpenBracket) ∷ ts) x rest → AreSubscripts p ts x rest
 subscripts_from p ts x rest (subscripts d m) = seq (listed d (from_expressions m)) (seq one done)
 
 subscripts_behind : (r : ℕ) (i : Inside) → ExactInside r i
@@ -304,15 +304,15 @@ close_is : (t : Option Kind) → spec.is_close t ≡ true → t ≡ Some (k.Symb
 close_is (Some (k.Symbol s.Close)) h = refl
 close_is _ h = absurd (cc)
 
-module _ (r : ℕ) (i : Inside) (e : ExactInside (suc r) i) (p : Place) where
+module _ (r : ℕ) (i : Inside) (e : ExactInside (suc r) i) (p : Position) where
   -- behind the '('
   abbrev IsRest : Relation (List Argument)
   IsRest ts xs rest = IsArguments ((p, k.Symbol s.Open) ∷ ts) xs rest
 
-  empty_to : (q : Place) (ts : List Tok) (x : List Argument) (rest : List Tok) → IsPure [] ts x rest → IsRest ((q, k.Symbol s.Close) ∷ ts) x rest
+  empty_to : (q : Position) (ts : List Tok) (x : List Argument) (rest : List Tok) → IsPure [] ts x rest → IsRest ((q, k.Symbol s.Close) ∷ ts) x rest
   empty_to q ts x rest d = made d (λ y us. IsRest ((q, k.Symbol s.Close) ∷ ts) y us) no_arguments
 
-  empty_from : (q : Place) (ts : List Tok) (x : List Argument) (rest : List Tok) → IsRest ((q, k.Symbol s.Close) ∷ ts) x rest → IsPure [] ts x rest
+  empty_from : (q : Position) (ts : List Tok) (x : List Argument) (rest : List Tok) → IsRest ((q, k.Symbol s.Close) ∷ ts) x rest → IsPure [] ts x rest
   empty_from q ts x rest no_arguments = done
   empty_from q ts x rest (arguments d m) = absurd (let wrong = argument_begins d in cc)
 
@@ -340,10 +340,10 @@ module _ (r : ℕ) (i : Inside) (e : ExactInside (suc r) i) (p : Place) where
 abbrev Called : Identifier → Relation Call
 Called n = Then IsArguments (λ xs. IsPure (call_of n xs))
 
-called_to : (n : Identifier) (p : Place) (ts : List Tok) (x : Call) (rest : List Tok) → Then (λ us. IsArguments ((p, k.Symbol s.Open) ∷ us)) (λ xs. IsPure (call_of n xs)) ts x rest → Called n ((p, k.Symbol s.Open) ∷ ts) x rest
+called_to : (n : Identifier) (p : Position) (ts : List Tok) (x : Call) (rest : List Tok) → Then (λ us. IsArguments ((p, k.Symbol s.Open) ∷ us)) (λ xs. IsPure (call_of n xs)) ts x rest → Called n ((p, k.Symbol s.Open) ∷ ts) x rest
 called_to n p ts x rest (seq d m) = seq d m
 
-called_from : (n : Identifier) (p : Place) (ts : List Tok) (x : Call) (rest : List Tok) → Called n ((p, k.Symbol s.Open) ∷ ts) x rest → Then (λ us. IsArguments ((p, k.Symbol s.Open) ∷ us)) (λ xs. IsPure (call_of n xs)) ts x rest
+called_from : (n : Identifier) (p : Position) (ts : List Tok) (x : Call) (rest : List Tok) → Called n ((p, k.Symbol s.Open) ∷ ts) x rest → Then (λ us. IsArguments ((p, k.Symbol s.Open) ∷ us)) (λ xs. IsPure (call_of n xs)) ts x rest
 called_from n p ts x rest (seq d m) = seq d m
 
 called_behind : (r : ℕ) (i : Inside) → ExactInside r i → (n : Identifier)
@@ -369,22 +369,22 @@ call_exact r i e = exact_iff
 
 -- ---- operands
 
-group_to : (p : Place) (ts : List Tok) (x : Expression) (rest : List Tok) → Then (IsRank 7) (λ y. Then (IsOne (k.Symbol s.Close)) (λ q. IsPure (e.Group p y))) ts x rest
+group_to : (p : Position) (ts : List Tok) (x : Expression) (rest : List Tok) → Then (IsRank 7) (λ y. Then (IsOne (k.Symbol s.Close)) (λ q. IsPure (e.Parenthesized p y))) ts x rest
     → IsPrimary ((p, k.Symbol s.Open) ∷ ts) x rest
 group_to p ts x rest (seq d (seq one m)) = made m (λ y us. IsPrimary ((p, k.Symbol s.Open) ∷ ts) y us) (group d)
 
-group_from : (p : Place) (ts : List Tok) (x : Expression) (rest : List Tok) → IsPrimary ((p, k.Symbol s.Open) ∷ ts) x rest
-    → Then (IsRank 7) (λ y. Then (IsOne (k.Symbol s.Close)) (λ q. IsPure (e.Group p y))) ts x rest
+group_from : (p : Position) (ts : List Tok) (x : Expression) (rest : List Tok) → IsPrimary ((p, k.Symbol s.Open) ∷ ts) x rest
+    → Then (IsRank 7) (λ y. Then (IsOne (k.Symbol s.Close)) (λ q. IsPure (e.Parenthesized p y))) ts x rest
 group_from p ts x rest (group d) = seq d (seq one done)
 group_from p ts x rest (variable d) = elim d [ ]
 group_from p ts x rest (call d) = elim d [ ]
 group_from p ts x rest (constant d) = absurd (let wrong = constant_begins d in cc)
 
 group_behind : (r : ℕ) (i : Inside) → ExactInside r i
-    → Behind 1 r (λ p ts. and_then (i.expression ts) (λ x us. and_then (parser.symbol s.Close us) (λ q. parser.pure (e.Group p x)))) (k.Symbol s.Open) IsPrimary Any
+    → Behind 1 r (λ p ts. and_then (i.expression ts) (λ x us. and_then (parser.symbol s.Close us) (λ q. parser.pure (e.Parenthesized p x)))) (k.Symbol s.Open) IsPrimary Any
 group_behind zero i h = tt
 group_behind (suc r) i h = λ p. exact_iff
-    (exact_before (k.Symbol s.Close) h.0 tt (exact_symbol s.Close r refl) (λ x q. exact_pure (e.Group p x) Always Any (At (suc r)))) (group_to p) (group_from p)
+    (exact_before (k.Symbol s.Close) h.0 tt (exact_symbol s.Close r refl) (λ x q. exact_pure (e.Parenthesized p x) Always Any (At (suc r)))) (group_to p) (group_from p)
 
 pub open_is : (t : Option Kind) → spec.is_open t ≡ true → t ≡ Some (k.Symbol s.Open)
 open_is (Some (k.Symbol s.Open)) h = refl
@@ -466,21 +466,21 @@ module _ (r : ℕ) (i : Inside) (h : ExactInside r i) where
   unfolding spec.primary
   primary_exact = exact_on kind (spec.primary_by r i) Always IsPrimary (Stops 0) (At r) (At r) primary_by
 
-  complement_to : (p : Place) (ts : List Tok) (x : Expression) (rest : List Tok) → Then IsPrimary (λ y. IsPure (e.Complement p y)) ts x rest → IsUnary ((p, k.Keyword w.Not) ∷ ts) x rest
+  complement_to : (p : Position) (ts : List Tok) (x : Expression) (rest : List Tok) → Then IsPrimary (λ y. IsPure (e.Not p y)) ts x rest → IsUnary ((p, k.Keyword w.Not) ∷ ts) x rest
   complement_to p ts x rest (seq d m) = made m (λ y us. IsUnary ((p, k.Keyword w.Not) ∷ ts) y us) (complement d)
 
-  complement_from : (p : Place) (ts : List Tok) (x : Expression) (rest : List Tok) → IsUnary ((p, k.Keyword w.Not) ∷ ts) x rest → Then IsPrimary (λ y. IsPure (e.Complement p y)) ts x rest
+  complement_from : (p : Position) (ts : List Tok) (x : Expression) (rest : List Tok) → IsUnary ((p, k.Keyword w.Not) ∷ ts) x rest → Then IsPrimary (λ y. IsPure (e.Not p y)) ts x rest
   complement_from p ts x rest (complement d) = seq d done
   complement_from p ts x rest (primary d) = absurd (let wrong = primary_begins d in cc)
 
   complement_exact : Exact 1 (spec.complement r i) (IsFirst (k.Keyword w.Not)) IsUnary (Stops 0) (At r) (At r)
   unfolding spec.complement
-  complement_exact = exact_token (k.Keyword w.Not) refl {R = IsUnary} (λ p. exact_iff (exact_last primary_exact (e.Complement p)) (complement_to p) (complement_from p))
+  complement_exact = exact_token (k.Keyword w.Not) refl {R = IsUnary} (λ p. exact_iff (exact_last primary_exact (e.Not p)) (complement_to p) (complement_from p))
 
-  negation_to : (p : Place) (ts : List Tok) (x : Expression) (rest : List Tok) → spec.is_number (kind ts) ≡ false → Then IsPrimary (λ y. IsPure (e.Negation p y)) ts x rest → IsUnary ((p, k.Symbol s.Minus) ∷ ts) x rest
+  negation_to : (p : Position) (ts : List Tok) (x : Expression) (rest : List Tok) → spec.is_number (kind ts) ≡ false → Then IsPrimary (λ y. IsPure (e.Negate p y)) ts x rest → IsUnary ((p, k.Symbol s.Minus) ∷ ts) x rest
   negation_to p ts x rest apart (seq d m) = made m (λ y us. IsUnary ((p, k.Symbol s.Minus) ∷ ts) y us) (negation (is_number_is ts apart) d)
 
-  negation_from : (p : Place) (ts : List Tok) (x : Expression) (rest : List Tok) → spec.is_number (kind ts) ≡ false → IsUnary ((p, k.Symbol s.Minus) ∷ ts) x rest → Then IsPrimary (λ y. IsPure (e.Negation p y)) ts x rest
+  negation_from : (p : Position) (ts : List Tok) (x : Expression) (rest : List Tok) → spec.is_number (kind ts) ≡ false → IsUnary ((p, k.Symbol s.Minus) ∷ ts) x rest → Then IsPrimary (λ y. IsPure (e.Negate p y)) ts x rest
   negation_from p ts x rest apart (negation n d) = seq d done
   negation_from p ts x rest apart (primary (constant (integer minus))) = absurd (cc)
   negation_from p ts x rest apart (primary (variable d)) = elim d [ ]
@@ -489,7 +489,7 @@ module _ (r : ℕ) (i : Inside) (h : ExactInside r i) where
   negation_exact : Exact 1 (spec.negation r i) (λ ts. IsFirst (k.Symbol s.Minus) ts × (spec.is_number (kind (next ts)) ≡ false)) IsUnary (Stops 0) (At r) (At r)
   unfolding spec.negation
   negation_exact = exact_token_if (k.Symbol s.Minus) (λ ts. spec.is_number (kind (next ts)) ≡ false) IsUnary (Stops 0) (At r) (At r) (At r) (leads (k.Symbol s.Minus) r refl)
-      (λ p. exact_as (exact_last primary_exact (e.Negation p)) (λ ts a. tt) (λ ts x rest a d. negation_to p ts x rest a d) (λ ts x rest a g d. negation_from p ts x rest a d) (λ t g. g))
+      (λ p. exact_as (exact_last primary_exact (e.Negate p)) (λ ts a. tt) (λ ts x rest a d. negation_to p ts x rest a d) (λ ts x rest a g d. negation_from p ts x rest a d) (λ t g. g))
 
   -- neither NOT nor a '-' before what is no number
   abbrev is_primary_first : Option Kind → Option Kind → Bool
@@ -535,19 +535,19 @@ has_rank_is : (n : ℕ) (op : BinOp) → spec.has_rank n (Some op) ≡ true → 
 has_rank_is n op h = rank_is (rank_of op) n h
 
 module _ (r n : ℕ) (P : Parser Expression) (a : Exact 1 P Always (IsRank n) (Stops n) (At r) (At r)) where
-  operation_to : (p : Place) (t : Kind) (op : BinOp) → operator_of t ≡ Some op → rank_of op ≡ suc n → (ts : List Tok) (x : Operation) (rest : List Tok)
+  operation_to : (p : Position) (t : Kind) (op : BinOp) → operator_of t ≡ Some op → rank_of op ≡ suc n → (ts : List Tok) (x : Operation) (rest : List Tok)
       → Then (IsRank n) (λ y. IsPure (operation_of p op y)) ts x rest → IsOperation n ((p, t) ∷ ts) x rest
   operation_to p t op is rank ts x rest (seq d m) = made m (λ y us. IsOperation n ((p, t) ∷ ts) y us) (operation is rank d)
 
   same_some : {x y : BinOp} → ◌≡◌ {A = Option BinOp} (Some x) (Some y) → x ≡ y
   same_some h = cc
 
-  operation_from : (p : Place) (t : Kind) (op : BinOp) → operator_of t ≡ Some op → (ts : List Tok) (x : Operation) (rest : List Tok) → IsOperation n ((p, t) ∷ ts) x rest
+  operation_from : (p : Position) (t : Kind) (op : BinOp) → operator_of t ≡ Some op → (ts : List Tok) (x : Operation) (rest : List Tok) → IsOperation n ((p, t) ∷ ts) x rest
       → Then (IsRank n) (λ y. IsPure (operation_of p op y)) ts x rest
   operation_from p t op is ts x rest (operation {op = other} {x = y} its rank d) =
       subst (λ o. Then (IsRank n) (λ y. IsPure (operation_of p o y)) ts (operation_of p other y) rest) (same_some (sym its ∙ is)) (seq d done)
 
-  behind_operator : (p : Place) (t : Kind) (op : Option BinOp) → operator_of t ≡ op → spec.has_rank (suc n) op ≡ true
+  behind_operator : (p : Position) (t : Kind) (op : Option BinOp) → operator_of t ≡ op → spec.has_rank (suc n) op ≡ true
       → Exact 1 (spec.operation_by P p op) Always (λ us. IsOperation n ((p, t) ∷ us)) (Stops n) (At r) (At r)
   behind_operator p t (Some op) is rank = exact_iff (exact_last a (operation_of p op)) (operation_to p t op is (has_rank_is (suc n) op rank)) (operation_from p t op is)
   behind_operator p t None is rank = absurd (cc)
@@ -610,29 +610,29 @@ module _ (r n : ℕ) (P : Parser Expression) (a : Exact 1 P Always (IsRank n) (S
   operations_exact : Exact 0 (spec.operations P n) Always (IsMany (IsOperation n)) (Ends (spec.is_operator n) (Stops n)) (At r) (At r)
   operations_exact = exact_many (spec.is_operator n) (spec.operation P) (IsOperation n) (Stops n) (At r) operation_exact (operation_begins n) operator_stops
 
-  abbrev IsLevel : Place → Relation Expression
+  abbrev IsLevel : Position → Relation Expression
   IsLevel p = Then (IsRank n) (λ x. Then (IsMany (IsOperation n)) (λ ls. IsPure (spec.chain p x ls)))
 
-  level_is : (ts mid : List Tok) (x : Expression) (rest : List Tok) (ls : List Operation) → IsRank n ts x mid → IsMany (IsOperation n) mid ls rest → IsRank (suc n) ts (spec.chain (place ts) x ls) rest
+  level_is : (ts mid : List Tok) (x : Expression) (rest : List Tok) (ls : List Operation) → IsRank n ts x mid → IsMany (IsOperation n) mid ls rest → IsRank (suc n) ts (spec.chain (position ts) x ls) rest
   unfolding spec.chain
   level_is ts mid x rest [] d none = alone d
   level_is ts mid x rest (l ∷ ls) d m = chain d (to_operations m)
 
-  level_to : (p : Place) (ts : List Tok) (x : Expression) (rest : List Tok) → p ≡ place ts → IsLevel p ts x rest → IsRank (suc n) ts x rest
+  level_to : (p : Position) (ts : List Tok) (x : Expression) (rest : List Tok) → p ≡ position ts → IsLevel p ts x rest → IsRank (suc n) ts x rest
   level_to p ts x rest here (seq {mid = mid} {x = y} d (seq {mid = last} {x = ls} m c)) =
       made c (λ z us. IsRank (suc n) ts z us) (subst (λ q. IsRank (suc n) ts (spec.chain q y ls) last) (sym here) (level_is ts mid y last ls d m))
 
-  level_from : (p : Place) (ts : List Tok) (x : Expression) (rest : List Tok) → p ≡ place ts → IsRank (suc n) ts x rest → IsLevel p ts x rest
+  level_from : (p : Position) (ts : List Tok) (x : Expression) (rest : List Tok) → p ≡ position ts → IsRank (suc n) ts x rest → IsLevel p ts x rest
   unfolding spec.chain
   level_from p ts x rest here (alone d) = seq d (seq none done)
   level_from p ts x rest here (chain {x = y} {l = l} {ls = ls} d m) =
       subst (λ q. IsLevel p ts (e.Chain q y (l ∷ ls)) rest) here (seq d (seq (from_operations m) done))
 
-  level_follow : (p : Place) (x : Expression) (mid rest : List Tok) (y : Expression) → Then (IsMany (IsOperation n)) (λ ls. IsPure (spec.chain p x ls)) mid y rest → Ends (spec.is_operator n) (Stops n) (kind rest) → Stops n (kind mid)
+  level_follow : (p : Position) (x : Expression) (mid rest : List Tok) (y : Expression) → Then (IsMany (IsOperation n)) (λ ls. IsPure (spec.chain p x ls)) mid y rest → Ends (spec.is_operator n) (Stops n) (kind rest) → Stops n (kind mid)
   level_follow p x mid rest y (seq none c) g = made c (λ z us. Ends (spec.is_operator n) (Stops n) (kind us) → Stops n (kind mid)) (λ f. f.1) g
   level_follow p x mid rest y (seq (more {mid = next'} {x = l} d m) c) g = operator_stops (kind mid) (operation_begins n mid l next' d)
 
-  level_exact : (p : Place) → Exact 1 (λ ts. and_then (P ts) (λ x us. and_then (spec.operations P n us) (λ ls. parser.pure (spec.chain p x ls)))) (λ ts. (place ts ≡ p) × Always ts) (IsRank (suc n)) (Stops (suc n)) (At r) (At r)
+  level_exact : (p : Position) → Exact 1 (λ ts. and_then (P ts) (λ x us. and_then (spec.operations P n us) (λ ls. parser.pure (spec.chain p x ls)))) (λ ts. (position ts ≡ p) × Always ts) (IsRank (suc n)) (Stops (suc n)) (At r) (At r)
   level_exact p = exact_as (exact_bind a (λ x. exact_last operations_exact (spec.chain p x)) (level_follow p)) (λ ts h. tt)
       (λ ts x rest h d. level_to p ts x rest (sym h.0) d) (λ ts x rest h g d. level_from p ts x rest (sym h.0) d) (λ t g. (stops_operator n t g, stops_less n t g))
 
@@ -641,7 +641,7 @@ unfolding spec.rank
 rank_exact r i h zero = exact_iff (unary_exact r i h) (λ ts x rest d. unary d) (λ ts x rest d. unary_back ts x rest d) where
   unary_back : (ts : List Tok) (x : Expression) (rest : List Tok) → IsRank 0 ts x rest → IsUnary ts x rest
   unary_back ts x rest (unary d) = d
-rank_exact r i h (suc n) = exact_on place (λ p ts. and_then (spec.rank r i n ts) (λ x us. and_then (spec.operations (spec.rank r i n) n us) (λ ls. parser.pure (spec.chain p x ls)))) Always (IsRank (suc n)) (Stops (suc n)) (At r) (At r)
+rank_exact r i h (suc n) = exact_on position (λ p ts. and_then (spec.rank r i n ts) (λ x us. and_then (spec.operations (spec.rank r i n) n us) (λ ls. parser.pure (spec.chain p x ls)))) Always (IsRank (suc n)) (Stops (suc n)) (At r) (At r)
     (λ p. level_exact r n (spec.rank r i n) (rank_exact r i h n) p)
 
 -- what stands in brackets is read exactly

@@ -14,7 +14,7 @@ use Rattle.st_tree.specs.declared.tree.expression.Expression.{Expression}
 use Rattle.st_tree.specs.declared.tree.expression.Operation.{Operation}
 use Rattle.st_tree.specs.declared.tree.expression.Part.{Part}
 use Rattle.st_tree.specs.declared.tree.expression.Argument.{Argument}
-use Rattle.st_tree.specs.declared.tree.place.Place.{Place}
+use Rattle.st_tree.specs.declared.tree.position.Position.{Position}
 use Rattle.st_expressions.specs.Grammar.{IsSignedInteger, unsigned, plus, minus, IsConstant, integer, typed, duration, truth, falsehood, IsRank, unary, alone, chain, IsOperations, operations, IsOperation, operation, IsUnary, negation, complement, primary, IsPrimary, constant, variable, call, group, named, no_part, parts, IsPart, field, subscripts, called, no_arguments, arguments, IsArgument, positional, input, output, operator_of, rank_of}
 use Rattle.st_expressions.specs.Reading.{begins_part, is_operator, has_rank, operator_at}
 use Rattle.st_expressions.specs.Tokens.{Tok, kind}
@@ -175,7 +175,7 @@ operation_not : {n : ℕ} {t : Kind} {ts rest : List Tok} {l : Operation} {ls : 
 operation_not {t = t} first nothing (operations (operation {t = u} {op = op} is rank d) m) =
     let same : u ≡ t = cc (first) in let e = ap operator_of same in absurd (cc (e, is, nothing))
 
-primary_word : {p q : Place} {n : List ℕ} {t : Kind} {us rest : List Tok} {x : Expression} → Stops 7 (Some t) → IsPrimary ((p, k.Word n) ∷ (q, t) ∷ us) x rest → kind rest ≡ Some t
+primary_word : {p q : Position} {n : List ℕ} {t : Kind} {us rest : List Tok} {x : Expression} → Stops 7 (Some t) → IsPrimary ((p, k.Word n) ∷ (q, t) ∷ us) x rest → kind rest ≡ Some t
 primary_word stops (constant (integer d)) = absurd (let e = integer_begins d in cc)
 primary_word stops (variable (named no_part)) = refl
 primary_word stops (variable (named (parts field m))) = absurd stops
@@ -183,11 +183,11 @@ primary_word stops (variable (named (parts (subscripts d e) m))) = absurd stops
 primary_word stops (call (called no_arguments)) = absurd stops
 primary_word stops (call (called (arguments d m))) = absurd stops
 
-unary_word : {p q : Place} {n : List ℕ} {t : Kind} {us rest : List Tok} {x : Expression} → Stops 7 (Some t) → IsUnary ((p, k.Word n) ∷ (q, t) ∷ us) x rest → kind rest ≡ Some t
+unary_word : {p q : Position} {n : List ℕ} {t : Kind} {us rest : List Tok} {x : Expression} → Stops 7 (Some t) → IsUnary ((p, k.Word n) ∷ (q, t) ∷ us) x rest → kind rest ≡ Some t
 unary_word stops (primary d) = primary_word stops d
 
 -- where such a token comes behind a word, an expression ends before it
-pub rank_word : {r : ℕ} {p q : Place} {n : List ℕ} {t : Kind} {us rest : List Tok} {x : Expression} → Ending t → IsRank r ((p, k.Word n) ∷ (q, t) ∷ us) x rest → kind rest ≡ Some t
+pub rank_word : {r : ℕ} {p q : Position} {n : List ℕ} {t : Kind} {us rest : List Tok} {x : Expression} → Ending t → IsRank r ((p, k.Word n) ∷ (q, t) ∷ us) x rest → kind rest ≡ Some t
 rank_word e (unary d) = unary_word e.0 d
 rank_word e (alone d) = rank_word e d
 rank_word e (chain d m) = absurd (operation_not (rank_word e d) e.1 m)

@@ -3,11 +3,11 @@ use Rattle.std.proofs.Common.{◌≡◌, ℕ, zero, suc, ◌-◌, ◌<◌, List,
 use Rattle.std.specs.Prelude.{Result, Ok, Err, IfOk, IfErr}
 use Rattle.st_expressions.specs.declared.fault.ReadFault.{ReadFault}
 use Rattle.st_expressions.specs.declared.fault.ReadFault.TheVariants.{Memory}
-use Rattle.st_tree.specs.declared.tree.place.Place.{Place}
+use Rattle.st_tree.specs.declared.tree.position.Position.{Position}
 use Rattle.st_tree.specs.declared.tree.expression.Expression.{Expression}
 use Rattle.st_tree.specs.declared.tree.expression.Expression.TheVariants as e
 use Rattle.st_tree.specs.declared.tree.expression.Operation.{Operation}
-use Rattle.st_expressions.specs.Tokens.{Tok, place, next}
+use Rattle.st_expressions.specs.Tokens.{Tok, position, next}
 use Rattle.st_expressions.specs.Parsers.{Reads, Refuses, Outcome, Deep, enter}
 use Rattle.st_expressions.specs.Reading.{Inside, inside_of, rank, operations, chain, variable}
 use Rattle.st_expressions.proofs.Loops.{refuses_too}
@@ -17,7 +17,7 @@ unfolding enter
 enter_none zero ts none = refl
 enter_none (suc r) ts none = absurd (omega arith)
 
-pub enter_some : (r : ℕ) (ts : List Tok) → (r ≡ 0 → ⊥) → enter r ts ≡ Ok (place ts, next ts)
+pub enter_some : (r : ℕ) (ts : List Tok) → (r ≡ 0 → ⊥) → enter r ts ≡ Ok (position ts, next ts)
 unfolding enter
 enter_some zero ts some = absurd (some refl)
 enter_some (suc r) ts some = refl
@@ -28,12 +28,12 @@ pub reads_made : {A : Type 0} (o : Outcome A) (y : A) (new : List Tok) (r : Resu
 reads_made o y new (Ok x) read same memory = read ∙ ap (λ z. Ok (z, new)) (sym same)
 reads_made o y new (Err f) read same memory = rw memory tt
 
-pub chain_none : (p : Place) (x : Expression) (ls : List Operation) → ls ≡ [] → x ≡ chain p x ls
+pub chain_none : (p : Position) (x : Expression) (ls : List Operation) → ls ≡ [] → x ≡ chain p x ls
 unfolding chain
 chain_none p x [] none = refl
 chain_none p x (l ∷ ls) none = absurd (cc)
 
-pub chain_some : (p : Place) (x : Expression) (ls : List Operation) → (ls ≡ [] → ⊥) → e.Chain p x ls ≡ chain p x ls
+pub chain_some : (p : Position) (x : Expression) (ls : List Operation) → (ls ≡ [] → ⊥) → e.Chain p x ls ≡ chain p x ls
 unfolding chain
 chain_some p x [] some = absurd (some refl)
 chain_some p x (l ∷ ls) some = refl
@@ -41,7 +41,7 @@ chain_some p x (l ∷ ls) some = refl
 module _ (room : ℕ) (inside : Inside) where
   pub rank_ok : (r : ℕ) (ts mid rest : List Tok) (x : Expression) (ls : List Operation) → (r ≡ 0 → ⊥)
       → rank room inside (r - 1) ts ≡ Ok (x, mid) → operations (rank room inside (r - 1)) (r - 1) mid ≡ Ok (ls, rest)
-      → rank room inside r ts ≡ Ok (chain (place ts) x ls, rest)
+      → rank room inside r ts ≡ Ok (chain (position ts) x ls, rest)
   unfolding rank
   rank_ok zero ts mid rest x ls some a b = absurd (some refl)
   rank_ok (suc r) ts mid rest x ls some a b =

@@ -4,7 +4,7 @@ use Rattle.st_tokens.specs.declared.keyword.Keyword.TheVariants as w
 use Rattle.st_tokens.specs.declared.symbol.Symbol.TheVariants as s
 use Rattle.st_tokens.specs.declared.token.Kind.{Kind}
 use Rattle.st_tokens.specs.declared.token.Kind.TheVariants as k
-use Rattle.st_tree.specs.declared.tree.place.Place.{Place}
+use Rattle.st_tree.specs.declared.tree.position.Position.{Position}
 use Rattle.st_expressions.specs.Levels.{opens, closes, opened, closed, IsWithin}
 use Rattle.st_expressions.specs.Tokens.{Tok}
 
@@ -84,7 +84,7 @@ At r ts = Room ts r
 
 -- a token leads from Q to Q'
 abbrev pub Leads : (Q Q' : List Tok → Type 0) → Kind → Type 0
-Leads Q Q' x = (p : Place) (ts : List Tok) → (Q ((p, x) ∷ ts) → Q' ts) × (Q' ts → Q ((p, x) ∷ ts))
+Leads Q Q' x = (p : Position) (ts : List Tok) → (Q ((p, x) ∷ ts) → Q' ts) × (Q' ts → Q ((p, x) ∷ ts))
 
 -- the levels that may be open behind a token that closes so many
 abbrev pub past : ℕ → ℕ → ℕ
@@ -114,5 +114,5 @@ full_by up one P room = room
 full_by down one P room = absurd (omega arith)
 full_by level one P room = absurd (omega arith)
 
-pub full : (x : Kind) → opens x ≡ 1 → (p : Place) (ts : List Tok) → At zero ((p, x) ∷ ts) → ⊥
+pub full : (x : Kind) → opens x ≡ 1 → (p : Position) (ts : List Tok) → At zero ((p, x) ∷ ts) → ⊥
 full x one p ts room = full_by (step_of x) one (Room ts) room

@@ -7,8 +7,8 @@ use Rattle.st_tokens.specs.declared.token.Kind.TheVariants as k
 use Rattle.st_tree.specs.declared.operator.BinOp.{BinOp}
 use Rattle.st_tree.specs.declared.operator.BinOp.TheVariants as o
 use Rattle.st_values.specs.declared.value.Value.{Value}
-use Rattle.st_tree.specs.declared.tree.place.Place.{Place}
-use Rattle.st_tree.specs.declared.tree.place.Identifier.{Identifier}
+use Rattle.st_tree.specs.declared.tree.position.Position.{Position}
+use Rattle.st_tree.specs.declared.tree.position.Identifier.{Identifier}
 use Rattle.st_tree.specs.declared.tree.constant.SignedInteger.{SignedInteger}
 use Rattle.st_tree.specs.declared.tree.constant.Duration.{Duration}
 use Rattle.st_tree.specs.declared.tree.constant.Constant.{Constant}
@@ -22,18 +22,18 @@ use Rattle.st_tree.specs.declared.tree.expression.Part.TheVariants as part
 use Rattle.st_tree.specs.declared.tree.expression.Call.{Call, roll-Call}
 use Rattle.st_tree.specs.declared.tree.expression.Argument.{Argument}
 use Rattle.st_tree.specs.declared.tree.expression.Argument.TheVariants as a
-use Rattle.st_expressions.specs.Tokens.{identifier, Tok, kind, place}
+use Rattle.st_expressions.specs.Tokens.{identifier, Tok, kind, position}
 
 -- ---- what the nodes are made of
 
-abbrev pub integer_of : Place → Bool → ℕ → SignedInteger
-integer_of p negative n = record { place = p; is_negative = negative; size = n }
+abbrev pub integer_of : Position → Bool → ℕ → SignedInteger
+integer_of p negative n = record { position = p; is_negative = negative; magnitude = n }
 
-abbrev pub duration_of : Place → ℤ → Duration
-duration_of p d = record { place = p; milliseconds = d }
+abbrev pub duration_of : Position → ℤ → Duration
+duration_of p d = record { position = p; milliseconds = d }
 
-abbrev pub operation_of : Place → BinOp → Expression → Operation
-operation_of p op x = roll-Operation (record { place = p; operator = op; operand = x })
+abbrev pub operation_of : Position → BinOp → Expression → Operation
+operation_of p op x = roll-Operation (record { position = p; operator = op; operand = x })
 
 abbrev pub variable_of : Identifier → List Part → Variable
 variable_of name ps = roll-Variable (record { name = name; parts = ps })
@@ -86,19 +86,19 @@ IsNumberFirst _ = ⊥
 
 -- ['+' | '-'] number
 pub data IsSignedInteger : List Tok → SignedInteger → List Tok → Type 0 where
-  unsigned : {p : Place} {n : ℕ} {rest : List Tok} → IsSignedInteger ((p, k.Number n) ∷ rest) (integer_of p false n) rest
-  plus : {p q : Place} {n : ℕ} {rest : List Tok}
+  unsigned : {p : Position} {n : ℕ} {rest : List Tok} → IsSignedInteger ((p, k.Number n) ∷ rest) (integer_of p false n) rest
+  plus : {p q : Position} {n : ℕ} {rest : List Tok}
       → IsSignedInteger ((p, k.Symbol s.Plus) ∷ (q, k.Number n) ∷ rest) (integer_of p false n) rest
-  minus : {p q : Place} {n : ℕ} {rest : List Tok}
+  minus : {p q : Position} {n : ℕ} {rest : List Tok}
       → IsSignedInteger ((p, k.Symbol s.Minus) ∷ (q, k.Number n) ∷ rest) (integer_of p true n) rest
 
 -- signed integer | typed literal | duration | TRUE | FALSE
 pub data IsConstant : List Tok → Constant → List Tok → Type 0 where
   integer : {ts rest : List Tok} {i : SignedInteger} → IsSignedInteger ts i rest → IsConstant ts (c.Integer i) rest
-  typed : {p : Place} {v : Value} {rest : List Tok} → IsConstant ((p, k.Typed v) ∷ rest) (c.Typed p v) rest
-  duration : {p : Place} {d : ℤ} {rest : List Tok} → IsConstant ((p, k.Duration d) ∷ rest) (c.Duration (duration_of p d)) rest
-  truth : {p : Place} {rest : List Tok} → IsConstant ((p, k.Keyword w.True) ∷ rest) (c.Truth p true) rest
-  falsehood : {p : Place} {rest : List Tok} → IsConstant ((p, k.Keyword w.False) ∷ rest) (c.Truth p false) rest
+  typed : {p : Position} {v : Value} {rest : List Tok} → IsConstant ((p, k.Typed v) ∷ rest) (c.Typed p v) rest
+  duration : {p : Position} {d : ℤ} {rest : List Tok} → IsConstant ((p, k.Duration d) ∷ rest) (c.Duration (duration_of p d)) rest
+  truth : {p : Position} {rest : List Tok} → IsConstant ((p, k.Keyword w.True) ∷ rest) (c.Bool p true) rest
+  falsehood : {p : Position} {rest : List Tok} → IsConstant ((p, k.Keyword w.False) ∷ rest) (c.Bool p false) rest
 
 -- ---- expressions
 
@@ -108,7 +108,7 @@ mutual
     unary : {ts rest : List Tok} {x : Expression} → IsUnary ts x rest → IsRank 0 ts x rest
     alone : {r : ℕ} {ts rest : List Tok} {x : Expression} → IsRank r ts x rest → IsRank (suc r) ts x rest
     chain : {r : ℕ} {ts mid rest : List Tok} {x : Expression} {l : Operation} {ls : List Operation}
-        → IsRank r ts x mid → IsOperations r mid (l ∷ ls) rest → IsRank (suc r) ts (e.Chain (place ts) x (l ∷ ls)) rest
+        → IsRank r ts x mid → IsOperations r mid (l ∷ ls) rest → IsRank (suc r) ts (e.Chain (position ts) x (l ∷ ls)) rest
 
   pub data IsOperations : ℕ → List Tok → List Operation → List Tok → Type 0 where
     no_operation : {r : ℕ} {ts : List Tok} → IsOperations r ts [] ts
@@ -117,16 +117,16 @@ mutual
 
   -- operator of rank r+1, rank r
   pub data IsOperation : ℕ → List Tok → Operation → List Tok → Type 0 where
-    operation : {r : ℕ} {ts rest : List Tok} {p : Place} {t : Kind} {op : BinOp} {x : Expression}
+    operation : {r : ℕ} {ts rest : List Tok} {p : Position} {t : Kind} {op : BinOp} {x : Expression}
         → operator_of t ≡ Some op → rank_of op ≡ suc r → IsRank r ts x rest
         → IsOperation r ((p, t) ∷ ts) (operation_of p op x) rest
 
   -- ['-' | NOT] primary. A '-' before a number belongs to the number.
   pub data IsUnary : List Tok → Expression → List Tok → Type 0 where
-    negation : {ts rest : List Tok} {p : Place} {x : Expression} → (IsNumberFirst (kind ts) → ⊥) → IsPrimary ts x rest
-        → IsUnary ((p, k.Symbol s.Minus) ∷ ts) (e.Negation p x) rest
-    complement : {ts rest : List Tok} {p : Place} {x : Expression} → IsPrimary ts x rest
-        → IsUnary ((p, k.Keyword w.Not) ∷ ts) (e.Complement p x) rest
+    negation : {ts rest : List Tok} {p : Position} {x : Expression} → (IsNumberFirst (kind ts) → ⊥) → IsPrimary ts x rest
+        → IsUnary ((p, k.Symbol s.Minus) ∷ ts) (e.Negate p x) rest
+    complement : {ts rest : List Tok} {p : Position} {x : Expression} → IsPrimary ts x rest
+        → IsUnary ((p, k.Keyword w.Not) ∷ ts) (e.Not p x) rest
     primary : {ts rest : List Tok} {x : Expression} → IsPrimary ts x rest → IsUnary ts x rest
 
   -- literal | variable | call | '(' expression ')'
@@ -134,12 +134,12 @@ mutual
     constant : {ts rest : List Tok} {x : Constant} → IsConstant ts x rest → IsPrimary ts (e.Constant x) rest
     variable : {ts rest : List Tok} {x : Variable} → IsVariable ts x rest → IsPrimary ts (e.Variable x) rest
     call : {ts rest : List Tok} {x : Call} → IsCall ts x rest → IsPrimary ts (e.Call x) rest
-    group : {p q : Place} {ts rest : List Tok} {x : Expression} → IsRank 7 ts x ((q, k.Symbol s.Close) ∷ rest)
-        → IsPrimary ((p, k.Symbol s.Open) ∷ ts) (e.Group p x) rest
+    group : {p q : Position} {ts rest : List Tok} {x : Expression} → IsRank 7 ts x ((q, k.Symbol s.Close) ∷ rest)
+        → IsPrimary ((p, k.Symbol s.Open) ∷ ts) (e.Parenthesized p x) rest
 
   -- word { part }
   pub data IsVariable : List Tok → Variable → List Tok → Type 0 where
-    named : {p : Place} {n : List ℕ} {ts rest : List Tok} {ps : List Part} → IsParts ts ps rest
+    named : {p : Position} {n : List ℕ} {ts rest : List Tok} {ps : List Part} → IsParts ts ps rest
         → IsVariable ((p, k.Word n) ∷ ts) (variable_of (identifier p n) ps) rest
 
   pub data IsParts : List Tok → List Part → List Tok → Type 0 where
@@ -149,42 +149,42 @@ mutual
 
   -- '.' word | '[' expression { ',' expression } ']'
   pub data IsPart : List Tok → Part → List Tok → Type 0 where
-    field : {p q : Place} {n : List ℕ} {rest : List Tok}
+    field : {p q : Position} {n : List ℕ} {rest : List Tok}
         → IsPart ((p, k.Symbol s.Dot) ∷ (q, k.Word n) ∷ rest) (part.Field (identifier q n)) rest
-    subscripts : {p q : Place} {ts mid rest : List Tok} {x : Expression} {xs : List Expression}
+    subscripts : {p q : Position} {ts mid rest : List Tok} {x : Expression} {xs : List Expression}
         → IsRank 7 ts x mid → IsNextExpressions mid xs ((q, k.Symbol s.CloseBracket) ∷ rest)
         → IsPart ((p, k.Symbol s.OpenBracket) ∷ ts) (part.Subscripts p (x ∷ xs)) rest
 
   -- { ',' expression }
   pub data IsNextExpressions : List Tok → List Expression → List Tok → Type 0 where
     no_expression : {ts : List Tok} → IsNextExpressions ts [] ts
-    next_expressions : {p : Place} {ts mid rest : List Tok} {x : Expression} {xs : List Expression} → IsRank 7 ts x mid
+    next_expressions : {p : Position} {ts mid rest : List Tok} {x : Expression} {xs : List Expression} → IsRank 7 ts x mid
         → IsNextExpressions mid xs rest → IsNextExpressions ((p, k.Symbol s.Comma) ∷ ts) (x ∷ xs) rest
 
   -- word arguments
   pub data IsCall : List Tok → Call → List Tok → Type 0 where
-    called : {p : Place} {n : List ℕ} {ts rest : List Tok} {xs : List Argument} → IsArguments ts xs rest
+    called : {p : Position} {n : List ℕ} {ts rest : List Tok} {xs : List Argument} → IsArguments ts xs rest
         → IsCall ((p, k.Word n) ∷ ts) (call_of (identifier p n) xs) rest
 
   -- '(' [ argument { ',' argument } ] ')'
   pub data IsArguments : List Tok → List Argument → List Tok → Type 0 where
-    no_arguments : {p q : Place} {rest : List Tok} → IsArguments ((p, k.Symbol s.Open) ∷ (q, k.Symbol s.Close) ∷ rest) [] rest
-    arguments : {p q : Place} {ts mid rest : List Tok} {x : Argument} {xs : List Argument}
+    no_arguments : {p q : Position} {rest : List Tok} → IsArguments ((p, k.Symbol s.Open) ∷ (q, k.Symbol s.Close) ∷ rest) [] rest
+    arguments : {p q : Position} {ts mid rest : List Tok} {x : Argument} {xs : List Argument}
         → IsArgument ts x mid → IsNextArguments mid xs ((q, k.Symbol s.Close) ∷ rest)
         → IsArguments ((p, k.Symbol s.Open) ∷ ts) (x ∷ xs) rest
 
   -- { ',' argument }
   pub data IsNextArguments : List Tok → List Argument → List Tok → Type 0 where
     no_argument : {ts : List Tok} → IsNextArguments ts [] ts
-    next_arguments : {p : Place} {ts mid rest : List Tok} {x : Argument} {xs : List Argument} → IsArgument ts x mid
+    next_arguments : {p : Position} {ts mid rest : List Tok} {x : Argument} {xs : List Argument} → IsArgument ts x mid
         → IsNextArguments mid xs rest → IsNextArguments ((p, k.Symbol s.Comma) ∷ ts) (x ∷ xs) rest
 
   -- expression | word ':=' expression | word '=>' variable
   pub data IsArgument : List Tok → Argument → List Tok → Type 0 where
     positional : {ts rest : List Tok} {x : Expression} → IsRank 7 ts x rest → IsArgument ts (a.Positional x) rest
-    input : {p q : Place} {n : List ℕ} {ts rest : List Tok} {x : Expression} → IsRank 7 ts x rest
+    input : {p q : Position} {n : List ℕ} {ts rest : List Tok} {x : Expression} → IsRank 7 ts x rest
         → IsArgument ((p, k.Word n) ∷ (q, k.Symbol s.Assign) ∷ ts) (a.Input (identifier p n) x) rest
-    output : {p q : Place} {n : List ℕ} {ts rest : List Tok} {x : Variable} → IsVariable ts x rest
+    output : {p q : Position} {n : List ℕ} {ts rest : List Tok} {x : Variable} → IsVariable ts x rest
         → IsArgument ((p, k.Word n) ∷ (q, k.Symbol s.Output) ∷ ts) (a.Output (identifier p n) x) rest
 
 -- expression

@@ -2,7 +2,7 @@
 use Rattle.std.specs.Prelude.{List, [], ◌∷◌}
 use Rattle.st_tokens.specs.declared.symbol.Symbol.TheVariants as s
 use Rattle.st_tokens.specs.declared.token.Kind.TheVariants as k
-use Rattle.st_tree.specs.declared.tree.place.Place.{Place}
+use Rattle.st_tree.specs.declared.tree.position.Position.{Position}
 use Rattle.st_expressions.specs.Tokens.{Tok}
 
 -- { x }
@@ -12,7 +12,7 @@ pub data IsMany {A : Type 0} (R : List Tok → A → List Tok → Type 0) : List
 
 -- ',' x
 pub data IsNext {A : Type 0} (R : List Tok → A → List Tok → Type 0) : List Tok → A → List Tok → Type 0 where
-  comma : {p : Place} {ts rest : List Tok} {x : A} → R ts x rest → IsNext R ((p, k.Symbol s.Comma) ∷ ts) x rest
+  comma : {p : Position} {ts rest : List Tok} {x : A} → R ts x rest → IsNext R ((p, k.Symbol s.Comma) ∷ ts) x rest
 
 -- x { ',' x }
 pub data IsListed {A : Type 0} (R : List Tok → A → List Tok → Type 0) : List Tok → List A → List Tok → Type 0 where

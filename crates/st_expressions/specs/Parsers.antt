@@ -7,9 +7,9 @@ use Rattle.st_tokens.specs.declared.symbol.Symbol.{Symbol}
 use Rattle.st_tokens.specs.declared.symbol.Symbol.TheVariants as s
 use Rattle.st_tokens.specs.declared.token.Kind.{Kind}
 use Rattle.st_tokens.specs.declared.token.Kind.TheVariants as k
-use Rattle.st_tree.specs.declared.tree.place.Place.{Place}
-use Rattle.st_tree.specs.declared.tree.place.Identifier.{Identifier}
-use Rattle.st_expressions.specs.Tokens.{identifier, Tok, kind, place, next, same_symbol, same_keyword}
+use Rattle.st_tree.specs.declared.tree.position.Position.{Position}
+use Rattle.st_tree.specs.declared.tree.position.Identifier.{Identifier}
+use Rattle.st_expressions.specs.Tokens.{identifier, Tok, kind, position, next, same_symbol, same_keyword}
 
 -- not in the grammar, or too deep
 pub data Refusal : Type 0 where
@@ -41,9 +41,9 @@ pure a = λ ts. Ok (a, ts)
 abbrev pub refuse : {A : Type 0} → Parser A
 refuse = λ ts. Err Wrong
 
--- the first token's place, and the tokens behind it
-abbrev pub skip : Parser Place
-skip = λ ts. Ok (place ts, next ts)
+-- the first token's position, and the tokens behind it
+abbrev pub skip : Parser Position
+skip = λ ts. Ok (position ts, next ts)
 
 -- what the first token is
 abbrev pub peek : Parser (Option Kind)
@@ -54,8 +54,8 @@ abbrev pub peek_second : Parser (Option Kind)
 peek_second = λ ts. Ok (kind (next ts), ts)
 
 -- where the first token stands
-abbrev pub here : Parser Place
-here = λ ts. Ok (place ts, ts)
+abbrev pub here : Parser Position
+here = λ ts. Ok (position ts, ts)
 
 -- ---- single tokens
 
@@ -68,22 +68,22 @@ is_keyword x (Some (k.Keyword y)) = same_keyword x y
 is_keyword x _ = false
 
 -- takes a token that passes the test
-unfoldable pub expect : (Option Kind → Bool) → Parser Place
+unfoldable pub expect : (Option Kind → Bool) → Parser Position
 expect test = λ ts. if test (kind ts) then skip ts else Err Wrong
 
-abbrev pub symbol : Symbol → Parser Place
+abbrev pub symbol : Symbol → Parser Position
 symbol x = expect (is_symbol x)
 
-abbrev pub keyword : Keyword → Parser Place
+abbrev pub keyword : Keyword → Parser Position
 keyword x = expect (is_keyword x)
 
 -- takes a token that opens a level, where one more may be open
-unfoldable pub enter : ℕ → Parser Place
+unfoldable pub enter : ℕ → Parser Position
 enter zero = λ ts. Err Deep
 enter (suc room) = skip
 
 abbrev pub word_by : Option Kind → Parser Identifier
-word_by (Some (k.Word w)) = λ ts. Ok (identifier (place ts) w, next ts)
+word_by (Some (k.Word w)) = λ ts. Ok (identifier (position ts) w, next ts)
 word_by _ = refuse
 
 -- a word

@@ -5,7 +5,7 @@ use Rattle.st_tokens.specs.declared.symbol.Symbol.TheVariants as s
 use Rattle.st_tokens.specs.declared.token.Kind.{Kind}
 use Rattle.st_tokens.specs.declared.token.Kind.TheVariants as k
 use Rattle.st_tree.specs.declared.operator.BinOp.{BinOp}
-use Rattle.st_tree.specs.declared.tree.place.Place.{Place}
+use Rattle.st_tree.specs.declared.tree.position.Position.{Position}
 use Rattle.st_tree.specs.declared.tree.constant.SignedInteger.{SignedInteger}
 use Rattle.st_tree.specs.declared.tree.constant.Constant.{Constant}
 use Rattle.st_tree.specs.declared.tree.constant.Constant.TheVariants as c
@@ -42,8 +42,8 @@ signed_integer = peek >>= integer_by
 abbrev pub constant_by : Option Kind → Parser Constant
 constant_by (Some (k.Typed v)) = do p ← skip; pure (c.Typed p v)
 constant_by (Some (k.Duration d)) = do p ← skip; pure (c.Duration (duration_of p d))
-constant_by (Some (k.Keyword w.True)) = do p ← skip; pure (c.Truth p true)
-constant_by (Some (k.Keyword w.False)) = do p ← skip; pure (c.Truth p false)
+constant_by (Some (k.Keyword w.True)) = do p ← skip; pure (c.Bool p true)
+constant_by (Some (k.Keyword w.False)) = do p ← skip; pure (c.Bool p false)
 constant_by _ = do i ← signed_integer; pure (c.Integer i)
 
 unfoldable pub constant : Parser Constant
@@ -148,7 +148,7 @@ group room inside = do
   p ← enter room
   x ← inside.expression
   symbol s.Close
-  pure (e.Group p x)
+  pure (e.Parenthesized p x)
 
 abbrev pub is_open : Option Kind → Bool
 is_open (Some (k.Symbol s.Open)) = true
@@ -180,13 +180,13 @@ unfoldable pub negation : ℕ → Inside → Parser Expression
 negation room inside = do
   p ← skip
   x ← primary room inside
-  pure (e.Negation p x)
+  pure (e.Negate p x)
 
 unfoldable pub complement : ℕ → Inside → Parser Expression
 complement room inside = do
   p ← skip
   x ← primary room inside
-  pure (e.Complement p x)
+  pure (e.Not p x)
 
 abbrev pub minus_by : ℕ → Inside → Bool → Parser Expression
 minus_by room inside true = primary room inside
@@ -217,7 +217,7 @@ operator_at None = None
 abbrev pub is_operator : ℕ → Option Kind → Bool
 is_operator r t = has_rank (suc r) (operator_at t)
 
-abbrev pub operation_by : Parser Expression → Place → Option BinOp → Parser Operation
+abbrev pub operation_by : Parser Expression → Position → Option BinOp → Parser Operation
 operation_by operand p (Some op) = do x ← operand; pure (operation_of p op x)
 operation_by operand p None = refuse
 
@@ -230,7 +230,7 @@ operation operand = do
 abbrev pub operations : Parser Expression → ℕ → Parser (List Operation)
 operations operand r = many (is_operator r) (operation operand)
 
-unfoldable pub chain : Place → Expression → List Operation → Expression
+unfoldable pub chain : Position → Expression → List Operation → Expression
 chain p x [] = x
 chain p x (l ∷ ls) = e.Chain p x (l ∷ ls)
 

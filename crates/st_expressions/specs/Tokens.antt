@@ -7,12 +7,12 @@ use Rattle.st_tokens.specs.declared.keyword.Keyword.{Keyword}
 use Rattle.st_tokens.specs.declared.symbol.Symbol.{Symbol}
 use Rattle.st_tokens.specs.declared.token.Kind.{Kind}
 use Rattle.st_tokens.specs.declared.token.Token.{Token}
-use Rattle.st_tree.specs.declared.tree.place.Identifier.{Identifier}
-use Rattle.st_tree.specs.declared.tree.place.Place.{Place}
+use Rattle.st_tree.specs.declared.tree.position.Identifier.{Identifier}
+use Rattle.st_tree.specs.declared.tree.position.Position.{Position}
 
 -- a token: where it stands, and what it is
 abbrev pub Tok : Type 0
-Tok = Place × Kind
+Tok = Position × Kind
 
 -- the tokens with their numbers, the first of which is this
 abbrev pub numbered : ℕ → List Token → List Tok
@@ -25,9 +25,9 @@ kind [] = None
 kind (t ∷ ts) = Some t.1
 
 -- where the first token stands
-abbrev pub place : List Tok → Place
-place [] = record { number = 0; line = 0 }
-place (t ∷ ts) = t.0
+abbrev pub position : List Tok → Position
+position [] = record { number = 0; line = 0 }
+position (t ∷ ts) = t.0
 
 -- the line of the first token
 abbrev pub line : List Tok → Option ℕ
@@ -48,5 +48,5 @@ unfoldable pub same_keyword : Keyword → Keyword → Bool
 same_keyword = sameb keyword.the_type
 
 -- a name, which is a word
-abbrev pub identifier : Place → List ℕ → Identifier
-identifier p w = record { place = p; spelling = w }
+abbrev pub identifier : Position → List ℕ → Identifier
+identifier p w = record { position = p; spelling = w }

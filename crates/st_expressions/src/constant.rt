@@ -15,12 +15,12 @@ fn signed(ts: &mut Cursor<'_>, is_negative: bool) -> Result<SignedInteger, ReadF
     ensures read { Reads (spec.signed is_negative ts.old) result ts.new }
     ensures shorter { OnOk result (length ts.new < length ts.old) }
 {
-    let place = ts.skip();
-    let size = number(ts)?;
+    let position = ts.skip();
+    let magnitude = number(ts)?;
     Ok(SignedInteger {
-        place,
+        position,
         is_negative,
-        size,
+        magnitude,
     })
 }
 
@@ -31,12 +31,12 @@ pub fn signed_integer(ts: &mut Cursor<'_>) -> Result<SignedInteger, ReadFault>
     ensures shorter { OnOk result (length ts.new < length ts.old) }
 {
     match ts.kind() {
-        Some(Kind::Number(size)) => {
-            let place = ts.skip();
+        Some(Kind::Number(magnitude)) => {
+            let position = ts.skip();
             Ok(SignedInteger {
-                place,
+                position,
                 is_negative: false,
-                size,
+                magnitude,
             })
         }
         Some(Kind::Symbol(Symbol::Plus)) => signed(ts, false),
@@ -54,14 +54,14 @@ pub fn constant(ts: &mut Cursor<'_>) -> Result<Constant, ReadFault>
     match ts.kind() {
         Some(Kind::Typed(value)) => Ok(Constant::Typed(ts.skip(), value)),
         Some(Kind::Duration(milliseconds)) => {
-            let place = ts.skip();
+            let position = ts.skip();
             Ok(Constant::Duration(Duration {
-                place,
+                position,
                 milliseconds,
             }))
         }
-        Some(Kind::Keyword(Keyword::True)) => Ok(Constant::Truth(ts.skip(), true)),
-        Some(Kind::Keyword(Keyword::False)) => Ok(Constant::Truth(ts.skip(), false)),
+        Some(Kind::Keyword(Keyword::True)) => Ok(Constant::Bool(ts.skip(), true)),
+        Some(Kind::Keyword(Keyword::False)) => Ok(Constant::Bool(ts.skip(), false)),
         _ => Ok(Constant::Integer(signed_integer(ts)?)),
     }
 }

@@ -1,11 +1,11 @@
-//! A place among the tokens of a text.
+//! A position among the tokens of a text.
 ghost use Rattle.std.specs.Prelude.{◌≡◌, ◌<◌, ◌≤◌, ◌-◌, length, IsSome};
-ghost use Rattle.st_expressions.specs.Tokens.{numbered, kind, line, place, next};
+ghost use Rattle.st_expressions.specs.Tokens.{numbered, kind, line, position, next};
 ghost use Rattle.st_expressions.specs.declared.fault.ReadFault.TheVariants.{NotInGrammar};
 
 use crate::fault::ReadFault;
 use st_tokens::{Kind, Spelling, Symbol, Token};
-use st_tree::tree::Place;
+use st_tree::tree::Position;
 use std::marker::Model;
 
 /// The tokens that are still to be read. Contracts see them with their numbers.
@@ -60,12 +60,12 @@ impl<'a> Cursor<'a> {
     }
 
     /// Where the first token stands.
-    pub fn place(&self) -> Place
-        ensures { result ≡ place self.now }
+    pub fn position(&self) -> Position
+        ensures { result ≡ position self.now }
     {
         match self.rest {
-            [] => Place { number: 0, line: 0 },
-            [token, ..] => Place {
+            [] => Position { number: 0, line: 0 },
+            [token, ..] => Position {
                 number: self.number,
                 line: token.line,
             },
@@ -90,21 +90,21 @@ impl<'a> Cursor<'a> {
     }
 
     /// Takes the first token.
-    pub fn skip(&mut self) -> Place
-        ensures value { result ≡ place self.old }
+    pub fn skip(&mut self) -> Position
+        ensures value { result ≡ position self.old }
         ensures rest { self.new ≡ next self.old }
         ensures shorter { length self.new ≡ length self.old - 1 }
     {
         match self.rest {
-            [] => Place { number: 0, line: 0 },
+            [] => Position { number: 0, line: 0 },
             [token, rest @ ..] => {
-                let place = Place {
+                let position = Position {
                     number: self.number,
                     line: token.line,
                 };
                 self.rest = rest;
                 self.number += 1;
-                place
+                position
             }
         }
     }

@@ -12,7 +12,7 @@ use crate::cursor::Cursor;
 use crate::fault::ReadFault;
 use crate::token::{boxed, enter, is_close, is_comma, symbol, word};
 use st_tokens::{Keyword, Kind, Symbol};
-use st_tree::tree::{Argument, Call, Expression, Operation, Part, Place, Variable};
+use st_tree::tree::{Argument, Call, Expression, Operation, Part, Position, Variable};
 use st_tree::{BinOp, List};
 use std::alloc::Global;
 
@@ -158,10 +158,10 @@ fn subscripts(alloc: Global, ts: &mut Cursor<'_>, room: u8) -> Result<Part, Read
     ensures read { Reads (spec.subscripts room (spec.inside_of room) ts.old) result ts.new }
     ensures shorter { OnOk result (length ts.new < length ts.old) }
 {
-    let place = enter(ts, room)?;
+    let position = enter(ts, room)?;
     let subscripts = expressions(alloc, ts, room)?;
     symbol(ts, Symbol::CloseBracket)?;
-    Ok(Part::Subscripts(place, subscripts))
+    Ok(Part::Subscripts(position, subscripts))
 }
 
 #[cycle(parser)]
@@ -319,10 +319,10 @@ fn group(alloc: Global, ts: &mut Cursor<'_>, room: u8) -> Result<Expression, Rea
     ensures read { Reads (spec.group room (spec.inside_of room) ts.old) result ts.new }
     ensures shorter { OnOk result (length ts.new < length ts.old) }
 {
-    let place = enter(ts, room)?;
+    let position = enter(ts, room)?;
     let inner = inside(alloc, ts, room)?;
     symbol(ts, Symbol::Close)?;
-    Ok(Expression::Group(place, boxed(alloc, inner)?))
+    Ok(Expression::Parenthesized(position, boxed(alloc, inner)?))
 }
 
 /// What begins with a word: a call or a variable.
@@ -357,9 +357,9 @@ fn negation(alloc: Global, ts: &mut Cursor<'_>, room: u8) -> Result<Expression, 
     ensures read { Reads (spec.negation room (spec.inside_of room) ts.old) result ts.new }
     ensures shorter { OnOk result (length ts.new < length ts.old) }
 {
-    let place = ts.skip();
+    let position = ts.skip();
     let operand = primary(alloc, ts, room)?;
-    Ok(Expression::Negation(place, boxed(alloc, operand)?))
+    Ok(Expression::Negate(position, boxed(alloc, operand)?))
 }
 
 #[cycle(parser)]
@@ -368,9 +368,9 @@ fn complement(alloc: Global, ts: &mut Cursor<'_>, room: u8) -> Result<Expression
     ensures read { Reads (spec.complement room (spec.inside_of room) ts.old) result ts.new }
     ensures shorter { OnOk result (length ts.new < length ts.old) }
 {
-    let place = ts.skip();
+    let position = ts.skip();
     let operand = primary(alloc, ts, room)?;
-    Ok(Expression::Complement(place, boxed(alloc, operand)?))
+    Ok(Expression::Not(position, boxed(alloc, operand)?))
 }
 
 /// An operand. A `-` before a number belongs to the number.
@@ -401,12 +401,12 @@ fn operation(alloc: Global, ts: &mut Cursor<'_>, room: u8, rank: u8) -> Result<O
     ensures shorter { OnOk result (length ts.new < length ts.old) }
 {
     let found = operator_at(ts);
-    let place = ts.skip();
+    let position = ts.skip();
     match found {
         Some(operator) => {
             let operand = level(alloc, ts, room, rank)?;
             Ok(Operation {
-                place,
+                position,
                 operator,
                 operand,
             })
@@ -436,17 +436,17 @@ fn operations(
 
 fn chain(
     alloc: Global,
-    place: Place,
+    position: Position,
     first: Expression,
     operations: List<Operation>,
 ) -> Result<Expression, ReadFault>
-    ensures ok { IfOk result (λ chain. chain ≡ spec.chain place first operations) }
+    ensures ok { IfOk result (λ chain. chain ≡ spec.chain position first operations) }
     ensures err { IfErr result (λ fault. fault ≡ Memory) }
 {
     if operations.is_empty() {
         return Ok(first);
     }
-    Ok(Expression::Chain(place, boxed(alloc, first)?, operations))
+    Ok(Expression::Chain(position, boxed(alloc, first)?, operations))
 }
 
 /// An expression whose operators are of this rank or lower.
@@ -460,10 +460,10 @@ fn level(alloc: Global, ts: &mut Cursor<'_>, room: u8, rank: u8) -> Result<Expre
     if rank == 0 {
         return unary(alloc, ts, room);
     }
-    let place = ts.place();
+    let position = ts.position();
     let first = level(alloc, ts, room, rank - 1)?;
     let operations = operations(alloc, ts, room, rank - 1)?;
-    chain(alloc, place, first, operations)
+    chain(alloc, position, first, operations)
 }
 
 /// Takes an expression. `room` more levels may be opened.

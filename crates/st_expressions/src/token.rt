@@ -9,7 +9,7 @@ ghost use Rattle.st_expressions.specs.declared.fault.ReadFault.TheVariants.{Memo
 use crate::cursor::Cursor;
 use crate::fault::ReadFault;
 use st_tokens::{Keyword, Kind, Symbol};
-use st_tree::tree::{Identifier, Place};
+use st_tree::tree::{Identifier, Position};
 use st_tree::{Boxed, List};
 use std::alloc::Global;
 
@@ -58,7 +58,7 @@ pub fn is_close(ts: &Cursor<'_>) -> bool
 
 /// Takes this symbol.
 #[tactic(auto, unfolding(crate::specs::Parsers::expect))]
-pub fn symbol(ts: &mut Cursor<'_>, symbol: Symbol) -> Result<Place, ReadFault>
+pub fn symbol(ts: &mut Cursor<'_>, symbol: Symbol) -> Result<Position, ReadFault>
     ensures read { Reads (spec.symbol symbol ts.old) result ts.new }
     ensures shorter { OnOk result (length ts.new < length ts.old) }
 {
@@ -71,7 +71,7 @@ pub fn symbol(ts: &mut Cursor<'_>, symbol: Symbol) -> Result<Place, ReadFault>
 
 /// Takes this reserved word.
 #[tactic(auto, unfolding(crate::specs::Parsers::expect))]
-pub fn keyword(ts: &mut Cursor<'_>, keyword: Keyword) -> Result<Place, ReadFault>
+pub fn keyword(ts: &mut Cursor<'_>, keyword: Keyword) -> Result<Position, ReadFault>
     ensures read { Reads (spec.keyword keyword ts.old) result ts.new }
     ensures shorter { OnOk result (length ts.new < length ts.old) }
 {
@@ -83,7 +83,7 @@ pub fn keyword(ts: &mut Cursor<'_>, keyword: Keyword) -> Result<Place, ReadFault
 }
 
 /// Takes a token that opens a level, where `room` more may be open.
-pub fn enter(ts: &mut Cursor<'_>, room: u8) -> Result<Place, ReadFault>
+pub fn enter(ts: &mut Cursor<'_>, room: u8) -> Result<Position, ReadFault>
     ensures read { Reads (spec.enter room ts.old) result ts.new }
     ensures room { OnOk result (0 < room) }
     ensures shorter { length ts.new ≤ length ts.old }
@@ -103,8 +103,8 @@ pub fn word(alloc: Global, ts: &mut Cursor<'_>) -> Result<Identifier, ReadFault>
     match ts.kind() {
         Some(Kind::Word(word)) => {
             let spelling = List::from_slice(alloc, word.bytes())?;
-            let place = ts.skip();
-            Ok(Identifier { place, spelling })
+            let position = ts.skip();
+            Ok(Identifier { position, spelling })
         }
         _ => Err(ts.unexpected()),
     }

@@ -5,8 +5,8 @@ use Rattle.st_tokens.specs.declared.keyword.Keyword.TheVariants as w
 use Rattle.st_tokens.specs.declared.symbol.Symbol.TheVariants as s
 use Rattle.st_tokens.specs.declared.token.Kind.{Kind}
 use Rattle.st_tokens.specs.declared.token.Kind.TheVariants as k
-use Rattle.st_tree.specs.declared.tree.place.Place.{Place}
-use Rattle.st_tree.specs.declared.tree.place.Identifier.{Identifier}
+use Rattle.st_tree.specs.declared.tree.position.Position.{Position}
+use Rattle.st_tree.specs.declared.tree.position.Identifier.{Identifier}
 use Rattle.st_tree.specs.declared.tree.constant.Duration.{Duration}
 use Rattle.st_tree.specs.declared.tree.unit.ActionQualifier.{ActionQualifier}
 use Rattle.st_tree.specs.declared.tree.unit.Association.{Association}
@@ -30,13 +30,13 @@ use Rattle.st_statements.proofs.Statements.{statements_exact}
 
 -- ---- '('
 
-opening_not : {ts rest : List Tok} {p : Place} → is_open (kind ts) ≡ false → IsOne (k.Symbol s.Open) ts p rest → ⊥
+opening_not : {ts rest : List Tok} {p : Position} → is_open (kind ts) ≡ false → IsOne (k.Symbol s.Open) ts p rest → ⊥
 opening_not h one = cc
 
-opening_to : (p : Place) (ts : List Tok) (x : Place) (rest : List Tok) → IsPure p ts x rest → IsOne (k.Symbol s.Open) ((p, k.Symbol s.Open) ∷ ts) x rest
+opening_to : (p : Position) (ts : List Tok) (x : Position) (rest : List Tok) → IsPure p ts x rest → IsOne (k.Symbol s.Open) ((p, k.Symbol s.Open) ∷ ts) x rest
 opening_to p ts x rest d = made d (λ y us. IsOne (k.Symbol s.Open) ((p, k.Symbol s.Open) ∷ ts) y us) one
 
-opening_from : (p : Place) (ts : List Tok) (x : Place) (rest : List Tok) → IsOne (k.Symbol s.Open) ((p, k.Symbol s.Open) ∷ ts) x rest → IsPure p ts x rest
+opening_from : (p : Position) (ts : List Tok) (x : Position) (rest : List Tok) → IsOne (k.Symbol s.Open) ((p, k.Symbol s.Open) ∷ ts) x rest → IsPure p ts x rest
 opening_from p ts x rest one = done
 
 module _ (r : ℕ) where
@@ -53,7 +53,7 @@ module _ (r : ℕ) where
 -- ---- associations
 
 data IsDuration : List Tok → Duration → List Tok → Type 0 where
-  a_duration : {p : Place} {d : _} {rest : List Tok} → IsDuration ((p, k.Duration d) ∷ rest) (duration_of p d) rest
+  a_duration : {p : Position} {d : _} {rest : List Tok} → IsDuration ((p, k.Duration d) ∷ rest) (duration_of p d) rest
 
 duration_exact : (r : ℕ) → Exact 1 spec.duration Always IsDuration Any (At r) (At r)
 unfolding spec.duration
@@ -77,7 +77,7 @@ duration_exact r = record { reads = λ ts x rest u h. reads ts x rest h; deep = 
 -- [ ',' duration ]
 data IsTime : List Tok → Option Duration → List Tok → Type 0 where
   no_time : {ts : List Tok} → IsTime ts None ts
-  a_time : {p : Place} {ts rest : List Tok} {d : Duration} → IsDuration ts d rest → IsTime ((p, k.Symbol s.Comma) ∷ ts) (Some d) rest
+  a_time : {p : Position} {ts rest : List Tok} {d : Duration} → IsDuration ts d rest → IsTime ((p, k.Symbol s.Comma) ∷ ts) (Some d) rest
 
 abbrev NoComma : Option Kind → Type 0
 NoComma t = is_comma t ≡ false
@@ -86,10 +86,10 @@ comma_first : (t : Option Kind) → is_comma t ≡ true → t ≡ Some (k.Symbol
 comma_first (Some (k.Symbol s.Comma)) h = refl
 comma_first _ h = absurd (cc)
 
-time_to : (p : Place) (ts : List Tok) (x : Option Duration) (rest : List Tok) → Then IsDuration (λ d. IsPure (Some d)) ts x rest → IsTime ((p, k.Symbol s.Comma) ∷ ts) x rest
+time_to : (p : Position) (ts : List Tok) (x : Option Duration) (rest : List Tok) → Then IsDuration (λ d. IsPure (Some d)) ts x rest → IsTime ((p, k.Symbol s.Comma) ∷ ts) x rest
 time_to p ts x rest (seq d m) = made m (λ y us. IsTime ((p, k.Symbol s.Comma) ∷ ts) y us) (a_time d)
 
-time_from : (p : Place) (ts : List Tok) (x : Option Duration) (rest : List Tok) → NoComma (kind rest) → IsTime ((p, k.Symbol s.Comma) ∷ ts) x rest → Then IsDuration (λ d. IsPure (Some d)) ts x rest
+time_from : (p : Position) (ts : List Tok) (x : Option Duration) (rest : List Tok) → NoComma (kind rest) → IsTime ((p, k.Symbol s.Comma) ∷ ts) x rest → Then IsDuration (λ d. IsPure (Some d)) ts x rest
 time_from p ts x rest g (a_time d) = seq d done
 time_from p ts x rest g no_time = absurd (cc)
 
@@ -184,23 +184,23 @@ module _ (r : ℕ) where
 
 -- ---- steps
 
-abbrev StepRule : Place → Bool → Relation ChartElement
+abbrev StepRule : Position → Bool → Relation ChartElement
 StepRule p b = Then IsWord (λ n. Then (IsOne (k.Symbol s.Colon)) (λ q. Then (IsMany IsAssociation) (λ xs. Then (IsOne (k.Keyword w.EndStep)) (λ z. IsPure (c.Step (step_of p b n xs))))))
 
-initial_to : (p : Place) (ts : List Tok) (x : ChartElement) (rest : List Tok) → StepRule p true ts x rest → IsElement ((p, k.Keyword w.InitialStep) ∷ ts) x rest
+initial_to : (p : Position) (ts : List Tok) (x : ChartElement) (rest : List Tok) → StepRule p true ts x rest → IsElement ((p, k.Keyword w.InitialStep) ∷ ts) x rest
 initial_to p ts x rest (seq a_word (seq one (seq m (seq one d)))) = made d (λ y us. IsElement ((p, k.Keyword w.InitialStep) ∷ ts) y us) (initial_step (step_rest m))
 
-initial_from : (p : Place) (ts : List Tok) (x : ChartElement) (rest : List Tok) → IsElement ((p, k.Keyword w.InitialStep) ∷ ts) x rest → StepRule p true ts x rest
+initial_from : (p : Position) (ts : List Tok) (x : ChartElement) (rest : List Tok) → IsElement ((p, k.Keyword w.InitialStep) ∷ ts) x rest → StepRule p true ts x rest
 initial_from p ts x rest (initial_step (step_rest m)) = seq a_word (seq one (seq m (seq one done)))
 
-plain_to : (p : Place) (ts : List Tok) (x : ChartElement) (rest : List Tok) → StepRule p false ts x rest → IsElement ((p, k.Keyword w.Step) ∷ ts) x rest
+plain_to : (p : Position) (ts : List Tok) (x : ChartElement) (rest : List Tok) → StepRule p false ts x rest → IsElement ((p, k.Keyword w.Step) ∷ ts) x rest
 plain_to p ts x rest (seq a_word (seq one (seq m (seq one d)))) = made d (λ y us. IsElement ((p, k.Keyword w.Step) ∷ ts) y us) (plain_step (step_rest m))
 
-plain_from : (p : Place) (ts : List Tok) (x : ChartElement) (rest : List Tok) → IsElement ((p, k.Keyword w.Step) ∷ ts) x rest → StepRule p false ts x rest
+plain_from : (p : Position) (ts : List Tok) (x : ChartElement) (rest : List Tok) → IsElement ((p, k.Keyword w.Step) ∷ ts) x rest → StepRule p false ts x rest
 plain_from p ts x rest (plain_step (step_rest m)) = seq a_word (seq one (seq m (seq one done)))
 
 module _ (r : ℕ) where
-  step_rule : (p : Place) (b : Bool) → Exact 1 (λ ts. and_then (parser.word ts) (λ n us. and_then (parser.symbol s.Colon us) (λ q vs. and_then (spec.associations (suc r) vs)
+  step_rule : (p : Position) (b : Bool) → Exact 1 (λ ts. and_then (parser.word ts) (λ n us. and_then (parser.symbol s.Colon us) (λ q vs. and_then (spec.associations (suc r) vs)
       (λ xs ws. and_then (parser.keyword w.EndStep ws) (λ z. parser.pure (c.Step (step_of p b n xs))))))) Always (StepRule p b) Any (At (suc r)) (At (suc r))
   step_rule p b = exact_bind (exact_word (suc r)) (λ n. exact_bind (exact_symbol s.Colon (suc r) refl) (λ q. exact_before (k.Keyword w.EndStep) (associations_exact r) (refl, tt) (exact_keyword w.EndStep (suc r) refl)
       (λ xs z. exact_pure (c.Step (step_of p b n xs)) Always Any (At (suc r)))) (λ q mid rest y d g. tt)) (λ n mid rest y d g. tt)
@@ -236,13 +236,13 @@ no_name_from ts x rest h no_name = done
 no_name_from ts x rest h a_name = absurd (cc)
 
 -- PRIORITY
-data IsPriorityWord : List Tok → Place → List Tok → Type 0 where
-  the_word : {p : Place} {n : List ℕ} {rest : List Tok} → is_priority n ≡ true → IsPriorityWord ((p, k.Word n) ∷ rest) p rest
+data IsPriorityWord : List Tok → Position → List Tok → Type 0 where
+  the_word : {p : Position} {n : List ℕ} {rest : List Tok} → is_priority n ≡ true → IsPriorityWord ((p, k.Word n) ∷ rest) p rest
 
 priority_word_exact : (r : ℕ) → Exact 1 spec.priority_word Always IsPriorityWord Any (At r) (At r)
 unfolding spec.priority_word
 priority_word_exact r = record { reads = λ ts x rest u h. reads ts x rest h; deep = λ ts u h q. deep ts h; read = λ ts x rest u d g q. read d } where
-  reads_by : (p : Place) (n : List ℕ) (ts : List Tok) (x : Place) (rest : List Tok) (b : Bool) → is_priority n ≡ b → spec.priority_word_by (Some (k.Word n)) ((p, k.Word n) ∷ ts) ≡ Ok (x, rest)
+  reads_by : (p : Position) (n : List ℕ) (ts : List Tok) (x : Position) (rest : List Tok) (b : Bool) → is_priority n ≡ b → spec.priority_word_by (Some (k.Word n)) ((p, k.Word n) ∷ ts) ≡ Ok (x, rest)
       → Found 1 IsPriorityWord (At r) (At r) ((p, k.Word n) ∷ ts) x rest
   reads_by p n ts x rest true t h = let e = ok_parts (rw t at h) in
       subst (λ z. Found 1 IsPriorityWord (At r) (At r) ((p, k.Word n) ∷ ts) z rest) e.0
@@ -250,12 +250,12 @@ priority_word_exact r = record { reads = λ ts x rest u h. reads ts x rest h; de
       (record { is = the_word t; takes = omega arith; after = λ q. q; before = λ q. q }))
   reads_by p n ts x rest false t h = let g = rw t at h in absurd (cc)
 
-  reads : (ts : List Tok) (x : Place) (rest : List Tok) → spec.priority_word_by (kind ts) ts ≡ Ok (x, rest) → Found 1 IsPriorityWord (At r) (At r) ts x rest
+  reads : (ts : List Tok) (x : Position) (rest : List Tok) → spec.priority_word_by (kind ts) ts ≡ Ok (x, rest) → Found 1 IsPriorityWord (At r) (At r) ts x rest
   reads ((p, k.Word n) ∷ ts) x rest h = reads_by p n ts x rest (is_priority n) refl h
   reads [] x rest h = absurd (cc)
   reads ((p, _) ∷ ts) x rest h = absurd (cc)
 
-  deep_by : (p : Place) (n : List ℕ) (ts : List Tok) (b : Bool) → is_priority n ≡ b → spec.priority_word_by (Some (k.Word n)) ((p, k.Word n) ∷ ts) ≡ Err Deep → ⊥
+  deep_by : (p : Position) (n : List ℕ) (ts : List Tok) (b : Bool) → is_priority n ≡ b → spec.priority_word_by (Some (k.Word n)) ((p, k.Word n) ∷ ts) ≡ Err Deep → ⊥
   deep_by p n ts true t h = let g = rw t at h in cc
   deep_by p n ts false t h = let g = rw t at h in cc
 
@@ -264,16 +264,16 @@ priority_word_exact r = record { reads = λ ts x rest u h. reads ts x rest h; de
   deep [] h = cc
   deep ((p, _) ∷ ts) h = cc
 
-  read : {ts rest : List Tok} {x : Place} → IsPriorityWord ts x rest → spec.priority_word_by (kind ts) ts ≡ Ok (x, rest)
+  read : {ts rest : List Tok} {x : Position} → IsPriorityWord ts x rest → spec.priority_word_by (kind ts) ts ≡ Ok (x, rest)
   read (the_word t) = rw t refl
 
 abbrev PriorityRule : Relation (Option ℕ)
 PriorityRule = Then IsPriorityWord (λ q. Then (IsOne (k.Symbol s.Assign)) (λ u. Then IsNumber (λ n. Then (IsOne (k.Symbol s.Close)) (λ z. IsPure (Some n)))))
 
-priority_to : (p : Place) (ts : List Tok) (x : Option ℕ) (rest : List Tok) → PriorityRule ts x rest → IsPriority ((p, k.Symbol s.Open) ∷ ts) x rest
+priority_to : (p : Position) (ts : List Tok) (x : Option ℕ) (rest : List Tok) → PriorityRule ts x rest → IsPriority ((p, k.Symbol s.Open) ∷ ts) x rest
 priority_to p ts x rest (seq (the_word t) (seq one (seq a_number (seq one d)))) = made d (λ y us. IsPriority ((p, k.Symbol s.Open) ∷ ts) y us) (priority t)
 
-priority_from : (p : Place) (ts : List Tok) (x : Option ℕ) (rest : List Tok) → NoOpen (kind rest) → IsPriority ((p, k.Symbol s.Open) ∷ ts) x rest → PriorityRule ts x rest
+priority_from : (p : Position) (ts : List Tok) (x : Option ℕ) (rest : List Tok) → NoOpen (kind rest) → IsPriority ((p, k.Symbol s.Open) ∷ ts) x rest → PriorityRule ts x rest
 priority_from p ts x rest g (priority t) = seq (the_word t) (seq one (seq a_number (seq one done)))
 priority_from p ts x rest g no_priority = absurd (cc)
 
@@ -293,10 +293,10 @@ name_from ts x rest name = a_word
 pub name_exact : (r : ℕ) → Exact 1 parser.word Always IsName Any (At r) (At r)
 name_exact r = exact_iff (exact_word r) name_to name_from
 
-names_to : (p : Place) (ts : List Tok) (x : List Identifier) (rest : List Tok) → Then (IsListed IsName) (λ xs. Then (IsOne (k.Symbol s.Close)) (λ q. IsPure xs)) ts x rest → IsNames ((p, k.Symbol s.Open) ∷ ts) x rest
+names_to : (p : Position) (ts : List Tok) (x : List Identifier) (rest : List Tok) → Then (IsListed IsName) (λ xs. Then (IsOne (k.Symbol s.Close)) (λ q. IsPure xs)) ts x rest → IsNames ((p, k.Symbol s.Open) ∷ ts) x rest
 names_to p ts x rest (seq (listed d m) (seq one e)) = made e (λ y us. IsNames ((p, k.Symbol s.Open) ∷ ts) y us) (names d m)
 
-names_from : (p : Place) (ts : List Tok) (x : List Identifier) (rest : List Tok) → IsNames ((p, k.Symbol s.Open) ∷ ts) x rest → Then (IsListed IsName) (λ xs. Then (IsOne (k.Symbol s.Close)) (λ q. IsPure xs)) ts x rest
+names_from : (p : Position) (ts : List Tok) (x : List Identifier) (rest : List Tok) → IsNames ((p, k.Symbol s.Open) ∷ ts) x rest → Then (IsListed IsName) (λ xs. Then (IsOne (k.Symbol s.Close)) (λ q. IsPure xs)) ts x rest
 names_from p ts x rest (names d m) = seq (listed d m) (seq one done)
 names_from p ts x rest (one_name d) = elim d [ ]
 
@@ -307,27 +307,27 @@ one_from : (ts : List Tok) (x : List Identifier) (rest : List Tok) → is_open (
 one_from ts x rest h (one_name d) = seq d done
 one_from ts x rest h (names d m) = absurd (cc)
 
-abbrev TransitionRule : Place → Relation ChartElement
+abbrev TransitionRule : Position → Relation ChartElement
 TransitionRule p = Then IsOptionalName (λ n. Then IsPriority (λ m. Then (IsOne (k.Keyword w.From)) (λ q. Then IsNames (λ xs. Then (IsOne (k.Keyword w.To)) (λ u. Then IsNames (λ ys.
     Then (IsOne (k.Symbol s.Assign)) (λ v. Then (IsRank 7) (λ x. Then (IsOne (k.Symbol s.Semicolon)) (λ y. Then (IsOne (k.Keyword w.EndTransition)) (λ z. IsPure (c.Transition (transition_of p n m xs ys x))))))))))))
 
-transition_to : (p : Place) (ts : List Tok) (x : ChartElement) (rest : List Tok) → TransitionRule p ts x rest → IsElement ((p, k.Keyword w.Transition) ∷ ts) x rest
+transition_to : (p : Position) (ts : List Tok) (x : ChartElement) (rest : List Tok) → TransitionRule p ts x rest → IsElement ((p, k.Keyword w.Transition) ∷ ts) x rest
 transition_to p ts x rest (seq a (seq b (seq one (seq d (seq one (seq e (seq one (seq f (seq one (seq one g)))))))))) = made g (λ y us. IsElement ((p, k.Keyword w.Transition) ∷ ts) y us) (transition (transition_rest a b d e f))
 
-transition_from : (p : Place) (ts : List Tok) (x : ChartElement) (rest : List Tok) → IsElement ((p, k.Keyword w.Transition) ∷ ts) x rest → TransitionRule p ts x rest
+transition_from : (p : Position) (ts : List Tok) (x : ChartElement) (rest : List Tok) → IsElement ((p, k.Keyword w.Transition) ∷ ts) x rest → TransitionRule p ts x rest
 transition_from p ts x rest (transition (transition_rest a b d e f)) = seq a (seq b (seq one (seq d (seq one (seq e (seq one (seq f (seq one (seq one done)))))))))
 
 optional_follow : {S : Option ℕ → Relation ChartElement} (mid rest : List Tok) (y : ChartElement) → Then IsPriority (λ m. Then (IsOne (k.Keyword w.From)) (λ q. S m)) mid y rest → Any (kind rest) → NoWord (kind mid)
 optional_follow mid rest y (seq (priority t) d) g = refl
 optional_follow mid rest y (seq no_priority (seq one d)) g = refl
 
-abbrev ActionRule : Place → Relation ChartElement
+abbrev ActionRule : Position → Relation ChartElement
 ActionRule p = Then IsWord (λ n. Then (IsOne (k.Symbol s.Colon)) (λ q. Then IsStatements (λ ss. Then (IsOne (k.Keyword w.EndAction)) (λ z. IsPure (c.Action (action_of p n ss))))))
 
-action_to : (p : Place) (ts : List Tok) (x : ChartElement) (rest : List Tok) → ActionRule p ts x rest → IsElement ((p, k.Keyword w.Action) ∷ ts) x rest
+action_to : (p : Position) (ts : List Tok) (x : ChartElement) (rest : List Tok) → ActionRule p ts x rest → IsElement ((p, k.Keyword w.Action) ∷ ts) x rest
 action_to p ts x rest (seq a_word (seq one (seq d (seq one m)))) = made m (λ y us. IsElement ((p, k.Keyword w.Action) ∷ ts) y us) (action d)
 
-action_from : (p : Place) (ts : List Tok) (x : ChartElement) (rest : List Tok) → IsElement ((p, k.Keyword w.Action) ∷ ts) x rest → ActionRule p ts x rest
+action_from : (p : Position) (ts : List Tok) (x : ChartElement) (rest : List Tok) → IsElement ((p, k.Keyword w.Action) ∷ ts) x rest → ActionRule p ts x rest
 action_from p ts x rest (action d) = seq a_word (seq one (seq d (seq one done)))
 
 element_begins : (ts : List Tok) (x : ChartElement) (rest : List Tok) → IsElement ts x rest → begins_element (kind ts) ≡ true

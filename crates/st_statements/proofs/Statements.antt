@@ -6,7 +6,7 @@ use Rattle.st_tokens.specs.declared.keyword.Keyword.TheVariants as w
 use Rattle.st_tokens.specs.declared.symbol.Symbol.TheVariants as s
 use Rattle.st_tokens.specs.declared.token.Kind.{Kind}
 use Rattle.st_tokens.specs.declared.token.Kind.TheVariants as k
-use Rattle.st_tree.specs.declared.tree.place.Place.{Place}
+use Rattle.st_tree.specs.declared.tree.position.Position.{Position}
 use Rattle.st_tree.specs.declared.tree.constant.Constant.{Constant}
 use Rattle.st_tree.specs.declared.tree.expression.Expression.{Expression}
 use Rattle.st_tree.specs.declared.tree.statement.Statement.{Statement}
@@ -39,7 +39,7 @@ NoRange t = is_range t ≡ false
 -- behind the first literal of a label
 data IsTail (x : Constant) : List Tok → Label → List Tok → Type 0 where
   single : {ts : List Tok} → IsTail x ts (l.Value x) ts
-  ranged : {p : Place} {ts rest : List Tok} {y : Constant} → IsConstant ts y rest → IsTail x ((p, k.Symbol s.Range) ∷ ts) (l.Range x y) rest
+  ranged : {p : Position} {ts rest : List Tok} {y : Constant} → IsConstant ts y rest → IsTail x ((p, k.Symbol s.Range) ∷ ts) (l.Range x y) rest
 
 label_of : {x : Constant} {ts mid : List Tok} {y : Label} {rest : List Tok} → IsConstant ts x mid → IsTail x mid y rest → IsLabel ts y rest
 label_of d single = value d
@@ -52,10 +52,10 @@ label_from : (ts : List Tok) (y : Label) (rest : List Tok) → IsLabel ts y rest
 label_from ts y rest (value d) = seq d single
 label_from ts y rest (range d e) = seq d (ranged e)
 
-ranged_to : (x : Constant) (p : Place) (ts : List Tok) (y : Label) (rest : List Tok) → Then IsConstant (λ z. IsPure (l.Range x z)) ts y rest → IsTail x ((p, k.Symbol s.Range) ∷ ts) y rest
+ranged_to : (x : Constant) (p : Position) (ts : List Tok) (y : Label) (rest : List Tok) → Then IsConstant (λ z. IsPure (l.Range x z)) ts y rest → IsTail x ((p, k.Symbol s.Range) ∷ ts) y rest
 ranged_to x p ts y rest (seq d m) = made m (λ z us. IsTail x ((p, k.Symbol s.Range) ∷ ts) z us) (ranged d)
 
-ranged_from : (x : Constant) (p : Place) (ts : List Tok) (y : Label) (rest : List Tok) → NoRange (kind rest) → IsTail x ((p, k.Symbol s.Range) ∷ ts) y rest → Then IsConstant (λ z. IsPure (l.Range x z)) ts y rest
+ranged_from : (x : Constant) (p : Position) (ts : List Tok) (y : Label) (rest : List Tok) → NoRange (kind rest) → IsTail x ((p, k.Symbol s.Range) ∷ ts) y rest → Then IsConstant (λ z. IsPure (l.Range x z)) ts y rest
 ranged_from x p ts y rest g (ranged d) = seq d done
 ranged_from x p ts y rest g single = absurd (cc)
 
@@ -82,12 +82,12 @@ module _ (r : ℕ) where
 
 -- ---- statements without statements in them
 
-named_not : {p : Place} {n : List ℕ} {ts rest : List Tok} {v : _} → is_open (kind ts) ≡ true → (kind rest ≡ Some (k.Symbol s.Assign)) → IsVariable ((p, k.Word n) ∷ ts) v rest → ⊥
+named_not : {p : Position} {n : List ℕ} {ts rest : List Tok} {v : _} → is_open (kind ts) ≡ true → (kind rest ≡ Some (k.Symbol s.Assign)) → IsVariable ((p, k.Word n) ∷ ts) v rest → ⊥
 named_not h e (is_named {ts = us} no_part) = let a = open_is (kind us) h in cc
 named_not h e (is_named (parts field m)) = cc
 named_not h e (is_named (parts (subscripts d o) m)) = cc
 
-call_not : {p : Place} {n : List ℕ} {ts rest : List Tok} {c : _} → is_open (kind ts) ≡ false → IsCall ((p, k.Word n) ∷ ts) c rest → ⊥
+call_not : {p : Position} {n : List ℕ} {ts rest : List Tok} {c : _} → is_open (kind ts) ≡ false → IsCall ((p, k.Word n) ∷ ts) c rest → ⊥
 call_not h (called no_arguments) = cc
 call_not h (called (arguments d m)) = cc
 
@@ -97,7 +97,7 @@ IsInvocation = Then IsCall (λ c. Then (IsOne (k.Symbol s.Semicolon)) (λ q. IsP
 invocation_to : (ts : List Tok) (x : Statement) (rest : List Tok) → IsInvocation ts x rest → IsStatement ts x rest
 invocation_to ts x rest (seq d (seq one m)) = made m (λ y us. IsStatement ts y us) (invocation d)
 
-invocation_from : (n : List ℕ) (p : Place) (us : List Tok) → (x : Statement) (rest : List Tok) → is_open (kind us) ≡ true → IsStatement ((p, k.Word n) ∷ us) x rest → IsInvocation ((p, k.Word n) ∷ us) x rest
+invocation_from : (n : List ℕ) (p : Position) (us : List Tok) → (x : Statement) (rest : List Tok) → is_open (kind us) ≡ true → IsStatement ((p, k.Word n) ∷ us) x rest → IsInvocation ((p, k.Word n) ∷ us) x rest
 invocation_from n p us x rest h (invocation d) = seq d (seq one done)
 invocation_from n p us x rest h (assignment d e) = absurd (named_not h refl d)
 
@@ -107,14 +107,14 @@ IsAssignment = Then IsVariable (λ v. Then (IsOne (k.Symbol s.Assign)) (λ q. Th
 assignment_to : (ts : List Tok) (x : Statement) (rest : List Tok) → IsAssignment ts x rest → IsStatement ts x rest
 assignment_to ts x rest (seq d (seq one (seq e (seq one m)))) = made m (λ y us. IsStatement ts y us) (assignment d e)
 
-assignment_from : (n : List ℕ) (p : Place) (us : List Tok) → (x : Statement) (rest : List Tok) → is_open (kind us) ≡ false → IsStatement ((p, k.Word n) ∷ us) x rest → IsAssignment ((p, k.Word n) ∷ us) x rest
+assignment_from : (n : List ℕ) (p : Position) (us : List Tok) → (x : Statement) (rest : List Tok) → is_open (kind us) ≡ false → IsStatement ((p, k.Word n) ∷ us) x rest → IsAssignment ((p, k.Word n) ∷ us) x rest
 assignment_from n p us x rest h (assignment d e) = seq d (seq one (seq e (seq one done)))
 assignment_from n p us x rest h (invocation d) = absurd (call_not h d)
 
-empty_to : (p : Place) (ts : List Tok) (x : Statement) (rest : List Tok) → IsPure (t.Empty p) ts x rest → IsStatement ((p, k.Symbol s.Semicolon) ∷ ts) x rest
+empty_to : (p : Position) (ts : List Tok) (x : Statement) (rest : List Tok) → IsPure (t.Empty p) ts x rest → IsStatement ((p, k.Symbol s.Semicolon) ∷ ts) x rest
 empty_to p ts x rest d = made d (λ y us. IsStatement ((p, k.Symbol s.Semicolon) ∷ ts) y us) empty
 
-empty_from : (p : Place) (ts : List Tok) (x : Statement) (rest : List Tok) → IsStatement ((p, k.Symbol s.Semicolon) ∷ ts) x rest → IsPure (t.Empty p) ts x rest
+empty_from : (p : Position) (ts : List Tok) (x : Statement) (rest : List Tok) → IsStatement ((p, k.Symbol s.Semicolon) ∷ ts) x rest → IsPure (t.Empty p) ts x rest
 empty_from p ts x rest empty = done
 empty_from p ts x rest (assignment d e) = elim d [ ]
 empty_from p ts x rest (invocation d) = elim d [ ]
@@ -122,18 +122,18 @@ empty_from p ts x rest (invocation d) = elim d [ ]
 abbrev IsEnd : Statement → Relation Statement
 IsEnd x = Then (IsOne (k.Symbol s.Semicolon)) (λ z. IsPure x)
 
-returning_to : (p : Place) (ts : List Tok) (x : Statement) (rest : List Tok) → IsEnd (t.Return p) ts x rest → IsStatement ((p, k.Keyword w.Return) ∷ ts) x rest
+returning_to : (p : Position) (ts : List Tok) (x : Statement) (rest : List Tok) → IsEnd (t.Return p) ts x rest → IsStatement ((p, k.Keyword w.Return) ∷ ts) x rest
 returning_to p ts x rest (seq one m) = made m (λ y us. IsStatement ((p, k.Keyword w.Return) ∷ ts) y us) returning
 
-returning_from : (p : Place) (ts : List Tok) (x : Statement) (rest : List Tok) → IsStatement ((p, k.Keyword w.Return) ∷ ts) x rest → IsEnd (t.Return p) ts x rest
+returning_from : (p : Position) (ts : List Tok) (x : Statement) (rest : List Tok) → IsStatement ((p, k.Keyword w.Return) ∷ ts) x rest → IsEnd (t.Return p) ts x rest
 returning_from p ts x rest returning = seq one done
 returning_from p ts x rest (assignment d e) = elim d [ ]
 returning_from p ts x rest (invocation d) = elim d [ ]
 
-exiting_to : (p : Place) (ts : List Tok) (x : Statement) (rest : List Tok) → IsEnd (t.Exit p) ts x rest → IsStatement ((p, k.Keyword w.Exit) ∷ ts) x rest
+exiting_to : (p : Position) (ts : List Tok) (x : Statement) (rest : List Tok) → IsEnd (t.Exit p) ts x rest → IsStatement ((p, k.Keyword w.Exit) ∷ ts) x rest
 exiting_to p ts x rest (seq one m) = made m (λ y us. IsStatement ((p, k.Keyword w.Exit) ∷ ts) y us) exiting
 
-exiting_from : (p : Place) (ts : List Tok) (x : Statement) (rest : List Tok) → IsStatement ((p, k.Keyword w.Exit) ∷ ts) x rest → IsEnd (t.Exit p) ts x rest
+exiting_from : (p : Position) (ts : List Tok) (x : Statement) (rest : List Tok) → IsStatement ((p, k.Keyword w.Exit) ∷ ts) x rest → IsEnd (t.Exit p) ts x rest
 exiting_from p ts x rest exiting = seq one done
 exiting_from p ts x rest (assignment d e) = elim d [ ]
 exiting_from p ts x rest (invocation d) = elim d [ ]
@@ -181,12 +181,12 @@ ExactDeeper zero d = Unit {0}
 ExactDeeper (suc r) d = (Exact 1 d.expression Always (IsRank 7) (Stops 7) (At r) (At r)) × (Exact 0 d.statements Always IsStatements EndsBlock (At r) (At r))
 
 data IsElsif : List Tok → ConditionalPart → List Tok → Type 0 where
-  elsif : {p : Place} {ts rest : List Tok} {x : ConditionalPart} → IsConditional ts x rest → IsElsif ((p, k.Keyword w.Elsif) ∷ ts) x rest
+  elsif : {p : Position} {ts rest : List Tok} {x : ConditionalPart} → IsConditional ts x rest → IsElsif ((p, k.Keyword w.Elsif) ∷ ts) x rest
 
 elsif_begins : (ts : List Tok) (x : ConditionalPart) (rest : List Tok) → IsElsif ts x rest → is_elsif (kind ts) ≡ true
 elsif_begins ts x rest (elsif d) = refl
 
-elsif_from : (p : Place) (ts : List Tok) (x : ConditionalPart) (rest : List Tok) → IsElsif ((p, k.Keyword w.Elsif) ∷ ts) x rest → IsConditional ts x rest
+elsif_from : (p : Position) (ts : List Tok) (x : ConditionalPart) (rest : List Tok) → IsElsif ((p, k.Keyword w.Elsif) ∷ ts) x rest → IsConditional ts x rest
 elsif_from p ts x rest (elsif d) = d
 
 elsif_is : (t : Option Kind) → is_elsif t ≡ true → t ≡ Some (k.Keyword w.Elsif)
@@ -282,7 +282,7 @@ else_is : (t : Option Kind) → is_else t ≡ true → t ≡ Some (k.Keyword w.E
 else_is (Some (k.Keyword w.Else)) h = refl
 else_is _ h = absurd (cc)
 
-else_from : (p : Place) (ts : List Tok) (x : List Statement) (rest : List Tok) → EndsElse (kind rest) → IsElse ((p, k.Keyword w.Else) ∷ ts) x rest → IsStatements ts x rest
+else_from : (p : Position) (ts : List Tok) (x : List Statement) (rest : List Tok) → EndsElse (kind rest) → IsElse ((p, k.Keyword w.Else) ∷ ts) x rest → IsStatements ts x rest
 else_from p ts x rest g (otherwise d) = d
 else_from p ts x rest g no_else = absurd (let wrong = g.0 in cc)
 
@@ -301,10 +301,10 @@ by_is : (t : Option Kind) → is_by t ≡ true → t ≡ Some (k.Keyword w.By)
 by_is (Some (k.Keyword w.By)) h = refl
 by_is _ h = absurd (cc)
 
-by_to : (p : Place) (ts : List Tok) (x : Option Expression) (rest : List Tok) → Then (IsRank 7) (λ y. IsPure (Some y)) ts x rest → IsBy ((p, k.Keyword w.By) ∷ ts) x rest
+by_to : (p : Position) (ts : List Tok) (x : Option Expression) (rest : List Tok) → Then (IsRank 7) (λ y. IsPure (Some y)) ts x rest → IsBy ((p, k.Keyword w.By) ∷ ts) x rest
 by_to p ts x rest (seq d m) = made m (λ y us. IsBy ((p, k.Keyword w.By) ∷ ts) y us) (by_step d)
 
-by_from : (p : Place) (ts : List Tok) (x : Option Expression) (rest : List Tok) → EndsBy (kind rest) → IsBy ((p, k.Keyword w.By) ∷ ts) x rest → Then (IsRank 7) (λ y. IsPure (Some y)) ts x rest
+by_from : (p : Position) (ts : List Tok) (x : Option Expression) (rest : List Tok) → EndsBy (kind rest) → IsBy ((p, k.Keyword w.By) ∷ ts) x rest → Then (IsRank 7) (λ y. IsPure (Some y)) ts x rest
 by_from p ts x rest g (by_step d) = seq d done
 by_from p ts x rest g no_by = absurd (let wrong = g.0 in cc)
 
@@ -373,67 +373,67 @@ module _ (r : ℕ) (d : Deeper) (e : ExactDeeper (suc r) d) where
 abbrev Closing : Kind → Statement → Relation Statement
 Closing x y = Then (IsOne x) (λ q. Then (IsOne (k.Symbol s.Semicolon)) (λ z. IsPure y))
 
-abbrev SelectionRule : Place → Relation Statement
+abbrev SelectionRule : Position → Relation Statement
 SelectionRule p = Then AreConditionals (λ xs. Then IsElse (λ ys. Closing (k.Keyword w.EndIf) (t.If p xs ys)))
 
-selection_to : (p : Place) (ts : List Tok) (x : Statement) (rest : List Tok) → SelectionRule p ts x rest → IsStatement ((p, k.Keyword w.If) ∷ ts) x rest
+selection_to : (p : Position) (ts : List Tok) (x : Statement) (rest : List Tok) → SelectionRule p ts x rest → IsStatement ((p, k.Keyword w.If) ∷ ts) x rest
 selection_to p ts x rest (seq (conditionals a m) (seq b (seq one (seq one c)))) = made c (λ y us. IsStatement ((p, k.Keyword w.If) ∷ ts) y us) (selection a m b)
 
-selection_from : (p : Place) (ts : List Tok) (x : Statement) (rest : List Tok) → IsStatement ((p, k.Keyword w.If) ∷ ts) x rest → SelectionRule p ts x rest
+selection_from : (p : Position) (ts : List Tok) (x : Statement) (rest : List Tok) → IsStatement ((p, k.Keyword w.If) ∷ ts) x rest → SelectionRule p ts x rest
 selection_from p ts x rest (selection a m b) = seq (conditionals a m) (seq b (seq one (seq one done)))
 selection_from p ts x rest (assignment d e) = elim d [ ]
 selection_from p ts x rest (invocation d) = elim d [ ]
 
-abbrev ChoiceRule : Place → Relation Statement
+abbrev ChoiceRule : Position → Relation Statement
 ChoiceRule p = Then (IsRank 7) (λ a. Then (IsOne (k.Keyword w.Of)) (λ q. Then AreCases (λ cs. Then IsElse (λ ys. Closing (k.Keyword w.EndCase) (t.Case p a cs ys)))))
 
-choice_to : (p : Place) (ts : List Tok) (x : Statement) (rest : List Tok) → ChoiceRule p ts x rest → IsStatement ((p, k.Keyword w.Case) ∷ ts) x rest
+choice_to : (p : Position) (ts : List Tok) (x : Statement) (rest : List Tok) → ChoiceRule p ts x rest → IsStatement ((p, k.Keyword w.Case) ∷ ts) x rest
 choice_to p ts x rest (seq a (seq one (seq (all_cases b m) (seq o (seq one (seq one c)))))) = made c (λ y us. IsStatement ((p, k.Keyword w.Case) ∷ ts) y us) (choice a b m o)
 
-choice_from : (p : Place) (ts : List Tok) (x : Statement) (rest : List Tok) → IsStatement ((p, k.Keyword w.Case) ∷ ts) x rest → ChoiceRule p ts x rest
+choice_from : (p : Position) (ts : List Tok) (x : Statement) (rest : List Tok) → IsStatement ((p, k.Keyword w.Case) ∷ ts) x rest → ChoiceRule p ts x rest
 choice_from p ts x rest (choice a b m o) = seq a (seq one (seq (all_cases b m) (seq o (seq one (seq one done)))))
 choice_from p ts x rest (assignment d e) = elim d [ ]
 choice_from p ts x rest (invocation d) = elim d [ ]
 
-abbrev CountingRule : Place → Relation Statement
+abbrev CountingRule : Position → Relation Statement
 CountingRule p = Then IsWord (λ n. Then (IsOne (k.Symbol s.Assign)) (λ q. Then (IsRank 7) (λ a. Then (IsOne (k.Keyword w.To)) (λ u. Then (IsRank 7) (λ b. Then IsBy (λ c.
     Then (IsOne (k.Keyword w.Do)) (λ v. Then IsStatements (λ ss. Closing (k.Keyword w.EndFor) (t.For p n a b c ss)))))))))
 
-counting_to : (p : Place) (ts : List Tok) (x : Statement) (rest : List Tok) → CountingRule p ts x rest → IsStatement ((p, k.Keyword w.For) ∷ ts) x rest
+counting_to : (p : Position) (ts : List Tok) (x : Statement) (rest : List Tok) → CountingRule p ts x rest → IsStatement ((p, k.Keyword w.For) ∷ ts) x rest
 counting_to p ts x rest (seq a_word (seq one (seq a (seq one (seq b (seq c (seq one (seq m (seq one (seq one e)))))))))) = made e (λ y us. IsStatement ((p, k.Keyword w.For) ∷ ts) y us) (counting a b c m)
 
-counting_from : (p : Place) (ts : List Tok) (x : Statement) (rest : List Tok) → IsStatement ((p, k.Keyword w.For) ∷ ts) x rest → CountingRule p ts x rest
+counting_from : (p : Position) (ts : List Tok) (x : Statement) (rest : List Tok) → IsStatement ((p, k.Keyword w.For) ∷ ts) x rest → CountingRule p ts x rest
 counting_from p ts x rest (counting a b c m) = seq a_word (seq one (seq a (seq one (seq b (seq c (seq one (seq m (seq one (seq one done)))))))))
 counting_from p ts x rest (assignment d e) = elim d [ ]
 counting_from p ts x rest (invocation d) = elim d [ ]
 
-abbrev WhileRule : Place → Relation Statement
+abbrev WhileRule : Position → Relation Statement
 WhileRule p = Then (IsRank 7) (λ a. Then (IsOne (k.Keyword w.Do)) (λ q. Then IsStatements (λ ss. Closing (k.Keyword w.EndWhile) (t.While p a ss))))
 
-while_to : (p : Place) (ts : List Tok) (x : Statement) (rest : List Tok) → WhileRule p ts x rest → IsStatement ((p, k.Keyword w.While) ∷ ts) x rest
+while_to : (p : Position) (ts : List Tok) (x : Statement) (rest : List Tok) → WhileRule p ts x rest → IsStatement ((p, k.Keyword w.While) ∷ ts) x rest
 while_to p ts x rest (seq a (seq one (seq m (seq one (seq one c))))) = made c (λ y us. IsStatement ((p, k.Keyword w.While) ∷ ts) y us) (while_loop a m)
 
-while_from : (p : Place) (ts : List Tok) (x : Statement) (rest : List Tok) → IsStatement ((p, k.Keyword w.While) ∷ ts) x rest → WhileRule p ts x rest
+while_from : (p : Position) (ts : List Tok) (x : Statement) (rest : List Tok) → IsStatement ((p, k.Keyword w.While) ∷ ts) x rest → WhileRule p ts x rest
 while_from p ts x rest (while_loop a m) = seq a (seq one (seq m (seq one (seq one done))))
 while_from p ts x rest (assignment d e) = elim d [ ]
 while_from p ts x rest (invocation d) = elim d [ ]
 
-abbrev RepeatRule : Place → Relation Statement
+abbrev RepeatRule : Position → Relation Statement
 RepeatRule p = Then IsStatements (λ ss. Then (IsOne (k.Keyword w.Until)) (λ q. Then (IsRank 7) (λ a. Closing (k.Keyword w.EndRepeat) (t.Repeat p ss a))))
 
-repeat_to : (p : Place) (ts : List Tok) (x : Statement) (rest : List Tok) → RepeatRule p ts x rest → IsStatement ((p, k.Keyword w.Repeat) ∷ ts) x rest
+repeat_to : (p : Position) (ts : List Tok) (x : Statement) (rest : List Tok) → RepeatRule p ts x rest → IsStatement ((p, k.Keyword w.Repeat) ∷ ts) x rest
 repeat_to p ts x rest (seq m (seq one (seq a (seq one (seq one c))))) = made c (λ y us. IsStatement ((p, k.Keyword w.Repeat) ∷ ts) y us) (repeat_loop m a)
 
-repeat_from : (p : Place) (ts : List Tok) (x : Statement) (rest : List Tok) → IsStatement ((p, k.Keyword w.Repeat) ∷ ts) x rest → RepeatRule p ts x rest
+repeat_from : (p : Position) (ts : List Tok) (x : Statement) (rest : List Tok) → IsStatement ((p, k.Keyword w.Repeat) ∷ ts) x rest → RepeatRule p ts x rest
 repeat_from p ts x rest (repeat_loop m a) = seq m (seq one (seq a (seq one (seq one done))))
 repeat_from p ts x rest (assignment d e) = elim d [ ]
 repeat_from p ts x rest (invocation d) = elim d [ ]
 
-selection_follow : {p : Place} (xs : List ConditionalPart) (mid rest : List Tok) (y : Statement) → Then IsElse (λ ys. Closing (k.Keyword w.EndIf) (t.If p xs ys)) mid y rest → Any (kind rest) → Ends is_elsif EndsBlock (kind mid)
+selection_follow : {p : Position} (xs : List ConditionalPart) (mid rest : List Tok) (y : Statement) → Then IsElse (λ ys. Closing (k.Keyword w.EndIf) (t.If p xs ys)) mid y rest → Any (kind rest) → Ends is_elsif EndsBlock (kind mid)
 selection_follow xs mid rest y (seq (otherwise d) c) g = (refl, (refl, tt))
 selection_follow xs mid rest y (seq no_else (seq one c)) g = (refl, (refl, tt))
 
-choice_follow : {p : Place} {a : Expression} (xs : List CaseElement) (mid rest : List Tok) (y : Statement) → Then IsElse (λ ys. Closing (k.Keyword w.EndCase) (t.Case p a xs ys)) mid y rest → Any (kind rest) → Ends begins_label EndsBlock (kind mid)
+choice_follow : {p : Position} {a : Expression} (xs : List CaseElement) (mid rest : List Tok) (y : Statement) → Then IsElse (λ ys. Closing (k.Keyword w.EndCase) (t.Case p a xs ys)) mid y rest → Any (kind rest) → Ends begins_label EndsBlock (kind mid)
 choice_follow xs mid rest y (seq (otherwise d) c) g = (refl, (refl, tt))
 choice_follow xs mid rest y (seq no_else (seq one c)) g = (refl, (refl, tt))
 
@@ -449,22 +449,22 @@ closing x r plain y = exact_bind (exact_keyword x r plain)
 
 -- what the reading functions do behind the word that opens a level
 module _ (d : Deeper) where
-  abbrev after_if : Place → Parser Statement
+  abbrev after_if : Position → Parser Statement
   after_if p = λ ts. and_then (spec.conditionals d ts) (λ xs us. and_then (spec.otherwise d us) (λ ys vs. and_then (parser.keyword w.EndIf vs) (λ q ws. and_then (parser.symbol s.Semicolon ws) (λ z. parser.pure (t.If p xs ys)))))
 
-  abbrev after_case : Place → Parser Statement
+  abbrev after_case : Position → Parser Statement
   after_case p = λ ts. and_then (d.expression ts) (λ a us. and_then (parser.keyword w.Of us) (λ u vs. and_then (spec.cases d vs) (λ cs ws. and_then (spec.otherwise d ws)
       (λ ys xs. and_then (parser.keyword w.EndCase xs) (λ q zs. and_then (parser.symbol s.Semicolon zs) (λ z. parser.pure (t.Case p a cs ys)))))))
 
-  abbrev after_for : Place → Parser Statement
+  abbrev after_for : Position → Parser Statement
   after_for p = λ ts. and_then (parser.word ts) (λ n us. and_then (parser.symbol s.Assign us) (λ q vs. and_then (d.expression vs) (λ a ws. and_then (parser.keyword w.To ws) (λ u xs. and_then (d.expression xs)
       (λ b ys. and_then (spec.step d ys) (λ c zs. and_then (parser.keyword w.Do zs) (λ v ks. and_then (d.statements ks) (λ ss bs. and_then (parser.keyword w.EndFor bs)
       (λ y cs. and_then (parser.symbol s.Semicolon cs) (λ z. parser.pure (t.For p n a b c ss)))))))))))
 
-  abbrev after_while : Place → Parser Statement
+  abbrev after_while : Position → Parser Statement
   after_while p = λ ts. and_then (d.expression ts) (λ a us. and_then (parser.keyword w.Do us) (λ u vs. and_then (d.statements vs) (λ ss ws. and_then (parser.keyword w.EndWhile ws) (λ q xs. and_then (parser.symbol s.Semicolon xs) (λ z. parser.pure (t.While p a ss))))))
 
-  abbrev after_repeat : Place → Parser Statement
+  abbrev after_repeat : Position → Parser Statement
   after_repeat p = λ ts. and_then (d.statements ts) (λ ss us. and_then (parser.keyword w.Until us) (λ u vs. and_then (d.expression vs) (λ a ws. and_then (parser.keyword w.EndRepeat ws) (λ q xs. and_then (parser.symbol s.Semicolon xs) (λ z. parser.pure (t.Repeat p ss a))))))
 
   if_behind : (r : ℕ) → ExactDeeper r d → Behind 1 r after_if (k.Keyword w.If) IsStatement Any

@@ -4,8 +4,8 @@ use Rattle.st_tokens.specs.declared.keyword.Keyword.TheVariants as w
 use Rattle.st_tokens.specs.declared.symbol.Symbol.TheVariants as s
 use Rattle.st_tokens.specs.declared.token.Kind.{Kind}
 use Rattle.st_tokens.specs.declared.token.Kind.TheVariants as k
-use Rattle.st_tree.specs.declared.tree.place.Place.{Place}
-use Rattle.st_tree.specs.declared.tree.place.Identifier.{Identifier}
+use Rattle.st_tree.specs.declared.tree.position.Position.{Position}
+use Rattle.st_tree.specs.declared.tree.position.Identifier.{Identifier}
 use Rattle.st_tree.specs.declared.tree.constant.Duration.{Duration}
 use Rattle.st_tree.specs.declared.tree.unit.ActionQualifier.{ActionQualifier}
 use Rattle.st_tree.specs.declared.tree.unit.Association.{Association}
@@ -14,22 +14,22 @@ use Rattle.st_tree.specs.declared.tree.unit.ChartElement.TheVariants as c
 use Rattle.st_expressions.specs.Grammar.{duration_of}
 use Rattle.st_expressions.specs.Parsers.{Parser, and_then, ◌>>=◌, ◌>>◌, pure, refuse, skip, peek, symbol, keyword, enter, word, number, many, leading, listed, is_comma}
 use Rattle.st_expressions.specs.Reading.{expression, is_open, is_close}
-use Rattle.st_expressions.specs.Tokens.{kind, next, place}
+use Rattle.st_expressions.specs.Tokens.{kind, next, position}
 use Rattle.st_statements.specs.Charts.{qualifier_of, association_of, step_of, transition_of, action_of, is_priority}
 use Rattle.st_statements.specs.Reading.{statements}
 
-abbrev pub opening_by : ℕ → Bool → Parser Place
+abbrev pub opening_by : ℕ → Bool → Parser Position
 opening_by room true = enter room
 opening_by room false = refuse
 
 -- '(', where one more level may be open
-unfoldable pub opening : ℕ → Parser Place
+unfoldable pub opening : ℕ → Parser Position
 opening room = do
   t ← peek
   opening_by room (is_open t)
 
 abbrev pub duration_by : Option Kind → Parser Duration
-duration_by (Some (k.Duration d)) = λ ts. Ok (duration_of (place ts) d, next ts)
+duration_by (Some (k.Duration d)) = λ ts. Ok (duration_of (position ts) d, next ts)
 duration_by _ = refuse
 
 unfoldable pub duration : Parser Duration
@@ -93,12 +93,12 @@ optional_name = do
   t ← peek
   optional_by (is_word t)
 
-abbrev pub priority_word_by : Option Kind → Parser Place
+abbrev pub priority_word_by : Option Kind → Parser Position
 priority_word_by (Some (k.Word n)) = λ ts. if is_priority n then skip ts else Err Rattle.st_expressions.specs.Parsers.Wrong
 priority_word_by _ = refuse
 
 -- PRIORITY
-unfoldable pub priority_word : Parser Place
+unfoldable pub priority_word : Parser Position
 priority_word = λ ts. priority_word_by (kind ts) ts
 
 abbrev pub priority_by : ℕ → Bool → Parser (Option ℕ)

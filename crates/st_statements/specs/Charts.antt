@@ -4,8 +4,8 @@ use Rattle.std.specs.Str.{str_eq_ignore_ascii_case}
 use Rattle.st_tokens.specs.declared.keyword.Keyword.TheVariants as w
 use Rattle.st_tokens.specs.declared.symbol.Symbol.TheVariants as s
 use Rattle.st_tokens.specs.declared.token.Kind.TheVariants as k
-use Rattle.st_tree.specs.declared.tree.place.Place.{Place}
-use Rattle.st_tree.specs.declared.tree.place.Identifier.{Identifier}
+use Rattle.st_tree.specs.declared.tree.position.Position.{Position}
+use Rattle.st_tree.specs.declared.tree.position.Identifier.{Identifier}
 use Rattle.st_tree.specs.declared.tree.constant.Duration.{Duration}
 use Rattle.st_tree.specs.declared.tree.expression.Expression.{Expression}
 use Rattle.st_tree.specs.declared.tree.statement.Statement.{Statement}
@@ -27,14 +27,14 @@ qualifier_of n d = record { name = n; duration = d }
 abbrev pub association_of : Identifier → Option ActionQualifier → Association
 association_of n q = record { name = n; qualifier = q }
 
-abbrev pub step_of : Place → Bool → Identifier → List Association → Step
-step_of p initial n xs = record { place = p; is_initial = initial; name = n; associations = xs }
+abbrev pub step_of : Position → Bool → Identifier → List Association → Step
+step_of p initial n xs = record { position = p; is_initial = initial; name = n; associations = xs }
 
-abbrev pub transition_of : Place → Option Identifier → Option ℕ → List Identifier → List Identifier → Expression → Transition
-transition_of p n m from to x = record { place = p; name = n; priority = m; from = from; to = to; condition = x }
+abbrev pub transition_of : Position → Option Identifier → Option ℕ → List Identifier → List Identifier → Expression → Transition
+transition_of p n m from to x = record { position = p; name = n; priority = m; from = from; to = to; condition = x }
 
-abbrev pub action_of : Place → Identifier → List Statement → Action
-action_of p n ss = record { place = p; name = n; statements = ss }
+abbrev pub action_of : Position → Identifier → List Statement → Action
+action_of p n ss = record { position = p; name = n; statements = ss }
 
 -- a word is PRIORITY, in any case
 abbrev pub is_priority : List ℕ → Bool
@@ -42,62 +42,62 @@ is_priority n = str_eq_ignore_ascii_case n (codes "PRIORITY")
 
 -- word [ ',' duration ]
 pub data IsQualifier : List Tok → ActionQualifier → List Tok → Type 0 where
-  untimed : {p : Place} {n : List ℕ} {rest : List Tok} → IsQualifier ((p, k.Word n) ∷ rest) (qualifier_of (identifier p n) None) rest
-  timed : {p q r : Place} {n : List ℕ} {d : _} {rest : List Tok}
+  untimed : {p : Position} {n : List ℕ} {rest : List Tok} → IsQualifier ((p, k.Word n) ∷ rest) (qualifier_of (identifier p n) None) rest
+  timed : {p q r : Position} {n : List ℕ} {d : _} {rest : List Tok}
       → IsQualifier ((p, k.Word n) ∷ (q, k.Symbol s.Comma) ∷ (r, k.Duration d) ∷ rest) (qualifier_of (identifier p n) (Some (duration_of r d))) rest
 
 -- word '(' [ qualifier ] ')' ';'
 pub data IsAssociation : List Tok → Association → List Tok → Type 0 where
-  unqualified : {p q r z : Place} {n : List ℕ} {rest : List Tok}
+  unqualified : {p q r z : Position} {n : List ℕ} {rest : List Tok}
       → IsAssociation ((p, k.Word n) ∷ (q, k.Symbol s.Open) ∷ (r, k.Symbol s.Close) ∷ (z, k.Symbol s.Semicolon) ∷ rest) (association_of (identifier p n) None) rest
-  qualified : {p q r z : Place} {n : List ℕ} {ts rest : List Tok} {x : ActionQualifier}
+  qualified : {p q r z : Position} {n : List ℕ} {ts rest : List Tok} {x : ActionQualifier}
       → IsQualifier ts x ((r, k.Symbol s.Close) ∷ (z, k.Symbol s.Semicolon) ∷ rest)
       → IsAssociation ((p, k.Word n) ∷ (q, k.Symbol s.Open) ∷ ts) (association_of (identifier p n) (Some x)) rest
 
 -- word ':' { association } END_STEP
-pub data IsStepRest : Place → Bool → List Tok → Step → List Tok → Type 0 where
-  step_rest : {p q r z : Place} {initial : Bool} {n : List ℕ} {ts rest : List Tok} {xs : List Association}
+pub data IsStepRest : Position → Bool → List Tok → Step → List Tok → Type 0 where
+  step_rest : {p q r z : Position} {initial : Bool} {n : List ℕ} {ts rest : List Tok} {xs : List Association}
       → IsMany IsAssociation ts xs ((z, k.Keyword w.EndStep) ∷ rest)
       → IsStepRest p initial ((q, k.Word n) ∷ (r, k.Symbol s.Colon) ∷ ts) (step_of p initial (identifier q n) xs) rest
 
 -- [ word ]
 pub data IsOptionalName : List Tok → Option Identifier → List Tok → Type 0 where
   no_name : {ts : List Tok} → IsOptionalName ts None ts
-  a_name : {p : Place} {n : List ℕ} {rest : List Tok} → IsOptionalName ((p, k.Word n) ∷ rest) (Some (identifier p n)) rest
+  a_name : {p : Position} {n : List ℕ} {rest : List Tok} → IsOptionalName ((p, k.Word n) ∷ rest) (Some (identifier p n)) rest
 
 -- [ '(' PRIORITY ':=' number ')' ]
 pub data IsPriority : List Tok → Option ℕ → List Tok → Type 0 where
   no_priority : {ts : List Tok} → IsPriority ts None ts
-  priority : {p q r u v : Place} {n : List ℕ} {m : ℕ} {rest : List Tok} → is_priority n ≡ true
+  priority : {p q r u v : Position} {n : List ℕ} {m : ℕ} {rest : List Tok} → is_priority n ≡ true
       → IsPriority ((p, k.Symbol s.Open) ∷ (q, k.Word n) ∷ (r, k.Symbol s.Assign) ∷ (u, k.Number m) ∷ (v, k.Symbol s.Close) ∷ rest) (Some m) rest
 
 -- word
 pub data IsName : List Tok → Identifier → List Tok → Type 0 where
-  name : {p : Place} {n : List ℕ} {rest : List Tok} → IsName ((p, k.Word n) ∷ rest) (identifier p n) rest
+  name : {p : Position} {n : List ℕ} {rest : List Tok} → IsName ((p, k.Word n) ∷ rest) (identifier p n) rest
 
 -- word | '(' word { ',' word } ')'
 pub data IsNames : List Tok → List Identifier → List Tok → Type 0 where
   one_name : {ts rest : List Tok} {x : Identifier} → IsName ts x rest → IsNames ts (x ∷ []) rest
-  names : {p q : Place} {ts mid rest : List Tok} {x : Identifier} {xs : List Identifier}
+  names : {p q : Position} {ts mid rest : List Tok} {x : Identifier} {xs : List Identifier}
       → IsName ts x mid → IsMany (IsNext IsName) mid xs ((q, k.Symbol s.Close) ∷ rest)
       → IsNames ((p, k.Symbol s.Open) ∷ ts) (x ∷ xs) rest
 
 -- [ word ] [ priority ] FROM names TO names ':=' expression ';' END_TRANSITION
-pub data IsTransitionRest : Place → List Tok → Transition → List Tok → Type 0 where
-  transition_rest : {p q r u v z : Place} {a b c d e rest : List Tok} {n : Option Identifier} {m : Option ℕ} {xs ys : List Identifier} {x : Expression}
+pub data IsTransitionRest : Position → List Tok → Transition → List Tok → Type 0 where
+  transition_rest : {p q r u v z : Position} {a b c d e rest : List Tok} {n : Option Identifier} {m : Option ℕ} {xs ys : List Identifier} {x : Expression}
       → IsOptionalName a n b → IsPriority b m ((q, k.Keyword w.From) ∷ c) → IsNames c xs ((r, k.Keyword w.To) ∷ d) → IsNames d ys ((u, k.Symbol s.Assign) ∷ e)
       → IsExpression e x ((v, k.Symbol s.Semicolon) ∷ (z, k.Keyword w.EndTransition) ∷ rest)
       → IsTransitionRest p a (transition_of p n m xs ys x) rest
 
 pub data IsElement : List Tok → ChartElement → List Tok → Type 0 where
   -- INITIAL_STEP ..
-  initial_step : {p : Place} {ts rest : List Tok} {x : Step} → IsStepRest p true ts x rest → IsElement ((p, k.Keyword w.InitialStep) ∷ ts) (c.Step x) rest
+  initial_step : {p : Position} {ts rest : List Tok} {x : Step} → IsStepRest p true ts x rest → IsElement ((p, k.Keyword w.InitialStep) ∷ ts) (c.Step x) rest
   -- STEP ..
-  plain_step : {p : Place} {ts rest : List Tok} {x : Step} → IsStepRest p false ts x rest → IsElement ((p, k.Keyword w.Step) ∷ ts) (c.Step x) rest
+  plain_step : {p : Position} {ts rest : List Tok} {x : Step} → IsStepRest p false ts x rest → IsElement ((p, k.Keyword w.Step) ∷ ts) (c.Step x) rest
   -- TRANSITION ..
-  transition : {p : Place} {ts rest : List Tok} {x : Transition} → IsTransitionRest p ts x rest → IsElement ((p, k.Keyword w.Transition) ∷ ts) (c.Transition x) rest
+  transition : {p : Position} {ts rest : List Tok} {x : Transition} → IsTransitionRest p ts x rest → IsElement ((p, k.Keyword w.Transition) ∷ ts) (c.Transition x) rest
   -- ACTION word ':' statements END_ACTION
-  action : {p q r z : Place} {n : List ℕ} {ts rest : List Tok} {ss : List Statement} → IsStatements ts ss ((z, k.Keyword w.EndAction) ∷ rest)
+  action : {p q r z : Position} {n : List ℕ} {ts rest : List Tok} {ss : List Statement} → IsStatements ts ss ((z, k.Keyword w.EndAction) ∷ rest)
       → IsElement ((p, k.Keyword w.Action) ∷ (q, k.Word n) ∷ (r, k.Symbol s.Colon) ∷ ts) (c.Action (action_of p (identifier q n) ss)) rest
 
 -- element { element }

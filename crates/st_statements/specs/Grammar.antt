@@ -3,7 +3,7 @@ use Rattle.std.specs.Prelude.{ℕ, List, [], ◌∷◌, Option, Some, None}
 use Rattle.st_tokens.specs.declared.keyword.Keyword.TheVariants as w
 use Rattle.st_tokens.specs.declared.symbol.Symbol.TheVariants as s
 use Rattle.st_tokens.specs.declared.token.Kind.TheVariants as k
-use Rattle.st_tree.specs.declared.tree.place.Place.{Place}
+use Rattle.st_tree.specs.declared.tree.position.Position.{Position}
 use Rattle.st_tree.specs.declared.tree.constant.Constant.{Constant}
 use Rattle.st_tree.specs.declared.tree.expression.Expression.{Expression}
 use Rattle.st_tree.specs.declared.tree.expression.Variable.{Variable}
@@ -27,13 +27,13 @@ case_of ls ss = roll-CaseElement (record { labels = ls; statements = ss })
 -- literal [ '..' literal ]
 pub data IsLabel : List Tok → Label → List Tok → Type 0 where
   value : {ts rest : List Tok} {x : Constant} → IsConstant ts x rest → IsLabel ts (l.Value x) rest
-  range : {p : Place} {ts mid rest : List Tok} {x y : Constant} → IsConstant ts x ((p, k.Symbol s.Range) ∷ mid) → IsConstant mid y rest
+  range : {p : Position} {ts mid rest : List Tok} {x y : Constant} → IsConstant ts x ((p, k.Symbol s.Range) ∷ mid) → IsConstant mid y rest
       → IsLabel ts (l.Range x y) rest
 
 -- [ BY expression ]
 pub data IsBy : List Tok → Option Expression → List Tok → Type 0 where
   no_by : {ts : List Tok} → IsBy ts None ts
-  by_step : {p : Place} {ts rest : List Tok} {x : Expression} → IsExpression ts x rest → IsBy ((p, k.Keyword w.By) ∷ ts) (Some x) rest
+  by_step : {p : Position} {ts rest : List Tok} {x : Expression} → IsExpression ts x rest → IsBy ((p, k.Keyword w.By) ∷ ts) (Some x) rest
 
 mutual
   -- { statement }
@@ -44,62 +44,62 @@ mutual
 
   pub data IsStatement : List Tok → Statement → List Tok → Type 0 where
     -- ';'
-    empty : {p : Place} {rest : List Tok} → IsStatement ((p, k.Symbol s.Semicolon) ∷ rest) (t.Empty p) rest
+    empty : {p : Position} {rest : List Tok} → IsStatement ((p, k.Symbol s.Semicolon) ∷ rest) (t.Empty p) rest
     -- variable ':=' expression ';'
-    assignment : {p q : Place} {ts mid rest : List Tok} {v : Variable} {x : Expression}
+    assignment : {p q : Position} {ts mid rest : List Tok} {v : Variable} {x : Expression}
         → IsVariable ts v ((p, k.Symbol s.Assign) ∷ mid) → IsExpression mid x ((q, k.Symbol s.Semicolon) ∷ rest)
         → IsStatement ts (t.Assignment v x) rest
     -- call ';'
-    invocation : {p : Place} {ts rest : List Tok} {x : Call} → IsCall ts x ((p, k.Symbol s.Semicolon) ∷ rest)
+    invocation : {p : Position} {ts rest : List Tok} {x : Call} → IsCall ts x ((p, k.Symbol s.Semicolon) ∷ rest)
         → IsStatement ts (t.Call x) rest
     -- RETURN ';'
-    returning : {p q : Place} {rest : List Tok}
+    returning : {p q : Position} {rest : List Tok}
         → IsStatement ((p, k.Keyword w.Return) ∷ (q, k.Symbol s.Semicolon) ∷ rest) (t.Return p) rest
     -- EXIT ';'
-    exiting : {p q : Place} {rest : List Tok}
+    exiting : {p q : Position} {rest : List Tok}
         → IsStatement ((p, k.Keyword w.Exit) ∷ (q, k.Symbol s.Semicolon) ∷ rest) (t.Exit p) rest
     -- IF conditional { ELSIF conditional } [ ELSE statements ] END_IF ';'
-    selection : {p q r : Place} {ts mid last rest : List Tok} {x : ConditionalPart} {xs : List ConditionalPart} {ys : List Statement}
+    selection : {p q r : Position} {ts mid last rest : List Tok} {x : ConditionalPart} {xs : List ConditionalPart} {ys : List Statement}
         → IsConditional ts x mid → IsElsifs mid xs last → IsElse last ys ((q, k.Keyword w.EndIf) ∷ (r, k.Symbol s.Semicolon) ∷ rest)
         → IsStatement ((p, k.Keyword w.If) ∷ ts) (t.If p (x ∷ xs) ys) rest
     -- CASE expression OF case { case } [ ELSE statements ] END_CASE ';'
-    choice : {p q r u : Place} {ts mid then last rest : List Tok} {x : Expression} {c : CaseElement} {cs : List CaseElement} {ys : List Statement}
+    choice : {p q r u : Position} {ts mid then last rest : List Tok} {x : Expression} {c : CaseElement} {cs : List CaseElement} {ys : List Statement}
         → IsExpression ts x ((u, k.Keyword w.Of) ∷ mid) → IsCase mid c then → IsCases then cs last
         → IsElse last ys ((q, k.Keyword w.EndCase) ∷ (r, k.Symbol s.Semicolon) ∷ rest)
         → IsStatement ((p, k.Keyword w.Case) ∷ ts) (t.Case p x (c ∷ cs) ys) rest
     -- FOR word ':=' expression TO expression [ BY expression ] DO statements END_FOR ';'
-    counting : {p q r u v y z : Place} {n : List ℕ} {ts mid then last rest : List Tok} {a b : Expression} {c : Option Expression} {ss : List Statement}
+    counting : {p q r u v y z : Position} {n : List ℕ} {ts mid then last rest : List Tok} {a b : Expression} {c : Option Expression} {ss : List Statement}
         → IsExpression ts a ((u, k.Keyword w.To) ∷ mid) → IsExpression mid b then → IsBy then c ((v, k.Keyword w.Do) ∷ last)
         → IsStatements last ss ((y, k.Keyword w.EndFor) ∷ (z, k.Symbol s.Semicolon) ∷ rest)
         → IsStatement ((p, k.Keyword w.For) ∷ (q, k.Word n) ∷ (r, k.Symbol s.Assign) ∷ ts) (t.For p (identifier q n) a b c ss) rest
     -- WHILE expression DO statements END_WHILE ';'
-    while_loop : {p q r u : Place} {ts mid rest : List Tok} {x : Expression} {ss : List Statement}
+    while_loop : {p q r u : Position} {ts mid rest : List Tok} {x : Expression} {ss : List Statement}
         → IsExpression ts x ((u, k.Keyword w.Do) ∷ mid) → IsStatements mid ss ((q, k.Keyword w.EndWhile) ∷ (r, k.Symbol s.Semicolon) ∷ rest)
         → IsStatement ((p, k.Keyword w.While) ∷ ts) (t.While p x ss) rest
     -- REPEAT statements UNTIL expression END_REPEAT ';'
-    repeat_loop : {p q r u : Place} {ts mid rest : List Tok} {x : Expression} {ss : List Statement}
+    repeat_loop : {p q r u : Position} {ts mid rest : List Tok} {x : Expression} {ss : List Statement}
         → IsStatements ts ss ((u, k.Keyword w.Until) ∷ mid) → IsExpression mid x ((q, k.Keyword w.EndRepeat) ∷ (r, k.Symbol s.Semicolon) ∷ rest)
         → IsStatement ((p, k.Keyword w.Repeat) ∷ ts) (t.Repeat p ss x) rest
 
   -- expression THEN statements
   pub data IsConditional : List Tok → ConditionalPart → List Tok → Type 0 where
-    conditional : {p : Place} {ts mid rest : List Tok} {x : Expression} {ss : List Statement}
+    conditional : {p : Position} {ts mid rest : List Tok} {x : Expression} {ss : List Statement}
         → IsExpression ts x ((p, k.Keyword w.Then) ∷ mid) → IsStatements mid ss rest → IsConditional ts (part_of x ss) rest
 
   -- { ELSIF conditional }
   pub data IsElsifs : List Tok → List ConditionalPart → List Tok → Type 0 where
     no_elsif : {ts : List Tok} → IsElsifs ts [] ts
-    elsifs : {p : Place} {ts mid rest : List Tok} {x : ConditionalPart} {xs : List ConditionalPart} → IsConditional ts x mid → IsElsifs mid xs rest
+    elsifs : {p : Position} {ts mid rest : List Tok} {x : ConditionalPart} {xs : List ConditionalPart} → IsConditional ts x mid → IsElsifs mid xs rest
         → IsElsifs ((p, k.Keyword w.Elsif) ∷ ts) (x ∷ xs) rest
 
   -- [ ELSE statements ]
   pub data IsElse : List Tok → List Statement → List Tok → Type 0 where
     no_else : {ts : List Tok} → IsElse ts [] ts
-    otherwise : {p : Place} {ts rest : List Tok} {ss : List Statement} → IsStatements ts ss rest → IsElse ((p, k.Keyword w.Else) ∷ ts) ss rest
+    otherwise : {p : Position} {ts rest : List Tok} {ss : List Statement} → IsStatements ts ss rest → IsElse ((p, k.Keyword w.Else) ∷ ts) ss rest
 
   -- label { ',' label } ':' statements
   pub data IsCase : List Tok → CaseElement → List Tok → Type 0 where
-    case : {p : Place} {ts mid rest : List Tok} {ls : List Label} {ss : List Statement}
+    case : {p : Position} {ts mid rest : List Tok} {ls : List Label} {ss : List Statement}
         → IsListed IsLabel ts ls ((p, k.Symbol s.Colon) ∷ mid) → IsStatements mid ss rest → IsCase ts (case_of ls ss) rest
 
   -- { case }

@@ -15,7 +15,7 @@ use st_expressions::token::{enter, is_close, is_comma, is_open, keyword, number,
 use st_tokens::{Keyword, Kind, Symbol};
 use st_tree::List;
 use st_tree::tree::{
-    Action, ActionQualifier, Association, ChartElement, Duration, Identifier, Place, Step,
+    Action, ActionQualifier, Association, ChartElement, Duration, Identifier, Position, Step,
     Transition,
 };
 use std::alloc::Global;
@@ -40,7 +40,7 @@ pub fn begins_element(ts: &Cursor<'_>) -> bool
 
 /// Takes `(`, where `room` more levels may be opened.
 #[tactic(auto, unfolding(crate::specs::ChartReading::opening))]
-pub fn opening(ts: &mut Cursor<'_>, room: u8) -> Result<Place, ReadFault>
+pub fn opening(ts: &mut Cursor<'_>, room: u8) -> Result<Position, ReadFault>
     ensures read { Reads (spec.opening room ts.old) result ts.new }
     ensures shorter { OnOk result (length ts.new ≤ length ts.old) }
 {
@@ -57,9 +57,9 @@ fn duration(ts: &mut Cursor<'_>) -> Result<Duration, ReadFault>
 {
     match ts.kind() {
         Some(Kind::Duration(milliseconds)) => {
-            let place = ts.skip();
+            let position = ts.skip();
             Ok(Duration {
-                place,
+                position,
                 milliseconds,
             })
         }
@@ -140,13 +140,13 @@ fn step(
     ensures read { Reads (spec.step room is_initial ts.old) result ts.new }
     ensures shorter { OnOk result (length ts.new < length ts.old) }
 {
-    let place = ts.skip();
+    let position = ts.skip();
     let name = word(alloc, ts)?;
     symbol(ts, Symbol::Colon)?;
     let associations = associations(alloc, ts, room)?;
     keyword(ts, Keyword::EndStep)?;
     Ok(ChartElement::Step(Step {
-        place,
+        position,
         is_initial,
         name,
         associations,
@@ -172,7 +172,7 @@ fn is_priority(word: &[u8]) -> bool
 }
 
 #[tactic(auto, unfolding(crate::specs::ChartReading::priority_word))]
-fn priority_word(ts: &mut Cursor<'_>) -> Result<Place, ReadFault>
+fn priority_word(ts: &mut Cursor<'_>) -> Result<Position, ReadFault>
     ensures read { Reads (spec.priority_word ts.old) result ts.new }
     ensures shorter { OnOk result (length ts.new < length ts.old) }
 {
@@ -257,7 +257,7 @@ fn transition(alloc: Global, ts: &mut Cursor<'_>, room: u8) -> Result<ChartEleme
     ensures read { Reads (spec.transition room ts.old) result ts.new }
     ensures shorter { OnOk result (length ts.new < length ts.old) }
 {
-    let place = ts.skip();
+    let position = ts.skip();
     let name = optional_name(alloc, ts)?;
     let priority = priority(ts, room)?;
     keyword(ts, Keyword::From)?;
@@ -269,7 +269,7 @@ fn transition(alloc: Global, ts: &mut Cursor<'_>, room: u8) -> Result<ChartEleme
     symbol(ts, Symbol::Semicolon)?;
     keyword(ts, Keyword::EndTransition)?;
     Ok(ChartElement::Transition(Transition {
-        place,
+        position,
         name,
         priority,
         from,
@@ -283,13 +283,13 @@ fn action(alloc: Global, ts: &mut Cursor<'_>, room: u8) -> Result<ChartElement, 
     ensures read { Reads (spec.action room ts.old) result ts.new }
     ensures shorter { OnOk result (length ts.new < length ts.old) }
 {
-    let place = ts.skip();
+    let position = ts.skip();
     let name = word(alloc, ts)?;
     symbol(ts, Symbol::Colon)?;
     let statements = statements(alloc, ts, room)?;
     keyword(ts, Keyword::EndAction)?;
     Ok(ChartElement::Action(Action {
-        place,
+        position,
         name,
         statements,
     }))

@@ -122,9 +122,9 @@ fn returning(ts: &mut Cursor<'_>) -> Result<Statement, ReadFault>
     ensures read { Reads (spec.returning ts.old) result ts.new }
     ensures shorter { OnOk result (length ts.new < length ts.old) }
 {
-    let place = ts.skip();
+    let position = ts.skip();
     symbol(ts, Symbol::Semicolon)?;
-    Ok(Statement::Return(place))
+    Ok(Statement::Return(position))
 }
 
 #[tactic(auto, unfolding(crate::specs::Reading::exiting))]
@@ -132,9 +132,9 @@ fn exiting(ts: &mut Cursor<'_>) -> Result<Statement, ReadFault>
     ensures read { Reads (spec.exiting ts.old) result ts.new }
     ensures shorter { OnOk result (length ts.new < length ts.old) }
 {
-    let place = ts.skip();
+    let position = ts.skip();
     symbol(ts, Symbol::Semicolon)?;
-    Ok(Statement::Exit(place))
+    Ok(Statement::Exit(position))
 }
 
 #[tactic(auto, unfolding(crate::specs::Reading::assignment))]
@@ -275,12 +275,12 @@ fn selection(alloc: Global, ts: &mut Cursor<'_>, room: u8) -> Result<Statement, 
     ensures read { Reads (spec.selection room (spec.deeper_of room) ts.old) result ts.new }
     ensures shorter { OnOk result (length ts.new < length ts.old) }
 {
-    let place = enter(ts, room)?;
+    let position = enter(ts, room)?;
     let parts = conditionals(alloc, ts, room)?;
     let statements = otherwise(alloc, ts, room)?;
     keyword(ts, Keyword::EndIf)?;
     symbol(ts, Symbol::Semicolon)?;
-    Ok(Statement::If(place, parts, statements))
+    Ok(Statement::If(position, parts, statements))
 }
 
 #[cycle(parser)]
@@ -319,14 +319,14 @@ fn choice(alloc: Global, ts: &mut Cursor<'_>, room: u8) -> Result<Statement, Rea
     ensures read { Reads (spec.choice room (spec.deeper_of room) ts.old) result ts.new }
     ensures shorter { OnOk result (length ts.new < length ts.old) }
 {
-    let place = enter(ts, room)?;
+    let position = enter(ts, room)?;
     let selector = inner(alloc, ts, room)?;
     keyword(ts, Keyword::Of)?;
     let cases = cases(alloc, ts, room)?;
     let statements = otherwise(alloc, ts, room)?;
     keyword(ts, Keyword::EndCase)?;
     symbol(ts, Symbol::Semicolon)?;
-    Ok(Statement::Case(place, selector, cases, statements))
+    Ok(Statement::Case(position, selector, cases, statements))
 }
 
 #[cycle(parser)]
@@ -335,7 +335,7 @@ fn counting(alloc: Global, ts: &mut Cursor<'_>, room: u8) -> Result<Statement, R
     ensures read { Reads (spec.counting room (spec.deeper_of room) ts.old) result ts.new }
     ensures shorter { OnOk result (length ts.new < length ts.old) }
 {
-    let place = enter(ts, room)?;
+    let position = enter(ts, room)?;
     let variable = word(alloc, ts)?;
     symbol(ts, Symbol::Assign)?;
     let first = inner(alloc, ts, room)?;
@@ -346,7 +346,7 @@ fn counting(alloc: Global, ts: &mut Cursor<'_>, room: u8) -> Result<Statement, R
     let statements = block(alloc, ts, room)?;
     keyword(ts, Keyword::EndFor)?;
     symbol(ts, Symbol::Semicolon)?;
-    Ok(Statement::For(place, variable, first, last, by, statements))
+    Ok(Statement::For(position, variable, first, last, by, statements))
 }
 
 #[cycle(parser)]
@@ -355,13 +355,13 @@ fn while_loop(alloc: Global, ts: &mut Cursor<'_>, room: u8) -> Result<Statement,
     ensures read { Reads (spec.while_loop room (spec.deeper_of room) ts.old) result ts.new }
     ensures shorter { OnOk result (length ts.new < length ts.old) }
 {
-    let place = enter(ts, room)?;
+    let position = enter(ts, room)?;
     let condition = inner(alloc, ts, room)?;
     keyword(ts, Keyword::Do)?;
     let statements = block(alloc, ts, room)?;
     keyword(ts, Keyword::EndWhile)?;
     symbol(ts, Symbol::Semicolon)?;
-    Ok(Statement::While(place, condition, statements))
+    Ok(Statement::While(position, condition, statements))
 }
 
 #[cycle(parser)]
@@ -370,13 +370,13 @@ fn repeat_loop(alloc: Global, ts: &mut Cursor<'_>, room: u8) -> Result<Statement
     ensures read { Reads (spec.repeat_loop room (spec.deeper_of room) ts.old) result ts.new }
     ensures shorter { OnOk result (length ts.new < length ts.old) }
 {
-    let place = enter(ts, room)?;
+    let position = enter(ts, room)?;
     let statements = block(alloc, ts, room)?;
     keyword(ts, Keyword::Until)?;
     let condition = inner(alloc, ts, room)?;
     keyword(ts, Keyword::EndRepeat)?;
     symbol(ts, Symbol::Semicolon)?;
-    Ok(Statement::Repeat(place, statements, condition))
+    Ok(Statement::Repeat(position, statements, condition))
 }
 
 #[cycle(parser)]

@@ -11,21 +11,21 @@ use Rattle.st_tree.specs.declared.tree.declaration.ArrayElement.TheVariants as a
 use Rattle.st_tree.specs.declared.tree.declaration.Declaration.{Declaration}
 use Rattle.st_tree.specs.declared.tree.declaration.Initial.{Initial}
 use Rattle.st_tree.specs.declared.tree.declaration.Initial.TheVariants as i
-use Rattle.st_tree.specs.declared.tree.declaration.Section.{Section}
-use Rattle.st_tree.specs.declared.tree.declaration.Section.TheVariants as section
+use Rattle.st_tree.specs.declared.tree.declaration.VarKind.{VarKind}
+use Rattle.st_tree.specs.declared.tree.declaration.VarKind.TheVariants as var_kind
 use Rattle.st_tree.specs.declared.tree.declaration.Specification.{Specification}
 use Rattle.st_tree.specs.declared.tree.declaration.Specification.TheVariants as sp
 use Rattle.st_tree.specs.declared.tree.declaration.Subrange.{Subrange}
 use Rattle.st_tree.specs.declared.tree.declaration.TypeName.{TypeName}
 use Rattle.st_tree.specs.declared.tree.declaration.TypeName.TheVariants as n
 use Rattle.st_tree.specs.declared.tree.declaration.VarBlock.{VarBlock}
-use Rattle.st_tree.specs.declared.tree.place.Place.{Place}
+use Rattle.st_tree.specs.declared.tree.position.Position.{Position}
 use Rattle.st_expressions.specs.Grammar.{IsSignedInteger, unsigned, IsConstant, integer}
 use Rattle.st_expressions.specs.Lists.{IsMany, none, more, IsListed, listed}
 use Rattle.st_expressions.specs.Parsers as parser
 use Rattle.st_expressions.specs.Parsers.{Parser, and_then, is_comma}
 use Rattle.st_expressions.specs.Reading.{is_open, is_close}
-use Rattle.st_expressions.specs.Tokens.{Tok, kind, next, place}
+use Rattle.st_expressions.specs.Tokens.{Tok, kind, next, position}
 use Rattle.st_expressions.proofs.Exact.{Relation, Exact, Always, Any, Then, seq, IsOne, one, IsPure, done, IsWord, a_word, IsNumber, a_number, exact_bind, exact_as, exact_iff, exact_last, exact_under, exact_zero, exact_pure, made, exact_refuse, exact_on, IsFirst, exact_token, exact_token_if, exact_symbol, exact_keyword, exact_word, exact_number, exact_before, Ends, exact_many, exact_listed}
 use Rattle.st_expressions.proofs.Expressions.{constant_exact, signed_integer_exact}
 use Rattle.st_expressions.proofs.Follows.{constant_begins, begins_constant}
@@ -43,13 +43,13 @@ bracket_is : (t : Option Kind) → is_bracket t ≡ true → t ≡ Some (k.Symbo
 bracket_is (Some (k.Symbol s.OpenBracket)) h = refl
 bracket_is _ h = absurd (cc)
 
-bracket_not : {ts rest : List Tok} {p : Place} → is_bracket (kind ts) ≡ false → IsOne (k.Symbol s.OpenBracket) ts p rest → ⊥
+bracket_not : {ts rest : List Tok} {p : Position} → is_bracket (kind ts) ≡ false → IsOne (k.Symbol s.OpenBracket) ts p rest → ⊥
 bracket_not h one = cc
 
-bracket_to : (p : Place) (ts : List Tok) (x : Place) (rest : List Tok) → IsPure p ts x rest → IsOne (k.Symbol s.OpenBracket) ((p, k.Symbol s.OpenBracket) ∷ ts) x rest
+bracket_to : (p : Position) (ts : List Tok) (x : Position) (rest : List Tok) → IsPure p ts x rest → IsOne (k.Symbol s.OpenBracket) ((p, k.Symbol s.OpenBracket) ∷ ts) x rest
 bracket_to p ts x rest d = made d (λ y us. IsOne (k.Symbol s.OpenBracket) ((p, k.Symbol s.OpenBracket) ∷ ts) y us) one
 
-bracket_from : (p : Place) (ts : List Tok) (x : Place) (rest : List Tok) → IsOne (k.Symbol s.OpenBracket) ((p, k.Symbol s.OpenBracket) ∷ ts) x rest → IsPure p ts x rest
+bracket_from : (p : Position) (ts : List Tok) (x : Position) (rest : List Tok) → IsOne (k.Symbol s.OpenBracket) ((p, k.Symbol s.OpenBracket) ∷ ts) x rest → IsPure p ts x rest
 bracket_from p ts x rest one = done
 
 module _ (r : ℕ) where
@@ -65,10 +65,10 @@ module _ (r : ℕ) where
 
 -- ---- specifications
 
-elementary_to : (e : _) (p : Place) (ts : List Tok) (x : TypeName) (rest : List Tok) → IsPure (n.Elementary p e) ts x rest → IsTypeName ((p, k.Type e) ∷ ts) x rest
+elementary_to : (e : _) (p : Position) (ts : List Tok) (x : TypeName) (rest : List Tok) → IsPure (n.Elementary p e) ts x rest → IsTypeName ((p, k.Type e) ∷ ts) x rest
 elementary_to e p ts x rest d = made d (λ y us. IsTypeName ((p, k.Type e) ∷ ts) y us) elementary
 
-elementary_from : (e : _) (p : Place) (ts : List Tok) (x : TypeName) (rest : List Tok) → IsTypeName ((p, k.Type e) ∷ ts) x rest → IsPure (n.Elementary p e) ts x rest
+elementary_from : (e : _) (p : Position) (ts : List Tok) (x : TypeName) (rest : List Tok) → IsTypeName ((p, k.Type e) ∷ ts) x rest → IsPure (n.Elementary p e) ts x rest
 elementary_from e p ts x rest elementary = done
 
 -- no elementary type
@@ -89,13 +89,13 @@ subrange_to ts x rest (seq d (seq one (seq e p))) = made p (λ y us. IsSubrange 
 subrange_from : (ts : List Tok) (x : Subrange) (rest : List Tok) → IsSubrange ts x rest → Then IsSignedInteger (λ y. Then (IsOne (k.Symbol s.Range)) (λ q. Then IsSignedInteger (λ z. IsPure (subrange_of y z)))) ts x rest
 subrange_from ts x rest (subrange d e) = seq d (seq one (seq e done))
 
-abbrev ArrayRule : Place → Relation Specification
+abbrev ArrayRule : Position → Relation Specification
 ArrayRule p = Then (IsOne (k.Symbol s.OpenBracket)) (λ q. Then (IsListed IsSubrange) (λ xs. Then (IsOne (k.Symbol s.CloseBracket)) (λ u. Then (IsOne (k.Keyword w.Of)) (λ v. Then IsTypeName (λ y. IsPure (sp.Array p xs y))))))
 
-array_to : (p : Place) (ts : List Tok) (x : Specification) (rest : List Tok) → ArrayRule p ts x rest → IsSpecification ((p, k.Keyword w.Array) ∷ ts) x rest
+array_to : (p : Position) (ts : List Tok) (x : Specification) (rest : List Tok) → ArrayRule p ts x rest → IsSpecification ((p, k.Keyword w.Array) ∷ ts) x rest
 array_to p ts x rest (seq one (seq d (seq one (seq one (seq e m))))) = made m (λ y us. IsSpecification ((p, k.Keyword w.Array) ∷ ts) y us) (array d e)
 
-array_from : (p : Place) (ts : List Tok) (x : Specification) (rest : List Tok) → IsSpecification ((p, k.Keyword w.Array) ∷ ts) x rest → ArrayRule p ts x rest
+array_from : (p : Position) (ts : List Tok) (x : Specification) (rest : List Tok) → IsSpecification ((p, k.Keyword w.Array) ∷ ts) x rest → ArrayRule p ts x rest
 array_from p ts x rest (array d e) = seq one (seq d (seq one (seq one (seq e done))))
 array_from p ts x rest (simple d) = elim d [ ]
 
@@ -176,17 +176,17 @@ a_value_from ts x rest h g no_value = absurd (let wrong = sym h ∙ g in cc)
 abbrev NoOpen : Option Kind → Type 0
 NoOpen t = is_open t ≡ false
 
-abbrev RepeatedRule : Place → Relation ArrayElement
+abbrev RepeatedRule : Position → Relation ArrayElement
 RepeatedRule p = Then IsNumber (λ m. Then (IsOne (k.Symbol s.Open)) (λ q. Then IsValue (λ x. Then (IsOne (k.Symbol s.Close)) (λ z. IsPure (a.Repeated p m x)))))
 
-at_place : {ts rest : List Tok} {m : ℕ} {v : Option Constant} (p : Place) → p ≡ place ts → IsArrayElement ts (a.Repeated (place ts) m v) rest → IsArrayElement ts (a.Repeated p m v) rest
+at_place : {ts rest : List Tok} {m : ℕ} {v : Option Constant} (p : Position) → p ≡ position ts → IsArrayElement ts (a.Repeated (position ts) m v) rest → IsArrayElement ts (a.Repeated p m v) rest
 at_place {ts} {rest} {m} {v} p at d = subst (λ q. IsArrayElement ts (a.Repeated q m v) rest) (sym at) d
 
-repeated_to : (p : Place) (ts : List Tok) (x : ArrayElement) (rest : List Tok) → p ≡ place ts → RepeatedRule p ts x rest → IsArrayElement ts x rest
+repeated_to : (p : Position) (ts : List Tok) (x : ArrayElement) (rest : List Tok) → p ≡ position ts → RepeatedRule p ts x rest → IsArrayElement ts x rest
 repeated_to p ts x rest at (seq a_number (seq one (seq no_value (seq one d)))) = made d (λ y us. IsArrayElement ts y us) (at_place p at repeated_default)
 repeated_to p ts x rest at (seq a_number (seq one (seq (a_value c) (seq one d)))) = made d (λ y us. IsArrayElement ts y us) (at_place p at (repeated c))
 
-repeated_from : (p : Place) (ts : List Tok) (x : ArrayElement) (rest : List Tok) → p ≡ place ts → is_repeated (kind ts) (kind (next ts)) ≡ true → NoOpen (kind rest) → IsArrayElement ts x rest → RepeatedRule p ts x rest
+repeated_from : (p : Position) (ts : List Tok) (x : ArrayElement) (rest : List Tok) → p ≡ position ts → is_repeated (kind ts) (kind (next ts)) ≡ true → NoOpen (kind rest) → IsArrayElement ts x rest → RepeatedRule p ts x rest
 repeated_from p ts x rest at h g repeated_default = subst (λ q. RepeatedRule q ts x rest) (sym at) (seq a_number (seq one (seq no_value (seq one done))))
 repeated_from p ts x rest at h g (repeated c) = subst (λ q. RepeatedRule q ts x rest) (sym at) (seq a_number (seq one (seq (a_value c) (seq one done))))
 repeated_from p ts x rest at h g (single (integer unsigned)) = absurd (second_open (kind rest) h g) where
@@ -224,10 +224,10 @@ assign_is : (t : Option Kind) → is_assign t ≡ true → t ≡ Some (k.Symbol 
 assign_is (Some (k.Symbol s.Assign)) h = refl
 assign_is _ h = absurd (cc)
 
-initialized_to : (p : Place) (ts : List Tok) (x : Option Initial) (rest : List Tok) → Then IsInitial (λ y. Then (IsOne (k.Symbol s.Semicolon)) (λ q. IsPure (Some y))) ts x rest → IsInitialized ((p, k.Symbol s.Assign) ∷ ts) x rest
+initialized_to : (p : Position) (ts : List Tok) (x : Option Initial) (rest : List Tok) → Then IsInitial (λ y. Then (IsOne (k.Symbol s.Semicolon)) (λ q. IsPure (Some y))) ts x rest → IsInitialized ((p, k.Symbol s.Assign) ∷ ts) x rest
 initialized_to p ts x rest (seq d (seq one m)) = made m (λ y us. IsInitialized ((p, k.Symbol s.Assign) ∷ ts) y us) (initialized d)
 
-initialized_from : (p : Place) (ts : List Tok) (x : Option Initial) (rest : List Tok) → IsInitialized ((p, k.Symbol s.Assign) ∷ ts) x rest → Then IsInitial (λ y. Then (IsOne (k.Symbol s.Semicolon)) (λ q. IsPure (Some y))) ts x rest
+initialized_from : (p : Position) (ts : List Tok) (x : Option Initial) (rest : List Tok) → IsInitialized ((p, k.Symbol s.Assign) ∷ ts) x rest → Then IsInitial (λ y. Then (IsOne (k.Symbol s.Semicolon)) (λ q. IsPure (Some y))) ts x rest
 initialized_from p ts x rest (initialized d) = seq d (seq one done)
 
 uninitialized_to : (ts : List Tok) (x : Option Initial) (rest : List Tok) → Then (IsOne (k.Symbol s.Semicolon)) (λ q. IsPure None) ts x rest → IsInitialized ts x rest
@@ -247,14 +247,14 @@ module _ (r : ℕ) where
   value_exact = exact_on (λ ts. is_close (kind ts)) spec.repeated_by Always IsValue OnlyClose (At r) (At r) value_by
 
 module _ (r : ℕ) where
-  repeated_rule : (p : Place) → Exact 1 (λ ts. and_then (parser.number ts) (λ m us. and_then (Rattle.st_statements.specs.ChartReading.opening (suc r) us) (λ q vs. and_then (spec.repeated_value vs) (λ x ws. and_then (parser.symbol s.Close ws)
+  repeated_rule : (p : Position) → Exact 1 (λ ts. and_then (parser.number ts) (λ m us. and_then (Rattle.st_statements.specs.ChartReading.opening (suc r) us) (λ q vs. and_then (spec.repeated_value vs) (λ x ws. and_then (parser.symbol s.Close ws)
       (λ z. parser.pure (a.Repeated p m x)))))) Always (RepeatedRule p) Any (At (suc r)) (At (suc r))
   repeated_rule p = exact_bind (exact_number (suc r)) (λ m. exact_bind (opening_exact r) (λ q. exact_before (k.Symbol s.Close) (value_exact r) refl (exact_symbol s.Close r refl) (λ x z. exact_pure (a.Repeated p m x) Always Any (At (suc r))))
       (λ q mid rest y d g. tt)) (λ m mid rest y d g. tt)
 
   repeated_exact : Exact 1 (spec.repeated (suc r)) (λ ts. is_repeated (kind ts) (kind (next ts)) ≡ true) IsArrayElement NoOpen (At (suc r)) (At (suc r))
   unfolding spec.repeated
-  repeated_exact = exact_on place (λ p ts. and_then (parser.number ts) (λ m us. and_then (Rattle.st_statements.specs.ChartReading.opening (suc r) us) (λ q vs. and_then (spec.repeated_value vs) (λ x ws. and_then (parser.symbol s.Close ws)
+  repeated_exact = exact_on position (λ p ts. and_then (parser.number ts) (λ m us. and_then (Rattle.st_statements.specs.ChartReading.opening (suc r) us) (λ q vs. and_then (spec.repeated_value vs) (λ x ws. and_then (parser.symbol s.Close ws)
       (λ z. parser.pure (a.Repeated p m x))))))
       (λ ts. is_repeated (kind ts) (kind (next ts)) ≡ true) IsArrayElement NoOpen (At (suc r)) (At (suc r))
       (λ p. exact_as (repeated_rule p) (λ ts h. tt) (λ ts x rest h d. repeated_to p ts x rest (sym h.0) d) (λ ts x rest h g d. repeated_from p ts x rest (sym h.0) h.1 g d) (λ t g. tt))
@@ -322,24 +322,24 @@ member_begins ts x rest (member e f) = refl
 abbrev EndsHead : Option Kind → Type 0
 EndsHead t = (is_retention t ≡ false) × (is_constant t ≡ false)
 
-retain_to : (x : Section) (p : Place) (ts : List Tok) (y : Section) (rest : List Tok) → IsPure x ts y rest → IsRetention x ((p, k.Keyword w.Retain) ∷ ts) y rest
+retain_to : (x : VarKind) (p : Position) (ts : List Tok) (y : VarKind) (rest : List Tok) → IsPure x ts y rest → IsRetention x ((p, k.Keyword w.Retain) ∷ ts) y rest
 retain_to x p ts y rest d = made d (λ z us. IsRetention x ((p, k.Keyword w.Retain) ∷ ts) z us) retained
 
-retain_from : (x : Section) (p : Place) (ts : List Tok) (y : Section) (rest : List Tok) → EndsHead (kind rest) → IsRetention x ((p, k.Keyword w.Retain) ∷ ts) y rest → IsPure x ts y rest
+retain_from : (x : VarKind) (p : Position) (ts : List Tok) (y : VarKind) (rest : List Tok) → EndsHead (kind rest) → IsRetention x ((p, k.Keyword w.Retain) ∷ ts) y rest → IsPure x ts y rest
 retain_from x p ts y rest g retained = done
 retain_from x p ts y rest g unsaid = absurd (let wrong = g.0 in cc)
 
-non_retain_to : (x : Section) (p : Place) (ts : List Tok) (y : Section) (rest : List Tok) → IsPure x ts y rest → IsRetention x ((p, k.Keyword w.NonRetain) ∷ ts) y rest
+non_retain_to : (x : VarKind) (p : Position) (ts : List Tok) (y : VarKind) (rest : List Tok) → IsPure x ts y rest → IsRetention x ((p, k.Keyword w.NonRetain) ∷ ts) y rest
 non_retain_to x p ts y rest d = made d (λ z us. IsRetention x ((p, k.Keyword w.NonRetain) ∷ ts) z us) not_retained
 
-non_retain_from : (x : Section) (p : Place) (ts : List Tok) (y : Section) (rest : List Tok) → EndsHead (kind rest) → IsRetention x ((p, k.Keyword w.NonRetain) ∷ ts) y rest → IsPure x ts y rest
+non_retain_from : (x : VarKind) (p : Position) (ts : List Tok) (y : VarKind) (rest : List Tok) → EndsHead (kind rest) → IsRetention x ((p, k.Keyword w.NonRetain) ∷ ts) y rest → IsPure x ts y rest
 non_retain_from x p ts y rest g not_retained = done
 non_retain_from x p ts y rest g unsaid = absurd (let wrong = g.0 in cc)
 
-unsaid_to : (x : Section) (ts : List Tok) (y : Section) (rest : List Tok) → IsPure x ts y rest → IsRetention x ts y rest
+unsaid_to : (x : VarKind) (ts : List Tok) (y : VarKind) (rest : List Tok) → IsPure x ts y rest → IsRetention x ts y rest
 unsaid_to x ts y rest d = made d (λ z us. IsRetention x ts z us) unsaid
 
-unsaid_from : (x : Section) (ts : List Tok) (y : Section) (rest : List Tok) → is_retention (kind ts) ≡ false → IsRetention x ts y rest → IsPure x ts y rest
+unsaid_from : (x : VarKind) (ts : List Tok) (y : VarKind) (rest : List Tok) → is_retention (kind ts) ≡ false → IsRetention x ts y rest → IsPure x ts y rest
 unsaid_from x ts y rest h unsaid = done
 unsaid_from x ts y rest h retained = absurd (cc)
 unsaid_from x ts y rest h not_retained = absurd (cc)
@@ -348,14 +348,14 @@ constant_is : (t : Option Kind) → is_constant t ≡ true → t ≡ Some (k.Key
 constant_is (Some (k.Keyword w.Constant)) h = refl
 constant_is _ h = absurd (cc)
 
-constant_to : (p : Place) (ts : List Tok) (y : Section) (rest : List Tok) → IsPure section.Constant ts y rest → IsInternal ((p, k.Keyword w.Constant) ∷ ts) y rest
+constant_to : (p : Position) (ts : List Tok) (y : VarKind) (rest : List Tok) → IsPure var_kind.Constant ts y rest → IsInternal ((p, k.Keyword w.Constant) ∷ ts) y rest
 constant_to p ts y rest d = made d (λ z us. IsInternal ((p, k.Keyword w.Constant) ∷ ts) z us) constant
 
-constant_from : (p : Place) (ts : List Tok) (y : Section) (rest : List Tok) → EndsHead (kind rest) → IsInternal ((p, k.Keyword w.Constant) ∷ ts) y rest → IsPure section.Constant ts y rest
+constant_from : (p : Position) (ts : List Tok) (y : VarKind) (rest : List Tok) → EndsHead (kind rest) → IsInternal ((p, k.Keyword w.Constant) ∷ ts) y rest → IsPure var_kind.Constant ts y rest
 constant_from p ts y rest g constant = done
 constant_from p ts y rest g (variable unsaid) = absurd (let wrong = g.1 in cc)
 
-variable_from : (ts : List Tok) (y : Section) (rest : List Tok) → is_constant (kind ts) ≡ false → IsInternal ts y rest → IsRetention section.Internal ts y rest
+variable_from : (ts : List Tok) (y : VarKind) (rest : List Tok) → is_constant (kind ts) ≡ false → IsInternal ts y rest → IsRetention var_kind.Internal ts y rest
 variable_from ts y rest h (variable d) = d
 variable_from ts y rest h constant = absurd (cc)
 
@@ -378,14 +378,14 @@ module _ (r : ℕ) where
       (λ q mid rest y d g. tt)) (λ m mid rest y d g. tt))
       member_to member_from
 
-  retention_of : (x : Section) (t : Option Kind) → is_retention t ≡ true → Exact 0 (λ ts. and_then (parser.skip ts) (λ q. parser.pure x)) (λ ts. (kind ts ≡ t) × Always ts) (IsRetention x) EndsHead (At r) (At r)
+  retention_of : (x : VarKind) (t : Option Kind) → is_retention t ≡ true → Exact 0 (λ ts. and_then (parser.skip ts) (λ q. parser.pure x)) (λ ts. (kind ts ≡ t) × Always ts) (IsRetention x) EndsHead (At r) (At r)
   retention_of x (Some (k.Keyword w.Retain)) h = exact_zero (exact_under (exact_token (k.Keyword w.Retain) refl {R = IsRetention x} (λ p. exact_as (exact_pure x Always Any (At r)) (λ ts u. u)
       (λ ts y rest u d. retain_to x p ts y rest d) (λ ts y rest u g d. retain_from x p ts y rest g d) (λ t g. tt))) (λ ts p. p.0) (λ t g. g))
   retention_of x (Some (k.Keyword w.NonRetain)) h = exact_zero (exact_under (exact_token (k.Keyword w.NonRetain) refl {R = IsRetention x} (λ p. exact_as (exact_pure x Always Any (At r)) (λ ts u. u)
       (λ ts y rest u d. non_retain_to x p ts y rest d) (λ ts y rest u g d. non_retain_from x p ts y rest g d) (λ t g. tt))) (λ ts p. p.0) (λ t g. g))
   retention_of x _ h = absurd (cc)
 
-  retention_by : (x : Section) (b : Bool) → Exact 0 (spec.retention_by x b) (λ ts. (is_retention (kind ts) ≡ b) × Always ts) (IsRetention x) EndsHead (At r) (At r)
+  retention_by : (x : VarKind) (b : Bool) → Exact 0 (spec.retention_by x b) (λ ts. (is_retention (kind ts) ≡ b) × Always ts) (IsRetention x) EndsHead (At r) (At r)
   retention_by x true = exact_under (exact_on kind (λ t ts. and_then (parser.skip ts) (λ q. parser.pure x)) (λ ts. (is_retention (kind ts) ≡ true) × Always ts) (IsRetention x) EndsHead (At r) (At r)
       (λ t. retained_at t)) (λ ts h. h) (λ t g. g) where
         retained_by : (t : Option Kind) (b : Bool) → is_retention t ≡ b → Exact 0 (λ ts. and_then (parser.skip ts) (λ q. parser.pure x)) (λ ts. (kind ts ≡ t) × ((is_retention (kind ts) ≡ true) × Always ts)) (IsRetention x) EndsHead (At r) (At r)
@@ -400,38 +400,38 @@ module _ (r : ℕ) where
         retained_at t = retained_by t (is_retention t) refl
   retention_by x false = exact_as (exact_pure x Always Any (At r)) (λ ts h. tt) (λ ts y rest h d. unsaid_to x ts y rest d) (λ ts y rest h g d. unsaid_from x ts y rest h.0 d) (λ t g. tt)
 
-  retention_exact : (x : Section) → Exact 0 (spec.retention x) Always (IsRetention x) EndsHead (At r) (At r)
+  retention_exact : (x : VarKind) → Exact 0 (spec.retention x) Always (IsRetention x) EndsHead (At r) (At r)
   unfolding spec.retention
   retention_exact x = exact_on (λ ts. is_retention (kind ts)) (spec.retention_by x) Always (IsRetention x) EndsHead (At r) (At r) (retention_by x)
 
   internal_by : (b : Bool) → Exact 0 (spec.internal_by b) (λ ts. (is_constant (kind ts) ≡ b) × Always ts) IsInternal EndsHead (At r) (At r)
-  internal_by true = exact_zero (exact_under (exact_token (k.Keyword w.Constant) refl {R = IsInternal} (λ p. exact_as (exact_pure section.Constant Always Any (At r)) (λ ts u. u)
+  internal_by true = exact_zero (exact_under (exact_token (k.Keyword w.Constant) refl {R = IsInternal} (λ p. exact_as (exact_pure var_kind.Constant Always Any (At r)) (λ ts u. u)
       (λ ts y rest u d. constant_to p ts y rest d) (λ ts y rest u g d. constant_from p ts y rest g d) (λ t g. tt))) (λ ts h. constant_is (kind ts) h.0) (λ t g. g))
-  internal_by false = exact_as (retention_exact section.Internal) (λ ts h. tt) (λ ts y rest h d. variable d) (λ ts y rest h g d. variable_from ts y rest h.0 d) (λ t g. g)
+  internal_by false = exact_as (retention_exact var_kind.Internal) (λ ts h. tt) (λ ts y rest h d. variable d) (λ ts y rest h g d. variable_from ts y rest h.0 d) (λ t g. g)
 
   internal_exact : Exact 0 spec.internal Always IsInternal EndsHead (At r) (At r)
   unfolding spec.internal
   internal_exact = exact_on (λ ts. is_constant (kind ts)) spec.internal_by Always IsInternal EndsHead (At r) (At r) internal_by
 
-abbrev BlockRule : Relation Section → Place → Relation VarBlock
+abbrev BlockRule : Relation VarKind → Position → Relation VarBlock
 BlockRule R p = Then R (λ x. Then (IsMany IsDeclaration) (λ ds. Then (IsOne (k.Keyword w.EndVar)) (λ q. IsPure (block_of p x ds))))
 
-internal_to : (p : Place) (ts : List Tok) (x : VarBlock) (rest : List Tok) → BlockRule IsInternal p ts x rest → IsVarBlock ((p, k.Keyword w.Var) ∷ ts) x rest
+internal_to : (p : Position) (ts : List Tok) (x : VarBlock) (rest : List Tok) → BlockRule IsInternal p ts x rest → IsVarBlock ((p, k.Keyword w.Var) ∷ ts) x rest
 internal_to p ts x rest (seq d (seq e (seq one m))) = made m (λ y us. IsVarBlock ((p, k.Keyword w.Var) ∷ ts) y us) (internal d e)
 
-internal_from : (p : Place) (ts : List Tok) (x : VarBlock) (rest : List Tok) → IsVarBlock ((p, k.Keyword w.Var) ∷ ts) x rest → BlockRule IsInternal p ts x rest
+internal_from : (p : Position) (ts : List Tok) (x : VarBlock) (rest : List Tok) → IsVarBlock ((p, k.Keyword w.Var) ∷ ts) x rest → BlockRule IsInternal p ts x rest
 internal_from p ts x rest (internal d e) = seq d (seq e (seq one done))
 
-input_to : (p : Place) (ts : List Tok) (x : VarBlock) (rest : List Tok) → BlockRule (IsRetention section.Input) p ts x rest → IsVarBlock ((p, k.Keyword w.VarInput) ∷ ts) x rest
+input_to : (p : Position) (ts : List Tok) (x : VarBlock) (rest : List Tok) → BlockRule (IsRetention var_kind.Input) p ts x rest → IsVarBlock ((p, k.Keyword w.VarInput) ∷ ts) x rest
 input_to p ts x rest (seq d (seq e (seq one m))) = made m (λ y us. IsVarBlock ((p, k.Keyword w.VarInput) ∷ ts) y us) (input d e)
 
-input_from : (p : Place) (ts : List Tok) (x : VarBlock) (rest : List Tok) → IsVarBlock ((p, k.Keyword w.VarInput) ∷ ts) x rest → BlockRule (IsRetention section.Input) p ts x rest
+input_from : (p : Position) (ts : List Tok) (x : VarBlock) (rest : List Tok) → IsVarBlock ((p, k.Keyword w.VarInput) ∷ ts) x rest → BlockRule (IsRetention var_kind.Input) p ts x rest
 input_from p ts x rest (input d e) = seq d (seq e (seq one done))
 
-output_to : (p : Place) (ts : List Tok) (x : VarBlock) (rest : List Tok) → BlockRule (IsRetention section.Output) p ts x rest → IsVarBlock ((p, k.Keyword w.VarOutput) ∷ ts) x rest
+output_to : (p : Position) (ts : List Tok) (x : VarBlock) (rest : List Tok) → BlockRule (IsRetention var_kind.Output) p ts x rest → IsVarBlock ((p, k.Keyword w.VarOutput) ∷ ts) x rest
 output_to p ts x rest (seq d (seq e (seq one m))) = made m (λ y us. IsVarBlock ((p, k.Keyword w.VarOutput) ∷ ts) y us) (output d e)
 
-output_from : (p : Place) (ts : List Tok) (x : VarBlock) (rest : List Tok) → IsVarBlock ((p, k.Keyword w.VarOutput) ∷ ts) x rest → BlockRule (IsRetention section.Output) p ts x rest
+output_from : (p : Position) (ts : List Tok) (x : VarBlock) (rest : List Tok) → IsVarBlock ((p, k.Keyword w.VarOutput) ∷ ts) x rest → BlockRule (IsRetention var_kind.Output) p ts x rest
 output_from p ts x rest (output d e) = seq d (seq e (seq one done))
 
 block_begins : (ts : List Tok) (x : VarBlock) (rest : List Tok) → IsVarBlock ts x rest → begins_block (kind ts) ≡ true
@@ -439,7 +439,7 @@ block_begins ts x rest (internal d e) = refl
 block_begins ts x rest (input d e) = refl
 block_begins ts x rest (output d e) = refl
 
-head_follow : {p : Place} {x : Section} (mid rest : List Tok) (y : VarBlock) → Then (IsMany IsDeclaration) (λ ds. Then (IsOne (k.Keyword w.EndVar)) (λ q. IsPure (block_of p x ds))) mid y rest → EndsHead (kind mid)
+head_follow : {p : Position} {x : VarKind} (mid rest : List Tok) (y : VarBlock) → Then (IsMany IsDeclaration) (λ ds. Then (IsOne (k.Keyword w.EndVar)) (λ q. IsPure (block_of p x ds))) mid y rest → EndsHead (kind mid)
 head_follow mid rest y (seq (more {mid = last} {x = d} e m) f) = word_head (kind mid) (declaration_begins mid d last e)
 head_follow mid rest y (seq none (seq one f)) = (refl, refl)
 
@@ -447,7 +447,7 @@ module _ (r : ℕ) where
   declarations_exact : Exact 0 (spec.declarations (suc r)) Always (IsMany IsDeclaration) (Ends is_word Any) (At (suc (suc r))) (At (suc (suc r)))
   declarations_exact = exact_many is_word (spec.declaration (suc r)) IsDeclaration Any (At (suc (suc r))) (exact_under (declaration_exact r) (λ ts h. tt) (λ t g. g)) declaration_begins (λ t h. tt)
 
-  block_rule : (head : Parser Section) (R : Relation Section) → Exact 0 head Always R EndsHead (At (suc (suc r))) (At (suc (suc r))) → (p : Place)
+  block_rule : (head : Parser VarKind) (R : Relation VarKind) → Exact 0 head Always R EndsHead (At (suc (suc r))) (At (suc (suc r))) → (p : Position)
       → Exact 0 (λ ts. and_then (head ts) (λ x. spec.block_rest (suc r) p x)) Always (BlockRule R p) Any (At (suc (suc r))) (At (suc (suc r)))
   block_rule head R h p = exact_bind h (λ x. exact_before (k.Keyword w.EndVar) declarations_exact (refl, tt) (exact_keyword w.EndVar (suc (suc r)) refl) (λ ds q. exact_pure (block_of p x ds) Always Any (At (suc (suc r)))))
       (λ x mid rest y d g. head_follow mid rest y d)
@@ -455,9 +455,9 @@ module _ (r : ℕ) where
   var_block_by : (t : Option Kind) → Exact 1 (spec.var_block_by (suc r) t) (λ ts. (kind ts ≡ t) × Always ts) IsVarBlock Any (At (suc (suc r))) (At (suc (suc r)))
   var_block_by (Some (k.Keyword w.Var)) = exact_under (exact_token (k.Keyword w.Var) refl {R = IsVarBlock} (λ p. exact_iff (block_rule spec.internal IsInternal (internal_exact (suc (suc r))) p) (internal_to p) (internal_from p))) (λ ts p. p.0) (λ t g. g)
   var_block_by (Some (k.Keyword w.VarInput)) = exact_under (exact_token (k.Keyword w.VarInput) refl {R = IsVarBlock}
-      (λ p. exact_iff (block_rule (spec.retention section.Input) (IsRetention section.Input) (retention_exact (suc (suc r)) section.Input) p) (input_to p) (input_from p))) (λ ts p. p.0) (λ t g. g)
+      (λ p. exact_iff (block_rule (spec.retention var_kind.Input) (IsRetention var_kind.Input) (retention_exact (suc (suc r)) var_kind.Input) p) (input_to p) (input_from p))) (λ ts p. p.0) (λ t g. g)
   var_block_by (Some (k.Keyword w.VarOutput)) = exact_under (exact_token (k.Keyword w.VarOutput) refl {R = IsVarBlock}
-      (λ p. exact_iff (block_rule (spec.retention section.Output) (IsRetention section.Output) (retention_exact (suc (suc r)) section.Output) p) (output_to p) (output_from p))) (λ ts p. p.0) (λ t g. g)
+      (λ p. exact_iff (block_rule (spec.retention var_kind.Output) (IsRetention var_kind.Output) (retention_exact (suc (suc r)) var_kind.Output) p) (output_to p) (output_from p))) (λ ts p. p.0) (λ t g. g)
   var_block_by _ = exact_refuse 1 _ IsVarBlock Any (At (suc (suc r))) (At (suc (suc r))) (λ ts x rest p d. let wrong = subst (λ t. begins_block t ≡ true) p.0 (block_begins ts x rest d) in cc)
 
   var_block_exact : Exact 1 (spec.var_block (suc r)) Always IsVarBlock Any (At (suc (suc r))) (At (suc (suc r)))

@@ -9,10 +9,10 @@ use Rattle.st_values.specs.declared.elem.Elem.{Elem}
 use Rattle.st_tree.specs.declared.tree.declaration.Declaration.{Declaration}
 use Rattle.st_tree.specs.declared.tree.declaration.DeclaredType.{DeclaredType}
 use Rattle.st_tree.specs.declared.tree.declaration.DeclaredType.TheVariants as d
-use Rattle.st_tree.specs.declared.tree.place.Place.{Place}
+use Rattle.st_tree.specs.declared.tree.position.Position.{Position}
 use Rattle.st_tree.specs.declared.tree.unit.Body.{Body}
 use Rattle.st_tree.specs.declared.tree.unit.Body.TheVariants as b
-use Rattle.st_tree.specs.declared.tree.unit.Organization.{Organization}
+use Rattle.st_tree.specs.declared.tree.unit.Pou.{Pou}
 use Rattle.st_tree.specs.declared.tree.unit.TypeDeclaration.{TypeDeclaration}
 use Rattle.st_tree.specs.declared.tree.unit.Unit as unit
 use Rattle.st_tree.specs.declared.tree.unit.Unit.TheVariants as u
@@ -34,7 +34,7 @@ use Rattle.st_syntax.specs.DeclarationReading.{begins_block}
 use Rattle.st_syntax.specs.Declarations.{IsSpecification, simple, IsInitialized, IsMember, IsVarBlock}
 use Rattle.st_syntax.specs.UnitReading as spec
 use Rattle.st_syntax.specs.UnitReading.{is_struct, begins_unit}
-use Rattle.st_syntax.specs.Units.{type_of, function_of, organization_of, IsDeclared, derived, structure, IsTypeDeclaration, type_declaration, IsBody, plain_body, chart_body, IsOrganization, organization, IsUnit, types, function, function_block, program}
+use Rattle.st_syntax.specs.Units.{type_of, function_of, pou_of, IsDeclared, derived, structure, IsTypeDeclaration, type_declaration, IsBody, plain_body, chart_body, IsPou, organization, IsUnit, types, function, function_block, program}
 use Rattle.st_syntax.proofs.DeclarationsExact.{specification_exact, initialized_exact, member_exact, member_begins, variables_exact}
 
 -- ---- types
@@ -53,13 +53,13 @@ members_to ts x rest (seq e (seq m f)) = made f (λ y us. AreMembers ts y us) (m
 members_from : (ts : List Tok) (x : List Declaration) (rest : List Tok) → AreMembers ts x rest → Then IsMember (λ y. Then (IsMany IsMember) (λ ys. IsPure (y ∷ ys))) ts x rest
 members_from ts x rest (members e m) = seq e (seq m done)
 
-abbrev StructureRule : Place → Relation DeclaredType
+abbrev StructureRule : Position → Relation DeclaredType
 StructureRule p = Then AreMembers (λ xs. Then (IsOne (k.Keyword w.EndStruct)) (λ q. Then (IsOne (k.Symbol s.Semicolon)) (λ z. IsPure (d.Structure p xs))))
 
-structure_to : (p : Place) (ts : List Tok) (x : DeclaredType) (rest : List Tok) → StructureRule p ts x rest → IsDeclared ((p, k.Keyword w.Struct) ∷ ts) x rest
+structure_to : (p : Position) (ts : List Tok) (x : DeclaredType) (rest : List Tok) → StructureRule p ts x rest → IsDeclared ((p, k.Keyword w.Struct) ∷ ts) x rest
 structure_to p ts x rest (seq (members e m) (seq one (seq one f))) = made f (λ y us. IsDeclared ((p, k.Keyword w.Struct) ∷ ts) y us) (structure e m)
 
-structure_from : (p : Place) (ts : List Tok) (x : DeclaredType) (rest : List Tok) → IsDeclared ((p, k.Keyword w.Struct) ∷ ts) x rest → StructureRule p ts x rest
+structure_from : (p : Position) (ts : List Tok) (x : DeclaredType) (rest : List Tok) → IsDeclared ((p, k.Keyword w.Struct) ∷ ts) x rest → StructureRule p ts x rest
 structure_from p ts x rest (structure e m) = seq (members e m) (seq one (seq one done))
 structure_from p ts x rest (derived (simple e) f) = elim e [ ]
 
@@ -85,13 +85,13 @@ type_from ts x rest (type_declaration e) = seq a_word (seq one (seq e done))
 type_begins : (ts : List Tok) (x : TypeDeclaration) (rest : List Tok) → IsTypeDeclaration ts x rest → is_word (kind ts) ≡ true
 type_begins ts x rest (type_declaration e) = refl
 
-abbrev TypesRule : Place → Relation unit.Unit
+abbrev TypesRule : Position → Relation unit.Unit
 TypesRule p = Then (IsMany IsTypeDeclaration) (λ xs. Then (IsOne (k.Keyword w.EndType)) (λ q. IsPure (u.Types p xs)))
 
-types_to : (p : Place) (ts : List Tok) (x : unit.Unit) (rest : List Tok) → TypesRule p ts x rest → IsUnit ((p, k.Keyword w.Type) ∷ ts) x rest
+types_to : (p : Position) (ts : List Tok) (x : unit.Unit) (rest : List Tok) → TypesRule p ts x rest → IsUnit ((p, k.Keyword w.Type) ∷ ts) x rest
 types_to p ts x rest (seq e (seq one m)) = made m (λ y us. IsUnit ((p, k.Keyword w.Type) ∷ ts) y us) (types e)
 
-types_from : (p : Place) (ts : List Tok) (x : unit.Unit) (rest : List Tok) → IsUnit ((p, k.Keyword w.Type) ∷ ts) x rest → TypesRule p ts x rest
+types_from : (p : Position) (ts : List Tok) (x : unit.Unit) (rest : List Tok) → IsUnit ((p, k.Keyword w.Type) ∷ ts) x rest → TypesRule p ts x rest
 types_from p ts x rest (types e) = seq e (seq one done)
 
 module _ (r : ℕ) where
@@ -126,7 +126,7 @@ module _ (r : ℕ) where
 -- ---- functions
 
 data IsElementary : List Tok → Elem → List Tok → Type 0 where
-  an_elem : {p : Place} {e : Elem} {rest : List Tok} → IsElementary ((p, k.Type e) ∷ rest) e rest
+  an_elem : {p : Position} {e : Elem} {rest : List Tok} → IsElementary ((p, k.Type e) ∷ rest) e rest
 
 elementary_exact : (r : ℕ) → Exact 1 spec.elementary Always IsElementary Any (At r) (At r)
 unfolding spec.elementary
@@ -147,13 +147,13 @@ elementary_exact r = record { reads = λ ts x rest t h. reads ts x rest h; deep 
   read : {ts rest : List Tok} {x : Elem} → IsElementary ts x rest → spec.elementary_by (kind ts) ts ≡ Ok (x, rest)
   read an_elem = refl
 
-abbrev FunctionRule : Place → Relation unit.Unit
+abbrev FunctionRule : Position → Relation unit.Unit
 FunctionRule p = Then IsWord (λ n. Then (IsOne (k.Symbol s.Colon)) (λ q. Then IsElementary (λ e. Then (IsMany IsVarBlock) (λ vs. Then IsStatements (λ ss. Then (IsOne (k.Keyword w.EndFunction)) (λ z. IsPure (u.Function (function_of p n e vs ss))))))))
 
-function_to : (p : Place) (ts : List Tok) (x : unit.Unit) (rest : List Tok) → FunctionRule p ts x rest → IsUnit ((p, k.Keyword w.Function) ∷ ts) x rest
+function_to : (p : Position) (ts : List Tok) (x : unit.Unit) (rest : List Tok) → FunctionRule p ts x rest → IsUnit ((p, k.Keyword w.Function) ∷ ts) x rest
 function_to p ts x rest (seq a_word (seq one (seq an_elem (seq e (seq f (seq one m)))))) = made m (λ y us. IsUnit ((p, k.Keyword w.Function) ∷ ts) y us) (function e f)
 
-function_from : (p : Place) (ts : List Tok) (x : unit.Unit) (rest : List Tok) → IsUnit ((p, k.Keyword w.Function) ∷ ts) x rest → FunctionRule p ts x rest
+function_from : (p : Position) (ts : List Tok) (x : unit.Unit) (rest : List Tok) → IsUnit ((p, k.Keyword w.Function) ∷ ts) x rest → FunctionRule p ts x rest
 function_from p ts x rest (function e f) = seq a_word (seq one (seq an_elem (seq e (seq f (seq one done)))))
 
 -- the first token of a statement begins no declarations
@@ -234,34 +234,34 @@ element_no_block (Some (k.Keyword w.Action)) h = (refl, tt)
 element_no_block _ h = absurd (cc)
 
 -- declarations end before a body and a last word that begins none
-body_follow : (x : Kind) → Ends begins_block Any (Some x) → (mid rest : List Tok) (y : Organization) {S : Body → Relation Organization} → Then IsBody (λ c. Then (IsOne x) (λ z. S c)) mid y rest → Ends begins_block Any (kind mid)
+body_follow : (x : Kind) → Ends begins_block Any (Some x) → (mid rest : List Tok) (y : Pou) {S : Body → Relation Pou} → Then IsBody (λ c. Then (IsOne x) (λ z. S c)) mid y rest → Ends begins_block Any (kind mid)
 body_follow x fits mid rest y (seq (plain_body no_statement) (seq one f)) = fits
 body_follow x fits mid rest y (seq (plain_body (statements {mid = last} {x = z} e m)) f) = statement_no_block (kind mid) (begins_is mid z last e)
 body_follow x fits mid rest y (seq (chart_body (chart {mid = last} {x = z} e m)) f) = element_no_block (kind mid) (element_begins mid z last e)
 
-abbrev OrganizationRule : Kind → Place → Relation Organization
-OrganizationRule x p = Then IsWord (λ n. Then (IsMany IsVarBlock) (λ vs. Then IsBody (λ c. Then (IsOne x) (λ z. IsPure (organization_of p n vs c)))))
+abbrev PouRule : Kind → Position → Relation Pou
+PouRule x p = Then IsWord (λ n. Then (IsMany IsVarBlock) (λ vs. Then IsBody (λ c. Then (IsOne x) (λ z. IsPure (pou_of p n vs c)))))
 
 -- a function block or a program, up to its last word, and that word
-data IsWhole (x : Kind) (p : Place) : List Tok → Organization → List Tok → Type 0 where
-  whole : {q : Place} {ts rest : List Tok} {y : Organization} → IsOrganization p ts y ((q, x) ∷ rest) → IsWhole x p ts y rest
+data IsWhole (x : Kind) (p : Position) : List Tok → Pou → List Tok → Type 0 where
+  whole : {q : Position} {ts rest : List Tok} {y : Pou} → IsPou p ts y ((q, x) ∷ rest) → IsWhole x p ts y rest
 
-whole_to : (x : Kind) (p : Place) (ts : List Tok) (y : Organization) (rest : List Tok) → OrganizationRule x p ts y rest → IsWhole x p ts y rest
+whole_to : (x : Kind) (p : Position) (ts : List Tok) (y : Pou) (rest : List Tok) → PouRule x p ts y rest → IsWhole x p ts y rest
 whole_to x p ts y rest (seq a_word (seq e (seq f (seq one m)))) = made m (λ z us. IsWhole x p ts z us) (whole (organization e f))
 
-whole_from : (x : Kind) (p : Place) (ts : List Tok) (y : Organization) (rest : List Tok) → IsWhole x p ts y rest → OrganizationRule x p ts y rest
+whole_from : (x : Kind) (p : Position) (ts : List Tok) (y : Pou) (rest : List Tok) → IsWhole x p ts y rest → PouRule x p ts y rest
 whole_from x p ts y rest (whole (organization e f)) = seq a_word (seq e (seq f (seq one done)))
 
-block_to : (p : Place) (ts : List Tok) (x : unit.Unit) (rest : List Tok) → Then (IsWhole (k.Keyword w.EndFunctionBlock) p) (λ y. IsPure (u.FunctionBlock y)) ts x rest → IsUnit ((p, k.Keyword w.FunctionBlock) ∷ ts) x rest
+block_to : (p : Position) (ts : List Tok) (x : unit.Unit) (rest : List Tok) → Then (IsWhole (k.Keyword w.EndFunctionBlock) p) (λ y. IsPure (u.FunctionBlock y)) ts x rest → IsUnit ((p, k.Keyword w.FunctionBlock) ∷ ts) x rest
 block_to p ts x rest (seq (whole e) m) = made m (λ y us. IsUnit ((p, k.Keyword w.FunctionBlock) ∷ ts) y us) (function_block e)
 
-block_from : (p : Place) (ts : List Tok) (x : unit.Unit) (rest : List Tok) → IsUnit ((p, k.Keyword w.FunctionBlock) ∷ ts) x rest → Then (IsWhole (k.Keyword w.EndFunctionBlock) p) (λ y. IsPure (u.FunctionBlock y)) ts x rest
+block_from : (p : Position) (ts : List Tok) (x : unit.Unit) (rest : List Tok) → IsUnit ((p, k.Keyword w.FunctionBlock) ∷ ts) x rest → Then (IsWhole (k.Keyword w.EndFunctionBlock) p) (λ y. IsPure (u.FunctionBlock y)) ts x rest
 block_from p ts x rest (function_block e) = seq (whole e) done
 
-program_to : (p : Place) (ts : List Tok) (x : unit.Unit) (rest : List Tok) → Then (IsWhole (k.Keyword w.EndProgram) p) (λ y. IsPure (u.Program y)) ts x rest → IsUnit ((p, k.Keyword w.Program) ∷ ts) x rest
+program_to : (p : Position) (ts : List Tok) (x : unit.Unit) (rest : List Tok) → Then (IsWhole (k.Keyword w.EndProgram) p) (λ y. IsPure (u.Program y)) ts x rest → IsUnit ((p, k.Keyword w.Program) ∷ ts) x rest
 program_to p ts x rest (seq (whole e) m) = made m (λ y us. IsUnit ((p, k.Keyword w.Program) ∷ ts) y us) (program e)
 
-program_from : (p : Place) (ts : List Tok) (x : unit.Unit) (rest : List Tok) → IsUnit ((p, k.Keyword w.Program) ∷ ts) x rest → Then (IsWhole (k.Keyword w.EndProgram) p) (λ y. IsPure (u.Program y)) ts x rest
+program_from : (p : Position) (ts : List Tok) (x : unit.Unit) (rest : List Tok) → IsUnit ((p, k.Keyword w.Program) ∷ ts) x rest → Then (IsWhole (k.Keyword w.EndProgram) p) (λ y. IsPure (u.Program y)) ts x rest
 program_from p ts x rest (program e) = seq (whole e) done
 
 unit_begins : (ts : List Tok) (x : unit.Unit) (rest : List Tok) → IsUnit ts x rest → begins_unit (kind ts) ≡ true
@@ -271,16 +271,16 @@ unit_begins ts x rest (function_block e) = refl
 unit_begins ts x rest (program e) = refl
 
 module _ (r : ℕ) where
-  block_rule : (p : Place) → Exact 1 (λ ts. and_then (parser.word ts) (λ n us. and_then (declarations.variables (suc r) us) (λ vs ws. and_then (spec.body (suc r) ws) (λ c xs. and_then (parser.keyword w.EndFunctionBlock xs) (λ z. parser.pure (organization_of p n vs c))))))
+  block_rule : (p : Position) → Exact 1 (λ ts. and_then (parser.word ts) (λ n us. and_then (declarations.variables (suc r) us) (λ vs ws. and_then (spec.body (suc r) ws) (λ c xs. and_then (parser.keyword w.EndFunctionBlock xs) (λ z. parser.pure (pou_of p n vs c))))))
       Always (IsWhole (k.Keyword w.EndFunctionBlock) p) Any (At (suc (suc r))) (At (suc (suc r)))
   block_rule p = exact_iff (exact_bind (exact_word (suc (suc r))) (λ n. exact_bind (variables_exact r) (λ vs. exact_before (k.Keyword w.EndFunctionBlock) (body_exact r) (refl, (refl, tt)) (exact_keyword w.EndFunctionBlock (suc (suc r)) refl)
-      (λ c z. exact_pure (organization_of p n vs c) Always Any (At (suc (suc r))))) (λ vs mid rest y f g. body_follow (k.Keyword w.EndFunctionBlock) (refl, tt) mid rest y f)) (λ n mid rest y f g. tt))
+      (λ c z. exact_pure (pou_of p n vs c) Always Any (At (suc (suc r))))) (λ vs mid rest y f g. body_follow (k.Keyword w.EndFunctionBlock) (refl, tt) mid rest y f)) (λ n mid rest y f g. tt))
       (whole_to (k.Keyword w.EndFunctionBlock) p) (whole_from (k.Keyword w.EndFunctionBlock) p)
 
-  program_rule : (p : Place) → Exact 1 (λ ts. and_then (parser.word ts) (λ n us. and_then (declarations.variables (suc r) us) (λ vs ws. and_then (spec.body (suc r) ws) (λ c xs. and_then (parser.keyword w.EndProgram xs) (λ z. parser.pure (organization_of p n vs c))))))
+  program_rule : (p : Position) → Exact 1 (λ ts. and_then (parser.word ts) (λ n us. and_then (declarations.variables (suc r) us) (λ vs ws. and_then (spec.body (suc r) ws) (λ c xs. and_then (parser.keyword w.EndProgram xs) (λ z. parser.pure (pou_of p n vs c))))))
       Always (IsWhole (k.Keyword w.EndProgram) p) Any (At (suc (suc r))) (At (suc (suc r)))
   program_rule p = exact_iff (exact_bind (exact_word (suc (suc r))) (λ n. exact_bind (variables_exact r) (λ vs. exact_before (k.Keyword w.EndProgram) (body_exact r) (refl, (refl, tt)) (exact_keyword w.EndProgram (suc (suc r)) refl)
-      (λ c z. exact_pure (organization_of p n vs c) Always Any (At (suc (suc r))))) (λ vs mid rest y f g. body_follow (k.Keyword w.EndProgram) (refl, tt) mid rest y f)) (λ n mid rest y f g. tt))
+      (λ c z. exact_pure (pou_of p n vs c) Always Any (At (suc (suc r))))) (λ vs mid rest y f g. body_follow (k.Keyword w.EndProgram) (refl, tt) mid rest y f)) (λ n mid rest y f g. tt))
       (whole_to (k.Keyword w.EndProgram) p) (whole_from (k.Keyword w.EndProgram) p)
 
   block_exact : Exact 1 (spec.function_block (suc r)) (IsFirst (k.Keyword w.FunctionBlock)) IsUnit Any (At (suc (suc r))) (At (suc (suc r)))

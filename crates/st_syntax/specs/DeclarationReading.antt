@@ -10,15 +10,15 @@ use Rattle.st_tree.specs.declared.tree.declaration.ArrayElement.TheVariants as a
 use Rattle.st_tree.specs.declared.tree.declaration.Declaration.{Declaration}
 use Rattle.st_tree.specs.declared.tree.declaration.Initial.{Initial}
 use Rattle.st_tree.specs.declared.tree.declaration.Initial.TheVariants as i
-use Rattle.st_tree.specs.declared.tree.declaration.Section.{Section}
-use Rattle.st_tree.specs.declared.tree.declaration.Section.TheVariants as section
+use Rattle.st_tree.specs.declared.tree.declaration.VarKind.{VarKind}
+use Rattle.st_tree.specs.declared.tree.declaration.VarKind.TheVariants as var_kind
 use Rattle.st_tree.specs.declared.tree.declaration.Specification.{Specification}
 use Rattle.st_tree.specs.declared.tree.declaration.Specification.TheVariants as sp
 use Rattle.st_tree.specs.declared.tree.declaration.Subrange.{Subrange}
 use Rattle.st_tree.specs.declared.tree.declaration.TypeName.{TypeName}
 use Rattle.st_tree.specs.declared.tree.declaration.TypeName.TheVariants as n
 use Rattle.st_tree.specs.declared.tree.declaration.VarBlock.{VarBlock}
-use Rattle.st_tree.specs.declared.tree.place.Place.{Place}
+use Rattle.st_tree.specs.declared.tree.position.Position.{Position}
 use Rattle.st_expressions.specs.Parsers.{Parser, ◌>>=◌, ◌>>◌, pure, refuse, skip, peek, here, symbol, keyword, enter, word, number, many, listed}
 use Rattle.st_expressions.specs.Reading.{constant, signed_integer, is_close}
 use Rattle.st_expressions.specs.Tokens.{kind, next}
@@ -29,12 +29,12 @@ abbrev pub is_bracket : Option Kind → Bool
 is_bracket (Some (k.Symbol s.OpenBracket)) = true
 is_bracket _ = false
 
-abbrev pub bracket_by : ℕ → Bool → Parser Place
+abbrev pub bracket_by : ℕ → Bool → Parser Position
 bracket_by room true = enter room
 bracket_by room false = refuse
 
 -- '[', where one more level may be open
-unfoldable pub bracket : ℕ → Parser Place
+unfoldable pub bracket : ℕ → Parser Position
 bracket room = do
   t ← peek
   bracket_by room (is_bracket t)
@@ -167,11 +167,11 @@ is_retention (Some (k.Keyword w.Retain)) = true
 is_retention (Some (k.Keyword w.NonRetain)) = true
 is_retention _ = false
 
-abbrev pub retention_by : Section → Bool → Parser Section
+abbrev pub retention_by : VarKind → Bool → Parser VarKind
 retention_by x true = skip >> pure x
 retention_by x false = pure x
 
-unfoldable pub retention : Section → Parser Section
+unfoldable pub retention : VarKind → Parser VarKind
 retention x = do
   t ← peek
   retention_by x (is_retention t)
@@ -180,11 +180,11 @@ abbrev pub is_constant : Option Kind → Bool
 is_constant (Some (k.Keyword w.Constant)) = true
 is_constant _ = false
 
-abbrev pub internal_by : Bool → Parser Section
-internal_by true = skip >> pure section.Constant
-internal_by false = retention section.Internal
+abbrev pub internal_by : Bool → Parser VarKind
+internal_by true = skip >> pure var_kind.Constant
+internal_by false = retention var_kind.Internal
 
-unfoldable pub internal : Parser Section
+unfoldable pub internal : Parser VarKind
 internal = do
   t ← peek
   internal_by (is_constant t)
@@ -192,13 +192,13 @@ internal = do
 abbrev pub declarations : ℕ → Parser (List Declaration)
 declarations room = many is_word (declaration room)
 
-abbrev pub block_rest : ℕ → Place → Section → Parser VarBlock
+abbrev pub block_rest : ℕ → Position → VarKind → Parser VarBlock
 block_rest room p x = do
   ds ← declarations room
   keyword w.EndVar
   pure (block_of p x ds)
 
-abbrev pub block : ℕ → Parser Section → Parser VarBlock
+abbrev pub block : ℕ → Parser VarKind → Parser VarBlock
 block room head = do
   p ← skip
   x ← head
@@ -213,8 +213,8 @@ begins_block _ = false
 
 abbrev pub var_block_by : ℕ → Option Kind → Parser VarBlock
 var_block_by room (Some (k.Keyword w.Var)) = block room internal
-var_block_by room (Some (k.Keyword w.VarInput)) = block room (retention section.Input)
-var_block_by room (Some (k.Keyword w.VarOutput)) = block room (retention section.Output)
+var_block_by room (Some (k.Keyword w.VarInput)) = block room (retention var_kind.Input)
+var_block_by room (Some (k.Keyword w.VarOutput)) = block room (retention var_kind.Output)
 var_block_by room _ = refuse
 
 unfoldable pub var_block : ℕ → Parser VarBlock

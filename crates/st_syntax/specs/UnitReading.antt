@@ -11,7 +11,7 @@ use Rattle.st_tree.specs.declared.tree.declaration.DeclaredType.{DeclaredType}
 use Rattle.st_tree.specs.declared.tree.declaration.DeclaredType.TheVariants as d
 use Rattle.st_tree.specs.declared.tree.unit.Body.{Body}
 use Rattle.st_tree.specs.declared.tree.unit.Body.TheVariants as b
-use Rattle.st_tree.specs.declared.tree.unit.Organization.{Organization}
+use Rattle.st_tree.specs.declared.tree.unit.Pou.{Pou}
 use Rattle.st_tree.specs.declared.tree.unit.TypeDeclaration.{TypeDeclaration}
 use Rattle.st_tree.specs.declared.tree.unit.Unit as unit
 use Rattle.st_tree.specs.declared.tree.unit.Unit.TheVariants as u
@@ -20,7 +20,7 @@ use Rattle.st_expressions.specs.Tokens.{kind, next}
 use Rattle.st_statements.specs.ChartReading.{is_word, begins_element, chart}
 use Rattle.st_statements.specs.Reading.{statements}
 use Rattle.st_syntax.specs.DeclarationReading.{specification, initialized, member, variables}
-use Rattle.st_syntax.specs.Units.{type_of, function_of, organization_of}
+use Rattle.st_syntax.specs.Units.{type_of, function_of, pou_of}
 
 unfoldable pub derived : ℕ → Parser DeclaredType
 derived room = do
@@ -107,14 +107,14 @@ body room = do
   body_by room (begins_element t)
 
 -- from the unit's first word to its last
-unfoldable pub organization : ℕ → Keyword → Parser Organization
+unfoldable pub organization : ℕ → Keyword → Parser Pou
 organization room last = do
   p ← skip
   n ← word
   vs ← variables room
   x ← body room
   keyword last
-  pure (organization_of p n vs x)
+  pure (pou_of p n vs x)
 
 unfoldable pub function_block : ℕ → Parser unit.Unit
 function_block room = do

@@ -9,14 +9,14 @@ use Rattle.st_tree.specs.declared.tree.declaration.DeclaredType.{DeclaredType}
 use Rattle.st_tree.specs.declared.tree.declaration.DeclaredType.TheVariants as d
 use Rattle.st_tree.specs.declared.tree.declaration.Specification.{Specification}
 use Rattle.st_tree.specs.declared.tree.declaration.VarBlock.{VarBlock}
-use Rattle.st_tree.specs.declared.tree.place.Identifier.{Identifier}
-use Rattle.st_tree.specs.declared.tree.place.Place.{Place}
+use Rattle.st_tree.specs.declared.tree.position.Identifier.{Identifier}
+use Rattle.st_tree.specs.declared.tree.position.Position.{Position}
 use Rattle.st_tree.specs.declared.tree.statement.Statement.{Statement}
 use Rattle.st_tree.specs.declared.tree.unit.Body.{Body}
 use Rattle.st_tree.specs.declared.tree.unit.Body.TheVariants as b
 use Rattle.st_tree.specs.declared.tree.unit.ChartElement.{ChartElement}
 use Rattle.st_tree.specs.declared.tree.unit.Function.{Function}
-use Rattle.st_tree.specs.declared.tree.unit.Organization.{Organization}
+use Rattle.st_tree.specs.declared.tree.unit.Pou.{Pou}
 use Rattle.st_tree.specs.declared.tree.unit.TypeDeclaration.{TypeDeclaration}
 use Rattle.st_tree.specs.declared.tree.unit.Unit as unit
 use Rattle.st_tree.specs.declared.tree.unit.Unit.TheVariants as u
@@ -29,22 +29,22 @@ use Rattle.st_syntax.specs.Declarations.{IsSpecification, IsInitialized, IsMembe
 abbrev pub type_of : Identifier → DeclaredType → TypeDeclaration
 type_of n x = record { name = n; declared = x }
 
-abbrev pub function_of : Place → Identifier → Elem → List VarBlock → List Statement → Function
-function_of p n e vs ss = record { place = p; name = n; result = e; variables = vs; statements = ss }
+abbrev pub function_of : Position → Identifier → Elem → List VarBlock → List Statement → Function
+function_of p n e vs ss = record { position = p; name = n; result = e; variables = vs; statements = ss }
 
-abbrev pub organization_of : Place → Identifier → List VarBlock → Body → Organization
-organization_of p n vs x = record { place = p; name = n; variables = vs; body = x }
+abbrev pub pou_of : Position → Identifier → List VarBlock → Body → Pou
+pou_of p n vs x = record { position = p; name = n; variables = vs; body = x }
 
 -- specification [ ':=' initial ] ';' | STRUCT member { member } END_STRUCT ';'
 pub data IsDeclared : List Tok → DeclaredType → List Tok → Type 0 where
   derived : {ts mid rest : List Tok} {x : Specification} {y : _} → IsSpecification ts x mid → IsInitialized mid y rest → IsDeclared ts (d.Derived x y) rest
-  structure : {p q r : Place} {ts mid rest : List Tok} {x : Declaration} {xs : List Declaration}
+  structure : {p q r : Position} {ts mid rest : List Tok} {x : Declaration} {xs : List Declaration}
       → IsMember ts x mid → IsMany IsMember mid xs ((q, k.Keyword w.EndStruct) ∷ (r, k.Symbol s.Semicolon) ∷ rest)
       → IsDeclared ((p, k.Keyword w.Struct) ∷ ts) (d.Structure p (x ∷ xs)) rest
 
 -- word ':' declared
 pub data IsTypeDeclaration : List Tok → TypeDeclaration → List Tok → Type 0 where
-  type_declaration : {p q : Place} {n : List ℕ} {ts rest : List Tok} {x : DeclaredType} → IsDeclared ts x rest
+  type_declaration : {p q : Position} {n : List ℕ} {ts rest : List Tok} {x : DeclaredType} → IsDeclared ts x rest
       → IsTypeDeclaration ((p, k.Word n) ∷ (q, k.Symbol s.Colon) ∷ ts) (type_of (identifier p n) x) rest
 
 -- { statement } | chart
@@ -53,23 +53,23 @@ pub data IsBody : List Tok → Body → List Tok → Type 0 where
   chart_body : {ts rest : List Tok} {xs : List ChartElement} → IsChart ts xs rest → IsBody ts (b.Chart xs) rest
 
 -- word { variables } body
-pub data IsOrganization : Place → List Tok → Organization → List Tok → Type 0 where
-  organization : {p q : Place} {n : List ℕ} {ts mid rest : List Tok} {vs : List VarBlock} {x : Body}
-      → IsMany IsVarBlock ts vs mid → IsBody mid x rest → IsOrganization p ((q, k.Word n) ∷ ts) (organization_of p (identifier q n) vs x) rest
+pub data IsPou : Position → List Tok → Pou → List Tok → Type 0 where
+  organization : {p q : Position} {n : List ℕ} {ts mid rest : List Tok} {vs : List VarBlock} {x : Body}
+      → IsMany IsVarBlock ts vs mid → IsBody mid x rest → IsPou p ((q, k.Word n) ∷ ts) (pou_of p (identifier q n) vs x) rest
 
 pub data IsUnit : List Tok → unit.Unit → List Tok → Type 0 where
   -- TYPE { type declaration } END_TYPE
-  types : {p q : Place} {ts rest : List Tok} {xs : List TypeDeclaration} → IsMany IsTypeDeclaration ts xs ((q, k.Keyword w.EndType) ∷ rest)
+  types : {p q : Position} {ts rest : List Tok} {xs : List TypeDeclaration} → IsMany IsTypeDeclaration ts xs ((q, k.Keyword w.EndType) ∷ rest)
       → IsUnit ((p, k.Keyword w.Type) ∷ ts) (u.Types p xs) rest
   -- FUNCTION word ':' elementary type { variables } { statement } END_FUNCTION
-  function : {p q r z y : Place} {n : List ℕ} {e : Elem} {ts mid rest : List Tok} {vs : List VarBlock} {ss : List Statement}
+  function : {p q r z y : Position} {n : List ℕ} {e : Elem} {ts mid rest : List Tok} {vs : List VarBlock} {ss : List Statement}
       → IsMany IsVarBlock ts vs mid → IsStatements mid ss ((z, k.Keyword w.EndFunction) ∷ rest)
       → IsUnit ((p, k.Keyword w.Function) ∷ (q, k.Word n) ∷ (r, k.Symbol s.Colon) ∷ (y, k.Type e) ∷ ts) (u.Function (function_of p (identifier q n) e vs ss)) rest
   -- FUNCTION_BLOCK word { variables } body END_FUNCTION_BLOCK
-  function_block : {p z : Place} {ts rest : List Tok} {x : Organization} → IsOrganization p ts x ((z, k.Keyword w.EndFunctionBlock) ∷ rest)
+  function_block : {p z : Position} {ts rest : List Tok} {x : Pou} → IsPou p ts x ((z, k.Keyword w.EndFunctionBlock) ∷ rest)
       → IsUnit ((p, k.Keyword w.FunctionBlock) ∷ ts) (u.FunctionBlock x) rest
   -- PROGRAM word { variables } body END_PROGRAM
-  program : {p z : Place} {ts rest : List Tok} {x : Organization} → IsOrganization p ts x ((z, k.Keyword w.EndProgram) ∷ rest)
+  program : {p z : Position} {ts rest : List Tok} {x : Pou} → IsPou p ts x ((z, k.Keyword w.EndProgram) ∷ rest)
       → IsUnit ((p, k.Keyword w.Program) ∷ ts) (u.Program x) rest
 
 -- these tokens, all of them, are these units

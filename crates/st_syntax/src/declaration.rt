@@ -14,7 +14,7 @@ use st_statements::chart::{alone, is_word, opening, words};
 use st_tokens::{Keyword, Kind, Symbol};
 use st_tree::List;
 use st_tree::tree::{
-    ArrayElement, Constant, Declaration, Initial, Place, Section, Specification, Subrange,
+    ArrayElement, Constant, Declaration, Initial, Position, VarKind, Specification, Subrange,
     TypeName, VarBlock,
 };
 use std::alloc::Global;
@@ -82,7 +82,7 @@ fn is_repeated(ts: &Cursor<'_>) -> bool
 
 /// Takes `[`, where `room` more levels may be opened.
 #[tactic(auto, unfolding(crate::specs::DeclarationReading::bracket))]
-fn bracket(ts: &mut Cursor<'_>, room: u8) -> Result<Place, ReadFault>
+fn bracket(ts: &mut Cursor<'_>, room: u8) -> Result<Position, ReadFault>
     ensures read { Reads (spec.bracket room ts.old) result ts.new }
     ensures shorter { OnOk result (length ts.new ≤ length ts.old) }
 {
@@ -143,13 +143,13 @@ fn array(alloc: Global, ts: &mut Cursor<'_>) -> Result<Specification, ReadFault>
     ensures read { Reads (spec.array 63 ts.old) result ts.new }
     ensures shorter { OnOk result (length ts.new < length ts.old) }
 {
-    let place = ts.skip();
+    let position = ts.skip();
     bracket(ts, LEVELS)?;
     let subscripts = subranges(alloc, ts)?;
     symbol(ts, Symbol::CloseBracket)?;
     keyword(ts, Keyword::Of)?;
     let element = type_name(alloc, ts)?;
-    Ok(Specification::Array(place, subscripts, element))
+    Ok(Specification::Array(position, subscripts, element))
 }
 
 #[tactic(auto, unfolding(crate::specs::DeclarationReading::simple))]
@@ -189,12 +189,12 @@ fn repeated(ts: &mut Cursor<'_>) -> Result<ArrayElement, ReadFault>
     ensures read { Reads (spec.repeated 63 ts.old) result ts.new }
     ensures shorter { OnOk result (length ts.new < length ts.old) }
 {
-    let place = ts.place();
+    let position = ts.position();
     let count = number(ts)?;
     opening(ts, LEVELS - 1)?;
     let value = repeated_value(ts)?;
     symbol(ts, Symbol::Close)?;
-    Ok(ArrayElement::Repeated(place, count, value))
+    Ok(ArrayElement::Repeated(position, count, value))
 }
 
 #[tactic(auto, unfolding(crate::specs::DeclarationReading::single))]
@@ -246,10 +246,10 @@ fn initial_array(alloc: Global, ts: &mut Cursor<'_>) -> Result<Initial, ReadFaul
     ensures read { Reads (spec.initial_array 63 ts.old) result ts.new }
     ensures shorter { OnOk result (length ts.new < length ts.old) }
 {
-    let place = bracket(ts, LEVELS)?;
+    let position = bracket(ts, LEVELS)?;
     let elements = elements(alloc, ts)?;
     symbol(ts, Symbol::CloseBracket)?;
-    Ok(Initial::Array(place, elements))
+    Ok(Initial::Array(position, elements))
 }
 
 #[tactic(auto, unfolding(crate::specs::DeclarationReading::initial_constant))]
@@ -324,27 +324,27 @@ pub fn member(alloc: Global, ts: &mut Cursor<'_>) -> Result<Declaration, ReadFau
 
 /// What the variables behind VAR are for.
 #[tactic(auto, unfolding(crate::specs::DeclarationReading::internal, crate::specs::DeclarationReading::retention))]
-fn internal(ts: &mut Cursor<'_>) -> Section
+fn internal(ts: &mut Cursor<'_>) -> VarKind
     ensures read { spec.internal ts.old ≡ Ok (result, ts.new) }
     ensures shorter { length ts.new ≤ length ts.old }
 {
     if is_constant(ts) {
         ts.skip();
-        return Section::Constant;
+        return VarKind::Constant;
     }
-    retention(ts, Section::Internal)
+    retention(ts, VarKind::Internal)
 }
 
 /// Passes over RETAIN or NON_RETAIN.
 #[tactic(auto, unfolding(crate::specs::DeclarationReading::retention))]
-fn retention(ts: &mut Cursor<'_>, section: Section) -> Section
-    ensures read { spec.retention section ts.old ≡ Ok (result, ts.new) }
+fn retention(ts: &mut Cursor<'_>, var_kind: VarKind) -> VarKind
+    ensures read { spec.retention var_kind ts.old ≡ Ok (result, ts.new) }
     ensures shorter { length ts.new ≤ length ts.old }
 {
     if is_retention(ts) {
         ts.skip();
     }
-    section
+    var_kind
 }
 
 fn declarations(alloc: Global, ts: &mut Cursor<'_>) -> Result<List<Declaration>, ReadFault>
@@ -363,17 +363,17 @@ fn declarations(alloc: Global, ts: &mut Cursor<'_>) -> Result<List<Declaration>,
 fn rest_of_block(
     alloc: Global,
     ts: &mut Cursor<'_>,
-    place: Place,
-    section: Section,
+    position: Position,
+    var_kind: VarKind,
 ) -> Result<VarBlock, ReadFault>
-    ensures read { Reads (spec.block_rest 63 place section ts.old) result ts.new }
+    ensures read { Reads (spec.block_rest 63 position var_kind ts.old) result ts.new }
     ensures shorter { OnOk result (length ts.new < length ts.old) }
 {
     let declarations = declarations(alloc, ts)?;
     keyword(ts, Keyword::EndVar)?;
     Ok(VarBlock {
-        place,
-        section,
+        position,
+        kind: var_kind,
         declarations,
     })
 }
@@ -385,19 +385,19 @@ fn var_block(alloc: Global, ts: &mut Cursor<'_>) -> Result<VarBlock, ReadFault>
 {
     match ts.kind() {
         Some(Kind::Keyword(Keyword::Var)) => {
-            let place = ts.skip();
-            let section = internal(ts);
-            rest_of_block(alloc, ts, place, section)
+            let position = ts.skip();
+            let var_kind = internal(ts);
+            rest_of_block(alloc, ts, position, var_kind)
         }
         Some(Kind::Keyword(Keyword::VarInput)) => {
-            let place = ts.skip();
-            let section = retention(ts, Section::Input);
-            rest_of_block(alloc, ts, place, section)
+            let position = ts.skip();
+            let var_kind = retention(ts, VarKind::Input);
+            rest_of_block(alloc, ts, position, var_kind)
         }
         Some(Kind::Keyword(Keyword::VarOutput)) => {
-            let place = ts.skip();
-            let section = retention(ts, Section::Output);
-            rest_of_block(alloc, ts, place, section)
+            let position = ts.skip();
+            let var_kind = retention(ts, VarKind::Output);
+            rest_of_block(alloc, ts, position, var_kind)
         }
         _ => Err(ts.unexpected()),
     }

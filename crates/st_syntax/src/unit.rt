@@ -15,7 +15,7 @@ use st_statements::statement::statements;
 use st_tokens::{Keyword, Kind, Symbol};
 use st_tree::List;
 use st_tree::tree::{
-    Body, Declaration, DeclaredType, Function, Organization, TypeDeclaration, Unit,
+    Body, Declaration, DeclaredType, Function, Pou, TypeDeclaration, Unit,
 };
 use st_values::Elem;
 use std::alloc::Global;
@@ -68,11 +68,11 @@ fn structure(alloc: Global, ts: &mut Cursor<'_>) -> Result<DeclaredType, ReadFau
     ensures read { Reads (spec.structure 63 ts.old) result ts.new }
     ensures shorter { OnOk result (length ts.new < length ts.old) }
 {
-    let place = ts.skip();
+    let position = ts.skip();
     let members = members(alloc, ts)?;
     keyword(ts, Keyword::EndStruct)?;
     symbol(ts, Symbol::Semicolon)?;
-    Ok(DeclaredType::Structure(place, members))
+    Ok(DeclaredType::Structure(position, members))
 }
 
 #[tactic(auto, unfolding(crate::specs::UnitReading::declared))]
@@ -115,10 +115,10 @@ fn types(alloc: Global, ts: &mut Cursor<'_>) -> Result<Unit, ReadFault>
     ensures read { Reads (spec.types 63 ts.old) result ts.new }
     ensures shorter { OnOk result (length ts.new < length ts.old) }
 {
-    let place = ts.skip();
+    let position = ts.skip();
     let declarations = type_declarations(alloc, ts)?;
     keyword(ts, Keyword::EndType)?;
-    Ok(Unit::Types(place, declarations))
+    Ok(Unit::Types(position, declarations))
 }
 
 #[tactic(auto, unfolding(crate::specs::UnitReading::elementary))]
@@ -140,7 +140,7 @@ fn function(alloc: Global, ts: &mut Cursor<'_>) -> Result<Unit, ReadFault>
     ensures read { Reads (spec.function 63 ts.old) result ts.new }
     ensures shorter { OnOk result (length ts.new < length ts.old) }
 {
-    let place = ts.skip();
+    let position = ts.skip();
     let name = word(alloc, ts)?;
     symbol(ts, Symbol::Colon)?;
     let elem = elementary(ts)?;
@@ -148,7 +148,7 @@ fn function(alloc: Global, ts: &mut Cursor<'_>) -> Result<Unit, ReadFault>
     let statements = statements(alloc, ts, LEVELS)?;
     keyword(ts, Keyword::EndFunction)?;
     Ok(Unit::Function(Function {
-        place,
+        position,
         name,
         result: elem,
         variables,
@@ -190,17 +190,17 @@ fn organization(
     alloc: Global,
     ts: &mut Cursor<'_>,
     last: Keyword,
-) -> Result<Organization, ReadFault>
+) -> Result<Pou, ReadFault>
     ensures read { Reads (spec.organization 63 last ts.old) result ts.new }
     ensures shorter { OnOk result (length ts.new < length ts.old) }
 {
-    let place = ts.skip();
+    let position = ts.skip();
     let name = word(alloc, ts)?;
     let variables = variables(alloc, ts)?;
     let body = body(alloc, ts)?;
     keyword(ts, last)?;
-    Ok(Organization {
-        place,
+    Ok(Pou {
+        position,
         name,
         variables,
         body,

@@ -19,9 +19,9 @@ abbrev pub call_in_expression : Expression-F Bool Bool Bool Bool Bool Bool → B
 call_in_expression (Expression-F.Constant c) = false
 call_in_expression (Expression-F.Variable v) = v
 call_in_expression (Expression-F.Call c) = true
-call_in_expression (Expression-F.Group p x) = x
-call_in_expression (Expression-F.Negation p x) = x
-call_in_expression (Expression-F.Complement p x) = x
+call_in_expression (Expression-F.Parenthesized p x) = x
+call_in_expression (Expression-F.Negate p x) = x
+call_in_expression (Expression-F.Not p x) = x
 call_in_expression (Expression-F.Chain p x ls) = x || any ls
 
 abbrev pub call_in_argument : Argument-F Bool Bool Bool Bool Bool Bool → Bool

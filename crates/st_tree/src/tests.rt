@@ -1,15 +1,15 @@
 //! Each public call once.
-use crate::tree::{Call, Expression, Identifier, Place, Statement, has_call, has_exit};
+use crate::tree::{Call, Expression, Identifier, Position, Statement, has_call, has_exit};
 use crate::{Boxed, List, Name};
 use std::alloc::Global;
 use std::test::Fail;
 
-const PLACE: Place = Place { number: 0, line: 1 };
+const POSITION: Position = Position { number: 0, line: 1 };
 
 /// A call of F without arguments.
 fn call(alloc: Global) -> Result<Expression, Fail> {
     let name = Identifier {
-        place: PLACE,
+        position: POSITION,
         spelling: List::from_slice(alloc, b"F")?,
     };
     let arguments = List::new(alloc);
@@ -21,11 +21,11 @@ fn searches_trees(rt: HostRuntime) -> Result<(), Fail> {
     let alloc = rt.alloc();
     let inner = Boxed::new(alloc, call(alloc)?)?;
     assert!(rt; has_call(inner.get()));
-    assert!(rt; has_call(&Expression::Negation(PLACE, inner)));
+    assert!(rt; has_call(&Expression::Negate(POSITION, inner)));
     let inner = Boxed::new(alloc, call(alloc)?)?;
     assert!(rt; has_call(&inner.into_inner()));
-    assert!(rt; has_exit(&Statement::Exit(PLACE)));
-    assert!(rt; !has_exit(&Statement::Return(PLACE)));
+    assert!(rt; has_exit(&Statement::Exit(POSITION)));
+    assert!(rt; !has_exit(&Statement::Return(POSITION)));
     Ok(())
 }
 

@@ -63,13 +63,13 @@ fn literal_value(elem: Elem, literal: Constant) -> Option<Value>
     ensures { result ≡ value_of_literal elem literal }
 {
     match (elem, literal) {
-        (_, Constant::Integer(number)) if !number.is_negative && number.size < elem.limit() => {
+        (_, Constant::Integer(number)) if !number.is_negative && number.magnitude < elem.limit() => {
             Some(Value {
                 elem,
-                bits: number.size as i128,
+                bits: number.magnitude as i128,
             })
         }
-        (Elem::Bool, Constant::Truth(_, truth)) => Some(Value {
+        (Elem::Bool, Constant::Bool(_, truth)) => Some(Value {
             elem,
             bits: i128::from(truth),
         }),

@@ -1,23 +1,23 @@
 //! Literals (2.2).
-use crate::tree::place::Place;
+use crate::tree::position::Position;
 use st_values::Value;
 
 /// A decimal or based number with its sign (2.2.1).
 #[derive(Clone, Copy, Debug, PartialEq, Eq)]
 pub struct SignedInteger {
     /// Where the sign stands, or the number where it has none.
-    pub place: Place,
+    pub position: Position,
     /// Whether the sign is `-`.
     pub is_negative: bool,
     /// The number without its sign. Each above 2^64 - 1 counts as 2^64.
-    pub size: u128,
+    pub magnitude: u128,
 }
 
 /// A duration (2.2.3.1).
 #[derive(Clone, Copy, Debug, PartialEq, Eq)]
 pub struct Duration {
     /// Where it stands.
-    pub place: Place,
+    pub position: Position,
     /// In milliseconds. Each outside -2^63 to 2^63 - 1 counts as 2^64.
     pub milliseconds: i128,
 }
@@ -28,9 +28,9 @@ pub enum Constant {
     /// A number, which has the type that is due.
     Integer(SignedInteger),
     /// A typed literal, as `INT#5`. Its number may lie outside the type's range.
-    Typed(Place, Value),
+    Typed(Position, Value),
     /// A duration.
     Duration(Duration),
     /// `TRUE` or `FALSE`.
-    Truth(Place, bool),
+    Bool(Position, bool),
 }

@@ -1,14 +1,14 @@
 //! Declarations of variables and types (2.3.3, 2.4.3).
 use crate::list::List;
 use crate::tree::constant::{Constant, SignedInteger};
-use crate::tree::place::{Identifier, Place};
+use crate::tree::position::{Identifier, Position};
 use st_values::Elem;
 
 /// The name of a type.
 #[derive(Drop)]
 pub enum TypeName {
     /// An elementary type.
-    Elementary(Place, Elem),
+    Elementary(Position, Elem),
     /// A declared type, or a function block.
     Declared(Identifier),
 }
@@ -28,7 +28,7 @@ pub enum Specification {
     /// One of a named type.
     Simple(TypeName),
     /// `ARRAY`: its subscripts, and the type of its elements.
-    Array(Place, List<Subrange>, TypeName),
+    Array(Position, List<Subrange>, TypeName),
 }
 
 /// An initial value (2.4.2).
@@ -36,8 +36,8 @@ pub enum Specification {
 pub enum Initial {
     /// A literal.
     Constant(Constant),
-    /// The elements of an array, from the first on. The place is that of the `[`.
-    Array(Place, List<ArrayElement>),
+    /// The elements of an array, from the first on. The position is that of the `[`.
+    Array(Position, List<ArrayElement>),
 }
 
 /// A part of an array's initial values.
@@ -46,7 +46,7 @@ pub enum ArrayElement {
     /// One element.
     Single(Constant),
     /// So many elements in a row, of this value or of the one that their type has.
-    Repeated(Place, u128, Option<Constant>),
+    Repeated(Position, u128, Option<Constant>),
 }
 
 /// Names that are declared together, as variables or as a member.
@@ -62,7 +62,7 @@ pub struct Declaration {
 
 /// What the variables of a block of declarations are for (2.4.3, table 16).
 #[derive(Clone, Copy, Debug, PartialEq, Eq)]
-pub enum Section {
+pub enum VarKind {
     /// `VAR`
     Internal,
     /// `VAR CONSTANT`
@@ -77,9 +77,9 @@ pub enum Section {
 #[derive(Drop)]
 pub struct VarBlock {
     /// Where it begins.
-    pub place: Place,
+    pub position: Position,
     /// What its variables are for. RETAIN and NON_RETAIN have no effect, and aren't kept.
-    pub section: Section,
+    pub kind: VarKind,
     /// The declarations, in order.
     pub declarations: List<Declaration>,
 }
@@ -90,5 +90,5 @@ pub enum DeclaredType {
     /// Another type, or an array, and the value with which its variables begin, where one is written.
     Derived(Specification, Option<Initial>),
     /// A structure of these members. Each declares one name.
-    Structure(Place, List<Declaration>),
+    Structure(Position, List<Declaration>),
 }

@@ -3,7 +3,7 @@ use crate::boxed::Boxed;
 use crate::list::List;
 use crate::operator::BinOp;
 use crate::tree::constant::Constant;
-use crate::tree::place::{Identifier, Place};
+use crate::tree::position::{Identifier, Position};
 
 /// An expression.
 #[cycle(expression)]
@@ -16,14 +16,14 @@ pub enum Expression {
     /// A call of a function.
     Call(Call),
     /// An expression in parentheses.
-    Group(Place, Boxed<Expression>),
+    Parenthesized(Position, Boxed<Expression>),
     /// `-` and its operand, which isn't a number.
-    Negation(Place, Boxed<Expression>),
+    Negate(Position, Boxed<Expression>),
     /// `NOT` and its operand.
-    Complement(Place, Boxed<Expression>),
+    Not(Position, Boxed<Expression>),
     /// Two or more operands of one level: the first, and each further one with the operator before it.
     /// They are taken from left to right.
-    Chain(Place, Boxed<Expression>, List<Operation>),
+    Chain(Position, Boxed<Expression>, List<Operation>),
 }
 
 /// An operator and its right operand.
@@ -31,7 +31,7 @@ pub enum Expression {
 #[derive(Drop)]
 pub struct Operation {
     /// Where the operator stands.
-    pub place: Place,
+    pub position: Position,
     /// The operator.
     pub operator: BinOp,
     /// The operand behind it.
@@ -54,8 +54,8 @@ pub struct Variable {
 pub enum Part {
     /// A member, by its name.
     Field(Identifier),
-    /// An element, by its subscripts. The place is that of the `[`.
-    Subscripts(Place, List<Expression>),
+    /// An element, by its subscripts. The position is that of the `[`.
+    Subscripts(Position, List<Expression>),
 }
 
 /// A call of a function, or an invocation of an instance of a function block (2.5.1.4, 3.3.2.2).

@@ -81,9 +81,9 @@ pub fn has_call(expression: &Expression) -> bool
         Expression::Constant(_) => false,
         Expression::Variable(variable) => variable_has_call(variable),
         Expression::Call(_) => true,
-        Expression::Group(_, inner) => has_call(inner.get()),
-        Expression::Negation(_, operand) => has_call(operand.get()),
-        Expression::Complement(_, operand) => has_call(operand.get()),
+        Expression::Parenthesized(_, inner) => has_call(inner.get()),
+        Expression::Negate(_, operand) => has_call(operand.get()),
+        Expression::Not(_, operand) => has_call(operand.get()),
         Expression::Chain(_, first, operations) => {
             has_call(first.get()) || any_operation(operations.as_slice())
         }

@@ -2,32 +2,32 @@
 use crate::list::List;
 use crate::tree::constant::Constant;
 use crate::tree::expression::{Call, Expression, Variable};
-use crate::tree::place::{Identifier, Place};
+use crate::tree::position::{Identifier, Position};
 
 /// A statement.
 #[cycle(statement)]
 #[derive(Drop)]
 pub enum Statement {
-    /// `;` alone. The place is its own.
-    Empty(Place),
+    /// `;` alone. The position is its own.
+    Empty(Position),
     /// The variable takes the value.
     Assignment(Variable, Expression),
     /// An invocation.
     Call(Call),
     /// `RETURN`
-    Return(Place),
+    Return(Position),
     /// `EXIT`
-    Exit(Place),
+    Exit(Position),
     /// `IF`: the parts of IF and of each ELSIF, and the statements of ELSE. Without ELSE there are none.
-    If(Place, List<ConditionalPart>, List<Statement>),
+    If(Position, List<ConditionalPart>, List<Statement>),
     /// `CASE`: the selector, the cases, and the statements of ELSE. Without ELSE there are none.
-    Case(Place, Expression, List<CaseElement>, List<Statement>),
+    Case(Position, Expression, List<CaseElement>, List<Statement>),
     /// `FOR`: the variable, its first and its last value, the step where BY names one, and the statements.
-    For(Place, Identifier, Expression, Expression, Option<Expression>, List<Statement>),
+    For(Position, Identifier, Expression, Expression, Option<Expression>, List<Statement>),
     /// `WHILE`: the condition, and the statements.
-    While(Place, Expression, List<Statement>),
+    While(Position, Expression, List<Statement>),
     /// `REPEAT`: the statements, and the condition behind UNTIL.
-    Repeat(Place, List<Statement>, Expression),
+    Repeat(Position, List<Statement>, Expression),
 }
 
 /// A condition, and what runs where it is the first that is TRUE.

@@ -3,7 +3,7 @@ use crate::list::List;
 use crate::tree::constant::Duration;
 use crate::tree::declaration::{DeclaredType, VarBlock};
 use crate::tree::expression::Expression;
-use crate::tree::place::{Identifier, Place};
+use crate::tree::position::{Identifier, Position};
 use crate::tree::statement::Statement;
 use st_values::Elem;
 
@@ -11,13 +11,13 @@ use st_values::Elem;
 #[derive(Drop)]
 pub enum Unit {
     /// `TYPE`: the types that it declares.
-    Types(Place, List<TypeDeclaration>),
+    Types(Position, List<TypeDeclaration>),
     /// A function.
     Function(Function),
     /// A function block.
-    FunctionBlock(Organization),
+    FunctionBlock(Pou),
     /// A program.
-    Program(Organization),
+    Program(Pou),
 }
 
 /// A declared type.
@@ -33,7 +33,7 @@ pub struct TypeDeclaration {
 #[derive(Drop)]
 pub struct Function {
     /// Where it begins.
-    pub place: Place,
+    pub position: Position,
     /// Its name, which is also that of its result.
     pub name: Identifier,
     /// The type of its result.
@@ -46,9 +46,9 @@ pub struct Function {
 
 /// A function block or a program: an organization unit with variables that last (2.5.2, 2.5.3).
 #[derive(Drop)]
-pub struct Organization {
+pub struct Pou {
     /// Where it begins.
-    pub place: Place,
+    pub position: Position,
     /// Its name.
     pub name: Identifier,
     /// Its variables.
@@ -81,7 +81,7 @@ pub enum ChartElement {
 #[derive(Drop)]
 pub struct Step {
     /// Where it begins.
-    pub place: Place,
+    pub position: Position,
     /// Whether it is an initial step.
     pub is_initial: bool,
     /// Its name.
@@ -112,7 +112,7 @@ pub struct ActionQualifier {
 #[derive(Drop)]
 pub struct Transition {
     /// Where it begins.
-    pub place: Place,
+    pub position: Position,
     /// Its name, where it has one.
     pub name: Option<Identifier>,
     /// Its priority, where one is written. Lower numbers go first.
@@ -129,7 +129,7 @@ pub struct Transition {
 #[derive(Drop)]
 pub struct Action {
     /// Where it begins.
-    pub place: Place,
+    pub position: Position,
     /// Its name.
     pub name: Identifier,
     /// What it does.

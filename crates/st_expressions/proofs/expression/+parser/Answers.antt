@@ -89,5 +89,5 @@ pub level-returns-clause-read : goal.level-returns-clause-read
 level-returns-clause-read t c =
     reads_made _ _ _ c.chain.result
     (rank_ok c.args.room (spec.inside_of c.args.room) c.args.rank c.args.ts.now c.level.new.ts c.operations.new.ts c.in_ok-first.first c.in_ok-operations.operations c.if-rank-eq0.false c.in_ok-first.ensures.read c.in_ok-operations.ensures.read
-    ∙ ap (λ p. Ok (spec.chain p c.in_ok-first.first c.in_ok-operations.operations, c.operations.new.ts)) (sym c.place-place.ensures))
+    ∙ ap (λ p. Ok (spec.chain p c.in_ok-first.first c.in_ok-operations.operations, c.operations.new.ts)) (sym c.position-position.ensures))
     c.chain.ensures.ok c.chain.ensures.err

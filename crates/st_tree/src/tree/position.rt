@@ -3,7 +3,7 @@ use crate::list::List;
 
 /// Where a token stands.
 #[derive(Clone, Copy, Debug, PartialEq, Eq)]
-pub struct Place {
+pub struct Position {
     /// The number of the token in the text. The first is 0.
     pub number: usize,
     /// The line on which it begins. The first is 1.
@@ -14,7 +14,7 @@ pub struct Place {
 #[derive(Drop)]
 pub struct Identifier {
     /// Where it stands.
-    pub place: Place,
+    pub position: Position,
     /// Its bytes.
     pub spelling: List<u8>,
 }
