@@ -6,9 +6,15 @@
 #[cfg(test)]
 mod all_types;
 #[cfg(test)]
+mod devices;
+#[cfg(test)]
 mod first_path;
 #[cfg(test)]
 mod force_release_status;
+#[cfg(test)]
+mod loading;
+#[cfg(test)]
+mod memory;
 #[cfg(test)]
 mod refused_texts;
 #[cfg(test)]

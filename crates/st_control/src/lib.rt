@@ -6,8 +6,6 @@ mod laws;
 mod record;
 mod refusal;
 mod state;
-#[cfg(test)]
-mod tests;
 mod thin;
 mod undoing;
 

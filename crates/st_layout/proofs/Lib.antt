@@ -2,4 +2,3 @@ pub mod Contents
 pub mod Maps
 pub mod Paths
 pub mod Places
-pub mod Samples

@@ -5,8 +5,6 @@ mod cells;
 mod laws;
 mod layout;
 mod memory;
-#[cfg(test)]
-mod tests;
 
 pub use cells::Cells;
 pub use laws::{content_is_a_map, places_follow};

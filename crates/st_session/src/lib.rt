@@ -22,5 +22,3 @@ pub use reader_source::FromReader;
 pub use run::{ACCEPTED, DEVICE_FAILED, LINE_REFUSED, NO_MEMORY, NO_PROGRAM, run_text};
 pub use writer_sink::ToWriter;
 
-#[cfg(test)]
-mod tests;

@@ -2,8 +2,6 @@
 #![tactic(auto)]
 
 mod declaration;
-#[cfg(test)]
-mod tests;
 mod text;
 mod unit;
 

@@ -9,8 +9,6 @@ mod literal;
 mod run;
 mod scan;
 mod symbol;
-#[cfg(test)]
-mod tests;
 mod token;
 mod word;
 

@@ -6,8 +6,6 @@ mod leaf;
 mod list;
 mod name;
 mod operator;
-#[cfg(test)]
-mod tests;
 pub mod tree;
 
 pub use boxed::Boxed;

@@ -6,8 +6,6 @@ mod elem;
 mod number;
 mod put;
 mod read;
-#[cfg(test)]
-mod tests;
 mod value;
 mod word;
 

@@ -4,15 +4,13 @@
 ghost use Rattle.std.specs.Prelude.{◌≡◌, ◌≢◌, ◌⊎◌};
 ghost use Rattle.clap.specs.Words.{kind_of};
 
-mod words;
-
 use clap::error::ErrorKind;
 use st_session::{ACCEPTED, DEVICE_FAILED, FromReader, NO_MEMORY, ToWriter, run_text};
+use st_words::{Order, Verb, read_words};
 use std::fs::File;
 use std::io::{self, Read};
 use std::process::ExitCode;
 use std::rt::{Env, Files};
-use words::{Order, Verb, read_words};
 
 /// One byte more than a source text may have, so that a longer text is seen to be too long.
 const MOST_BYTES: u64 = 1_048_577;

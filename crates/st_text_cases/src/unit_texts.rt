@@ -1,5 +1,5 @@
 //! What no clause says: that memory suffices, which fault comes at which line, and the standard's own examples.
-use crate::parse;
+use st_syntax::parse;
 use st_tokens::SyntaxFault;
 use std::alloc::Global;
 use std::process::Abort;

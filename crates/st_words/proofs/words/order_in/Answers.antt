@@ -2,10 +2,10 @@ use Rattle.std.proofs.Common.{sym, ◌∙◌, codes, subst, refl}
 use Rattle.clap.proofs.WalkLemmas.{first_value-rows}
 use Rattle.clap.specs.Words.{rows_of, found_of}
 use Rattle.clap.specs.declared.parser.matches.ArgMatches.TheViews.{out-ArgMatches}
-use Rattle.stc.specs.Words.{HasLimit, IsLimitOf}
-use Rattle.stc.specs.declared.words.Order.{Order}
-use Rattle.stc.proofs.Taken.{file_within, limit_within, main_within, order_is, rows_are}
-use Rattle.stc.proofs.words.order_in.Goals as goal
+use Rattle.st_words.specs.Words.{HasLimit, IsLimitOf}
+use Rattle.st_words.specs.declared.words.Order.{Order}
+use Rattle.st_words.proofs.Taken.{file_within, limit_within, main_within, order_is, rows_are}
+use Rattle.st_words.proofs.words.order_in.Goals as goal
 
 pub returns-in_err-file-clause-none : goal.returns-in_err-file-clause-none
 returns-in_err-file-clause-none c =

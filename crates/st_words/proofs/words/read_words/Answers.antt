@@ -1,9 +1,9 @@
 use Rattle.clap.proofs.TakesLemmas.{passed_up}
 use Rattle.std.proofs.Common.{Err, Ok, inl, inr, map, refl, subst, sym}
 use Rattle.clap.specs.declared.parser.matches.ArgMatches.{ArgMatches}
-use Rattle.stc.specs.Words.{IsOrder, IsRunnable}
-use Rattle.stc.proofs.Taken.{chosen_in, fails_by, taken_by, in_order_runs}
-use Rattle.stc.proofs.words.read_words.Goals as goal
+use Rattle.st_words.specs.Words.{IsOrder, IsRunnable}
+use Rattle.st_words.proofs.Taken.{chosen_in, fails_by, taken_by, in_order_runs}
+use Rattle.st_words.proofs.words.read_words.Goals as goal
 
 pub returns-in_err-matches-clause-memory : goal.returns-in_err-matches-clause-memory
 returns-in_err-matches-clause-memory g c =

@@ -4,9 +4,9 @@ use Rattle.std.specs.Str.Parse.{IsNumeral, digits_value, without_leading_plus}
 use Rattle.clap.specs.Words.{App, HasKind, Kinds, Row, Rule, Text, fault_of, first_of, kind_of, new_app, new_rule, subcommand_of, takes, with_rule, with_subcommand}
 use Rattle.clap.specs.declared.error.Error.{Error}
 use Rattle.clap.specs.declared.error.kind.ErrorKind.TheVariants as ErrorKind
-use Rattle.stc.specs.declared.words.Verb.{Verb}
-use Rattle.stc.specs.declared.words.Verb.TheVariants.{Run}
-use Rattle.stc.specs.declared.words.Order.{Order}
+use Rattle.st_words.specs.declared.words.Verb.{Verb}
+use Rattle.st_words.specs.declared.words.Verb.TheVariants.{Run}
+use Rattle.st_words.specs.declared.words.Order.{Order}
 
 -- FILE, which is required
 abbrev pub file_rule : Rule

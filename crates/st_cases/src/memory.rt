@@ -3,7 +3,7 @@ ghost use Rattle.std.specs.Prelude.{◌≡◌, IfOk, length, true};
 ghost use Rattle.st_layout.specs.Layout.{IsValueAt, leaf_at};
 ghost use Rattle.st_layout.specs.Memory.{initial_content, with_force, with_value};
 
-use crate::{Cells, Layout, Memory};
+use st_layout::{Cells, Layout, Memory};
 use st_tree::{Leaf, List, Role};
 use st_values::{Elem, Value};
 use std::alloc::{AllocError, Global};

@@ -3,7 +3,7 @@
 ghost use Rattle.std.specs.Prelude.{◌≡◌, ℕ, [], IfErr, IfOk, IfSome, IsNone, OnOk, map, option_map, false};
 ghost use Rattle.clap.specs.Words.{app_of, kind_of, subcommand_rows_of};
 ghost use Rattle.clap.specs.declared.builder.command.Command.TheViews.{out-Command as fields_of};
-ghost use Rattle.stc.specs.Words.{AreInOrder, HasLimit, IsFaultOf, IsLimitOf, IsOrder, IsRunnable, IsStepLimit, chosen_by, faults_of, file_app, run_app, stc_app, verb_name};
+ghost use Rattle.st_words.specs.Words.{AreInOrder, HasLimit, IsFaultOf, IsLimitOf, IsOrder, IsRunnable, IsStepLimit, chosen_by, faults_of, file_app, run_app, stc_app, verb_name};
 
 use clap::error::ErrorKind;
 use clap::{Arg, ArgMatches, Command, Error};
@@ -147,75 +147,5 @@ fn number_in_range(text: &str) -> Option<u32>
         Some(steps)
     } else {
         None
-    }
-}
-
-#[cfg(test)]
-mod tests {
-    use super::*;
-    use std::test::Fail;
-
-    #[test]
-    fn reads_an_order(rt: HostRuntime) -> Result<(), Fail> {
-        let order = read_words(rt.alloc(), &["stc", "run", "a.st", "--program", "Main"])?;
-        assert!(rt; order.verb == Verb::Run);
-        assert_eq!(rt; order.file, "a.st");
-        assert_eq!(rt; order.main, "Main");
-        assert_eq!(rt; order.steps, 100_000);
-
-        let words = ["stc", "run", "--steps", "7", "--program=Main", "a.st"];
-        let order = read_words(rt.alloc(), &words)?;
-        assert_eq!(rt; order.file, "a.st");
-        assert_eq!(rt; order.main, "Main");
-        assert_eq!(rt; order.steps, 7);
-        Ok(())
-    }
-
-    #[test]
-    fn limits_the_steps(rt: HostRuntime) {
-        for (steps, is_fit) in [
-            ("0", false),
-            ("1", true),
-            ("10000000", true),
-            ("10000001", false),
-            ("99999999999", false),
-            ("-1", false),
-            ("many", false),
-        ] {
-            let words = ["stc", "run", "a.st", "--program", "Main", "--steps", steps];
-            let order = read_words(rt.alloc(), &words);
-            assert_eq!(rt; order.is_ok(), is_fit, "at {steps}");
-        }
-    }
-
-    #[test]
-    fn refuses_faults_of_usage(rt: HostRuntime) {
-        for words in [
-            ["stc", "run", "--program", "Main"].as_slice(),
-            ["stc", "run", "a.st"].as_slice(),
-            ["stc", "run", "a.st", "b.st", "--program", "Main"].as_slice(),
-            ["stc", "run", "a.st", "--program", "Main", "--scans", "3"].as_slice(),
-            ["stc", "walk", "a.st", "--program", "Main"].as_slice(),
-            ["stc"].as_slice(),
-        ] {
-            match read_words(rt.alloc(), words) {
-                Ok(_) => assert!(rt; false, "{words:?} were taken"),
-                Err(error) => assert_eq!(rt; error.exit_code(), 2, "{words:?}"),
-            }
-        }
-    }
-
-    #[test]
-    fn answers_with_help(rt: HostRuntime) {
-        for words in [
-            ["stc", "--help"].as_slice(),
-            ["stc", "run", "--help"].as_slice(),
-            ["stc", "run", "a.st", "-h"].as_slice(),
-        ] {
-            match read_words(rt.alloc(), words) {
-                Ok(_) => assert!(rt; false, "{words:?} were taken"),
-                Err(error) => assert!(rt; error.kind() == ErrorKind::DisplayHelp, "{words:?}"),
-            }
-        }
     }
 }

@@ -13,11 +13,11 @@ use Rattle.clap.specs.declared.parser.matches.SubCommand.{SubCommand}
 use Rattle.clap.specs.declared.parser.matches.ArgMatches.{ArgMatches}
 use Rattle.clap.specs.declared.parser.matches.ArgMatches.TheViews.{out-SubCommand}
 use Rattle.clap.proofs.WalkLemmas.{both}
-use Rattle.stc.proofs.Valued.{AsksValue, asks_help, asks_one, found_holds, given_has_value, level_valued}
-use Rattle.stc.specs.Words.{AreInOrder, HasLimit, IsLimitOf, IsOrder, IsRunnable, chosen_by, faults_of, is_taken, limit_of, stc_app, verb_name}
-use Rattle.stc.specs.declared.words.Order.{Order}
-use Rattle.stc.specs.declared.words.Verb.{Verb}
-use Rattle.stc.specs.declared.words.Verb.TheVariants.{Run}
+use Rattle.st_words.proofs.Valued.{AsksValue, asks_help, asks_one, found_holds, given_has_value, level_valued}
+use Rattle.st_words.specs.Words.{AreInOrder, HasLimit, IsLimitOf, IsOrder, IsRunnable, chosen_by, faults_of, is_taken, limit_of, stc_app, verb_name}
+use Rattle.st_words.specs.declared.words.Order.{Order}
+use Rattle.st_words.specs.declared.words.Verb.{Verb}
+use Rattle.st_words.specs.declared.words.Verb.TheVariants.{Run}
 
 -- ---- the command that was built, and its matches
 

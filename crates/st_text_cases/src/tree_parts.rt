@@ -1,6 +1,6 @@
 //! Each public call once.
-use crate::tree::{Call, Expression, Identifier, Position, Statement, has_call, has_exit};
-use crate::{Boxed, List, Name};
+use st_tree::tree::{Call, Expression, Identifier, Position, Statement, has_call, has_exit};
+use st_tree::{Boxed, List, Name};
 use std::alloc::Global;
 use std::test::Fail;
 

@@ -1,6 +1,5 @@
 //! Loads: texts that are loaded, and texts that are refused.
-use crate::controller::Controller;
-use crate::refusal::Refusal;
+use st_control::{Controller, Refusal};
 use st_layout::Cells;
 use std::alloc::Global;
 use std::test::Fail;

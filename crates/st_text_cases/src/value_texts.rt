@@ -1,5 +1,5 @@
 //! Texts of values against the examples of IEC 61131-3:2003 (2.2.1 and 2.2.3.1) and cases worked out by hand.
-use super::*;
+use st_values::{Elem, put_value, read_value, wrap};
 
 /// The number that a text is read as, where it is a value of the type.
 fn number_of(elem: Elem, text: &str) -> Option<i128> {

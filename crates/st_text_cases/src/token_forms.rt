@@ -1,5 +1,5 @@
 //! What no clause says: the line of a fault, that memory suffices, and the standard's own examples.
-use crate::{Keyword, Kind, Spelling, Symbol, SyntaxFault, tokens};
+use st_tokens::{Keyword, Kind, Spelling, Symbol, SyntaxFault, tokens};
 use st_values::{Elem, Value};
 use std::alloc::Global;
 use std::process::Abort;

@@ -1,10 +1,10 @@
 //! Sessions over devices of all kinds, as they run.
-use crate::{
+use st_control::Controller;
+use st_layout::Cells;
+use st_session::{
     ACCEPTED, Bytes, DEVICE_FAILED, FromReader, LINE_REFUSED, NO_PROGRAM, Outcome, Sheet, ToWriter,
     run_text, session,
 };
-use st_control::Controller;
-use st_layout::Cells;
 use st_values::{Elem, Value};
 use std::test::Fail;
 
