@@ -11,7 +11,7 @@ if-capped : (p : Bool) (below above : Option ℕ) →
 if-capped true below above = map-negative below
 if-capped false below above = map-pos above
 
--- a duration counts as what its size counts as, with the sign
+-- a duration counts as what its magnitude counts as, with the sign
 pub signed_interval_read-capped : (text : List ℕ) →
     option_map capped_signed (signed_interval_read text)
     ≡ (if slice_index text 0 == byte "-" then option_map negative (option_map capped (interval_read (drop 1 text)))

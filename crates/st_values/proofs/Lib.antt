@@ -1,5 +1,6 @@
 pub mod Cases
 pub mod DigitTexts
+pub mod Digits
 pub mod DurationLemmas
 pub mod DurationTexts
 pub mod FractionLemmas

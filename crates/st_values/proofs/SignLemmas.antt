@@ -18,11 +18,11 @@ capped_signed-negative : (n : ℕ) → capped_signed (negative n) ≡ negative (
 capped_signed-negative zero = refl
 capped_signed-negative (suc n) = rw add-one refl
 
-pub map-negative : (size : Option ℕ) → option_map capped_signed (option_map negative size) ≡ option_map negative (option_map capped size)
+pub map-negative : (magnitude : Option ℕ) → option_map capped_signed (option_map negative magnitude) ≡ option_map negative (option_map capped magnitude)
 map-negative None = refl
 map-negative (Some n) = ap Some (capped_signed-negative n)
 
-pub map-pos : (size : Option ℕ) → option_map capped_signed (option_map pos size) ≡ option_map pos (option_map capped size)
+pub map-pos : (magnitude : Option ℕ) → option_map capped_signed (option_map pos magnitude) ≡ option_map pos (option_map capped magnitude)
 map-pos None = refl
 map-pos (Some n) = refl
 
@@ -99,7 +99,7 @@ if-capped true q below above plain = map-negative below
 if-capped false true below above plain = map-pos above
 if-capped false false below above plain = map-pos plain
 
--- a number with a sign counts as what its size counts as, with the sign
+-- a number with a sign counts as what its magnitude counts as, with the sign
 pub signed_read-capped : (typed : Bool) (text : List ℕ) →
     option_map capped_signed (signed_read typed text)
     ≡ (if slice_index text 0 == byte "-" then option_map negative (option_map capped (after_sign typed (drop 1 text)))

@@ -1,4 +1,5 @@
 pub mod Durations
+pub mod Names
 pub mod Numbers
 pub mod Readings
 pub mod Texts

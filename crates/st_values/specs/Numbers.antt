@@ -1,6 +1,6 @@
 -- Numbers in texts (IEC 61131-3:2003, 2.2.1, table 4).
 use Rattle.std.specs.Char.{is_digit}
-use Rattle.std.specs.Prelude.{ℕ, ◌+◌, ◌^◌, min, Bool, true, false, ◌&&◌, ◌==◌, not, if◌then◌else◌, List, [], ◌∷◌, codes, filter, ℤ, pos, negsuc, neg_ℤ, Option, Some, None}
+use Rattle.std.specs.Prelude.{◌≡◌, ℕ, ◌+◌, ◌^◌, min, Bool, true, false, ◌&&◌, ◌==◌, not, if◌then◌else◌, List, [], ◌∷◌, codes, filter, ℤ, pos, negsuc, neg_ℤ, Option, Some, None}
 use Rattle.std.specs.Str.{byte}
 use Rattle.std.specs.Str.Parse.{digits_value}
 use Rattle.st_values.specs.Words.{after, begins_with}
@@ -12,6 +12,15 @@ are_digits base after_digit [] = after_digit
 are_digits base after_digit (c ∷ text) =
     if c == byte "_" then after_digit && are_digits base false text
     else is_digit c base && are_digits base true text
+
+-- digits of a base, with single `_` between them
+pub data AreDigits (base : ℕ) : List ℕ → Type 0 where
+  -- a digit alone
+  one : {c : ℕ} → is_digit c base ≡ true → AreDigits base (c ∷ [])
+  -- a digit, and digits directly after it
+  more : {c : ℕ} {text : List ℕ} → is_digit c base ≡ true → AreDigits base text → AreDigits base (c ∷ text)
+  -- a digit, a `_`, and digits after it
+  apart : {c : ℕ} {text : List ℕ} → is_digit c base ≡ true → AreDigits base text → AreDigits base (c ∷ byte "_" ∷ text)
 
 -- the digits of a number: a `_` means nothing
 abbrev pub without_underscores : List ℕ → List ℕ

@@ -2,14 +2,14 @@
 ghost use Rattle.std.specs.Char.{is_ascii_alphabetic};
 ghost use Rattle.std.specs.List.{prefix_len};
 ghost use Rattle.std.specs.Prelude.{◌≡◌, ℕ, ◌≤◌, ◌<◌, ◌^◌, ◌↔◌, Some, length, not, option_map, position, IfSome};
-ghost use Rattle.st_values.specs.Durations.{IsInterval, amount_read, duration_read, fraction_read, interval_read, is_point, last_amount_read, letters_of, milliseconds_of, part_letters, part_number, part_rest, parts_read, signed_interval_read, sum_of as sum_where, units, without_underscore as no_underscore};
+ghost use Rattle.st_values.specs.Durations.{IsInterval, amount_read, duration_read, fraction_read, interval_read, is_point, last_amount_read, letters_of, milliseconds_of, part_letters, part_number, part_rest, parts_read, signed_interval_read, sum_of, units, without_underscore};
 ghost use Rattle.st_values.specs.Numbers.{capped, capped_signed};
 
 use crate::number::{TOO_MUCH, read_digits, with_sign};
 use crate::word::{begins_with_word, is_word};
 
 /// A unit of a duration.
-#[derive(Clone, Copy, Debug, PartialEq, Eq)]
+#[derive(Clone, Copy)]
 pub enum TimeUnit {
     Days,
     Hours,
@@ -120,7 +120,7 @@ fn read_parts(units: &[TimeUnit], text: &[u8]) -> Option<u128>
 fn sum_of(first: Option<u128>, second: Option<u128>) -> Option<u128>
     requires first { IfSome first (λ number. number ≤ 2 ^ 64) }
     requires second { IfSome second (λ number. number ≤ 2 ^ 64) }
-    ensures value { result ≡ option_map capped (sum_where first second) }
+    ensures value { result ≡ option_map capped (sum_of first second) }
     ensures bound { IfSome result (λ number. number ≤ 2 ^ 64) }
 {
     Some((first? + second?).min(TOO_MUCH))
@@ -163,7 +163,7 @@ fn letters_len(text: &[u8]) -> usize
 
 /// The text without a `_` that it begins with.
 fn without_underscore(text: &[u8]) -> &[u8]
-    ensures { result.now ≡ no_underscore text.now }
+    ensures { result.now ≡ without_underscore text.now }
 {
     match text {
         [b'_', rest @ ..] => rest,

@@ -11,7 +11,7 @@ mod word;
 
 pub use duration::{interval_is_its_parts, read_interval};
 pub use elem::{Class, Elem};
-pub use number::{read_digits, read_number};
+pub use number::{digits_are_their_number, read_digits};
 pub use put::put_value;
 pub use read::{BadValue, read_value, text_is_read_back};
 pub use value::{Value, is_value, wrap};

@@ -1,6 +1,7 @@
 //! Numbers in texts (IEC 61131-3:2003, 2.2.1, table 4).
-ghost use Rattle.std.specs.Prelude.{◌≡◌, ◌≤◌, ◌^◌, if◌then◌else◌, option_map, pos, IfSome};
-ghost use Rattle.st_values.specs.Numbers.{capped, digits_read, negative, number_read};
+ghost use Rattle.std.specs.Prelude.{◌≡◌, ◌↔◌, ◌≤◌, ◌^◌, ℕ, Some, if◌then◌else◌, option_map, pos, IfSome};
+ghost use Rattle.std.specs.Str.Parse.{digits_value};
+ghost use Rattle.st_values.specs.Numbers.{AreDigits, capped, digits_read, negative, number_read, without_underscores};
 
 /// What a number above all types' ranges counts as.
 pub const TOO_MUCH: u128 = 1 << 64;
@@ -44,10 +45,17 @@ pub fn read_digits(base: u32, text: &[u8]) -> Option<u128>
 }
 
 /// The number, below zero where there is a `-`.
-pub fn with_sign(is_negative: bool, size: Option<u128>) -> Option<i128>
-    requires { IfSome size (λ number. number ≤ 2 ^ 64) }
-    ensures { result ≡ option_map (if is_negative then negative else pos) size }
+pub fn with_sign(is_negative: bool, magnitude: Option<u128>) -> Option<i128>
+    requires { IfSome magnitude (λ number. number ≤ 2 ^ 64) }
+    ensures { result ≡ option_map (if is_negative then negative else pos) magnitude }
 {
-    let number = size? as i128;
+    let number = magnitude? as i128;
     Some(if is_negative { -number } else { number })
 }
+
+/// What is read as digits is digits with single `_` between them, and the number that they write.
+pub fn digits_are_their_number(base: u32, text: &[u8])
+    requires { base ≤ 16 }
+    ensures { (n : ℕ) → (digits_read base text.now ≡ Some n)
+        ↔ (AreDigits base text.now × (digits_value base (without_underscores text.now) ≡ n)) }
+{}

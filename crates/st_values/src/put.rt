@@ -9,7 +9,7 @@ use crate::value::Value;
 use std::alloc::AllocError;
 
 /// The most bytes of a value's text.
-const MOST_BYTES: usize = 24;
+const MAX_BYTES: usize = 24;
 
 /// Puts the text of a value at the end: `TRUE` or `FALSE`, an integer in decimal, a bit string as `16#` and upper case
 /// digits, a duration as `T#`, its milliseconds in decimal and `ms`.
@@ -24,7 +24,7 @@ pub fn put_value(value: Value, out: &mut Vec<u8>) -> Result<(), AllocError>
     ensures capacity { vec_capacity out.old ≤ vec_capacity out.new }
     ensures short { length (text value) ≤ 24 }
 {
-    let mut buffer = [0; MOST_BYTES];
+    let mut buffer = [0; MAX_BYTES];
     let start = lay_value(value, &mut buffer);
     out.extend_from_slice(&buffer[start..])
 }
@@ -37,10 +37,10 @@ fn lay_value(value: Value, buffer: &mut [u8]) -> usize
     ensures laid { drop result buffer.new ≡ text value }
 {
     let end = buffer.len();
-    let size = value.bits.unsigned_abs() as u64;
+    let magnitude = value.bits.unsigned_abs() as u64;
     match value.elem.class() {
         Class::Boolean => {
-            if size == 0 {
+            if magnitude == 0 {
                 lay(buffer, end, b"FALSE")
             } else {
                 lay(buffer, end, b"TRUE")
@@ -48,7 +48,7 @@ fn lay_value(value: Value, buffer: &mut [u8]) -> usize
         }
         Class::Integer => lay_signed(buffer, end, value.bits, 20),
         Class::BitString => {
-            let start = lay_digits(buffer, end, 16, size, 20);
+            let start = lay_digits(buffer, end, 16, magnitude, 20);
             lay(buffer, start, b"16#")
         }
         Class::Duration => {
@@ -61,7 +61,7 @@ fn lay_value(value: Value, buffer: &mut [u8]) -> usize
 
 /// Lays a number of at most so many digits, with its sign, just before `end`, and answers where it begins.
 fn lay_signed(buffer: &mut [u8], end: usize, number: i128, places: usize) -> usize
-    requires size { unsigned_abs number < 2 ^ 64 }
+    requires magnitude { unsigned_abs number < 2 ^ 64 }
     requires digits { unsigned_abs number < 10 ^ places }
     requires some { 0 < places }
     requires few { places ≤ 20 }

@@ -1,7 +1,7 @@
 //! Texts as values (IEC 61131-3:2003, 2.2).
 ghost use Rattle.std.specs.Prelude.{◌≡◌, ◌≤◌, ◌<◌, ◌^◌, length, IfSome, IsTrue, MatchResult, Some, None, option_map};
 ghost use Rattle.st_values.specs.Numbers.{capped, capped_signed};
-ghost use Rattle.st_values.specs.Readings.{after_sign, is_typed as has_type, literal_read, number_in, reads, signed_read, truth_read, value_of};
+ghost use Rattle.st_values.specs.Readings.{after_sign, is_typed, literal_read, number_in, reads, signed_read, truth_read, value_of};
 ghost use Rattle.st_values.specs.Texts.{text};
 ghost use Rattle.st_values.specs.Types.{class_of, name_of};
 ghost use Rattle.st_values.specs.Values.{IsValue};
@@ -18,7 +18,7 @@ use thiserror::Error;
 #[error("not a value of the type")]
 pub struct BadValue;
 
-/// Reads a whole text, without blanks and in any case, as a value of a type: a number with an optional sign, decimal or
+/// Reads a whole text, without blanks and ignoring case, as a value of a type: a number with an optional sign, decimal or
 /// after `2#`, `8#` or `16#`; the same after the type's name and `#`, where only a decimal number has a sign; for BOOL
 /// also `TRUE` and `FALSE`; for TIME a duration and nothing else.
 ///
@@ -59,26 +59,26 @@ fn read_number_of(elem: Elem, text: &[u8]) -> Option<i128>
 }
 
 /// Reads a whole text as a literal, after the name of a type or not.
-fn read_literal(class: Class, is_typed: bool, text: &[u8]) -> Option<i128>
-    ensures { result ≡ option_map capped_signed (literal_read class is_typed text.now) }
+fn read_literal(class: Class, typed: bool, text: &[u8]) -> Option<i128>
+    ensures { result ≡ option_map capped_signed (literal_read class typed text.now) }
 {
     if class == Class::Boolean {
-        read_truth(text).or(read_signed(is_typed, text))
+        read_truth(text).or(read_signed(typed, text))
     } else {
-        read_signed(is_typed, text)
+        read_signed(typed, text)
     }
 }
 
-/// Tests whether a text begins with the name of a type, in any case, and `#`.
+/// Tests whether a text begins with the name of a type, ignoring case, and `#`.
 fn is_typed(elem: Elem, text: &[u8]) -> bool
-    ensures value { result ≡ has_type elem text.now }
+    ensures value { result ≡ is_typed elem text.now }
     ensures within { IsTrue result → length (name_of elem) < length text.now }
 {
     let name = elem.name();
     begins_with_word(name, text) && text[name.len()..].starts_with(b"#")
 }
 
-/// Reads `TRUE` as 1 and `FALSE` as 0, in any case.
+/// Reads `TRUE` as 1 and `FALSE` as 0, ignoring case.
 fn read_truth(text: &[u8]) -> Option<i128>
     ensures { result ≡ truth_read text.now }
 {
@@ -92,22 +92,22 @@ fn read_truth(text: &[u8]) -> Option<i128>
 }
 
 /// Reads a whole text as an optional sign and a number.
-fn read_signed(is_typed: bool, text: &[u8]) -> Option<i128>
-    ensures { result ≡ option_map capped_signed (signed_read is_typed text.now) }
+fn read_signed(typed: bool, text: &[u8]) -> Option<i128>
+    ensures { result ≡ option_map capped_signed (signed_read typed text.now) }
 {
     match text {
-        [b'-', rest @ ..] => with_sign(true, read_after_sign(is_typed, rest)),
-        [b'+', rest @ ..] => with_sign(false, read_after_sign(is_typed, rest)),
+        [b'-', rest @ ..] => with_sign(true, read_after_sign(typed, rest)),
+        [b'+', rest @ ..] => with_sign(false, read_after_sign(typed, rest)),
         _ => with_sign(false, read_number(text)),
     }
 }
 
 /// Reads what stands after a sign: after the name of a type only a decimal number.
-fn read_after_sign(is_typed: bool, text: &[u8]) -> Option<u128>
-    ensures value { result ≡ option_map capped (after_sign is_typed text.now) }
+fn read_after_sign(typed: bool, text: &[u8]) -> Option<u128>
+    ensures value { result ≡ option_map capped (after_sign typed text.now) }
     ensures bound { IfSome result (λ number. number ≤ 2 ^ 64) }
 {
-    if is_typed {
+    if typed {
         read_digits(10, text)
     } else {
         read_number(text)

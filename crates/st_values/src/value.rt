@@ -1,6 +1,6 @@
 //! Values of the elementary types.
 ghost use Rattle.std.specs.Prelude.{◌≡◌, ◌≢◌};
-ghost use Rattle.st_values.specs.Values.{is_value as is_in_range, residue, wrapped, IsValue};
+ghost use Rattle.st_values.specs.Values.{is_value, residue, wrapped, IsValue};
 
 use crate::elem::Elem;
 
@@ -15,13 +15,13 @@ pub struct Value {
 
 /// Tests whether the number lies in the range of the type (2.3.1, table 10).
 pub fn is_value(value: Value) -> bool
-    ensures { result ≡ is_in_range value }
+    ensures { result ≡ is_value value }
 {
-    let size = value.bits.unsigned_abs();
+    let magnitude = value.bits.unsigned_abs();
     if value.bits < 0 {
-        value.elem.is_signed() && size <= value.elem.limit()
+        value.elem.is_signed() && magnitude <= value.elem.limit()
     } else {
-        size < value.elem.limit()
+        magnitude < value.elem.limit()
     }
 }
 

@@ -1,10 +1,10 @@
-//! Words in any case.
+//! Words, ignoring case.
 ghost use Rattle.std.specs.Prelude.{◌≡◌, ◌≤◌, length, IsTrue};
-ghost use Rattle.st_values.specs.Words.{begins_with_word as has_word, is_word as same_word};
+ghost use Rattle.st_values.specs.Words.{begins_with_word, is_word};
 
-/// Tests whether a text begins with a word, in any case.
+/// Tests whether a text begins with a word, ignoring case.
 pub fn begins_with_word(word: &[u8], text: &[u8]) -> bool
-    ensures value { result ≡ has_word word.now text.now }
+    ensures value { result ≡ begins_with_word word.now text.now }
     ensures within { IsTrue result → length word.now ≤ length text.now }
 {
     if text.len() < word.len() {
@@ -13,9 +13,9 @@ pub fn begins_with_word(word: &[u8], text: &[u8]) -> bool
     is_word(word, &text[..word.len()])
 }
 
-/// Tests whether a text is a word, in any case.
+/// Tests whether a text is a word, ignoring case.
 pub fn is_word(word: &[u8], text: &[u8]) -> bool
-    ensures { result ≡ same_word word.now text.now }
+    ensures { result ≡ is_word word.now text.now }
 {
     text.eq_ignore_ascii_case(word)
 }

@@ -9,9 +9,9 @@ use Rattle.st_values.proofs.duration.read_signed_interval.Goals as goal
 
 pub returns-in-45 : goal.returns-in-45
 returns-in-45 c =
-    let size : c.read_interval.result ≡ option_map capped (interval_read (drop 1 c.args.text.now)) = simp take_rest at c.read_interval.ensures.value in
+    let magnitude : c.read_interval.result ≡ option_map capped (interval_read (drop 1 c.args.text.now)) = simp take_rest at c.read_interval.ensures.value in
     let minus : (slice_index c.args.text.now 0 == 45) ≡ true = grind (arith, common_steps) in
-    rw (signed_interval_read-capped c.args.text.now, minus) (c.with_sign.ensures ∙ ap (option_map negative) size)
+    rw (signed_interval_read-capped c.args.text.now, minus) (c.with_sign.ensures ∙ ap (option_map negative) magnitude)
 
 pub returns-in_default : goal.returns-in_default
 returns-in_default c = rw (signed_interval_read-capped c.args.text.now) (search rules)

@@ -10,15 +10,15 @@ pub returns-then-number-lt0-clause-laid : goal.returns-then-number-lt0-clause-la
 returns-then-number-lt0-clause-laid c =
     let fits : FitsSigned w128 c.args.number = search rules in
     let below : lt_z c.args.number (pos 0) ≡ true = simp to_z-of_z at c.if-number-lt0.true in
-    let size : c.unsigned_abs.result ≡ unsigned_abs c.args.number = simp to_z-of_z at c.unsigned_abs.ensures.value in
+    let magnitude : c.unsigned_abs.result ≡ unsigned_abs c.args.number = simp to_z-of_z at c.unsigned_abs.ensures.value in
     c.lay.ensures.laid ∙ ap (λ ds. 45 ∷ ds) (c.lay_digits-start.ensures.laid
-    ∙ ap (λ ds. ds ++ drop c.args.end c.args.buffer.now) (digits-ten c.unsigned_abs.result ∙ ap decimal size))
+    ∙ ap (λ ds. ds ++ drop c.args.end c.args.buffer.now) (digits-ten c.unsigned_abs.result ∙ ap decimal magnitude))
     ∙ ap (λ ds. ds ++ drop c.args.end c.args.buffer.now) (sym (signed_text-below c.args.number below))
 
 pub returns-else-number-lt0-clause-laid : goal.returns-else-number-lt0-clause-laid
 returns-else-number-lt0-clause-laid c =
     let fits : FitsSigned w128 c.args.number = search rules in
     let above : lt_z c.args.number (pos 0) ≡ false = simp to_z-of_z at c.if-number-lt0.false in
-    let size : c.unsigned_abs.result ≡ unsigned_abs c.args.number = simp to_z-of_z at c.unsigned_abs.ensures.value in
+    let magnitude : c.unsigned_abs.result ≡ unsigned_abs c.args.number = simp to_z-of_z at c.unsigned_abs.ensures.value in
     c.lay_digits-start.ensures.laid
-    ∙ ap (λ ds. ds ++ drop c.args.end c.args.buffer.now) (digits-ten c.unsigned_abs.result ∙ ap decimal size ∙ sym (signed_text-above c.args.number above))
+    ∙ ap (λ ds. ds ++ drop c.args.end c.args.buffer.now) (digits-ten c.unsigned_abs.result ∙ ap decimal magnitude ∙ sym (signed_text-above c.args.number above))
