@@ -6,7 +6,7 @@ use Rattle.st_tokens.specs.Scanning.{comment_at}
 use Rattle.st_tokens.specs.Text.{IsComment}
 use Rattle.st_tokens.proofs.Cases.{by_test, both, is_equal, some_parts}
 
--- behind `(*`, the first `*)` stands behind the body
+-- after `(*`, the first `*)` stands after the body
 pub record Ends (text body rest : List ℕ) : Type 0 where
   pub splits : text ≡ body ++ 42 ∷ 41 ∷ rest
   pub first : (other back : List ℕ) → text ≡ other ++ 42 ∷ 41 ∷ back → length body ≤ length other
@@ -33,7 +33,7 @@ one_more b c bs body rest h ends = record {
   least [] back e = let f : b ≡ 42 = cc in let g : c ≡ 41 = cc in absurd (no_mark b c f g h)
   least (x ∷ other) back e = let f : c ∷ bs ≡ other ++ 42 ∷ 41 ∷ back = cc in let le = ends.first other back f in omega arith
 
--- what is found behind a comment stands behind its first `*)`
+-- what is found after a comment stands after its first `*)`
 pub comment_found : (line line' : ℕ) (text rest : List ℕ) → comment_at line text ≡ Some (line', rest)
     → (body : List ℕ) × Ends text body rest × (line' ≡ line + line_ends body)
 comment_found line line' [] rest h = absurd (cc)
@@ -58,7 +58,7 @@ comment_none line (b ∷ c ∷ bs) h (x ∷ body) rest e = by_test (b == 42 && c
     (λ t. let h' = rw t at h in absurd (cc))
     (λ t. comment_none (line + line_end b) (c ∷ bs) (rw t at h) body rest (let f : c ∷ bs ≡ body ++ 42 ∷ 41 ∷ rest = cc in f))
 
--- lists of one length at the front of one list are one
+-- lists of one length at the start of one list are one
 pub append_same : (a b x y : List ℕ) → a ++ x ≡ b ++ y → length a ≡ length b → (a ≡ b) × (x ≡ y)
 append_same [] [] x y e l = (refl, e)
 append_same [] (c ∷ b) x y e l = absurd (omega arith)

@@ -29,9 +29,9 @@ IsOpener (K.Number n) b = is_ascii_digit b ≡ true
 IsOpener (K.Symbol x) b = Opens b
 IsOpener _ b = begins_word b ≡ true
 
--- a front with a byte that may begin its kind
+-- a prefix with a byte that may begin its kind
 abbrev pub Begins : List ℕ → Kind → Type 0
-Begins front kind = (b : ℕ) × (bs : List ℕ) × (front ≡ b ∷ bs) × IsOpener kind b
+Begins prefix kind = (b : ℕ) × (bs : List ℕ) × (prefix ≡ b ∷ bs) × IsOpener kind b
 
 -- what begins with a word begins as words do
 word_begins : (w more : List ℕ) → IsWord w → (b : ℕ) × (bs : List ℕ) × (w ++ more ≡ b ∷ bs) × (begins_word b ≡ true)
@@ -43,7 +43,7 @@ alone_begins : (w : List ℕ) → IsWord w → (b : ℕ) × (bs : List ℕ) × (
 alone_begins [] h = absurd h
 alone_begins (b ∷ bs) h = (b, bs, refl, h.0)
 
--- `T` and `TIME`, in any case, are words without unclean `_`
+-- `T` and `TIME`, ignoring case, are words without unclean `_`
 pub duration_name : (w : List ℕ) → IsDurationWord w → is_name w ≡ true
 duration_name w (inl h) = same_name w (codes "T") h refl
 duration_name w (inr h) = same_name w (codes "TIME") h refl
@@ -54,14 +54,14 @@ symbol_begins x (inl d) = (d.first, d.second ∷ [], d.text, d.opens)
 symbol_begins x (inr d) = (d.byte, [], d.text, d.opens)
 
 -- each form begins as its kind may
-pub form_begins : (front : List ℕ) (kind : Kind) → HasForm front kind → Begins front kind
-form_begins front kind (word {w = w} h n) = alone_begins w h
-form_begins front kind (keyword {w = w} {x = x} h) = alone_begins w (name_word w (keyword_name w x h))
-form_begins front kind (type_name {w = w} {elem = elem} h) = alone_begins w (name_word w (elem_name w elem h))
-form_begins front kind (number {digits = digits} n h) = first_digit digits n h
-form_begins front kind (typed name literal elem n h k r) = word_begins name (35 ∷ literal) (name_word name (elem_name name elem h))
-form_begins front kind (duration name literal ms h r) = word_begins name (35 ∷ literal) (name_word name (duration_name name h))
-form_begins front kind (symbol x) = symbol_begins x (symbol_cases x)
+pub form_begins : (prefix : List ℕ) (kind : Kind) → HasForm prefix kind → Begins prefix kind
+form_begins prefix kind (word {w = w} h n) = alone_begins w h
+form_begins prefix kind (keyword {w = w} {x = x} h) = alone_begins w (name_word w (keyword_name w x h))
+form_begins prefix kind (type_name {w = w} {elem = elem} h) = alone_begins w (name_word w (elem_name w elem h))
+form_begins prefix kind (number {digits = digits} n h) = first_digit digits n h
+form_begins prefix kind (typed name literal elem n h k r) = word_begins name (35 ∷ literal) (name_word name (elem_name name elem h))
+form_begins prefix kind (duration name literal ms h r) = word_begins name (35 ∷ literal) (name_word name (duration_name name h))
+form_begins prefix kind (symbol x) = symbol_begins x (symbol_cases x)
 
 -- a byte with which some token begins
 abbrev pub begins_token : ℕ → Bool
@@ -78,68 +78,68 @@ opener_token (K.Typed v) b h = rw (begins_no_digit b h, h) refl
 opener_token (K.Duration ms) b h = rw (begins_no_digit b h, h) refl
 
 -- each form has a first byte, with which tokens begin
-pub form_first : (front : List ℕ) (kind : Kind) → HasForm front kind → (b : ℕ) × (bs : List ℕ) × (front ≡ b ∷ bs) × (begins_token b ≡ true)
-form_first front kind form = let w = form_begins front kind form in (w.0, w.1, w.2, opener_token kind w.0 w.3)
+pub form_first : (prefix : List ℕ) (kind : Kind) → HasForm prefix kind → (b : ℕ) × (bs : List ℕ) × (prefix ≡ b ∷ bs) × (begins_token b ≡ true)
+form_first prefix kind form = let w = form_begins prefix kind form in (w.0, w.1, w.2, opener_token kind w.0 w.3)
 
--- a form at the front of a text opens it
-pub opens_text : (b : ℕ) (bs front back : List ℕ) (kind : Kind) → b ∷ bs ≡ front ++ back → HasForm front kind → IsOpener kind b
-opens_text b bs front back kind e form =
-    let w = form_begins front kind form in
+-- a form at the start of a text opens it
+pub opens_text : (b : ℕ) (bs prefix back : List ℕ) (kind : Kind) → b ∷ bs ≡ prefix ++ back → HasForm prefix kind → IsOpener kind b
+opens_text b bs prefix back kind e form =
+    let w = form_begins prefix kind form in
     let f : b ∷ bs ≡ w.0 ∷ (w.1 ++ back) = e ∙ ap (λ (zs : List ℕ). zs ++ back) w.2 in
     let same : b ≡ w.0 = cc in subst (λ x. IsOpener kind x) (sym same) w.3
 
--- ---- which forms there are behind which first byte
+-- ---- which forms there are after which first byte
 
 -- no byte is a digit and begins a word
 no_digit_word : {P : Type 0} (b : ℕ) → is_ascii_digit b ≡ true → begins_word b ≡ true → P
 no_digit_word b d w = not_both d (begins_no_digit b w)
 
--- behind a digit only a number has a form
-pub only_number : (b : ℕ) (front : List ℕ) (kind : Kind) → HasForm front kind → IsOpener kind b → is_ascii_digit b ≡ true
-    → (n : ℕ) × (number_read front ≡ Some n) × (kind ≡ K.Number (capped n))
-only_number b front kind (word h n) o d = no_digit_word b d o
-only_number b front kind (keyword h) o d = no_digit_word b d o
-only_number b front kind (type_name h) o d = no_digit_word b d o
-only_number b front kind (number n h) o d = (n, h, refl)
-only_number b front kind (typed name literal elem n h k r) o d = no_digit_word b d o
-only_number b front kind (duration name literal ms h r) o d = no_digit_word b d o
-only_number b front kind (symbol x) o d = not_both d o.no_digit
+-- after a digit only a number has a form
+pub only_number : (b : ℕ) (prefix : List ℕ) (kind : Kind) → HasForm prefix kind → IsOpener kind b → is_ascii_digit b ≡ true
+    → (n : ℕ) × (number_read prefix ≡ Some n) × (kind ≡ K.Number (capped n))
+only_number b prefix kind (word h n) o d = no_digit_word b d o
+only_number b prefix kind (keyword h) o d = no_digit_word b d o
+only_number b prefix kind (type_name h) o d = no_digit_word b d o
+only_number b prefix kind (number n h) o d = (n, h, refl)
+only_number b prefix kind (typed name literal elem n h k r) o d = no_digit_word b d o
+only_number b prefix kind (duration name literal ms h r) o d = no_digit_word b d o
+only_number b prefix kind (symbol x) o d = not_both d o.no_digit
 
--- behind what is no digit and begins no word only a symbol has a form
-pub only_symbol : (b : ℕ) (front : List ℕ) (kind : Kind) → HasForm front kind → IsOpener kind b → is_ascii_digit b ≡ false → begins_word b ≡ false
-    → (x : Symbol) × (front ≡ symbol_text x) × (kind ≡ K.Symbol x)
-only_symbol b front kind (word h n) o d w = not_both o w
-only_symbol b front kind (keyword h) o d w = not_both o w
-only_symbol b front kind (type_name h) o d w = not_both o w
-only_symbol b front kind (number n h) o d w = not_both o d
-only_symbol b front kind (typed name literal elem n h k r) o d w = not_both o w
-only_symbol b front kind (duration name literal ms h r) o d w = not_both o w
-only_symbol b front kind (symbol x) o d w = (x, refl, refl)
+-- after what is no digit and begins no word only a symbol has a form
+pub only_symbol : (b : ℕ) (prefix : List ℕ) (kind : Kind) → HasForm prefix kind → IsOpener kind b → is_ascii_digit b ≡ false → begins_word b ≡ false
+    → (x : Symbol) × (prefix ≡ symbol_text x) × (kind ≡ K.Symbol x)
+only_symbol b prefix kind (word h n) o d w = not_both o w
+only_symbol b prefix kind (keyword h) o d w = not_both o w
+only_symbol b prefix kind (type_name h) o d w = not_both o w
+only_symbol b prefix kind (number n h) o d w = not_both o d
+only_symbol b prefix kind (typed name literal elem n h k r) o d w = not_both o w
+only_symbol b prefix kind (duration name literal ms h r) o d w = not_both o w
+only_symbol b prefix kind (symbol x) o d w = (x, refl, refl)
 
 -- a word, a reserved one or the name of a type
-pub record Plain (front : List ℕ) (kind : Kind) : Type 0 where
-  pub is_word : IsWord front
-  pub kind_is : word_kind front ≡ kind
-  pub clean_where : (rest : List ℕ) → (IsRefused kind rest → ⊥) → is_clean front ≡ true
+pub record Plain (prefix : List ℕ) (kind : Kind) : Type 0 where
+  pub is_word : IsWord prefix
+  pub kind_is : word_kind prefix ≡ kind
+  pub clean_where : (rest : List ℕ) → (IsRefused kind rest → ⊥) → is_clean prefix ≡ true
 
 -- a typed literal
-pub record Literal (front : List ℕ) (kind : Kind) : Type 0 where
+pub record Literal (prefix : List ℕ) (kind : Kind) : Type 0 where
   pub name : List ℕ
   pub literal : List ℕ
   pub elem : Elem
   pub number : ℤ
-  pub splits : front ≡ name ++ 35 ∷ literal
+  pub splits : prefix ≡ name ++ 35 ∷ literal
   pub named : IsSame name (name_of elem)
   pub no_time : elem ≡ Time → ⊥
   pub reads : literal_read (class_of elem) true literal ≡ Some number
   pub kind_is : kind ≡ K.Typed (value elem (capped_signed number))
 
 -- a duration
-pub record Lasting (front : List ℕ) (kind : Kind) : Type 0 where
+pub record Lasting (prefix : List ℕ) (kind : Kind) : Type 0 where
   pub name : List ℕ
   pub literal : List ℕ
   pub number : ℤ
-  pub splits : front ≡ name ++ 35 ∷ literal
+  pub splits : prefix ≡ name ++ 35 ∷ literal
   pub named : IsDurationWord name
   pub reads : signed_interval_read literal ≡ Some number
   pub kind_is : kind ≡ K.Duration (time_of number)
@@ -149,27 +149,27 @@ kind_of : (w : List ℕ) (k : Option Keyword) (e : Option Elem) → keyword_of w
 unfolding word_kind
 kind_of w k e h j = ap (λ (x : Option Keyword). kind_by w x (elem_of w)) h ∙ ap (λ (x : Option Elem). kind_by w k x) j
 
--- behind what begins a word only words, typed literals and durations have a form
-pub only_word : (b : ℕ) (front : List ℕ) (kind : Kind) → HasForm front kind → IsOpener kind b → begins_word b ≡ true
-    → Plain front kind ⊎ (Literal front kind ⊎ Lasting front kind)
-only_word b front kind (word {w = w} h n) o t = inl (record {
+-- after what begins a word only words, typed literals and durations have a form
+pub only_word : (b : ℕ) (prefix : List ℕ) (kind : Kind) → HasForm prefix kind → IsOpener kind b → begins_word b ≡ true
+    → Plain prefix kind ⊎ (Literal prefix kind ⊎ Lasting prefix kind)
+only_word b prefix kind (word {w = w} h n) o t = inl (record {
   is_word = h;
   kind_is = kind_of w None None (not_keyword w n) (not_elem w n);
   clean_where = λ rest allowed. clean w (λ u. allowed (inl u));
 })
-only_word b front kind (keyword {w = w} {x = x} h) o t = inl (record {
+only_word b prefix kind (keyword {w = w} {x = x} h) o t = inl (record {
   is_word = name_word w (keyword_name w x h);
   kind_is = kind_of w (Some x) (elem_of w) (keyword_in w x h) refl;
   clean_where = λ rest allowed. name_clean w (keyword_name w x h);
 })
-only_word b front kind (type_name {w = w} {elem = elem} h) o t = inl (record {
+only_word b prefix kind (type_name {w = w} {elem = elem} h) o t = inl (record {
   is_word = name_word w (elem_name w elem h);
   kind_is = kind_of w None (Some elem) (elem_no_keyword w elem h) (elem_in w elem h);
   clean_where = λ rest allowed. name_clean w (elem_name w elem h);
 })
-only_word b front kind (number n h) o t = no_digit_word b o t
-only_word b front kind (typed name literal elem n h k r) o t =
+only_word b prefix kind (number n h) o t = no_digit_word b o t
+only_word b prefix kind (typed name literal elem n h k r) o t =
     inr (inl (record { name = name; literal = literal; elem = elem; number = n; splits = refl; named = h; no_time = k; reads = r; kind_is = refl }))
-only_word b front kind (duration name literal ms h r) o t =
+only_word b prefix kind (duration name literal ms h r) o t =
     inr (inr (record { name = name; literal = literal; number = ms; splits = refl; named = h; reads = r; kind_is = refl }))
-only_word b front kind (symbol x) o t = not_both t o.no_word
+only_word b prefix kind (symbol x) o t = not_both t o.no_word

@@ -1,4 +1,4 @@
--- Durations at the front of a text: what is read there is the longest front that is one.
+-- Durations at the start of a text: what is read there is the longest prefix that is one.
 use Rattle.std.proofs.Common.{◌≡◌, ℕ, suc, ◌+◌, ◌-◌, ◌*◌, ◌<◌, ◌≤◌, List, [], ◌∷◌, ◌++◌, length, get_or, take, drop, refl, sym, ap, ◌∙◌, Bool, true, false, arith, ◌⊎◌, inl, inr, subst, append_assoc, append-nil, length-append, one-add, nat_lt}
 use Rattle.std.specs.Prelude.{Option, Some, None, option_map, codes, ◌==◌, ◌&&◌, not, slice_index, is_some, position, take_while}
 use Rattle.std.specs.Char.{is_digit, is_ascii_digit, is_ascii_alphabetic}
@@ -12,9 +12,9 @@ use Rattle.st_values.specs.Durations.{letters_of, milliseconds_of, units, part_n
 use Rattle.st_values.specs.Numbers.{are_digits, capped, digits_read}
 use Rattle.st_values.specs.Words.{after, begins_with, is_word}
 use Rattle.st_tokens.specs.Characters.{is_word_byte, AreWordBytes, BeginsWord}
-use Rattle.st_tokens.specs.Scanning.{run, behind, ends_in_digit, has_fraction, fraction_of, interval_front, interval_behind, interval_at}
+use Rattle.st_tokens.specs.Scanning.{run, after_run, ends_in_digit, has_fraction, fraction_of, interval_prefix, interval_rest, interval_at}
 use Rattle.st_tokens.proofs.Numbers.{Found, begins, digits_test, read_words, decimal_digit}
-use Rattle.st_tokens.proofs.Runs.{run_behind, behind_not, run_is, words_in_run, words_append}
+use Rattle.st_tokens.proofs.Runs.{run_splits, after_run_not, run_is, words_in_run, words_append}
 use Rattle.st_tokens.proofs.Cases.{below, by_test, both, is_equal, not_both, some_parts}
 
 -- a text that ends in such a byte
@@ -95,7 +95,7 @@ decimal_ends (c ∷ ds) n h = digits_end false c ds (digits_test 10 (c ∷ ds) n
 
 -- ---- what parts look like
 
--- a text is what is taken from its front, and the rest
+-- a text is what is taken from its prefix, and the rest
 taken : (p : ℕ → Bool) (xs : List ℕ) → xs ≡ take_while p xs ++ drop (length (take_while p xs)) xs
 taken p [] = refl
 taken p (x ∷ xs) = by_test (p x)
@@ -112,19 +112,19 @@ part_splits : (text : List ℕ) → text ≡ part_number text ++ (part_letters t
 part_splits text = taken (λ c. not (is_ascii_alphabetic c)) text
     ∙ ap (λ (zs : List ℕ). part_number text ++ zs) (taken is_ascii_alphabetic (after (part_number text) text))
 
--- what reads as an interval has bytes of a word alone and ends in a letter, or has one `.` behind a digit
+-- what reads as an interval has bytes of a word alone and ends in a letter, or has one `.` after a digit
 pub record Whole (text : List ℕ) : Type 0 where
   pub words : AreWordBytes text
   pub ends : Ends is_ascii_alphabetic text
 
--- one `.` stands behind a digit
+-- one `.` stands after a digit
 pub record Split (text : List ℕ) : Type 0 where
-  pub front : List ℕ
+  pub prefix : List ℕ
   pub back : List ℕ
-  pub splits : text ≡ front ++ 46 ∷ back
-  pub front_words : AreWordBytes front
+  pub splits : text ≡ prefix ++ 46 ∷ back
+  pub prefix_words : AreWordBytes prefix
   pub back_words : AreWordBytes back
-  pub ends : Ends is_ascii_digit front
+  pub ends : Ends is_ascii_digit prefix
 
 -- each unit has letters
 letters_some : (unit : TimeUnit) (w : List ℕ) → is_word (letters_of unit) w ≡ true → 0 < length w
@@ -158,7 +158,7 @@ fraction_digits unit digits n h = by_test (list_all (λ c. is_digit c 10) digits
     (λ u. let h' : ◌≡◌ {A = Option ℕ} None (Some n) = rw (u, t) at h in absurd (cc))
     (λ u. let h' : ◌≡◌ {A = Option ℕ} None (Some n) = rw u at h in absurd (cc)))
 
--- a number with a `.` is what stands before and behind the first
+-- a number with a `.` is what stands before and after the first
 point_splits : (number : List ℕ) → is_some (position is_point number) ≡ true → number ≡ before_first is_point number ++ 46 ∷ after_first is_point number
 point_splits number h = by_test (nat_lt (position_or_len is_point number) (length number))
     (λ t. let lt : position_or_len is_point number < length number = below _ _ t in
@@ -167,18 +167,18 @@ point_splits number h = by_test (nat_lt (position_or_len is_point number) (lengt
     (λ t. let h' : false ≡ true = rw t at h in absurd (cc))
 
 -- a prefix of bytes of a word before it
-grown : (front text rest : List ℕ) → text ≡ front ++ rest → AreWordBytes front → Whole rest ⊎ Split rest → Whole text ⊎ Split text
-grown front text rest e words (inl w) = inl (record {
-  words = subst AreWordBytes (sym e) (words_append front rest words w.words);
-  ends = subst (Ends is_ascii_alphabetic) (sym e) (ends_more is_ascii_alphabetic front rest w.ends);
+grown : (prefix text rest : List ℕ) → text ≡ prefix ++ rest → AreWordBytes prefix → Whole rest ⊎ Split rest → Whole text ⊎ Split text
+grown prefix text rest e words (inl w) = inl (record {
+  words = subst AreWordBytes (sym e) (words_append prefix rest words w.words);
+  ends = subst (Ends is_ascii_alphabetic) (sym e) (ends_more is_ascii_alphabetic prefix rest w.ends);
 })
-grown front text rest e words (inr s) = inr (record {
-  front = front ++ s.front;
+grown prefix text rest e words (inr s) = inr (record {
+  prefix = prefix ++ s.prefix;
   back = s.back;
-  splits = e ∙ ap (λ (zs : List ℕ). front ++ zs) s.splits ∙ sym (append_assoc front s.front (46 ∷ s.back));
-  front_words = words_append front s.front words s.front_words;
+  splits = e ∙ ap (λ (zs : List ℕ). prefix ++ zs) s.splits ∙ sym (append_assoc prefix s.prefix (46 ∷ s.back));
+  prefix_words = words_append prefix s.prefix words s.prefix_words;
   back_words = s.back_words;
-  ends = ends_more is_ascii_digit front s.front s.ends;
+  ends = ends_more is_ascii_digit prefix s.prefix s.ends;
 })
 
 -- the last part
@@ -187,10 +187,10 @@ last_shape : (unit : TimeUnit) (number letters : List ℕ) (n : ℕ) → last_am
 last_shape unit number letters n h l some = by_test (is_some (position is_point number))
     (λ t. let s = sum_parts _ _ n (rw t at h) in let d = amount_digits unit (before_first is_point number) s.0 s.2 in
     inr (record {
-      front = before_first is_point number;
+      prefix = before_first is_point number;
       back = after_first is_point number ++ letters;
       splits = ap (λ (zs : List ℕ). zs ++ letters) (point_splits number t) ∙ append_assoc (before_first is_point number) (46 ∷ after_first is_point number) letters;
-      front_words = read_words 10 (before_first is_point number) d.0 (omega arith) d.1;
+      prefix_words = read_words 10 (before_first is_point number) d.0 (omega arith) d.1;
       back_words = words_append (after_first is_point number) letters (fraction_digits unit (after_first is_point number) s.1 s.3) (letters_words letters l);
       ends = decimal_ends (before_first is_point number) d.0 d.1;
     }))
@@ -226,51 +226,51 @@ parts_shape (unit ∷ smaller) text n h = by_test (is_word (letters_of unit) (pa
     (letters_words (part_letters text) (taken_pass is_ascii_alphabetic (after (part_number text) text))) in
     let f : text ≡ (part_number text ++ part_letters text) ++ part_rest text = part_splits text ∙ sym (append_assoc (part_number text) (part_letters text) (part_rest text)) in
     grown (part_number text ++ part_letters text) text (part_rest text) f words
-    (behind_line (underscore_splits (part_rest text)) (parts_shape smaller (without_underscore (part_rest text)) s.1 s.3))))
+    (after_underscore (underscore_splits (part_rest text)) (parts_shape smaller (without_underscore (part_rest text)) s.1 s.3))))
     (λ t. parts_shape smaller text n (rw t at h)) where
       nothing : (xs : List ℕ) → (length xs == 0) ≡ true → xs ≡ []
       nothing [] g = refl
       nothing (x ∷ xs) g = let e = is_equal (length (x ∷ xs)) 0 g in absurd (omega arith)
 
-      behind_line : (part_rest text ≡ without_underscore (part_rest text)) ⊎ (part_rest text ≡ 95 ∷ without_underscore (part_rest text))
+      after_underscore : (part_rest text ≡ without_underscore (part_rest text)) ⊎ (part_rest text ≡ 95 ∷ without_underscore (part_rest text))
           → Whole (without_underscore (part_rest text)) ⊎ Split (without_underscore (part_rest text)) → Whole (part_rest text) ⊎ Split (part_rest text)
-      behind_line (inl e) s = subst (λ zs. Whole zs ⊎ Split zs) (sym e) s
-      behind_line (inr e) s = grown (95 ∷ []) (part_rest text) (without_underscore (part_rest text)) e (refl, tt) s
+      after_underscore (inl e) s = subst (λ zs. Whole zs ⊎ Split zs) (sym e) s
+      after_underscore (inr e) s = grown (95 ∷ []) (part_rest text) (without_underscore (part_rest text)) e (refl, tt) s
 
 -- what reads as an interval has one of the two shapes
 pub interval_shape : (text : List ℕ) (n : ℕ) → interval_read text ≡ Some n → Whole text ⊎ Split text
 unfolding interval_read
 interval_shape text n h = parts_shape units text n h
 
--- ---- at the front of a text
+-- ---- at the start of a text
 
--- the longest front that reads as an interval
+-- the longest prefix that reads as an interval
 abbrev pub IntervalFound : List ℕ → List ℕ → ℕ → Type 0
 IntervalFound text rest v = Found interval_read capped text rest v
 
--- where a fraction follows, a `.` stands behind the run
-fraction_test : (text : List ℕ) → has_fraction text ≡ true → behind text ≡ 46 ∷ fraction_of text
-fraction_test text h = begins (codes ".") (behind text) (both (ends_in_digit (run text)) (begins_with (codes ".") (behind text)) h).1
+-- where a fraction follows, a `.` stands after the run
+fraction_test : (text : List ℕ) → has_fraction text ≡ true → after_run text ≡ 46 ∷ fraction_of text
+fraction_test text h = begins (codes ".") (after_run text) (both (ends_in_digit (run text)) (begins_with (codes ".") (after_run text)) h).1
 
--- a front with a `.` has it behind the run
-split_run : (text front back rest : List ℕ) → text ≡ (front ++ 46 ∷ back) ++ rest → AreWordBytes front → (run text ≡ front) × (behind text ≡ 46 ∷ (back ++ rest))
-split_run text front back rest e words = run_is text front (46 ∷ (back ++ rest)) (e ∙ append_assoc front (46 ∷ back) rest) words (λ (k : is_word_byte 46 ≡ true). cc)
+-- a prefix with a `.` has it after the run
+split_run : (text prefix back rest : List ℕ) → text ≡ (prefix ++ 46 ∷ back) ++ rest → AreWordBytes prefix → (run text ≡ prefix) × (after_run text ≡ 46 ∷ (back ++ rest))
+split_run text prefix back rest e words = run_is text prefix (46 ∷ (back ++ rest)) (e ∙ append_assoc prefix (46 ∷ back) rest) words (λ (k : is_word_byte 46 ≡ true). cc)
 
--- a `.` behind a run that ends in a digit begins a fraction
-split_test : (text : List ℕ) (s : Ends is_ascii_digit (run text)) (more : List ℕ) → behind text ≡ 46 ∷ more → has_fraction text ≡ true
+-- a `.` after a run that ends in a digit begins a fraction
+split_test : (text : List ℕ) (s : Ends is_ascii_digit (run text)) (more : List ℕ) → after_run text ≡ 46 ∷ more → has_fraction text ≡ true
 split_test text s more e = rw (digit_ends (run text) s) (ap (λ (zs : List ℕ). begins_with (codes ".") zs) e)
 
 -- what was mapped
-option_parts : (text rest : List ℕ) (v : ℕ) (o : Option ℕ) → option_map {T = ℕ} {U = ℕ × List ℕ} (λ n. (capped n, interval_behind text)) o ≡ Some (v, rest)
-    → (n : ℕ) × (o ≡ Some n) × (v ≡ capped n) × (rest ≡ interval_behind text)
+option_parts : (text rest : List ℕ) (v : ℕ) (o : Option ℕ) → option_map {T = ℕ} {U = ℕ × List ℕ} (λ n. (capped n, interval_rest text)) o ≡ Some (v, rest)
+    → (n : ℕ) × (o ≡ Some n) × (v ≡ capped n) × (rest ≡ interval_rest text)
 option_parts text rest v None h = absurd (cc)
 option_parts text rest v (Some n) h = let p = some_parts h in (n, refl, sym p.0, sym p.1)
 
 -- what reading an interval gave
 interval_parts : (text rest : List ℕ) (v : ℕ) → interval_at text ≡ Some (v, rest)
-    → (n : ℕ) × (interval_read (interval_front text) ≡ Some n) × (v ≡ capped n) × (rest ≡ interval_behind text)
+    → (n : ℕ) × (interval_read (interval_prefix text) ≡ Some n) × (v ≡ capped n) × (rest ≡ interval_rest text)
 unfolding interval_at
-interval_parts text rest v h = option_parts text rest v (interval_read (interval_front text)) h
+interval_parts text rest v h = option_parts text rest v (interval_read (interval_prefix text)) h
 
 -- what is read is the longest interval
 pub interval_found : (text rest : List ℕ) (v : ℕ) → interval_at text ≡ Some (v, rest) → IntervalFound text rest v
@@ -278,15 +278,15 @@ interval_found text rest v h = by_test (has_fraction text)
     (λ t. let p = interval_parts text rest v h in with_fraction t p.0 (rw t at p.1) p.2 (rw t at p.3))
     (λ t. let p = interval_parts text rest v h in without t p.0 (rw t at p.1) p.2 (rw t at p.3)) where
       with_fraction : has_fraction text ≡ true → (n : ℕ) → interval_read (run text ++ 46 ∷ run (fraction_of text)) ≡ Some n → v ≡ capped n
-          → rest ≡ behind (fraction_of text) → IntervalFound text rest v
+          → rest ≡ after_run (fraction_of text) → IntervalFound text rest v
       with_fraction t n r e f = record {
-        front = run text ++ 46 ∷ run (fraction_of text);
+        prefix = run text ++ 46 ∷ run (fraction_of text);
         value = n;
         same = e;
-        splits = run_behind text ∙ ap (λ (zs : List ℕ). run text ++ zs) (fraction_test text t ∙ ap (λ (zs : List ℕ). 46 ∷ zs) (run_behind (fraction_of text) ∙ ap (λ (zs : List ℕ). run (fraction_of text) ++ zs) (sym f)))
+        splits = run_splits text ∙ ap (λ (zs : List ℕ). run text ++ zs) (fraction_test text t ∙ ap (λ (zs : List ℕ). 46 ∷ zs) (run_splits (fraction_of text) ∙ ap (λ (zs : List ℕ). run (fraction_of text) ++ zs) (sym f)))
             ∙ sym (append_assoc (run text) (46 ∷ run (fraction_of text)) rest);
         reads = r;
-        ends = subst (λ zs. BeginsWord zs → ⊥) (sym f) (behind_not (fraction_of text));
+        ends = subst (λ zs. BeginsWord zs → ⊥) (sym f) (after_run_not (fraction_of text));
         covers = let l = length-append (run text) (46 ∷ run (fraction_of text)) in omega arith;
         longest = λ other back w g k. at other back g (interval_shape other w k);
       } where
@@ -294,54 +294,54 @@ interval_found text rest v h = by_test (has_fraction text)
         at other back g (inl w) =
             let le = words_in_run text other back g w.words in let l = length-append (run text) (46 ∷ run (fraction_of text)) in omega arith
         at other back g (inr s) =
-            let u = split_run text s.front s.back back (g ∙ ap (λ (zs : List ℕ). zs ++ back) s.splits) s.front_words in
+            let u = split_run text s.prefix s.back back (g ∙ ap (λ (zs : List ℕ). zs ++ back) s.splits) s.prefix_words in
             let tail : fraction_of text ≡ s.back ++ back = ap (λ (zs : List ℕ). after (codes ".") zs) u.1 in
             let le = words_in_run (fraction_of text) s.back back tail s.back_words in
-            let l = length-append (run text) (46 ∷ run (fraction_of text)) in let m = length-append s.front (46 ∷ s.back) in
-            let same = ap length s.splits in let front = ap length u.0 in omega arith
+            let l = length-append (run text) (46 ∷ run (fraction_of text)) in let m = length-append s.prefix (46 ∷ s.back) in
+            let same = ap length s.splits in let prefix = ap length u.0 in omega arith
 
-      without : has_fraction text ≡ false → (n : ℕ) → interval_read (run text) ≡ Some n → v ≡ capped n → rest ≡ behind text → IntervalFound text rest v
+      without : has_fraction text ≡ false → (n : ℕ) → interval_read (run text) ≡ Some n → v ≡ capped n → rest ≡ after_run text → IntervalFound text rest v
       without t n r e f = record {
-        front = run text;
+        prefix = run text;
         value = n;
         same = e;
-        splits = run_behind text ∙ ap (λ (zs : List ℕ). run text ++ zs) (sym f);
+        splits = run_splits text ∙ ap (λ (zs : List ℕ). run text ++ zs) (sym f);
         reads = r;
-        ends = subst (λ zs. BeginsWord zs → ⊥) (sym f) (behind_not text);
+        ends = subst (λ zs. BeginsWord zs → ⊥) (sym f) (after_run_not text);
         covers = omega arith;
         longest = λ other back w g k. at other back g (interval_shape other w k);
       } where
         at : (other back : List ℕ) → text ≡ other ++ back → Whole other ⊎ Split other → length other ≤ length (run text)
         at other back g (inl w) = words_in_run text other back g w.words
         at other back g (inr s) =
-            let u = split_run text s.front s.back back (g ∙ ap (λ (zs : List ℕ). zs ++ back) s.splits) s.front_words in
+            let u = split_run text s.prefix s.back back (g ∙ ap (λ (zs : List ℕ). zs ++ back) s.splits) s.prefix_words in
             not_both (split_test text (subst (Ends is_ascii_digit) (sym u.0) s.ends) (s.back ++ back) u.1) t
 
 -- an interval that no byte of a word follows is read
-pub interval_only : (text front rest : List ℕ) (n : ℕ) → text ≡ front ++ rest → interval_read front ≡ Some n → (BeginsWord rest → ⊥) → interval_at text ≡ Some (capped n, rest)
+pub interval_only : (text prefix rest : List ℕ) (n : ℕ) → text ≡ prefix ++ rest → interval_read prefix ≡ Some n → (BeginsWord rest → ⊥) → interval_at text ≡ Some (capped n, rest)
 unfolding interval_at
-interval_only text front rest n e h ends = at (interval_shape front n h) where
-  made : interval_front text ≡ front → interval_behind text ≡ rest → option_map {T = ℕ} {U = ℕ × List ℕ} (λ m. (capped m, interval_behind text)) (interval_read (interval_front text)) ≡ Some (capped n, rest)
-  made f g = ap (λ (zs : List ℕ). option_map {T = ℕ} {U = ℕ × List ℕ} (λ m. (capped m, zs)) (interval_read (interval_front text))) g
+interval_only text prefix rest n e h ends = at (interval_shape prefix n h) where
+  made : interval_prefix text ≡ prefix → interval_rest text ≡ rest → option_map {T = ℕ} {U = ℕ × List ℕ} (λ m. (capped m, interval_rest text)) (interval_read (interval_prefix text)) ≡ Some (capped n, rest)
+  made f g = ap (λ (zs : List ℕ). option_map {T = ℕ} {U = ℕ × List ℕ} (λ m. (capped m, zs)) (interval_read (interval_prefix text))) g
       ∙ ap (λ (o : Option ℕ). option_map {T = ℕ} {U = ℕ × List ℕ} (λ m. (capped m, rest)) o) (ap interval_read f ∙ h)
 
-  at : Whole front ⊎ Split front → option_map {T = ℕ} {U = ℕ × List ℕ} (λ m. (capped m, interval_behind text)) (interval_read (interval_front text)) ≡ Some (capped n, rest)
+  at : Whole prefix ⊎ Split prefix → option_map {T = ℕ} {U = ℕ × List ℕ} (λ m. (capped m, interval_rest text)) (interval_read (interval_prefix text)) ≡ Some (capped n, rest)
   at (inl w) =
-      let u = run_is text front rest e w.words ends in
-      let t : has_fraction text ≡ false = rw (u.0, letter_ends front w.ends) refl in
+      let u = run_is text prefix rest e w.words ends in
+      let t : has_fraction text ≡ false = rw (u.0, letter_ends prefix w.ends) refl in
       made (rw t u.0) (rw t u.1)
   at (inr s) =
-      let u = split_run text s.front s.back rest (e ∙ ap (λ (zs : List ℕ). zs ++ rest) s.splits) s.front_words in
+      let u = split_run text s.prefix s.back rest (e ∙ ap (λ (zs : List ℕ). zs ++ rest) s.splits) s.prefix_words in
       let t = split_test text (subst (Ends is_ascii_digit) (sym u.0) s.ends) (s.back ++ rest) u.1 in
       let tail : fraction_of text ≡ s.back ++ rest = ap (λ (zs : List ℕ). after (codes ".") zs) u.1 in
       let v = run_is (fraction_of text) s.back rest tail s.back_words ends in
       made (rw t (ap (λ (zs : List ℕ). run text ++ 46 ∷ zs) v.0 ∙ ap (λ (zs : List ℕ). zs ++ 46 ∷ s.back) u.0 ∙ sym s.splits)) (rw t v.1)
 
--- a text split behind its run, a `.` and as many bytes more
-pub split_at_fraction : (text fraction front back : List ℕ) (n : ℕ) → has_fraction text ≡ true → fraction ≡ fraction_of text → take n fraction ≡ front → drop n fraction ≡ back → n ≤ length fraction
-    → (take (length (run text) + 1 + n) text ≡ run text ++ 46 ∷ front) × (drop (length (run text) + 1 + n) text ≡ back) × (length (run text) + 1 + n ≤ length text)
-split_at_fraction text fraction front back n h e f g le =
-    let split : text ≡ run text ++ 46 ∷ fraction = run_behind text ∙ ap (λ (zs : List ℕ). run text ++ zs) (fraction_test text h ∙ ap (λ (zs : List ℕ). 46 ∷ zs) (sym e)) in
+-- a text split after its run, a `.` and as many bytes more
+pub split_at_fraction : (text fraction prefix back : List ℕ) (n : ℕ) → has_fraction text ≡ true → fraction ≡ fraction_of text → take n fraction ≡ prefix → drop n fraction ≡ back → n ≤ length fraction
+    → (take (length (run text) + 1 + n) text ≡ run text ++ 46 ∷ prefix) × (drop (length (run text) + 1 + n) text ≡ back) × (length (run text) + 1 + n ≤ length text)
+split_at_fraction text fraction prefix back n h e f g le =
+    let split : text ≡ run text ++ 46 ∷ fraction = run_splits text ∙ ap (λ (zs : List ℕ). run text ++ zs) (fraction_test text h ∙ ap (λ (zs : List ℕ). 46 ∷ zs) (sym e)) in
     let sum : length (run text) + 1 + n ≡ length (run text) + suc n = omega arith in
     let size : length text ≡ length (run text) + suc (length fraction) = ap length split ∙ length-append (run text) (46 ∷ fraction) in (
       ap (λ (m : ℕ). take m text) sum ∙ ap (λ (zs : List ℕ). take (length (run text) + suc n) zs) split

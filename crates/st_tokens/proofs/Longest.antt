@@ -1,4 +1,4 @@
--- The token that is read at the front of a text is its longest front with a form, and no other is.
+-- The token that is read at the start of a text is its longest prefix with a form, and no other is.
 use Rattle.std.proofs.Common.{◌≡◌, ℕ, suc, ◌+◌, ◌<◌, ◌≤◌, List, [], ◌∷◌, ◌++◌, length, refl, sym, ap, ◌∙◌, true, false, subst, ◌⊎◌, inl, inr, arith, append_assoc, length-append}
 use Rattle.std.specs.Prelude.{Option, Some, None, option_map, option_and_then, codes, ℤ}
 use Rattle.std.specs.Char.{is_ascii_digit}
@@ -16,7 +16,7 @@ use Rattle.st_tokens.specs.declared.token.Kind.{Kind}
 use Rattle.st_tokens.specs.declared.token.Kind.TheVariants as K
 use Rattle.st_tokens.specs.Characters.{begins_word, AreWordBytes, BeginsWord}
 use Rattle.st_tokens.specs.Forms.{HasForm, word, keyword, type_name, number, typed, duration, symbol, IsDurationWord, time_of, value}
-use Rattle.st_tokens.specs.Scanning.{run, behind, is_clean, single, double, number_at, signed_interval_at, number_found, literal_at, typed_at, typed_found, duration_at, duration_found, is_duration_word, prefixed_at, word_at, word_kind, kind_by, symbol_or, symbol_at, token_at}
+use Rattle.st_tokens.specs.Scanning.{run, after_run, is_clean, single, double, number_at, signed_interval_at, number_found, literal_at, typed_at, typed_found, duration_at, duration_found, is_duration_word, prefixed_at, word_at, word_kind, kind_by, symbol_or, symbol_at, token_at}
 use Rattle.st_tokens.specs.Symbols.{symbol_text}
 use Rattle.st_tokens.specs.Text.{IsLongest, IsRefused}
 use Rattle.st_tokens.specs.Words.{IsSame, IsWord, keyword_of, elem_of}
@@ -26,17 +26,17 @@ use Rattle.st_tokens.proofs.Literals.{literal_found, literal_only, is_same, same
 use Rattle.st_tokens.proofs.Marks.{IsDouble, IsSingle, symbol_cases, single_is, double_is}
 use Rattle.st_tokens.proofs.Names.{keyword_is, short_no_elem, elem_in, elem_is, elem_name, name_word, word_words, not_unclean, not_reserved, begins_word_byte}
 use Rattle.st_tokens.proofs.Numbers.{Found, number_found as number_is_found, number_only, hash_split, hash_run, hash_test, no_hash_test, tail_of}
-use Rattle.st_tokens.proofs.Runs.{run_behind, run_words, run_is, words_in_run, words_append}
+use Rattle.st_tokens.proofs.Runs.{run_splits, run_words, run_is, words_in_run, words_append}
 use Rattle.st_tokens.proofs.Cases.{by_test, not_both, some_parts}
 
--- a token stands at the front of the text
-pub record IsToken (text front rest : List ℕ) (kind : Kind) : Type 0 where
-  pub longest : IsLongest text front rest kind
+-- a token stands at the start of the text
+pub record IsToken (text prefix rest : List ℕ) (kind : Kind) : Type 0 where
+  pub longest : IsLongest text prefix rest kind
   pub allowed : IsRefused kind rest → ⊥
 
--- some front is a token
+-- some prefix is a token
 abbrev pub TokenFound : List ℕ → Kind → List ℕ → Type 0
-TokenFound text kind rest = (front : List ℕ) × IsToken text front rest kind
+TokenFound text kind rest = (prefix : List ℕ) × IsToken text prefix rest kind
 
 -- what is found in two steps
 mapped : {A B : Type 0} (f : A → B) (o : Option A) (b : B) → option_map f o ≡ Some b → (a : A) × (o ≡ Some a) × (f a ≡ b)
@@ -45,7 +45,7 @@ mapped f (Some a) b h = (a, refl, let e : f a ≡ b = cc in e)
 
 -- ---- numbers
 
--- what is read behind a digit is a token
+-- what is read after a digit is a token
 number_token : (b : ℕ) (bs rest : List ℕ) (kind : Kind) → is_ascii_digit b ≡ true → option_map number_found (number_at (b ∷ bs)) ≡ Some (kind, rest) → TokenFound (b ∷ bs) kind rest
 number_token b bs rest kind d h =
     let m = mapped number_found (number_at (b ∷ bs)) (kind, rest) h in
@@ -53,7 +53,7 @@ number_token b bs rest kind d h =
     let kind_is : K.Number (capped f.value) ≡ kind = sym (ap (λ (n : ℕ). K.Number n) f.same) ∙ ap (λ (p : Kind × List ℕ). p.0) m.2 in
     let rest_is : m.0.1 ≡ rest = ap (λ (p : Kind × List ℕ). p.1) m.2 in
     subst (λ k. TokenFound (b ∷ bs) k rest) kind_is (subst (λ zs. TokenFound (b ∷ bs) (K.Number (capped f.value)) zs) rest_is (
-      f.front,
+      f.prefix,
       record {
         longest = record {
           splits = f.splits;
@@ -96,7 +96,7 @@ run_word b bs w = let e : run (b ∷ bs) ≡ b ∷ run bs = rw (begins_word_byte
     subst IsWord (sym e) (w, run_words bs)
 
 -- where no `#` follows the run, no form is longer
-plain_longest : (b : ℕ) (bs other back : List ℕ) (k : Kind) → begins_word b ≡ true → begins_with (codes "#") (behind (b ∷ bs)) ≡ false
+plain_longest : (b : ℕ) (bs other back : List ℕ) (k : Kind) → begins_word b ≡ true → begins_with (codes "#") (after_run (b ∷ bs)) ≡ false
     → b ∷ bs ≡ other ++ back → HasForm other k → length other ≤ length (run (b ∷ bs))
 plain_longest b bs other back k w t e form = at (only_word b other k form (opens_text b bs other back k e form) w) where
   hash : (name literal : List ℕ) → AreWordBytes name → other ≡ name ++ 35 ∷ literal → length other ≤ length (run (b ∷ bs))
@@ -110,61 +110,61 @@ plain_longest b bs other back k w t e form = at (only_word b other k form (opens
   at (inr (inr p)) = hash p.name p.literal (word_words p.name (name_word p.name (duration_name p.name p.named))) p.splits
 
 -- a clean word that no `#` follows is a token
-plain_token : (b : ℕ) (bs : List ℕ) → begins_word b ≡ true → begins_with (codes "#") (behind (b ∷ bs)) ≡ false → is_clean (run (b ∷ bs)) ≡ true
-    → TokenFound (b ∷ bs) (word_kind (run (b ∷ bs))) (behind (b ∷ bs))
+plain_token : (b : ℕ) (bs : List ℕ) → begins_word b ≡ true → begins_with (codes "#") (after_run (b ∷ bs)) ≡ false → is_clean (run (b ∷ bs)) ≡ true
+    → TokenFound (b ∷ bs) (word_kind (run (b ∷ bs))) (after_run (b ∷ bs))
 plain_token b bs w t c = (
   run (b ∷ bs),
   record {
     longest = record {
-      splits = run_behind (b ∷ bs);
+      splits = run_splits (b ∷ bs);
       form = kind_form (run (b ∷ bs)) (run_word b bs w);
       longest = λ other back k e form. plain_longest b bs other back k w t e form;
     };
-    allowed = kind_allowed (run (b ∷ bs)) (behind (b ∷ bs)) c
+    allowed = kind_allowed (run (b ∷ bs)) (after_run (b ∷ bs)) c
         (λ back e. not_both (hash_test (b ∷ bs) back e) t);
   },
 )
 
 -- ---- literals that begin with a word
 
--- the parts of a front that has the run, a `#` and more
-pub record Behind (text other back name literal : List ℕ) : Type 0 where
+-- the parts of a prefix that has the run, a `#` and more
+pub record AfterHash (text other back name literal : List ℕ) : Type 0 where
   pub run_is : run text ≡ name
   pub tail_is : tail_of text ≡ literal ++ back
   pub size : length other ≡ length (run text) + suc (length literal)
 
--- a front with a `#` behind a name has the run for its name
-behind_hash : (text other back name literal : List ℕ) → AreWordBytes name → text ≡ other ++ back → other ≡ name ++ 35 ∷ literal → Behind text other back name literal
-behind_hash text other back name literal words e f =
+-- a prefix with a `#` after a name has the run for its name
+after_hash : (text other back name literal : List ℕ) → AreWordBytes name → text ≡ other ++ back → other ≡ name ++ 35 ∷ literal → AfterHash text other back name literal
+after_hash text other back name literal words e f =
     let r = hash_run text name literal back words (e ∙ ap (λ (zs : List ℕ). zs ++ back) f) in
     let l = length-append name (35 ∷ literal) in let m = ap length f in let n = ap length r.0 in
     record { run_is = r.0; tail_is = ap (λ (zs : List ℕ). after (codes "#") zs) r.1; size = omega arith }
 
--- a front that reads behind the run and `#`, where no other kind of literal begins so
+-- a prefix that reads after the run and `#`, where no other kind of literal begins so
 prefixed_longest : {A B : Type 0} (read : List ℕ → Option A) (counts : A → B) (v : B) (b : ℕ) (bs rest : List ℕ) → begins_word b ≡ true
     → (f : Found read counts (tail_of (b ∷ bs)) rest v)
     → ((other : List ℕ) (k : Kind) (p : Literal other k) → p.name ≡ run (b ∷ bs) → (a : A) × (read p.literal ≡ Some a))
     → ((other : List ℕ) (k : Kind) (p : Lasting other k) → p.name ≡ run (b ∷ bs) → (a : A) × (read p.literal ≡ Some a))
-    → (other back : List ℕ) (k : Kind) → b ∷ bs ≡ other ++ back → HasForm other k → length other ≤ length (run (b ∷ bs) ++ 35 ∷ f.front)
+    → (other back : List ℕ) (k : Kind) → b ∷ bs ≡ other ++ back → HasForm other k → length other ≤ length (run (b ∷ bs) ++ 35 ∷ f.prefix)
 prefixed_longest read counts v b bs rest w f typed_reads lasting_reads other back k e form = at (only_word b other k form (opens_text b bs other back k e form) w) where
-  whole : length (run (b ∷ bs) ++ 35 ∷ f.front) ≡ length (run (b ∷ bs)) + suc (length f.front)
-  whole = length-append (run (b ∷ bs)) (35 ∷ f.front)
+  whole : length (run (b ∷ bs) ++ 35 ∷ f.prefix) ≡ length (run (b ∷ bs)) + suc (length f.prefix)
+  whole = length-append (run (b ∷ bs)) (35 ∷ f.prefix)
 
-  at : Plain other k ⊎ (Literal other k ⊎ Lasting other k) → length other ≤ length (run (b ∷ bs) ++ 35 ∷ f.front)
+  at : Plain other k ⊎ (Literal other k ⊎ Lasting other k) → length other ≤ length (run (b ∷ bs) ++ 35 ∷ f.prefix)
   at (inl p) = let le = words_in_run (b ∷ bs) other back e (word_words other p.is_word) in let l = whole in omega arith
   at (inr (inl p)) =
-      let h = behind_hash (b ∷ bs) other back p.name p.literal (word_words p.name (name_word p.name (elem_name p.name p.elem p.named))) e p.splits in
+      let h = after_hash (b ∷ bs) other back p.name p.literal (word_words p.name (name_word p.name (elem_name p.name p.elem p.named))) e p.splits in
       let r = typed_reads other k p (sym h.run_is) in
       let le = f.longest p.literal back r.0 h.tail_is r.1 in let l = whole in let s = h.size in omega arith
   at (inr (inr p)) =
-      let h = behind_hash (b ∷ bs) other back p.name p.literal (word_words p.name (name_word p.name (duration_name p.name p.named))) e p.splits in
+      let h = after_hash (b ∷ bs) other back p.name p.literal (word_words p.name (name_word p.name (duration_name p.name p.named))) e p.splits in
       let r = lasting_reads other k p (sym h.run_is) in
       let le = f.longest p.literal back r.0 h.tail_is r.1 in let l = whole in let s = h.size in omega arith
 
 -- a text is its run, a `#`, what was read, and the rest
-prefixed_splits : (text front rest : List ℕ) → begins_with (codes "#") (behind text) ≡ true → tail_of text ≡ front ++ rest → text ≡ (run text ++ 35 ∷ front) ++ rest
-prefixed_splits text front rest t e =
-    hash_split text t ∙ ap (λ (zs : List ℕ). run text ++ 35 ∷ zs) e ∙ sym (append_assoc (run text) (35 ∷ front) rest)
+prefixed_splits : (text prefix rest : List ℕ) → begins_with (codes "#") (after_run text) ≡ true → tail_of text ≡ prefix ++ rest → text ≡ (run text ++ 35 ∷ prefix) ++ rest
+prefixed_splits text prefix rest t e =
+    hash_split text t ∙ ap (λ (zs : List ℕ). run text ++ 35 ∷ zs) e ∙ sym (append_assoc (run text) (35 ∷ prefix) rest)
 
 -- ---- which words begin a duration
 
@@ -185,7 +185,7 @@ not_typed w elem (inl d) h = let none = short_no_elem w d in let some = elem_in 
 not_typed w elem (inr d) h = let time = elem_in w E.Time d in let some = elem_in w elem h in cc
 
 -- a duration that is read is a token
-duration_token : (b : ℕ) (bs rest : List ℕ) (kind : Kind) → begins_word b ≡ true → begins_with (codes "#") (behind (b ∷ bs)) ≡ true
+duration_token : (b : ℕ) (bs rest : List ℕ) (kind : Kind) → begins_word b ≡ true → begins_with (codes "#") (after_run (b ∷ bs)) ≡ true
     → is_duration_word (run (b ∷ bs)) ≡ true → duration_at (tail_of (b ∷ bs)) ≡ Some (kind, rest) → TokenFound (b ∷ bs) kind rest
 unfolding duration_at
 duration_token b bs rest kind w t d h =
@@ -196,11 +196,11 @@ duration_token b bs rest kind w t d h =
     ap (λ (n : ℤ). K.Duration n) (sym (time_of-capped f.value) ∙ ap time_of (sym f.same)) ∙ ap (λ (p : Kind × List ℕ). p.0) m.2 in
     let rest_is : m.0.1 ≡ rest = ap (λ (p : Kind × List ℕ). p.1) m.2 in
     subst (λ k. TokenFound (b ∷ bs) k rest) kind_is (subst (λ zs. TokenFound (b ∷ bs) (K.Duration (time_of f.value)) zs) rest_is (
-      run (b ∷ bs) ++ 35 ∷ f.front,
+      run (b ∷ bs) ++ 35 ∷ f.prefix,
       record {
         longest = record {
-          splits = prefixed_splits (b ∷ bs) f.front m.0.1 t f.splits;
-          form = duration (run (b ∷ bs)) f.front f.value is f.reads;
+          splits = prefixed_splits (b ∷ bs) f.prefix m.0.1 t f.splits;
+          form = duration (run (b ∷ bs)) f.prefix f.value is f.reads;
           longest = λ other back k e form. prefixed_longest signed_interval_read capped_signed m.0.0 b bs m.0.1 w f
               (λ o j p e. absurd (p.no_time (not_typed (run (b ∷ bs)) p.elem is (subst (λ zs. IsSame zs (name_of p.elem)) e p.named))))
               (λ o j p e. (p.number, p.reads)) other back k e form;
@@ -210,7 +210,7 @@ duration_token b bs rest kind w t d h =
     ))
 
 -- a typed literal that is read is a token
-typed_token : (b : ℕ) (bs rest : List ℕ) (kind : Kind) (elem : Elem) → begins_word b ≡ true → begins_with (codes "#") (behind (b ∷ bs)) ≡ true
+typed_token : (b : ℕ) (bs rest : List ℕ) (kind : Kind) (elem : Elem) → begins_word b ≡ true → begins_with (codes "#") (after_run (b ∷ bs)) ≡ true
     → is_duration_word (run (b ∷ bs)) ≡ false → elem_of (run (b ∷ bs)) ≡ Some elem
     → option_map (typed_found elem) (literal_at (class_of elem) (tail_of (b ∷ bs))) ≡ Some (kind, rest) → TokenFound (b ∷ bs) kind rest
 typed_token b bs rest kind elem w t d i h =
@@ -220,11 +220,11 @@ typed_token b bs rest kind elem w t d i h =
     ap (λ (n : ℤ). K.Typed (value elem n)) (sym f.same) ∙ ap (λ (p : Kind × List ℕ). p.0) m.2 in
     let rest_is : m.0.1 ≡ rest = ap (λ (p : Kind × List ℕ). p.1) m.2 in
     subst (λ k. TokenFound (b ∷ bs) k rest) kind_is (subst (λ zs. TokenFound (b ∷ bs) (K.Typed (value elem (capped_signed f.value))) zs) rest_is (
-      run (b ∷ bs) ++ 35 ∷ f.front,
+      run (b ∷ bs) ++ 35 ∷ f.prefix,
       record {
         longest = record {
-          splits = prefixed_splits (b ∷ bs) f.front m.0.1 t f.splits;
-          form = typed (run (b ∷ bs)) f.front elem f.value named no_time f.reads;
+          splits = prefixed_splits (b ∷ bs) f.prefix m.0.1 t f.splits;
+          form = typed (run (b ∷ bs)) f.prefix elem f.value named no_time f.reads;
           longest = λ other back k e form. prefixed_longest (literal_read (class_of elem) true) capped_signed m.0.0 b bs m.0.1 w f
               (λ o j p e. (p.number, reads o j p e)) (λ o j p e. absurd (no_duration (subst IsDurationWord e p.named))) other back k e form;
         };
@@ -246,7 +246,7 @@ typed_token b bs rest kind elem w t d i h =
           let same : p.elem ≡ elem = cc in subst (λ x. literal_read (class_of x) true p.literal ≡ Some p.number) same p.reads
 
 -- a literal that begins with a word is a token
-prefixed_token : (b : ℕ) (bs rest : List ℕ) (kind : Kind) → begins_word b ≡ true → begins_with (codes "#") (behind (b ∷ bs)) ≡ true
+prefixed_token : (b : ℕ) (bs rest : List ℕ) (kind : Kind) → begins_word b ≡ true → begins_with (codes "#") (after_run (b ∷ bs)) ≡ true
     → prefixed_at (run (b ∷ bs)) (tail_of (b ∷ bs)) ≡ Some (kind, rest) → TokenFound (b ∷ bs) kind rest
 unfolding prefixed_at typed_at
 prefixed_token b bs rest kind w t h = by_test (is_duration_word (run (b ∷ bs)))
@@ -257,10 +257,10 @@ prefixed_token b bs rest kind w t h = by_test (is_duration_word (run (b ∷ bs))
       by_elem d None i g = absurd (cc)
       by_elem d (Some elem) i g = typed_token b bs rest kind elem w t d i g
 
--- what is read behind a letter or `_` is a token
+-- what is read after a letter or `_` is a token
 word_token : (b : ℕ) (bs rest : List ℕ) (kind : Kind) → begins_word b ≡ true → word_at (b ∷ bs) ≡ Some (kind, rest) → TokenFound (b ∷ bs) kind rest
 unfolding word_at
-word_token b bs rest kind w h = by_test (begins_with (codes "#") (behind (b ∷ bs)))
+word_token b bs rest kind w h = by_test (begins_with (codes "#") (after_run (b ∷ bs)))
     (λ t. prefixed_token b bs rest kind w t (rw t at h))
     (λ t. by_test (is_clean (run (b ∷ bs)))
     (λ c. let p = some_parts (rw (t, c) at h) in
@@ -325,15 +325,15 @@ double_token b c bs rest kind (Some x) d w e h = let p = some_parts h in let t =
     (symbol_token b (c ∷ bs) bs x d w (sym (ap (λ (zs : List ℕ). zs ++ bs) t))
     (λ back y f. let le = symbol_size b (c ∷ bs) back y f in let l = ap length t in omega arith)))
 
--- what is read behind another byte is a token
+-- what is read after another byte is a token
 symbols_token : (b : ℕ) (bs rest : List ℕ) (kind : Kind) → is_ascii_digit b ≡ false → begins_word b ≡ false → symbol_at (b ∷ bs) ≡ Some (kind, rest) → TokenFound (b ∷ bs) kind rest
 unfolding symbol_at
 symbols_token b [] rest kind d w h = single_token b [] rest kind (single b) d w (λ c back y f g. cc) refl h
 symbols_token b (c ∷ bs) rest kind d w h = double_token b c bs rest kind (double b c) d w refl h
 
--- ---- a token at the front
+-- ---- a token at the start
 
--- what is read at the front of a text is a token
+-- what is read at the start of a text is a token
 pub token_found : (text : List ℕ) (kind : Kind) (rest : List ℕ) → token_at text ≡ Some (kind, rest) → TokenFound text kind rest
 unfolding token_at symbol_at
 token_found [] kind rest h = absurd (cc)
@@ -350,35 +350,35 @@ pair_some : (f : Kind) (g : Kind) (rest : List ℕ) → f ≡ g → ◌≡◌ {A
 pair_some f g rest e = ap (λ (k : Kind). let r : Option (Kind × List ℕ) = Some (k, rest) in r) e
 
 -- a token that begins with a digit is read
-number_is_only : (b : ℕ) (bs front rest : List ℕ) (kind : Kind) → IsToken (b ∷ bs) front rest kind → ((back : List ℕ) → rest ≡ 35 ∷ back → ⊥) → is_ascii_digit b ≡ true
+number_is_only : (b : ℕ) (bs prefix rest : List ℕ) (kind : Kind) → IsToken (b ∷ bs) prefix rest kind → ((back : List ℕ) → rest ≡ 35 ∷ back → ⊥) → is_ascii_digit b ≡ true
     → option_map number_found (number_at (b ∷ bs)) ≡ Some (kind, rest)
-number_is_only b bs front rest kind h alive d =
-    let n = only_number b front kind h.longest.form (opens_text b bs front rest kind h.longest.splits h.longest.form) d in
+number_is_only b bs prefix rest kind h alive d =
+    let n = only_number b prefix kind h.longest.form (opens_text b bs prefix rest kind h.longest.splits h.longest.form) d in
     let allowed = subst (λ k. IsRefused k rest → ⊥) n.2 h.allowed in
-    let found = number_only (b ∷ bs) front rest n.0 h.longest.splits n.1 (record { ends = allowed; no_hash = alive }) in
+    let found = number_only (b ∷ bs) prefix rest n.0 h.longest.splits n.1 (record { ends = allowed; no_hash = alive }) in
     ap (option_map number_found) found ∙ pair_some (K.Number (capped n.0)) kind rest (sym n.2)
 
 -- a word that is the longest form doesn't go on
-word_ends : (b : ℕ) (bs front rest : List ℕ) (kind : Kind) → IsToken (b ∷ bs) front rest kind → IsWord front → BeginsWord rest → ⊥
-word_ends b bs front [] kind h is ends = ends
-word_ends b bs front (c ∷ rest) kind h is ends =
-    let le = h.longest.longest (front ++ c ∷ []) rest (word_kind (front ++ c ∷ [])) (h.longest.splits ∙ sym (append_assoc front (c ∷ []) rest))
-    (kind_form (front ++ c ∷ []) (longer front is)) in
-    let l = length-append front (c ∷ []) in absurd (omega arith) where
+word_ends : (b : ℕ) (bs prefix rest : List ℕ) (kind : Kind) → IsToken (b ∷ bs) prefix rest kind → IsWord prefix → BeginsWord rest → ⊥
+word_ends b bs prefix [] kind h is ends = ends
+word_ends b bs prefix (c ∷ rest) kind h is ends =
+    let le = h.longest.longest (prefix ++ c ∷ []) rest (word_kind (prefix ++ c ∷ [])) (h.longest.splits ∙ sym (append_assoc prefix (c ∷ []) rest))
+    (kind_form (prefix ++ c ∷ []) (longer prefix is)) in
+    let l = length-append prefix (c ∷ []) in absurd (omega arith) where
       longer : (w : List ℕ) → IsWord w → IsWord (w ++ c ∷ [])
       longer [] k = absurd k
       longer (x ∷ w) k = (k.0, words_append w (c ∷ []) k.1 (ends, tt))
 
 -- a token that is a word is read
-plain_only : (b : ℕ) (bs front rest : List ℕ) (kind : Kind) → IsToken (b ∷ bs) front rest kind → ((back : List ℕ) → rest ≡ 35 ∷ back → ⊥) → Plain front kind
+plain_only : (b : ℕ) (bs prefix rest : List ℕ) (kind : Kind) → IsToken (b ∷ bs) prefix rest kind → ((back : List ℕ) → rest ≡ 35 ∷ back → ⊥) → Plain prefix kind
     → word_at (b ∷ bs) ≡ Some (kind, rest)
 unfolding word_at
-plain_only b bs front rest kind h alive p =
-    let u = run_is (b ∷ bs) front rest h.longest.splits (word_words front p.is_word) (word_ends b bs front rest kind h p.is_word) in
+plain_only b bs prefix rest kind h alive p =
+    let u = run_is (b ∷ bs) prefix rest h.longest.splits (word_words prefix p.is_word) (word_ends b bs prefix rest kind h p.is_word) in
     let t = no_hash_test (b ∷ bs) (λ back e. alive back (sym u.1 ∙ e)) in
     let c = subst (λ zs. is_clean zs ≡ true) (sym u.0) (p.clean_where rest h.allowed) in
     let kind_is : word_kind (run (b ∷ bs)) ≡ kind = ap word_kind u.0 ∙ p.kind_is in
-    rw (t, c) (pair_some (word_kind (run (b ∷ bs))) kind (behind (b ∷ bs)) kind_is ∙ ap (λ (zs : List ℕ). let r : Option (Kind × List ℕ) = Some (kind, zs) in r) u.1)
+    rw (t, c) (pair_some (word_kind (run (b ∷ bs))) kind (after_run (b ∷ bs)) kind_is ∙ ap (λ (zs : List ℕ). let r : Option (Kind × List ℕ) = Some (kind, zs) in r) u.1)
 
 -- only TIME is written as a duration
 no_duration_class : (elem : Elem) → (elem ≡ E.Time → ⊥) → class_of elem ≡ Duration → ⊥
@@ -398,12 +398,12 @@ no_duration_class E.Dword n h = cc
 no_duration_class E.Lword n h = cc
 
 -- a token that is a typed literal is read
-literal_is_only : (b : ℕ) (bs front rest : List ℕ) (kind : Kind) → IsToken (b ∷ bs) front rest kind → ((back : List ℕ) → rest ≡ 35 ∷ back → ⊥) → (p : Literal front kind)
+literal_is_only : (b : ℕ) (bs prefix rest : List ℕ) (kind : Kind) → IsToken (b ∷ bs) prefix rest kind → ((back : List ℕ) → rest ≡ 35 ∷ back → ⊥) → (p : Literal prefix kind)
     → word_at (b ∷ bs) ≡ Some (kind, rest)
 unfolding word_at prefixed_at typed_at
-literal_is_only b bs front rest kind h alive p =
+literal_is_only b bs prefix rest kind h alive p =
     let words = word_words p.name (name_word p.name (elem_name p.name p.elem p.named)) in
-    let k = behind_hash (b ∷ bs) front rest p.name p.literal words h.longest.splits p.splits in
+    let k = after_hash (b ∷ bs) prefix rest p.name p.literal words h.longest.splits p.splits in
     let r = hash_run (b ∷ bs) p.name p.literal rest words (h.longest.splits ∙ ap (λ (zs : List ℕ). zs ++ rest) p.splits) in
     let t = hash_test (b ∷ bs) (p.literal ++ rest) r.1 in
     let named = subst (λ zs. IsSame zs (name_of p.elem)) (sym k.run_is) p.named in
@@ -416,12 +416,12 @@ literal_is_only b bs front rest kind h alive p =
     ∙ ap (option_map (typed_found p.elem)) found ∙ pair_some (K.Typed (value p.elem (capped_signed p.number))) kind rest (sym p.kind_is))
 
 -- a token that is a duration is read
-lasting_is_only : (b : ℕ) (bs front rest : List ℕ) (kind : Kind) → IsToken (b ∷ bs) front rest kind → ((back : List ℕ) → rest ≡ 35 ∷ back → ⊥) → (p : Lasting front kind)
+lasting_is_only : (b : ℕ) (bs prefix rest : List ℕ) (kind : Kind) → IsToken (b ∷ bs) prefix rest kind → ((back : List ℕ) → rest ≡ 35 ∷ back → ⊥) → (p : Lasting prefix kind)
     → word_at (b ∷ bs) ≡ Some (kind, rest)
 unfolding word_at prefixed_at duration_at
-lasting_is_only b bs front rest kind h alive p =
+lasting_is_only b bs prefix rest kind h alive p =
     let words = word_words p.name (name_word p.name (duration_name p.name p.named)) in
-    let k = behind_hash (b ∷ bs) front rest p.name p.literal words h.longest.splits p.splits in
+    let k = after_hash (b ∷ bs) prefix rest p.name p.literal words h.longest.splits p.splits in
     let r = hash_run (b ∷ bs) p.name p.literal rest words (h.longest.splits ∙ ap (λ (zs : List ℕ). zs ++ rest) p.splits) in
     let t = hash_test (b ∷ bs) (p.literal ++ rest) r.1 in
     let d = duration_test (run (b ∷ bs)) (subst IsDurationWord (sym k.run_is) p.named) in
@@ -431,13 +431,13 @@ lasting_is_only b bs front rest kind h alive p =
     ∙ pair_some (K.Duration (time_of (capped_signed p.number))) kind rest (ap (λ (n : ℤ). K.Duration n) (time_of-capped p.number) ∙ sym p.kind_is))
 
 -- a token that begins with a letter or `_` is read
-word_is_only : (b : ℕ) (bs front rest : List ℕ) (kind : Kind) → IsToken (b ∷ bs) front rest kind → ((back : List ℕ) → rest ≡ 35 ∷ back → ⊥) → begins_word b ≡ true
+word_is_only : (b : ℕ) (bs prefix rest : List ℕ) (kind : Kind) → IsToken (b ∷ bs) prefix rest kind → ((back : List ℕ) → rest ≡ 35 ∷ back → ⊥) → begins_word b ≡ true
     → word_at (b ∷ bs) ≡ Some (kind, rest)
-word_is_only b bs front rest kind h alive w = at (only_word b front kind h.longest.form (opens_text b bs front rest kind h.longest.splits h.longest.form) w) where
-  at : Plain front kind ⊎ (Literal front kind ⊎ Lasting front kind) → word_at (b ∷ bs) ≡ Some (kind, rest)
-  at (inl p) = plain_only b bs front rest kind h alive p
-  at (inr (inl p)) = literal_is_only b bs front rest kind h alive p
-  at (inr (inr p)) = lasting_is_only b bs front rest kind h alive p
+word_is_only b bs prefix rest kind h alive w = at (only_word b prefix kind h.longest.form (opens_text b bs prefix rest kind h.longest.splits h.longest.form) w) where
+  at : Plain prefix kind ⊎ (Literal prefix kind ⊎ Lasting prefix kind) → word_at (b ∷ bs) ≡ Some (kind, rest)
+  at (inl p) = plain_only b bs prefix rest kind h alive p
+  at (inr (inl p)) = literal_is_only b bs prefix rest kind h alive p
+  at (inr (inr p)) = lasting_is_only b bs prefix rest kind h alive p
 
 -- a symbol of two bytes is read
 double_only : (x : Symbol) (b c : ℕ) (rest : List ℕ) → double b c ≡ Some x → symbol_at (b ∷ c ∷ rest) ≡ Some (K.Symbol x, rest)
@@ -452,13 +452,13 @@ single_only x b (c ∷ rest) h none = ap (λ (o : Option Symbol). symbol_or o re
     ∙ ap (λ (o : Option Symbol). symbol_or o (c ∷ rest) None) h
 
 -- a token that begins with another byte is read
-symbol_is_only : (b : ℕ) (bs front rest : List ℕ) (kind : Kind) → IsToken (b ∷ bs) front rest kind → is_ascii_digit b ≡ false → begins_word b ≡ false
+symbol_is_only : (b : ℕ) (bs prefix rest : List ℕ) (kind : Kind) → IsToken (b ∷ bs) prefix rest kind → is_ascii_digit b ≡ false → begins_word b ≡ false
     → symbol_at (b ∷ bs) ≡ Some (kind, rest)
-symbol_is_only b bs front rest kind h d w = at (only_symbol b front kind h.longest.form (opens_text b bs front rest kind h.longest.splits h.longest.form) d w) where
-  text_is : (x : Symbol) → front ≡ symbol_text x → (text : List ℕ) → symbol_text x ≡ text → b ∷ bs ≡ text ++ rest
+symbol_is_only b bs prefix rest kind h d w = at (only_symbol b prefix kind h.longest.form (opens_text b bs prefix rest kind h.longest.splits h.longest.form) d w) where
+  text_is : (x : Symbol) → prefix ≡ symbol_text x → (text : List ℕ) → symbol_text x ≡ text → b ∷ bs ≡ text ++ rest
   text_is x e text f = h.longest.splits ∙ ap (λ (zs : List ℕ). zs ++ rest) (e ∙ f)
 
-  no_double : (x : Symbol) (s : IsSingle x) → front ≡ symbol_text x → (c : ℕ) (back : List ℕ) → rest ≡ c ∷ back → (o : Option Symbol) → double s.byte c ≡ o → o ≡ None
+  no_double : (x : Symbol) (s : IsSingle x) → prefix ≡ symbol_text x → (c : ℕ) (back : List ℕ) → rest ≡ c ∷ back → (o : Option Symbol) → double s.byte c ≡ o → o ≡ None
   no_double x s e c back g None i = refl
   no_double x s e c back g (Some y) i =
       let t = double_is s.byte c y i in
@@ -466,27 +466,27 @@ symbol_is_only b bs front rest kind h d w = at (only_symbol b front kind h.longe
       let le = h.longest.longest (symbol_text y) back (K.Symbol y) (text ∙ sym (ap (λ (zs : List ℕ). zs ++ back) t)) (symbol y) in
       let l = ap length t in let m = ap length (e ∙ s.text) in absurd (omega arith)
 
-  by_case : (x : Symbol) → front ≡ symbol_text x → IsDouble x ⊎ IsSingle x → symbol_at (b ∷ bs) ≡ Some (K.Symbol x, rest)
+  by_case : (x : Symbol) → prefix ≡ symbol_text x → IsDouble x ⊎ IsSingle x → symbol_at (b ∷ bs) ≡ Some (K.Symbol x, rest)
   by_case x e (inl s) = subst (λ zs. symbol_at zs ≡ Some (K.Symbol x, rest)) (sym (text_is x e (s.first ∷ s.second ∷ []) s.text)) (double_only x s.first s.second rest s.found)
   by_case x e (inr s) = subst (λ zs. symbol_at zs ≡ Some (K.Symbol x, rest)) (sym (text_is x e (s.byte ∷ []) s.text))
       (single_only x s.byte rest s.found (λ c back g. no_double x s e c back g (double s.byte c) refl))
 
-  at : (x : Symbol) × (front ≡ symbol_text x) × (kind ≡ K.Symbol x) → symbol_at (b ∷ bs) ≡ Some (kind, rest)
+  at : (x : Symbol) × (prefix ≡ symbol_text x) × (kind ≡ K.Symbol x) → symbol_at (b ∷ bs) ≡ Some (kind, rest)
   at o = by_case o.0 o.1 (symbol_cases o.0) ∙ pair_some (K.Symbol o.0) kind rest (sym o.2)
 
--- a token at the front of a text is what is read, where no `#` follows
-pub only : (text front rest : List ℕ) (kind : Kind) → IsToken text front rest kind → ((back : List ℕ) → rest ≡ 35 ∷ back → ⊥) → token_at text ≡ Some (kind, rest)
+-- a token at the start of a text is what is read, where no `#` follows
+pub only : (text prefix rest : List ℕ) (kind : Kind) → IsToken text prefix rest kind → ((back : List ℕ) → rest ≡ 35 ∷ back → ⊥) → token_at text ≡ Some (kind, rest)
 unfolding token_at
-only [] front rest kind h alive =
-    let w = form_begins front kind h.longest.form in
+only [] prefix rest kind h alive =
+    let w = form_begins prefix kind h.longest.form in
     let e : [] ≡ w.0 ∷ (w.1 ++ rest) = h.longest.splits ∙ ap (λ (zs : List ℕ). zs ++ rest) w.2 in absurd (cc)
-only (b ∷ bs) front rest kind h alive = by_test (is_ascii_digit b)
-    (λ d. rw d (number_is_only b bs front rest kind h alive d))
+only (b ∷ bs) prefix rest kind h alive = by_test (is_ascii_digit b)
+    (λ d. rw d (number_is_only b bs prefix rest kind h alive d))
     (λ d. by_test (begins_word b)
-    (λ w. rw (d, w) (word_is_only b bs front rest kind h alive w))
-    (λ w. rw (d, w) (symbol_is_only b bs front rest kind h d w)))
+    (λ w. rw (d, w) (word_is_only b bs prefix rest kind h alive w))
+    (λ w. rw (d, w) (symbol_is_only b bs prefix rest kind h d w)))
 
--- an empty text has no token at its front
+-- an empty text has no token at its prefix
 pub token_at-empty : (text : List ℕ) → length text < 1 → token_at text ≡ None
 unfolding token_at symbol_at
 token_at-empty [] h = refl

@@ -8,13 +8,13 @@ use Rattle.std.proofs.lemmas.Bool.Decides.{nat_tests}
 use Rattle.std.proofs.lemmas.Slice.Eq.{bytes_eq-Decides}
 use Rattle.std.proofs.Common.{inl, inr}
 use Rattle.st_values.specs.declared.elem.Elem.{Elem}
+use Rattle.st_values.specs.declared.elem.TheConstants.Elem.{ALL}
 use Rattle.st_values.specs.declared.elem.Elem.TheVariants as E
 use Rattle.st_values.specs.Words.{is_word}
 use Rattle.st_values.specs.Types.{name_of}
 use Rattle.st_tokens.specs.declared.keyword.Keyword.{Keyword}
 use Rattle.st_tokens.specs.declared.keyword.Keyword.TheVariants as K
 use Rattle.st_tokens.specs.declared.keyword.TheConstants.{KEYWORDS}
-use Rattle.st_tokens.specs.declared.word.TheConstants.{ELEMS}
 use Rattle.st_tokens.specs.Characters.{begins_word, is_word_byte, AreWordBytes}
 use Rattle.st_tokens.specs.Scanning.{is_clean_after, is_clean}
 use Rattle.st_tokens.specs.Words.{spelling_of, keyword_of, elem_of, IsSame, IsWord, IsReserved, IsUnclean}
@@ -81,14 +81,14 @@ keyword_same a b e = ap (λ lower. find (λ keyword. bytes_eq lower (map to_asci
 -- the same of types
 elem_same : (a b : List ℕ) → IsSame a b → elem_of a ≡ elem_of b
 unfolding elem_of
-elem_same a b e = ap (λ lower. find (λ elem. bytes_eq lower (map to_ascii_lowercase (name_of elem))) ELEMS) e
+elem_same a b e = ap (λ lower. find (λ elem. bytes_eq lower (map to_ascii_lowercase (name_of elem))) ALL) e
 
 -- `T` is no type
 pub short_no_elem : (w : List ℕ) → IsSame w (codes "T") → elem_of w ≡ None
 unfolding elem_of
 short_no_elem w h = elem_same w (codes "T") h ∙ refl
 
--- a reserved word in any case is found
+-- a reserved word ignoring case is found
 pub keyword_in : (w : List ℕ) (x : Keyword) → IsSame w (spelling_of x) → keyword_of w ≡ Some x
 keyword_in w x e = keyword_same w (spelling_of x) e ∙ (keyword_facts x).0
 
@@ -98,7 +98,7 @@ unfolding keyword_of
 keyword_is w x h = (bytes_eq-Decides (map to_ascii_lowercase w) (map to_ascii_lowercase (spelling_of x))).0
     (find_some (λ keyword. is_word (spelling_of keyword) w) KEYWORDS x h)
 
--- the name of a type in any case is found
+-- the name of a type ignoring case is found
 pub elem_in : (w : List ℕ) (x : Elem) → IsSame w (name_of x) → elem_of w ≡ Some x
 elem_in w x e = elem_same w (name_of x) e ∙ (elem_facts x).0
 
@@ -110,7 +110,7 @@ elem_no_keyword w x e = keyword_same w (name_of x) e ∙ (elem_facts x).1
 pub elem_is : (w : List ℕ) (x : Elem) → elem_of w ≡ Some x → IsSame w (name_of x)
 unfolding elem_of
 elem_is w x h = (bytes_eq-Decides (map to_ascii_lowercase w) (map to_ascii_lowercase (name_of x))).0
-    (find_some (λ elem. is_word (name_of elem) w) ELEMS x h)
+    (find_some (λ elem. is_word (name_of elem) w) ALL x h)
 
 -- what isn't reserved is neither
 pub not_keyword : (w : List ℕ) → (IsReserved w → ⊥) → keyword_of w ≡ None
@@ -151,11 +151,11 @@ name_lower (b ∷ bs) =
     ∙ ap (λ (x : Bool). begins_word b && (x && is_clean (map to_ascii_lowercase (b ∷ bs)))) (all_lower bs)
     ∙ ap (λ (x : Bool). begins_word b && (list_all is_word_byte bs && x)) (clean_lower false (b ∷ bs))
 
--- a reserved word in any case is a name
+-- a reserved word ignoring case is a name
 pub keyword_name : (w : List ℕ) (x : Keyword) → IsSame w (spelling_of x) → is_name w ≡ true
 keyword_name w x e = sym (name_lower w) ∙ ap is_name e ∙ (keyword_facts x).1
 
--- the name of a type in any case is a name
+-- the name of a type ignoring case is a name
 pub elem_name : (w : List ℕ) (x : Elem) → IsSame w (name_of x) → is_name w ≡ true
 elem_name w x e = sym (name_lower w) ∙ ap is_name e ∙ (elem_facts x).2
 
@@ -247,16 +247,16 @@ second : (flag t : Bool) (rest : Bool) → (not (flag && t) && rest) ≡ true �
 second flag t rest h = (both (not (flag && t)) rest h).1
 
 -- what passes has no two `_` in a row
-not_double : (underscore : Bool) (front back : List ℕ) → is_clean_after underscore (front ++ 95 ∷ 95 ∷ back) ≡ true → ⊥
+not_double : (underscore : Bool) (prefix back : List ℕ) → is_clean_after underscore (prefix ++ 95 ∷ 95 ∷ back) ≡ true → ⊥
 not_double true [] back h = cc
 not_double false [] back h = cc
-not_double underscore (x ∷ front) back h = not_double (x == 95) front back (second underscore (x == 95) _ h)
+not_double underscore (x ∷ prefix) back h = not_double (x == 95) prefix back (second underscore (x == 95) _ h)
 
 -- what passes has no `_` at its end
-not_last : (underscore : Bool) (front : List ℕ) → is_clean_after underscore (front ++ 95 ∷ []) ≡ true → ⊥
+not_last : (underscore : Bool) (prefix : List ℕ) → is_clean_after underscore (prefix ++ 95 ∷ []) ≡ true → ⊥
 not_last true [] h = cc
 not_last false [] h = cc
-not_last underscore (x ∷ front) h = not_last (x == 95) front (second underscore (x == 95) _ h)
+not_last underscore (x ∷ prefix) h = not_last (x == 95) prefix (second underscore (x == 95) _ h)
 
 -- what passes is not unclean
 pub not_unclean : (w : List ℕ) → is_clean w ≡ true → IsUnclean w → ⊥

@@ -1,4 +1,4 @@
--- Numbers at the front of a text: what is read there is the longest front that is a number.
+-- Numbers at the start of a text: what is read there is the longest prefix that is a number.
 use Rattle.std.proofs.Common.{◌≡◌, ℕ, ◌≤◌, List, [], ◌∷◌, ◌++◌, length, take, drop, refl, sym, ap, ◌∙◌, Bool, true, false, arith, ◌⊎◌, inl, inr, subst, append_assoc, length-append}
 use Rattle.std.specs.Prelude.{Option, Some, None, option_map, option_and_then, codes, ◌==◌, ◌&&◌}
 use Rattle.std.specs.Char.{is_digit, is_ascii_digit}
@@ -9,8 +9,8 @@ use Rattle.std.proofs.lemmas.Slice.Eq.{bytes_eq-Decides}
 use Rattle.st_values.specs.Numbers.{are_digits, capped, digits_read, number_read}
 use Rattle.st_values.specs.Words.{after, begins_with}
 use Rattle.st_tokens.specs.Characters.{is_word_byte, AreWordBytes, BeginsWord}
-use Rattle.st_tokens.specs.Scanning.{run, behind, base_of, digits_at, number_at}
-use Rattle.st_tokens.proofs.Runs.{run_behind, run_words, behind_not, run_is, words_in_run}
+use Rattle.st_tokens.specs.Scanning.{run, after_run, base_of, digits_at, number_at}
+use Rattle.st_tokens.proofs.Runs.{run_splits, run_words, after_run_not, run_is, words_in_run}
 use Rattle.st_tokens.proofs.Cases.{by_test, both, not_both, is_equal, some_parts}
 
 -- a text that begins so is this and what stands after it
@@ -19,16 +19,16 @@ begins start text h =
     let e : start ≡ take (length start) text = (bytes_eq-Decides start (take (length start) text)).0 h in
     sym (take-append-drop (length start) text) ∙ ap (λ (zs : List ℕ). zs ++ drop (length start) text) (sym e)
 
--- what is read at the front of a text: the longest front that reads as something
+-- what is read at the start of a text: the longest prefix that reads as something
 pub record Found {A B : Type 0} (read : List ℕ → Option A) (counts : A → B) (text rest : List ℕ) (v : B) : Type 0 where
-  pub front : List ℕ
+  pub prefix : List ℕ
   pub value : A
   pub same : v ≡ counts value
-  pub splits : text ≡ front ++ rest
-  pub reads : read front ≡ Some value
+  pub splits : text ≡ prefix ++ rest
+  pub reads : read prefix ≡ Some value
   pub ends : BeginsWord rest → ⊥
-  pub covers : length (run text) ≤ length front
-  pub longest : (other back : List ℕ) (w : A) → text ≡ other ++ back → read other ≡ Some w → length other ≤ length front
+  pub covers : length (run text) ≤ length prefix
+  pub longest : (other back : List ℕ) (w : A) → text ≡ other ++ back → read other ≡ Some w → length other ≤ length prefix
 
 -- no `#` follows
 pub record Alive (rest : List ℕ) : Type 0 where
@@ -77,7 +77,7 @@ first_decimal (d ∷ more) n h =
 
 -- ---- numbers
 
--- digits behind a base and `#`
+-- digits after a base and `#`
 pub record Based (digits : List ℕ) (n : ℕ) : Type 0 where
   pub word : List ℕ
   pub more : List ℕ
@@ -116,7 +116,7 @@ number_shape ds n h = by_test (begins_with (codes "16#") ds)
     (λ v. inr (record { word = codes "2"; more = after (codes "2#") ds; base = 2; splits = begins (codes "2#") ds v; named = refl; reads = rw (t, u, v) at h }))
     (λ v. inl (rw (t, u, v) at h))))
 
--- digits behind a base and `#` read as a number
+-- digits after a base and `#` read as a number
 pub number_based : (w more : List ℕ) (base n : ℕ) → base_of w ≡ Some base → digits_read base more ≡ Some n → number_read (w ++ 35 ∷ more) ≡ Some n
 number_based w more base n h reads = base_cases (λ m zs. digits_read m more ≡ Some n → number_read (zs ++ 35 ∷ more) ≡ Some n) w base h (λ k. k) (λ k. k) (λ k. k) reads
 
@@ -143,15 +143,15 @@ first_digit ds n h = at (number_shape ds n h) where
   at (inr b) = base_cases (λ m zs. ds ≡ zs ++ 35 ∷ b.more → (d : ℕ) × (more : List ℕ) × (ds ≡ d ∷ more) × (is_ascii_digit d ≡ true)) b.word b.base b.named
       (λ e. (49, 54 ∷ 35 ∷ b.more, e, refl)) (λ e. (56, 35 ∷ b.more, e, refl)) (λ e. (50, 35 ∷ b.more, e, refl)) b.splits
 
--- ---- at the front of a text
+-- ---- at the start of a text
 
 -- what reading digits gave
 pub digits_parts : (base : ℕ) (text rest : List ℕ) (v : ℕ) → digits_at base text ≡ Some (v, rest)
-    → (n : ℕ) × (digits_read base (run text) ≡ Some n) × (v ≡ capped n) × (rest ≡ behind text)
+    → (n : ℕ) × (digits_read base (run text) ≡ Some n) × (v ≡ capped n) × (rest ≡ after_run text)
 unfolding digits_at
 digits_parts base text rest v h = at (digits_read base (run text)) refl h where
-  at : (o : Option ℕ) → digits_read base (run text) ≡ o → option_map {T = ℕ} {U = ℕ × List ℕ} (λ n. (capped n, behind text)) o ≡ Some (v, rest)
-      → (n : ℕ) × (digits_read base (run text) ≡ Some n) × (v ≡ capped n) × (rest ≡ behind text)
+  at : (o : Option ℕ) → digits_read base (run text) ≡ o → option_map {T = ℕ} {U = ℕ × List ℕ} (λ n. (capped n, after_run text)) o ≡ Some (v, rest)
+      → (n : ℕ) × (digits_read base (run text) ≡ Some n) × (v ≡ capped n) × (rest ≡ after_run text)
   at None e g = absurd (cc)
   at (Some n) e g = let p = some_parts g in (n, e, sym p.0, sym p.1)
 
@@ -163,36 +163,36 @@ digits_made base text ds rest n high e h ends =
     let w = run_is text ds rest e (read_words base ds n high h) ends in
     rw (w.0, w.1) (ap (λ (o : Option ℕ). option_map {T = ℕ} {U = ℕ × List ℕ} (λ m. (capped m, rest)) o) h)
 
--- what stands behind a run that a `#` follows
-pub hash_split : (text : List ℕ) → begins_with (codes "#") (behind text) ≡ true → text ≡ run text ++ 35 ∷ after (codes "#") (behind text)
-hash_split text t = run_behind text ∙ ap (λ (zs : List ℕ). run text ++ zs) (begins (codes "#") (behind text) t)
+-- what stands after a run that a `#` follows
+pub hash_split : (text : List ℕ) → begins_with (codes "#") (after_run text) ≡ true → text ≡ run text ++ 35 ∷ after (codes "#") (after_run text)
+hash_split text t = run_splits text ∙ ap (λ (zs : List ℕ). run text ++ zs) (begins (codes "#") (after_run text) t)
 
--- a front that has a `#` behind bytes of a word has it behind the run
+-- a prefix that has a `#` after bytes of a word has it after the run
 pub hash_run : (text w more back : List ℕ) → AreWordBytes w → text ≡ (w ++ 35 ∷ more) ++ back
-    → (run text ≡ w) × (behind text ≡ 35 ∷ (more ++ back))
+    → (run text ≡ w) × (after_run text ≡ 35 ∷ (more ++ back))
 hash_run text w more back words e = run_is text w (35 ∷ (more ++ back)) (e ∙ append_assoc w (35 ∷ more) back) words (λ (k : is_word_byte 35 ≡ true). cc)
 
--- a `#` behind the run passes the test
-pub hash_test : (text more : List ℕ) → behind text ≡ 35 ∷ more → begins_with (codes "#") (behind text) ≡ true
+-- a `#` after the run passes the test
+pub hash_test : (text more : List ℕ) → after_run text ≡ 35 ∷ more → begins_with (codes "#") (after_run text) ≡ true
 hash_test text more e = rw e refl
 
 -- where none stands, the test fails
-pub no_hash_test : (text : List ℕ) → ((back : List ℕ) → behind text ≡ 35 ∷ back → ⊥) → begins_with (codes "#") (behind text) ≡ false
-no_hash_test text n = by_test (begins_with (codes "#") (behind text)) (λ t. absurd (n (after (codes "#") (behind text)) (begins (codes "#") (behind text) t))) (λ t. t)
+pub no_hash_test : (text : List ℕ) → ((back : List ℕ) → after_run text ≡ 35 ∷ back → ⊥) → begins_with (codes "#") (after_run text) ≡ false
+no_hash_test text n = by_test (begins_with (codes "#") (after_run text)) (λ t. absurd (n (after (codes "#") (after_run text)) (begins (codes "#") (after_run text) t))) (λ t. t)
 
--- the longest front that reads as a number
+-- the longest prefix that reads as a number
 abbrev pub NumberFound : List ℕ → List ℕ → ℕ → Type 0
 NumberFound text rest v = Found number_read capped text rest v
 
 -- without a `#` what is read is the longest
-number_plain_found : (text rest : List ℕ) (v : ℕ) → begins_with (codes "#") (behind text) ≡ false → digits_at 10 text ≡ Some (v, rest) → NumberFound text rest v
+number_plain_found : (text rest : List ℕ) (v : ℕ) → begins_with (codes "#") (after_run text) ≡ false → digits_at 10 text ≡ Some (v, rest) → NumberFound text rest v
 number_plain_found text rest v t h = let p = digits_parts 10 text rest v h in record {
-  front = run text;
+  prefix = run text;
   value = p.0;
   same = p.2;
-  splits = run_behind text ∙ ap (λ (zs : List ℕ). run text ++ zs) (sym p.3);
+  splits = run_splits text ∙ ap (λ (zs : List ℕ). run text ++ zs) (sym p.3);
   reads = number_plain (run text) p.0 (run_words text) p.1;
-  ends = subst (λ zs. BeginsWord zs → ⊥) (sym p.3) (behind_not text);
+  ends = subst (λ zs. BeginsWord zs → ⊥) (sym p.3) (after_run_not text);
   covers = omega arith;
   longest = λ other back w e r. at other back w e (number_shape other w r);
 } where
@@ -202,21 +202,21 @@ number_plain_found text rest v t h = let p = digits_parts 10 text rest v h in re
       let r = hash_run text b.word b.more back (base_words b.word b.base b.named) (e ∙ ap (λ (zs : List ℕ). zs ++ back) b.splits) in
       not_both (hash_test text (b.more ++ back) r.1) t
 
--- what stands behind the run and a `#`
+-- what stands after the run and a `#`
 abbrev pub tail_of : List ℕ → List ℕ
-tail_of text = after (codes "#") (behind text)
+tail_of text = after (codes "#") (after_run text)
 
--- behind a base and `#` what is read is the longest
-number_based_found : (text rest : List ℕ) (v base : ℕ) → begins_with (codes "#") (behind text) ≡ true → base_of (run text) ≡ Some base
-    → digits_at base (after (codes "#") (behind text)) ≡ Some (v, rest) → NumberFound text rest v
+-- after a base and `#` what is read is the longest
+number_based_found : (text rest : List ℕ) (v base : ℕ) → begins_with (codes "#") (after_run text) ≡ true → base_of (run text) ≡ Some base
+    → digits_at base (after (codes "#") (after_run text)) ≡ Some (v, rest) → NumberFound text rest v
 number_based_found text rest v base t named h = let p = digits_parts base (tail_of text) rest v h in record {
-  front = run text ++ 35 ∷ run (tail_of text);
+  prefix = run text ++ 35 ∷ run (tail_of text);
   value = p.0;
   same = p.2;
-  splits = hash_split text t ∙ ap (λ (zs : List ℕ). run text ++ 35 ∷ zs) (run_behind (tail_of text) ∙ ap (λ (zs : List ℕ). run (tail_of text) ++ zs) (sym p.3))
+  splits = hash_split text t ∙ ap (λ (zs : List ℕ). run text ++ 35 ∷ zs) (run_splits (tail_of text) ∙ ap (λ (zs : List ℕ). run (tail_of text) ++ zs) (sym p.3))
       ∙ sym (append_assoc (run text) (35 ∷ run (tail_of text)) rest);
   reads = number_based (run text) (run (tail_of text)) base p.0 named p.1;
-  ends = subst (λ zs. BeginsWord zs → ⊥) (sym p.3) (behind_not (tail_of text));
+  ends = subst (λ zs. BeginsWord zs → ⊥) (sym p.3) (after_run_not (tail_of text));
   covers = let l = length-append (run text) (35 ∷ run (tail_of text)) in omega arith;
   longest = λ other back w e r. at other back w e (number_shape other w r);
 } where
@@ -233,25 +233,25 @@ number_based_found text rest v base t named h = let p = digits_parts base (tail_
 -- what is read is the longest number
 pub number_found : (text rest : List ℕ) (v : ℕ) → number_at text ≡ Some (v, rest) → NumberFound text rest v
 unfolding number_at
-number_found text rest v h = by_test (begins_with (codes "#") (behind text))
+number_found text rest v h = by_test (begins_with (codes "#") (after_run text))
     (λ t. at t (base_of (run text)) refl (rw t at h))
     (λ t. number_plain_found text rest v t (rw t at h)) where
-      at : begins_with (codes "#") (behind text) ≡ true → (o : Option ℕ) → base_of (run text) ≡ o
-          → option_and_then (λ base. digits_at base (after (codes "#") (behind text))) o ≡ Some (v, rest) → NumberFound text rest v
+      at : begins_with (codes "#") (after_run text) ≡ true → (o : Option ℕ) → base_of (run text) ≡ o
+          → option_and_then (λ base. digits_at base (after (codes "#") (after_run text))) o ≡ Some (v, rest) → NumberFound text rest v
       at t None e g = absurd (cc)
       at t (Some base) e g = number_based_found text rest v base t e g
 
 -- a number that nothing continues is read
-pub number_only : (text front rest : List ℕ) (n : ℕ) → text ≡ front ++ rest → number_read front ≡ Some n → Alive rest → number_at text ≡ Some (capped n, rest)
+pub number_only : (text prefix rest : List ℕ) (n : ℕ) → text ≡ prefix ++ rest → number_read prefix ≡ Some n → Alive rest → number_at text ≡ Some (capped n, rest)
 unfolding number_at
-number_only text front rest n e h alive = at (number_shape front n h) where
-  at : (digits_read 10 front ≡ Some n) ⊎ Based front n → number_at text ≡ Some (capped n, rest)
+number_only text prefix rest n e h alive = at (number_shape prefix n h) where
+  at : (digits_read 10 prefix ≡ Some n) ⊎ Based prefix n → number_at text ≡ Some (capped n, rest)
   at (inl k) =
-      let w = run_is text front rest e (read_words 10 front n (omega arith) k) alive.ends in
-      rw (no_hash_test text (λ back f. alive.no_hash back (sym w.1 ∙ f))) (digits_made 10 text front rest n (omega arith) e k alive.ends)
+      let w = run_is text prefix rest e (read_words 10 prefix n (omega arith) k) alive.ends in
+      rw (no_hash_test text (λ back f. alive.no_hash back (sym w.1 ∙ f))) (digits_made 10 text prefix rest n (omega arith) e k alive.ends)
   at (inr b) =
       let r = hash_run text b.word b.more rest (base_words b.word b.base b.named) (e ∙ ap (λ (zs : List ℕ). zs ++ rest) b.splits) in
-      let tail : after (codes "#") (behind text) ≡ b.more ++ rest = ap (λ (zs : List ℕ). after (codes "#") zs) r.1 in
+      let tail : after (codes "#") (after_run text) ≡ b.more ++ rest = ap (λ (zs : List ℕ). after (codes "#") zs) r.1 in
       let m = digits_made b.base (b.more ++ rest) b.more rest n (base_high b.word b.base b.named) refl b.reads alive.ends in
       rw (hash_test text (b.more ++ rest) r.1) (ap (λ (zs : List ℕ). option_and_then (λ base. digits_at base zs) (base_of (run text))) tail
       ∙ ap (λ (zs : List ℕ). option_and_then (λ base. digits_at base (b.more ++ rest)) (base_of zs)) r.0

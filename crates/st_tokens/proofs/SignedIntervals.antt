@@ -1,4 +1,4 @@
--- What stands behind the `#` of a duration, at the front of a text.
+-- What stands after the `#` of a duration, at the start of a text.
 use Rattle.std.proofs.Common.{◌≡◌, ℕ, suc, ◌+◌, ◌-◌, ◌≤◌, List, [], ◌∷◌, ◌++◌, length, drop, refl, sym, ap, ◌∙◌, Bool, true, false, cond, arith, subst, slice_index, nat_lt}
 use Rattle.std.specs.Prelude.{Option, Some, option_map, ◌==◌, ℤ, pos, negsuc, neg_ℤ, ◌^◌}
 use Rattle.st_values.specs.Durations.{interval_read, signed_interval_read}
@@ -10,17 +10,17 @@ use Rattle.st_tokens.proofs.Literals.{capped_negative, first_is, no_start, mappe
 use Rattle.st_tokens.proofs.Numbers.{Found, Alive}
 use Rattle.st_tokens.proofs.Cases.{at_least, below, not_below, by_test}
 
--- the longest front that reads as an interval with an optional `-`
+-- the longest prefix that reads as an interval with an optional `-`
 abbrev pub DurationFound : List ℕ → List ℕ → ℤ → Type 0
 DurationFound text rest v = Found signed_interval_read capped_signed text rest v
 
--- behind a `-` what is read is the longest
+-- after a `-` what is read is the longest
 minus_found : (text tail rest : List ℕ) (v : ℤ) → text ≡ 45 ∷ tail → option_map negative_found (interval_at tail) ≡ Some (v, rest) → DurationFound text rest v
 minus_found text tail rest v e h =
     let m = mapped_parts negative (interval_at tail) v rest h in
     let f = interval_found tail rest m.0 m.1 in
     record {
-      front = 45 ∷ f.front;
+      prefix = 45 ∷ f.prefix;
       value = negative f.value;
       same = m.2 ∙ ap negative f.same ∙ capped_negative f.value;
       splits = e ∙ ap (λ (zs : List ℕ). 45 ∷ zs) f.splits;
@@ -30,7 +30,7 @@ minus_found text tail rest v e h =
       longest = λ other back w g r. longest f other back w g r;
     } where
       longest : (f : Found interval_read capped tail rest (mapped_parts negative (interval_at tail) v rest h).0) (other back : List ℕ) (w : ℤ)
-          → text ≡ other ++ back → signed_interval_read other ≡ Some w → length other ≤ length (45 ∷ f.front)
+          → text ≡ other ++ back → signed_interval_read other ≡ Some w → length other ≤ length (45 ∷ f.prefix)
       longest f [] back w g r = omega arith
       longest f (c ∷ other) back w g r =
           let k : 45 ∷ tail ≡ c ∷ (other ++ back) = sym e ∙ g in
@@ -47,9 +47,9 @@ signed_by m text = cond m (option_map negative (interval_read (drop 1 text))) (o
 signed_test : (text : List ℕ) (m : Bool) → (slice_index text 0 == 45) ≡ m → signed_interval_read text ≡ signed_by m text
 signed_test text m e = ap (λ (x : Bool). signed_by x text) e
 
--- a front of a text without a sign has none
-unsigned_reads : (text front back : List ℕ) → text ≡ front ++ back → (slice_index text 0 == 45) ≡ false → signed_interval_read front ≡ option_map pos (interval_read front)
-unsigned_reads text front back e m = signed_test front false (no_start 45 text front back refl e m)
+-- a prefix of a text without a sign has none
+unsigned_reads : (text prefix back : List ℕ) → text ≡ prefix ++ back → (slice_index text 0 == 45) ≡ false → signed_interval_read prefix ≡ option_map pos (interval_read prefix)
+unsigned_reads text prefix back e m = signed_test prefix false (no_start 45 text prefix back refl e m)
 
 -- without a `-` what is read is the longest
 unsigned_found : (text rest : List ℕ) (v : ℤ) → (slice_index text 0 == 45) ≡ false → option_map positive_found (interval_at text) ≡ Some (v, rest) → DurationFound text rest v
@@ -57,11 +57,11 @@ unsigned_found text rest v m h =
     let q = mapped_parts pos (interval_at text) v rest h in
     let f = interval_found text rest q.0 q.1 in
     record {
-      front = f.front;
+      prefix = f.prefix;
       value = pos f.value;
       same = q.2 ∙ ap pos f.same;
       splits = f.splits;
-      reads = unsigned_reads text f.front rest f.splits m ∙ ap (option_map pos) f.reads;
+      reads = unsigned_reads text f.prefix rest f.splits m ∙ ap (option_map pos) f.reads;
       ends = f.ends;
       covers = f.covers;
       longest = λ other back w e r.
@@ -81,22 +81,22 @@ unfolding interval_read
 empty_interval n h = cc
 
 -- an interval with an optional `-` that nothing continues is read
-pub signed_interval_only : (text front rest : List ℕ) (z : ℤ) → text ≡ front ++ rest → signed_interval_read front ≡ Some z → Alive rest
+pub signed_interval_only : (text prefix rest : List ℕ) (z : ℤ) → text ≡ prefix ++ rest → signed_interval_read prefix ≡ Some z → Alive rest
     → signed_interval_at text ≡ Some (capped_signed z, rest)
 unfolding signed_interval_at
-signed_interval_only text front rest z e h alive = by_test (slice_index front 0 == 45)
-    (λ t. let f = first_is 45 front refl t in let g : text ≡ 45 ∷ (drop 1 front ++ rest) = e ∙ ap (λ (zs : List ℕ). zs ++ rest) f in
-    let n = mapped_some negative (interval_read (drop 1 front)) z (sym (signed_test front true t) ∙ h) in
-    let d = interval_only (drop 1 front ++ rest) (drop 1 front) rest n.0 refl n.1 alive.ends in
+signed_interval_only text prefix rest z e h alive = by_test (slice_index prefix 0 == 45)
+    (λ t. let f = first_is 45 prefix refl t in let g : text ≡ 45 ∷ (drop 1 prefix ++ rest) = e ∙ ap (λ (zs : List ℕ). zs ++ rest) f in
+    let n = mapped_some negative (interval_read (drop 1 prefix)) z (sym (signed_test prefix true t) ∙ h) in
+    let d = interval_only (drop 1 prefix ++ rest) (drop 1 prefix) rest n.0 refl n.1 alive.ends in
     rw g (ap (option_map negative_found) d ∙ ap (λ (x : ℤ). let r : Option (ℤ × List ℕ) = Some (x, rest) in r) (capped_negative n.0 ∙ ap capped_signed (sym n.2))))
-    (λ t. let n = mapped_some pos (interval_read front) z (sym (signed_test front false t) ∙ h) in
-    let d = interval_only text front rest n.0 e n.1 alive.ends in
+    (λ t. let n = mapped_some pos (interval_read prefix) z (sym (signed_test prefix false t) ∙ h) in
+    let d = interval_only text prefix rest n.0 e n.1 alive.ends in
     rw (same_start t n.0 n.1) (ap (option_map positive_found) d ∙ ap (λ (x : ℤ). let r : Option (ℤ × List ℕ) = Some (capped_signed x, rest) in r) (sym n.2))) where
-      same_start : (slice_index front 0 == 45) ≡ false → (n : ℕ) → interval_read front ≡ Some n → (slice_index text 0 == 45) ≡ false
-      same_start t n k = by_front front refl k where
-        by_front : (f : List ℕ) → front ≡ f → interval_read f ≡ Some n → (slice_index text 0 == 45) ≡ false
-        by_front [] g r = absurd (empty_interval n r)
-        by_front (c ∷ f) g r = let same = e ∙ ap (λ (zs : List ℕ). zs ++ rest) g in
+      same_start : (slice_index prefix 0 == 45) ≡ false → (n : ℕ) → interval_read prefix ≡ Some n → (slice_index text 0 == 45) ≡ false
+      same_start t n k = by_prefix prefix refl k where
+        by_prefix : (f : List ℕ) → prefix ≡ f → interval_read f ≡ Some n → (slice_index text 0 == 45) ≡ false
+        by_prefix [] g r = absurd (empty_interval n r)
+        by_prefix (c ∷ f) g r = let same = e ∙ ap (λ (zs : List ℕ). zs ++ rest) g in
             subst (λ zs. (slice_index zs 0 == 45) ≡ false) (sym same) (subst (λ zs. (slice_index zs 0 == 45) ≡ false) g t)
 
 -- ---- what a duration counts as

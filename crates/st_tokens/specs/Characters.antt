@@ -25,7 +25,7 @@ BeginsWord (b ∷ bs) = is_word_byte b ≡ true
 abbrev pub is_blank : ℕ → Bool
 is_blank b = b == 9 || b == 10 || b == 13 || b == 32
 
--- a line ends behind its line feed
+-- a line ends after its line feed
 abbrev pub line_end : ℕ → ℕ
 line_end b = if b == 10 then 1 else 0
 

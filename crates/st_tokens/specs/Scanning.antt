@@ -1,4 +1,4 @@
--- The token at the front of a text, byte by byte.
+-- The token at the start of a text, byte by byte.
 use Rattle.std.specs.Prelude.{ℕ, ◌+◌, ◌-◌, Bool, false, ◌&&◌, ◌||◌, not, ◌==◌, if◌then◌else◌, List, [], ◌∷◌, ◌++◌, length, drop, Option, Some, None, option_map, option_and_then, slice_index, codes, ℤ, pos}
 use Rattle.std.specs.Borrow.{Bor}
 use Rattle.std.specs.Char.{is_ascii_digit}
@@ -19,18 +19,18 @@ use Rattle.st_tokens.specs.Characters.{begins_word, is_word_byte, line_end}
 use Rattle.st_tokens.specs.Forms.{value, time_of}
 use Rattle.st_tokens.specs.Words.{keyword_of, elem_of}
 
--- what the code found, and what stands behind it
+-- what the code found, and what stands after it
 abbrev pub seen : {A : Type 0} → Option (A × Bor (List ℕ)) → Option (A × List ℕ)
 seen found = option_map (λ f. (f.0, f.1.now)) found
 
--- the longest front of bytes of a word, and what stands behind it
+-- the longest prefix of bytes of a word, and what stands after it
 abbrev pub run : List ℕ → List ℕ
 run [] = []
 run (b ∷ bs) = if is_word_byte b then b ∷ run bs else []
 
-abbrev pub behind : List ℕ → List ℕ
-behind [] = []
-behind (b ∷ bs) = if is_word_byte b then behind bs else b ∷ bs
+abbrev pub after_run : List ℕ → List ℕ
+after_run [] = []
+after_run (b ∷ bs) = if is_word_byte b then after_run bs else b ∷ bs
 
 -- no two `_` in a row, and none at the end; the flag says that a `_` stands before
 abbrev pub is_clean_after : Bool → List ℕ → Bool
@@ -48,13 +48,13 @@ base_of w = if bytes_eq w (codes "16") then Some 16 else if bytes_eq w (codes "8
 
 -- digits of a base
 unfoldable pub digits_at : ℕ → List ℕ → Option (ℕ × List ℕ)
-digits_at base text = option_map (λ n. (capped n, behind text)) (digits_read base (run text))
+digits_at base text = option_map (λ n. (capped n, after_run text)) (digits_read base (run text))
 
 -- a number without a sign
 unfoldable pub number_at : List ℕ → Option (ℕ × List ℕ)
 number_at text =
-    if begins_with (codes "#") (behind text)
-    then option_and_then (λ base. digits_at base (after (codes "#") (behind text))) (base_of (run text))
+    if begins_with (codes "#") (after_run text)
+    then option_and_then (λ base. digits_at base (after (codes "#") (after_run text))) (base_of (run text))
     else digits_at 10 text
 
 -- ---- literals
@@ -75,11 +75,11 @@ signed_at text =
 -- a number, or TRUE or FALSE
 unfoldable pub boolean_at : List ℕ → Option (ℤ × List ℕ)
 boolean_at text =
-    if is_word (codes "TRUE") (run text) then Some (pos 1, behind text)
-    else if is_word (codes "FALSE") (run text) then Some (pos 0, behind text)
+    if is_word (codes "TRUE") (run text) then Some (pos 1, after_run text)
+    else if is_word (codes "FALSE") (run text) then Some (pos 0, after_run text)
     else signed_at text
 
--- what stands behind the `#` of a typed literal
+-- what stands after the `#` of a typed literal
 unfoldable pub literal_at : Class → List ℕ → Option (ℤ × List ℕ)
 literal_at Boolean text = boolean_at text
 literal_at Integer text = signed_at text
@@ -89,7 +89,7 @@ literal_at Duration text = None
 abbrev pub typed_found : Elem → ℤ × List ℕ → Kind × List ℕ
 typed_found elem found = (K.Typed (value elem found.0), found.1)
 
--- a typed literal, behind its type and `#`
+-- a typed literal, after its type and `#`
 unfoldable pub typed_at : List ℕ → List ℕ → Option (Kind × List ℕ)
 typed_at w text = option_and_then (λ elem. option_map (typed_found elem) (literal_at (class_of elem) text)) (elem_of w)
 
@@ -102,21 +102,21 @@ ends_in_digit w = is_ascii_digit (slice_index w (length w - 1))
 
 -- where a number is open and a `.` follows, the number goes on
 abbrev pub has_fraction : List ℕ → Bool
-has_fraction text = ends_in_digit (run text) && begins_with (codes ".") (behind text)
+has_fraction text = ends_in_digit (run text) && begins_with (codes ".") (after_run text)
 
 abbrev pub fraction_of : List ℕ → List ℕ
-fraction_of text = after (codes ".") (behind text)
+fraction_of text = after (codes ".") (after_run text)
 
--- the bytes that the parts of a duration may have, and what stands behind them
-abbrev pub interval_front : List ℕ → List ℕ
-interval_front text = if has_fraction text then run text ++ byte "." ∷ run (fraction_of text) else run text
+-- the bytes that the parts of a duration may have, and what stands after them
+abbrev pub interval_prefix : List ℕ → List ℕ
+interval_prefix text = if has_fraction text then run text ++ byte "." ∷ run (fraction_of text) else run text
 
-abbrev pub interval_behind : List ℕ → List ℕ
-interval_behind text = if has_fraction text then behind (fraction_of text) else behind text
+abbrev pub interval_rest : List ℕ → List ℕ
+interval_rest text = if has_fraction text then after_run (fraction_of text) else after_run text
 
 -- the parts of a duration
 unfoldable pub interval_at : List ℕ → Option (ℕ × List ℕ)
-interval_at text = option_map (λ n. (capped n, interval_behind text)) (interval_read (interval_front text))
+interval_at text = option_map (λ n. (capped n, interval_rest text)) (interval_read (interval_prefix text))
 
 -- the same after an optional `-`
 unfoldable pub signed_interval_at : List ℕ → Option (ℤ × List ℕ)
@@ -127,7 +127,7 @@ signed_interval_at text =
 abbrev pub duration_found : ℤ × List ℕ → Kind × List ℕ
 duration_found found = (K.Duration (time_of found.0), found.1)
 
--- a duration, behind its `#`
+-- a duration, after its `#`
 unfoldable pub duration_at : List ℕ → Option (Kind × List ℕ)
 duration_at text = option_map duration_found (signed_interval_at text)
 
@@ -148,8 +148,8 @@ word_kind w = kind_by w (keyword_of w) (elem_of w)
 -- a word, or a literal that begins with one
 unfoldable pub word_at : List ℕ → Option (Kind × List ℕ)
 word_at text =
-    if begins_with (codes "#") (behind text) then prefixed_at (run text) (after (codes "#") (behind text))
-    else if is_clean (run text) then Some (word_kind (run text), behind text)
+    if begins_with (codes "#") (after_run text) then prefixed_at (run text) (after (codes "#") (after_run text))
+    else if is_clean (run text) then Some (word_kind (run text), after_run text)
     else None
 
 -- ---- symbols
@@ -197,14 +197,14 @@ symbol_at (b ∷ c ∷ bs) = symbol_or (double b c) bs (symbol_or (single b) (c 
 abbrev pub number_found : ℕ × List ℕ → Kind × List ℕ
 number_found found = (K.Number found.0, found.1)
 
--- the token at the front, and what stands behind it
+-- the token at the start, and what stands after it
 unfoldable pub token_at : List ℕ → Option (Kind × List ℕ)
 token_at text =
     if is_ascii_digit (slice_index text 0) then option_map number_found (number_at text)
     else if begins_word (slice_index text 0) then word_at text
     else symbol_at text
 
--- behind the first `*)`, and the line there
+-- after the first `*)`, and the line there
 abbrev pub comment_at : ℕ → List ℕ → Option (ℕ × List ℕ)
 comment_at line [] = None
 comment_at line (b ∷ []) = None

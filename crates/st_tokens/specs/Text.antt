@@ -1,9 +1,8 @@
 -- A text and its tokens (IEC 61131-3:2003, 2.1).
-use Rattle.std.specs.Prelude.{◌≡◌, ℕ, ◌+◌, ◌<◌, ◌≤◌, ◌⊎◌, true, List, [], ◌∷◌, ◌++◌, length, codes}
+use Rattle.std.specs.Prelude.{◌≡◌, ℕ, ◌+◌, ◌^◌, ◌<◌, ◌≤◌, ◌⊎◌, true, List, [], ◌∷◌, ◌++◌, length, codes}
 use Rattle.st_values.specs.declared.elem.Elem.TheVariants.{Time}
 use Rattle.st_tokens.specs.declared.fault.SyntaxFault.{SyntaxFault}
 use Rattle.st_tokens.specs.declared.fault.SyntaxFault.TheVariants as F
-use Rattle.st_tokens.specs.declared.scan.TheConstants.{MOST_BYTES}
 use Rattle.st_tokens.specs.declared.token.Kind.{Kind}
 use Rattle.st_tokens.specs.declared.token.Kind.TheVariants as K
 use Rattle.st_tokens.specs.declared.token.Token.{Token}
@@ -11,17 +10,17 @@ use Rattle.st_tokens.specs.Characters.{BeginsWord, is_blank, line_end, line_ends
 use Rattle.st_tokens.specs.Words.{IsSame, IsUnclean}
 use Rattle.st_tokens.specs.Forms.{HasForm}
 
--- of all fronts of the text that have a form, this is the longest
-pub record IsLongest (text front rest : List ℕ) (kind : Kind) : Type 0 where
-  pub splits : text ≡ front ++ rest
-  pub form : HasForm front kind
-  pub longest : (other back : List ℕ) (k : Kind) → text ≡ other ++ back → HasForm other k → length other ≤ length front
+-- of all prefixes of the text that have a form, this is the longest
+pub record IsLongest (text prefix rest : List ℕ) (kind : Kind) : Type 0 where
+  pub splits : text ≡ prefix ++ rest
+  pub form : HasForm prefix kind
+  pub longest : (other back : List ℕ) (k : Kind) → text ≡ other ++ back → HasForm other k → length other ≤ length prefix
 
 -- a `#` comes first
 abbrev pub BeginsHash : List ℕ → Type 0
 BeginsHash rest = (back : List ℕ) × (rest ≡ codes "#" ++ back)
 
--- there is no token, though this front has a form: a word has two `_` in a row or one at the end, what begins as a
+-- there is no token, though this prefix has a form: a word has two `_` in a row or one at the end, what begins as a
 -- duration is none, or a letter, a digit or `_` follows a literal
 abbrev pub IsRefused : Kind → List ℕ → Type 0
 IsRefused (K.Word w) rest = IsUnclean w ⊎ (IsSame w (codes "T") × BeginsHash rest)
@@ -33,7 +32,7 @@ IsRefused _ rest = ⊥
 
 -- `(*` comes first
 abbrev pub BeginsComment : List ℕ → Type 0
-BeginsComment text = (behind : List ℕ) × (text ≡ codes "(*" ++ behind)
+BeginsComment text = (rest : List ℕ) × (text ≡ codes "(*" ++ rest)
 
 -- a comment is its body, up to the first `*)`, between the marks; nothing nests (2.1.5)
 pub record IsComment (text body rest : List ℕ) : Type 0 where
@@ -58,15 +57,15 @@ pub data HasTokens : ℕ → List ℕ → List Token → Type 0 where
   -- a comment (2.1.5)
   comment : {line : ℕ} {text body rest : List ℕ} {ts : List Token}
       → IsComment text body rest → HasTokens (line + line_ends body) rest ts → HasTokens line text ts
-  -- what begins no comment: a token, which is the longest front that has a form
-  next : {line : ℕ} {text front rest : List ℕ} {kind : Kind} {ts : List Token}
-      → (BeginsComment text → ⊥) → IsLongest text front rest kind → (IsRefused kind rest → ⊥)
+  -- what begins no comment: a token, which is the longest match
+  next : {line : ℕ} {text prefix rest : List ℕ} {kind : Kind} {ts : List Token}
+      → (BeginsComment text → ⊥) → IsLongest text prefix rest kind → (IsRefused kind rest → ⊥)
       → HasTokens line rest ts → HasTokens line text (token line kind ∷ ts)
 
 -- what a fault says of a text
 abbrev pub Explains : SyntaxFault → List ℕ → Type 0
 Explains F.Memory text = Unit {0}
 Explains (F.NoToken line) text = (ts : List Token) → HasTokens 1 text ts → ⊥
-Explains F.TooLong text = MOST_BYTES < length text
+Explains F.TooLong text = 2 ^ 20 < length text
 Explains (F.NotInGrammar line) text = ⊥
 Explains (F.TooDeep line) text = ⊥

@@ -3,9 +3,9 @@ use Rattle.std.specs.Prelude.{◌≡◌, ℕ, true, ◌⊎◌, List, [], ◌∷�
 use Rattle.std.specs.Char.{to_ascii_lowercase}
 use Rattle.std.specs.List.{find}
 use Rattle.st_values.specs.declared.elem.Elem.{Elem}
+use Rattle.st_values.specs.declared.elem.TheConstants.Elem.{ALL}
 use Rattle.st_values.specs.Words.{is_word}
 use Rattle.st_values.specs.Types.{name_of}
-use Rattle.st_tokens.specs.declared.word.TheConstants.{ELEMS}
 use Rattle.st_tokens.specs.declared.keyword.TheConstants.{KEYWORDS}
 use Rattle.st_tokens.specs.declared.keyword.Keyword.{Keyword}
 use Rattle.st_tokens.specs.declared.keyword.Keyword.TheVariants as K
@@ -93,16 +93,16 @@ IsWord (b ∷ bs) = (begins_word b ≡ true) × AreWordBytes bs
 
 -- two `_` in a row, or one at the end
 abbrev pub IsUnclean : List ℕ → Type 0
-IsUnclean w = ((front back : List ℕ) × (w ≡ front ++ (codes "__" ++ back))) ⊎ ((front : List ℕ) × (w ≡ front ++ codes "_"))
+IsUnclean w = ((prefix back : List ℕ) × (w ≡ prefix ++ (codes "__" ++ back))) ⊎ ((prefix : List ℕ) × (w ≡ prefix ++ codes "_"))
 
 -- a word that no program may use for its own names
 abbrev pub IsReserved : List ℕ → Type 0
 IsReserved w = ((keyword : Keyword) × IsSame w (spelling_of keyword)) ⊎ ((elem : Elem) × IsSame w (name_of elem))
 
--- the reserved word that this is, in any case
+-- the reserved word that this is, ignoring case
 unfoldable pub keyword_of : List ℕ → Option Keyword
 keyword_of w = find (λ keyword. is_word (spelling_of keyword) w) KEYWORDS
 
--- the type whose name this is, in any case
+-- the type whose name this is, ignoring case
 unfoldable pub elem_of : List ℕ → Option Elem
-elem_of w = find (λ elem. is_word (name_of elem) w) ELEMS
+elem_of w = find (λ elem. is_word (name_of elem) w) ALL

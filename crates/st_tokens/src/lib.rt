@@ -13,7 +13,7 @@ mod token;
 mod word;
 
 pub use fault::SyntaxFault;
-pub use keyword::{KEYWORDS, Keyword};
-pub use scan::{MOST_BYTES, tokens, tokens_are_one_list};
+pub use keyword::Keyword;
+pub use scan::{MAX_TEXT_BYTES, tokens, tokens_are_one_list};
 pub use symbol::Symbol;
 pub use token::{Kind, Spelling, Token};

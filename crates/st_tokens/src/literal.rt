@@ -1,14 +1,13 @@
-//! Numbers and truth values at the front of a text (IEC 61131-3:2003, 2.2.1).
+//! Numbers and truth values at the start of a text (IEC 61131-3:2003, 2.2.1).
 ghost use Rattle.std.specs.Prelude.{◌≡◌, ◌≤◌, ◌^◌, IfSome};
-ghost use Rattle.st_tokens.specs.Scanning as spec;
-ghost use Rattle.st_tokens.specs.Scanning.{seen};
+ghost use Rattle.st_tokens.specs.Scanning.{base_of, boolean_at, digits_at, literal_at, number_at, seen, signed_at};
 
 use crate::run::split_run;
 use st_values::{Class, read_digits};
 
 /// The base that a number has before its `#`.
 fn base_of(word: &[u8]) -> Option<u32>
-    ensures { result ≡ spec.base_of word.now }
+    ensures { result ≡ base_of word.now }
 {
     if word == b"16".as_slice() {
         Some(16)
@@ -21,36 +20,36 @@ fn base_of(word: &[u8]) -> Option<u32>
     }
 }
 
-/// Reads digits of a base at the front.
+/// Reads digits of a base at the start.
 #[tactic(auto, unfolding(crate::specs::Scanning::digits_at))]
 fn digits_at(base: u32, text: &[u8]) -> Option<(u128, &[u8])>
     requires low { 2 ≤ base }
     requires high { base ≤ 16 }
-    ensures found { seen result ≡ spec.digits_at base text.now }
+    ensures found { seen result ≡ digits_at base text.now }
     ensures small { IfSome result (λ found. found.0 ≤ 2 ^ 64) }
 {
     let (digits, rest) = split_run(text);
     Some((read_digits(base, digits)?, rest))
 }
 
-/// Reads a number without a sign at the front.
+/// Reads a number without a sign at the start.
 #[tactic(auto, unfolding(crate::specs::Scanning::number_at, crate::specs::Scanning::digits_at))]
 pub fn number_at(text: &[u8]) -> Option<(u128, &[u8])>
-    ensures found { seen result ≡ spec.number_at text.now }
+    ensures found { seen result ≡ number_at text.now }
     ensures small { IfSome result (λ found. found.0 ≤ 2 ^ 64) }
 {
-    let (front, rest) = split_run(text);
+    let (prefix, rest) = split_run(text);
     if rest.starts_with(b"#") {
-        digits_at(base_of(front)?, &rest[1..])
+        digits_at(base_of(prefix)?, &rest[1..])
     } else {
-        Some((read_digits(10, front)?, rest))
+        Some((read_digits(10, prefix)?, rest))
     }
 }
 
-/// Reads a number at the front that may have a sign where it is decimal.
+/// Reads a number at the start that may have a sign where it is decimal.
 #[tactic(auto, unfolding(crate::specs::Scanning::signed_at))]
 fn signed_at(text: &[u8]) -> Option<(i128, &[u8])>
-    ensures { seen result ≡ spec.signed_at text.now }
+    ensures { seen result ≡ signed_at text.now }
 {
     match text {
         [b'-', digits @ ..] => {
@@ -68,25 +67,25 @@ fn signed_at(text: &[u8]) -> Option<(i128, &[u8])>
     }
 }
 
-/// Reads a number, `TRUE` or `FALSE` at the front.
+/// Reads a number, `TRUE` or `FALSE` at the start.
 #[tactic(auto, unfolding(crate::specs::Scanning::boolean_at))]
 fn boolean_at(text: &[u8]) -> Option<(i128, &[u8])>
-    ensures { seen result ≡ spec.boolean_at text.now }
+    ensures { seen result ≡ boolean_at text.now }
 {
-    let (front, rest) = split_run(text);
-    if front.eq_ignore_ascii_case(b"TRUE") {
+    let (prefix, rest) = split_run(text);
+    if prefix.eq_ignore_ascii_case(b"TRUE") {
         Some((1, rest))
-    } else if front.eq_ignore_ascii_case(b"FALSE") {
+    } else if prefix.eq_ignore_ascii_case(b"FALSE") {
         Some((0, rest))
     } else {
         signed_at(text)
     }
 }
 
-/// Reads at the front what stands behind the `#` of a typed literal.
+/// Reads at the start what stands after the `#` of a typed literal.
 #[tactic(auto, unfolding(crate::specs::Scanning::literal_at))]
 pub fn literal_at(class: Class, text: &[u8]) -> Option<(i128, &[u8])>
-    ensures { seen result ≡ spec.literal_at class text.now }
+    ensures { seen result ≡ literal_at class text.now }
 {
     match class {
         Class::Boolean => boolean_at(text),

@@ -1,8 +1,7 @@
 //! Cuts a text into tokens.
 ghost use Rattle.std.specs.Prelude.{◌≡◌, ◌≤◌, ◌<◌, ◌+◌, ◌^◌, length, IfOk, IfErr, MatchResult};
-ghost use Rattle.st_tokens.specs.Characters as characters;
-ghost use Rattle.st_tokens.specs.Scanning as spec;
-ghost use Rattle.st_tokens.specs.Scanning.{seen};
+ghost use Rattle.st_tokens.specs.Characters.{is_blank};
+ghost use Rattle.st_tokens.specs.Scanning.{duration_at, prefixed_at, seen, symbol_at, token_at, typed_at, word_at};
 ghost use Rattle.st_tokens.specs.Text.{HasTokens, Explains, Tokens};
 
 use crate::comment::comment_at;
@@ -17,22 +16,22 @@ use st_values::Value;
 use std::alloc::Global;
 
 /// The most bytes of a text.
-pub const MOST_BYTES: usize = 1 << 20;
+pub const MAX_TEXT_BYTES: usize = 1 << 20;
 
-/// Reads the rest of a typed literal, behind its type and `#`.
+/// Reads the rest of a typed literal, after its type and `#`.
 #[tactic(auto, unfolding(crate::specs::Scanning::typed_at))]
 fn typed_at<'a>(word: &[u8], text: &'a [u8]) -> Option<(Kind<'a>, &'a [u8])>
-    ensures { seen result ≡ spec.typed_at word.now text.now }
+    ensures { seen result ≡ typed_at word.now text.now }
 {
     let elem = elem_of(word)?;
     let (bits, rest) = literal_at(elem.class(), text)?;
     Some((Kind::Typed(Value { elem, bits }), rest))
 }
 
-/// Reads the rest of a duration, behind its `#`.
+/// Reads the rest of a duration, after its `#`.
 #[tactic(auto, unfolding(crate::specs::Scanning::duration_at))]
 fn duration_at<'a>(text: &'a [u8]) -> Option<(Kind<'a>, &'a [u8])>
-    ensures { seen result ≡ spec.duration_at text.now }
+    ensures { seen result ≡ duration_at text.now }
 {
     let (bits, rest) = signed_interval_at(text)?;
     Some((Kind::Duration(time_of(bits)), rest))
@@ -41,7 +40,7 @@ fn duration_at<'a>(text: &'a [u8]) -> Option<(Kind<'a>, &'a [u8])>
 /// Reads the rest of a literal that begins with this word and `#`.
 #[tactic(auto, unfolding(crate::specs::Scanning::prefixed_at))]
 fn prefixed_at<'a>(word: &[u8], text: &'a [u8]) -> Option<(Kind<'a>, &'a [u8])>
-    ensures { seen result ≡ spec.prefixed_at word.now text.now }
+    ensures { seen result ≡ prefixed_at word.now text.now }
 {
     if word.eq_ignore_ascii_case(b"T") || word.eq_ignore_ascii_case(b"TIME") {
         duration_at(text)
@@ -50,25 +49,25 @@ fn prefixed_at<'a>(word: &[u8], text: &'a [u8]) -> Option<(Kind<'a>, &'a [u8])>
     }
 }
 
-/// Reads a word at the front, or a literal that begins with one.
+/// Reads a word at the start, or a literal that begins with one.
 #[tactic(auto, unfolding(crate::specs::Scanning::word_at))]
 fn word_at<'a>(text: &'a [u8]) -> Option<(Kind<'a>, &'a [u8])>
-    ensures { seen result ≡ spec.word_at text.now }
+    ensures { seen result ≡ word_at text.now }
 {
-    let (front, rest) = split_run(text);
+    let (prefix, rest) = split_run(text);
     if rest.starts_with(b"#") {
-        prefixed_at(front, &rest[1..])
-    } else if is_clean(front) {
-        Some((word_kind(front), rest))
+        prefixed_at(prefix, &rest[1..])
+    } else if is_clean(prefix) {
+        Some((word_kind(prefix), rest))
     } else {
         None
     }
 }
 
-/// Reads a symbol at the front: one of two bytes, else one of one.
+/// Reads a symbol at the start: one of two bytes, else one of one.
 #[tactic(auto, unfolding(crate::specs::Scanning::symbol_at))]
 fn symbol_at<'a>(text: &'a [u8]) -> Option<(Kind<'a>, &'a [u8])>
-    ensures { seen result ≡ spec.symbol_at text.now }
+    ensures { seen result ≡ symbol_at text.now }
 {
     if let [first, second, rest @ ..] = text {
         if let Some(symbol) = Symbol::of_two(*first, *second) {
@@ -79,10 +78,10 @@ fn symbol_at<'a>(text: &'a [u8]) -> Option<(Kind<'a>, &'a [u8])>
     Some((Kind::Symbol(Symbol::of_one(*first)?), rest))
 }
 
-/// Reads the token at the front.
+/// Reads the token at the start.
 #[tactic(auto, unfolding(crate::specs::Scanning::token_at))]
 fn token_at<'a>(text: &'a [u8]) -> Option<(Kind<'a>, &'a [u8])>
-    ensures { seen result ≡ spec.token_at text.now }
+    ensures { seen result ≡ token_at text.now }
 {
     let [first, ..] = text else {
         return None;
@@ -99,14 +98,14 @@ fn token_at<'a>(text: &'a [u8]) -> Option<(Kind<'a>, &'a [u8])>
 
 /// Tests whether a byte is a blank (2.1.4).
 fn is_blank(byte: u8) -> bool
-    ensures { result ≡ characters.is_blank byte }
+    ensures { result ≡ is_blank byte }
 {
     byte == b'\t' || byte == b'\n' || byte == b'\r' || byte == b' '
 }
 
 /// The tokens of a text that isn't too long.
 fn scan<'a>(alloc: Global, text: &'a [u8]) -> Result<Vec<Token<'a>>, SyntaxFault>
-    requires { length text.now ≤ MOST_BYTES }
+    requires { length text.now ≤ 2 ^ 20 }
     ensures found { IfOk result (λ found. HasTokens 1 text.now found.items) }
     ensures fault { IfErr result (λ fault. Explains fault text.now) }
 {
@@ -118,42 +117,42 @@ fn scan<'a>(alloc: Global, text: &'a [u8]) -> Result<Vec<Token<'a>>, SyntaxFault
             line += u32::from(*first == b'\n');
             rest = &rest[1..];
         } else if rest.starts_with(b"(*") {
-            let Some((next, behind)) = comment_at(line, &rest[2..]) else {
+            let Some((next, remaining)) = comment_at(line, &rest[2..]) else {
                 return Err(SyntaxFault::NoToken { line });
             };
             line = next;
-            rest = behind;
+            rest = remaining;
         } else {
-            let Some((kind, behind)) = token_at(rest) else {
+            let Some((kind, remaining)) = token_at(rest) else {
                 return Err(SyntaxFault::NoToken { line });
             };
             found.push(Token { kind, line })?;
-            rest = behind;
+            rest = remaining;
         }
     }
     Ok(found)
 }
 
-/// The tokens of a text, from its front on.
+/// The tokens of a text, from its start on.
 ///
-/// Between blanks and comments each token is the longest front that has the form of one. Case isn't significant, and
-/// comments don't nest.
+/// Between blanks and comments each token is the longest match: the longest prefix that has the form of a token. Case
+/// isn't significant, and comments don't nest.
 ///
 /// # Errors
-/// - `TooLong` for a text of more than `MOST_BYTES`;
+/// - `TooLong` for a text of more than `MAX_TEXT_BYTES`;
 /// - `NoToken` where nothing at some place has the form of a token, where a comment doesn't end, a word has two `_` in a
-///   row or one at its end, or a letter, a digit or `_` stands directly behind a literal;
+///   row or one at its end, or a letter, a digit or `_` stands directly after a literal;
 /// - `Memory` where memory runs out.
 pub fn tokens<'a>(alloc: Global, text: &'a [u8]) -> Result<Vec<Token<'a>>, SyntaxFault>
     ensures found { IfOk result (λ found. HasTokens 1 text.now found.items) }
     ensures fault { IfErr result (λ fault. Explains fault text.now) }
 
     // A text that has tokens, and isn't too long, gets these, unless memory runs out.
-    ensures only { (found : Tokens) → length text.now ≤ MOST_BYTES → HasTokens 1 text.now found
+    ensures only { (found : Tokens) → length text.now ≤ 2 ^ 20 → HasTokens 1 text.now found
         → MatchResult result (λ v. v.items ≡ found) (λ fault. fault ≡ SyntaxFault.Memory) }
-    ensures long { MOST_BYTES < length text.now → result ≡ Err SyntaxFault.TooLong }
+    ensures long { 2 ^ 20 < length text.now → result ≡ Err SyntaxFault.TooLong }
 {
-    if text.len() > MOST_BYTES {
+    if text.len() > MAX_TEXT_BYTES {
         return Err(SyntaxFault::TooLong);
     }
     scan(alloc, text)

@@ -55,7 +55,7 @@ pub enum Symbol {
 
 impl Symbol {
     /// The symbol that these two bytes are.
-    pub fn of_two(first: u8, second: u8) -> Option<Symbol>
+    pub(crate) fn of_two(first: u8, second: u8) -> Option<Symbol>
         ensures { result ≡ double first second }
     {
         match (first, second) {
@@ -70,7 +70,7 @@ impl Symbol {
     }
 
     /// The symbol that this byte is.
-    pub fn of_one(byte: u8) -> Option<Symbol>
+    pub(crate) fn of_one(byte: u8) -> Option<Symbol>
         ensures { result ≡ single byte }
     {
         match byte {

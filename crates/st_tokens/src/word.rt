@@ -1,36 +1,18 @@
 //! Words, reserved words and the names of types.
 ghost use Rattle.std.specs.Prelude.{◌≡◌};
-ghost use Rattle.st_tokens.specs.Scanning.{is_clean as has_single_underscores, word_kind as kind_of};
-ghost use Rattle.st_tokens.specs.Words.{elem_of as elem_named};
+ghost use Rattle.st_tokens.specs.Scanning.{is_clean, word_kind};
+ghost use Rattle.st_tokens.specs.Words.{elem_of};
 
 use crate::keyword::Keyword;
 use crate::token::{Kind, Spelling};
 use st_values::Elem;
 
-/// All elementary types.
-pub const ELEMS: [Elem; 14] = [
-    Elem::Bool,
-    Elem::Sint,
-    Elem::Int,
-    Elem::Dint,
-    Elem::Lint,
-    Elem::Usint,
-    Elem::Uint,
-    Elem::Udint,
-    Elem::Ulint,
-    Elem::Byte,
-    Elem::Word,
-    Elem::Dword,
-    Elem::Lword,
-    Elem::Time,
-];
-
-/// The elementary type whose name this is, in any case.
+/// The elementary type whose name this is, ignoring case.
 #[tactic(auto, unfolding(crate::specs::Words::elem_of))]
 pub fn elem_of(word: &[u8]) -> Option<Elem>
-    ensures { result ≡ elem_named word.now }
+    ensures { result ≡ elem_of word.now }
 {
-    ELEMS
+    Elem::ALL
         .iter()
         .copied()
         .find(|elem| word.eq_ignore_ascii_case(elem.name()))
@@ -38,7 +20,7 @@ pub fn elem_of(word: &[u8]) -> Option<Elem>
 
 /// Tests that no two `_` stand in a row, and none at the end.
 pub fn is_clean(word: &[u8]) -> bool
-    ensures { result ≡ has_single_underscores word.now }
+    ensures { result ≡ is_clean word.now }
 {
     let mut after_underscore = false;
     for byte in word {
@@ -54,7 +36,7 @@ pub fn is_clean(word: &[u8]) -> bool
 /// The token that a whole word is.
 #[tactic(auto, unfolding(crate::specs::Scanning::word_kind))]
 pub fn word_kind<'a>(word: &'a [u8]) -> Kind<'a>
-    ensures { result ≡ kind_of word.now }
+    ensures { result ≡ word_kind word.now }
 {
     if let Some(keyword) = Keyword::of(word) {
         Kind::Keyword(keyword)

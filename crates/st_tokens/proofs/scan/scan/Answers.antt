@@ -28,18 +28,18 @@ returns-in_default-comment_at-clause-fault c =
     open_comment c.args.text.now c.loop-rest.rest.now c.loop-rest.found.items c.loop-rest.line c.loop-rest.invariant.reads mark none
 
 -- what a comment that ends tells
-record AfterComment (line next : ℕ) (rest behind : List ℕ) : Type 0 where
+record AfterComment (line next : ℕ) (rest remaining : List ℕ) : Type 0 where
   pub mark : begins_with (codes "(*") rest ≡ true
-  pub found : comment_at line (drop 2 rest) ≡ Some (next, behind)
-  pub shorter : (next + length behind < line + length rest) × (length behind < length rest)
+  pub found : comment_at line (drop 2 rest) ≡ Some (next, remaining)
+  pub shorter : (next + length remaining < line + length rest) × (length remaining < length rest)
 
-after_comment : (c : In-Some) → AfterComment c.loop-rest.line c.in-Some.next c.loop-rest.rest.now c.in-Some.behind.now
+after_comment : (c : In-Some) → AfterComment c.loop-rest.line c.in-Some.next c.loop-rest.rest.now c.in-Some.remaining.now
 after_comment c =
     let mark = sym c.starts_with.ensures.value ∙ c.if-starts_with.true in
-    let found : comment_at c.loop-rest.line (drop 2 c.loop-rest.rest.now) ≡ Some (c.in-Some.next, c.in-Some.behind.now) =
-    subst (λ zs. comment_at c.loop-rest.line zs ≡ Some (c.in-Some.next, c.in-Some.behind.now)) (take_rest 2 c.loop-rest.rest.now)
+    let found : comment_at c.loop-rest.line (drop 2 c.loop-rest.rest.now) ≡ Some (c.in-Some.next, c.in-Some.remaining.now) =
+    subst (λ zs. comment_at c.loop-rest.line zs ≡ Some (c.in-Some.next, c.in-Some.remaining.now)) (take_rest 2 c.loop-rest.rest.now)
     (sym c.comment_at.ensures ∙ ap seen c.in-Some.is) in
-    record { mark = mark; found = found; shorter = shorter_comment c.loop-rest.line c.in-Some.next c.loop-rest.rest.now c.in-Some.behind.now mark found }
+    record { mark = mark; found = found; shorter = shorter_comment c.loop-rest.line c.in-Some.next c.loop-rest.rest.now c.in-Some.remaining.now mark found }
 
 pub loop-rest-smaller-then-starts_with : goal.loop-rest-smaller-then-starts_with
 loop-rest-smaller-then-starts_with c = (after_comment c).shorter.1
@@ -49,7 +49,7 @@ loop-rest-preserved-then-starts_with c =
     let a = after_comment c in let b = a.shorter.0 in
     record {
       room = omega arith;
-      reads = comment_step c.args.text.now c.loop-rest.rest.now c.in-Some.behind.now c.loop-rest.found.items c.loop-rest.line c.in-Some.next
+      reads = comment_step c.args.text.now c.loop-rest.rest.now c.in-Some.remaining.now c.loop-rest.found.items c.loop-rest.line c.in-Some.next
           c.loop-rest.invariant.reads a.mark a.found;
     }
 
@@ -60,16 +60,16 @@ returns-in_default-token_at-clause-fault c =
     (sym c.token_at.ensures ∙ ap seen c.in_default-token_at.is)
 
 pub loop-rest-smaller : goal.loop-rest-smaller
-loop-rest-smaller c = shorter_token c.loop-rest.rest.now c.in-Some-token_at.behind.now c.in-Some-token_at.kind (sym c.token_at.ensures ∙ ap seen c.in-Some-token_at.is)
+loop-rest-smaller c = shorter_token c.loop-rest.rest.now c.in-Some-token_at.remaining.now c.in-Some-token_at.kind (sym c.token_at.ensures ∙ ap seen c.in-Some-token_at.is)
 
 pub loop-rest-preserved : goal.loop-rest-preserved
 loop-rest-preserved c =
-    let found : token_at c.loop-rest.rest.now ≡ Some (c.in-Some-token_at.kind, c.in-Some-token_at.behind.now) = sym c.token_at.ensures ∙ ap seen c.in-Some-token_at.is in
-    let shorter = shorter_token c.loop-rest.rest.now c.in-Some-token_at.behind.now c.in-Some-token_at.kind found in
+    let found : token_at c.loop-rest.rest.now ≡ Some (c.in-Some-token_at.kind, c.in-Some-token_at.remaining.now) = sym c.token_at.ensures ∙ ap seen c.in-Some-token_at.is in
+    let shorter = shorter_token c.loop-rest.rest.now c.in-Some-token_at.remaining.now c.in-Some-token_at.kind found in
     record {
       room = omega arith;
-      reads = subst (λ ts. Reads c.args.text.now ts c.loop-rest.line c.in-Some-token_at.behind.now) (sym c.in_ok-push.ensures.items)
-          (token_step c.args.text.now c.loop-rest.rest.now c.in-Some-token_at.behind.now c.loop-rest.found.items c.loop-rest.line c.in-Some-token_at.kind
+      reads = subst (λ ts. Reads c.args.text.now ts c.loop-rest.line c.in-Some-token_at.remaining.now) (sym c.in_ok-push.ensures.items)
+          (token_step c.args.text.now c.loop-rest.rest.now c.in-Some-token_at.remaining.now c.loop-rest.found.items c.loop-rest.line c.in-Some-token_at.kind
           c.in-len1-up.len_at_least c.loop-rest.invariant.reads (sym c.is_blank.ensures ∙ c.if-is_blank.false)
           (sym c.starts_with.ensures.value ∙ c.if-starts_with.false) found);
     }
