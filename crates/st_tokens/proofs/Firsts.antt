@@ -19,7 +19,7 @@ use Rattle.st_tokens.specs.Symbols.{symbol_text}
 use Rattle.st_tokens.specs.Text.{IsRefused}
 use Rattle.st_tokens.specs.Words.{IsSame, IsWord, keyword_of, elem_of}
 use Rattle.st_tokens.proofs.Marks.{Opens, IsDouble, IsSingle, symbol_cases}
-use Rattle.st_tokens.proofs.Names.{keyword_in, elem_in, elem_no_keyword, not_keyword, not_elem, keyword_name, elem_name, same_name, name_word, name_clean, is_name, clean, begins_no_digit}
+use Rattle.st_tokens.proofs.Names.{keyword_found, elem_found, elem_no_keyword, not_keyword, not_elem, keyword_name, elem_name, same_name, name_word, name_clean, is_name, clean, begins_no_digit}
 use Rattle.st_tokens.proofs.Numbers.{first_digit}
 use Rattle.st_tokens.proofs.Cases.{not_both}
 
@@ -159,12 +159,12 @@ only_word b prefix kind (word {w = w} h n) o t = inl (record {
 })
 only_word b prefix kind (keyword {w = w} {x = x} h) o t = inl (record {
   is_word = name_word w (keyword_name w x h);
-  kind_is = kind_of w (Some x) (elem_of w) (keyword_in w x h) refl;
+  kind_is = kind_of w (Some x) (elem_of w) (keyword_found w x h) refl;
   clean_where = λ rest allowed. name_clean w (keyword_name w x h);
 })
 only_word b prefix kind (type_name {w = w} {elem = elem} h) o t = inl (record {
   is_word = name_word w (elem_name w elem h);
-  kind_is = kind_of w None (Some elem) (elem_no_keyword w elem h) (elem_in w elem h);
+  kind_is = kind_of w None (Some elem) (elem_no_keyword w elem h) (elem_found w elem h);
   clean_where = λ rest allowed. name_clean w (elem_name w elem h);
 })
 only_word b prefix kind (number n h) o t = no_digit_word b o t

@@ -2,6 +2,7 @@ pub mod Cases
 pub mod Comments
 pub mod Firsts
 pub mod Intervals
+pub mod Keywords
 pub mod Literals
 pub mod Longest
 pub mod Marks

@@ -24,7 +24,7 @@ use Rattle.st_tokens.proofs.SignedIntervals.{signed_interval_found, signed_inter
 use Rattle.st_tokens.proofs.Firsts.{form_begins, opens_text, only_number, only_symbol, only_word, Plain, Literal, Lasting, duration_name}
 use Rattle.st_tokens.proofs.Literals.{literal_found, literal_only, is_same, same_test}
 use Rattle.st_tokens.proofs.Marks.{IsDouble, IsSingle, symbol_cases, single_is, double_is}
-use Rattle.st_tokens.proofs.Names.{keyword_is, short_no_elem, elem_in, elem_is, elem_name, name_word, word_words, not_unclean, not_reserved, begins_word_byte}
+use Rattle.st_tokens.proofs.Names.{keyword_is, short_no_elem, elem_found, elem_is, elem_name, name_word, word_words, not_unclean, not_reserved, begins_word_byte}
 use Rattle.st_tokens.proofs.Numbers.{Found, number_found as number_is_found, number_only, hash_split, hash_run, hash_test, no_hash_test, tail_of}
 use Rattle.st_tokens.proofs.Runs.{run_splits, run_words, run_is, words_in_run, words_append}
 use Rattle.st_tokens.proofs.Cases.{by_test, not_both, some_parts}
@@ -181,8 +181,8 @@ duration_word w h = by_test (is_word (codes "T") w)
 
 -- no type but TIME has such a name
 not_typed : (w : List ℕ) (elem : Elem) → IsDurationWord w → IsSame w (name_of elem) → elem ≡ E.Time
-not_typed w elem (inl d) h = let none = short_no_elem w d in let some = elem_in w elem h in absurd (cc)
-not_typed w elem (inr d) h = let time = elem_in w E.Time d in let some = elem_in w elem h in cc
+not_typed w elem (inl d) h = let none = short_no_elem w d in let some = elem_found w elem h in absurd (cc)
+not_typed w elem (inr d) h = let time = elem_found w E.Time d in let some = elem_found w elem h in cc
 
 -- a duration that is read is a token
 duration_token : (b : ℕ) (bs rest : List ℕ) (kind : Kind) → begins_word b ≡ true → begins_with (codes "#") (after_run (b ∷ bs)) ≡ true
@@ -242,7 +242,7 @@ typed_token b bs rest kind elem w t d i h =
 
       reads : (other : List ℕ) (k : Kind) (p : Literal other k) → p.name ≡ run (b ∷ bs) → literal_read (class_of elem) true p.literal ≡ Some p.number
       reads other k p e =
-          let one = elem_in (run (b ∷ bs)) p.elem (subst (λ zs. IsSame zs (name_of p.elem)) e p.named) in
+          let one = elem_found (run (b ∷ bs)) p.elem (subst (λ zs. IsSame zs (name_of p.elem)) e p.named) in
           let same : p.elem ≡ elem = cc in subst (λ x. literal_read (class_of x) true p.literal ≡ Some p.number) same p.reads
 
 -- a literal that begins with a word is a token
@@ -411,7 +411,7 @@ literal_is_only b bs prefix rest kind h alive p =
     (λ t. absurd (p.no_time (not_typed (run (b ∷ bs)) p.elem (duration_word (run (b ∷ bs)) t) named))) (λ t. t) in
     let allowed = subst (λ j. IsRefused j rest → ⊥) p.kind_is h.allowed in
     let found = literal_only (class_of p.elem) (tail_of (b ∷ bs)) p.literal rest p.number (no_duration_class p.elem p.no_time) k.tail_is p.reads (record { ends = allowed; no_hash = alive }) in
-    let i = elem_in (run (b ∷ bs)) p.elem named in
+    let i = elem_found (run (b ∷ bs)) p.elem named in
     rw (t, d) (ap (λ (o : Option Elem). option_and_then (λ elem. option_map (typed_found elem) (literal_at (class_of elem) (tail_of (b ∷ bs)))) o) i
     ∙ ap (option_map (typed_found p.elem)) found ∙ pair_some (K.Typed (value p.elem (capped_signed p.number))) kind rest (sym p.kind_is))
 

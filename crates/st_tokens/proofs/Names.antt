@@ -1,6 +1,6 @@
 -- Words, reserved words and names of types.
 use Rattle.std.proofs.Common.{◌≡◌, ℕ, ◌+◌, ◌≤◌, List, [], ◌∷◌, ◌++◌, refl, sym, ap, ◌∙◌, Bool, true, false, arith, subst, map, nat_lt}
-use Rattle.std.specs.Prelude.{Option, Some, None, ◌==◌, ◌&&◌, not, codes, ◌⊎◌}
+use Rattle.std.specs.Prelude.{Option, Some, None, ◌==◌, ◌&&◌, not, codes, ◌⊎◌, option_map}
 use Rattle.std.specs.Char.{to_ascii_lowercase, is_ascii_digit}
 use Rattle.std.specs.List.{find, list_all}
 use Rattle.std.specs.Str.{bytes_eq}
@@ -17,7 +17,7 @@ use Rattle.st_tokens.specs.declared.keyword.Keyword.TheVariants as K
 use Rattle.st_tokens.specs.declared.keyword.TheConstants.{KEYWORDS}
 use Rattle.st_tokens.specs.Characters.{begins_word, is_word_byte, AreWordBytes}
 use Rattle.st_tokens.specs.Scanning.{is_clean_after, is_clean}
-use Rattle.st_tokens.specs.Words.{spelling_of, keyword_of, elem_of, IsSame, IsWord, IsReserved, IsUnclean}
+use Rattle.st_tokens.specs.Words.{spelling_of, keyword_in, keyword_of, elem_of, IsSame, IsWord, IsReserved, IsUnclean}
 use Rattle.st_tokens.proofs.Cases.{by_test, both, is_equal}
 
 -- only an upper-case letter changes
@@ -76,7 +76,7 @@ find_some p (y ∷ ys) x h = by_test (p y)
 -- only the word without regard to case counts
 keyword_same : (a b : List ℕ) → IsSame a b → keyword_of a ≡ keyword_of b
 unfolding keyword_of
-keyword_same a b e = ap (λ lower. find (λ keyword. bytes_eq lower (map to_ascii_lowercase (spelling_of keyword))) KEYWORDS) e
+keyword_same a b e = ap (λ lower. option_map (λ (row : Keyword × List ℕ). row.0) (find (λ (row : Keyword × List ℕ). bytes_eq lower (map to_ascii_lowercase row.1)) (map (λ row. (row.0, row.1.now)) KEYWORDS))) e
 
 -- the same of types
 elem_same : (a b : List ℕ) → IsSame a b → elem_of a ≡ elem_of b
@@ -89,18 +89,30 @@ unfolding elem_of
 short_no_elem w h = elem_same w (codes "T") h ∙ refl
 
 -- a reserved word ignoring case is found
-pub keyword_in : (w : List ℕ) (x : Keyword) → IsSame w (spelling_of x) → keyword_of w ≡ Some x
-keyword_in w x e = keyword_same w (spelling_of x) e ∙ (keyword_facts x).0
+pub keyword_found : (w : List ℕ) (x : Keyword) → IsSame w (spelling_of x) → keyword_of w ≡ Some x
+keyword_found w x e = keyword_same w (spelling_of x) e ∙ (keyword_facts x).0
+
+-- where each row has the text of its keyword, what is found is written so
+found_row : (rows : List (Keyword × List ℕ)) (w : List ℕ) (x : Keyword)
+    → map (λ row. row.1) rows ≡ map (λ row. spelling_of row.0) rows → keyword_in rows w ≡ Some x → is_word (spelling_of x) w ≡ true
+found_row [] w x e h = absurd (cc)
+found_row (row ∷ rows) w x e h =
+    let head : row.1 ≡ spelling_of row.0 = cc in
+    let tail : map (λ r. r.1) rows ≡ map (λ r. spelling_of r.0) rows = cc in
+    by_test (is_word row.1 w)
+    (λ t. let h' : ◌≡◌ {A = Option Keyword} (Some row.0) (Some x) = rw t at h in let same : row.0 ≡ x = cc in
+    subst (λ z. is_word (spelling_of z) w ≡ true) same (subst (λ zs. is_word zs w ≡ true) head t))
+    (λ t. found_row rows w x tail (rw t at h))
 
 -- what is found is that reserved word
 pub keyword_is : (w : List ℕ) (x : Keyword) → keyword_of w ≡ Some x → IsSame w (spelling_of x)
 unfolding keyword_of
 keyword_is w x h = (bytes_eq-Decides (map to_ascii_lowercase w) (map to_ascii_lowercase (spelling_of x))).0
-    (find_some (λ keyword. is_word (spelling_of keyword) w) KEYWORDS x h)
+    (found_row (map (λ row. (row.0, row.1.now)) KEYWORDS) w x refl h)
 
 -- the name of a type ignoring case is found
-pub elem_in : (w : List ℕ) (x : Elem) → IsSame w (name_of x) → elem_of w ≡ Some x
-elem_in w x e = elem_same w (name_of x) e ∙ (elem_facts x).0
+pub elem_found : (w : List ℕ) (x : Elem) → IsSame w (name_of x) → elem_of w ≡ Some x
+elem_found w x e = elem_same w (name_of x) e ∙ (elem_facts x).0
 
 -- the name of a type is no other reserved word
 pub elem_no_keyword : (w : List ℕ) (x : Elem) → IsSame w (name_of x) → keyword_of w ≡ None
@@ -128,8 +140,8 @@ not_elem w n = at (elem_of w) refl where
 
 -- what neither table has is not reserved
 pub not_reserved : (w : List ℕ) → keyword_of w ≡ None → elem_of w ≡ None → IsReserved w → ⊥
-not_reserved w k e (inl r) = let h = keyword_in w r.0 r.1 in cc
-not_reserved w k e (inr r) = let h = elem_in w r.0 r.1 in cc
+not_reserved w k e (inl r) = let h = keyword_found w r.0 r.1 in cc
+not_reserved w k e (inr r) = let h = elem_found w r.0 r.1 in cc
 
 -- case changes no bytes of a word into others
 all_lower : (w : List ℕ) → list_all is_word_byte (map to_ascii_lowercase w) ≡ list_all is_word_byte w

@@ -1,5 +1,5 @@
 -- Words (IEC 61131-3:2003, 2.1.2) and reserved words (2.1.3 and annex C).
-use Rattle.std.specs.Prelude.{◌≡◌, ℕ, true, ◌⊎◌, List, [], ◌∷◌, ◌++◌, codes, map, Option}
+use Rattle.std.specs.Prelude.{◌≡◌, ℕ, true, ◌⊎◌, List, [], ◌∷◌, ◌++◌, codes, map, Option, option_map}
 use Rattle.std.specs.Char.{to_ascii_lowercase}
 use Rattle.std.specs.List.{find}
 use Rattle.st_values.specs.declared.elem.Elem.{Elem}
@@ -99,9 +99,13 @@ IsUnclean w = ((prefix back : List ℕ) × (w ≡ prefix ++ (codes "__" ++ back)
 abbrev pub IsReserved : List ℕ → Type 0
 IsReserved w = ((keyword : Keyword) × IsSame w (spelling_of keyword)) ⊎ ((elem : Elem) × IsSame w (name_of elem))
 
+-- the keyword of the first row whose text this is, ignoring case
+abbrev pub keyword_in : List (Keyword × List ℕ) → List ℕ → Option Keyword
+keyword_in rows w = option_map (λ row. row.0) (find (λ row. is_word row.1 w) rows)
+
 -- the reserved word that this is, ignoring case
 unfoldable pub keyword_of : List ℕ → Option Keyword
-keyword_of w = find (λ keyword. is_word (spelling_of keyword) w) KEYWORDS
+keyword_of w = keyword_in (map (λ row. (row.0, row.1.now)) KEYWORDS) w
 
 -- the type whose name this is, ignoring case
 unfoldable pub elem_of : List ℕ → Option Elem
