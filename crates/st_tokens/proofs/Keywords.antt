@@ -1,5 +1,5 @@
 -- The table of reserved words.
-use Rattle.std.proofs.Common.{◌≡◌, ℕ, List, [], ◌∷◌, refl, map, true, false}
+use Rattle.std.proofs.Common.{◌≡◌, ℕ, List, [], ◌∷◌, refl, map}
 use Rattle.std.specs.Prelude.{option_map}
 use Rattle.std.specs.List.{find}
 use Rattle.st_values.specs.Words.{is_word}

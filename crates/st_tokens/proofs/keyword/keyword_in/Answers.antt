@@ -5,7 +5,6 @@ use Rattle.std.specs.Prelude.{option_map}
 use Rattle.std.specs.List.{find}
 use Rattle.st_values.specs.Words.{is_word}
 use Rattle.st_tokens.specs.declared.keyword.Keyword.{Keyword}
-use Rattle.st_tokens.specs.Words.{keyword_in}
 use Rattle.st_tokens.proofs.Keywords.{found_in}
 use Rattle.st_tokens.proofs.keyword.keyword_in.Goals as goal
 
