@@ -3,7 +3,7 @@ ghost use Rattle.std.specs.Prelude.{◌≡◌, map};
 ghost use Rattle.st_tokens.specs.Words.{keyword_in, keyword_of};
 
 /// A reserved word that isn't the name of an elementary type (IEC 61131-3:2003, 2.1.3 and annex C).
-#[derive(Clone, Copy, Debug, PartialEq, Eq)]
+#[derive(Clone, Copy, PartialEq, Eq)]
 pub enum Keyword {
     Action,
     And,
