@@ -35,14 +35,14 @@ prefix_len-append p (x ∷ xs) ys all =
 take_while-append : (p : ℕ → Bool) (xs ys : List ℕ) → list_all p xs ≡ true → prefix_len p ys ≡ 0 → take_while p (xs ++ ys) ≡ xs
 take_while-append p xs ys all stops = rw (prefix_len-append p xs ys all, stops, add-zero) (take-append_seam xs ys)
 
--- a list is its front and what stands after it
-front_and_rest : (p : ℕ → Bool) (xs : List ℕ) → xs ≡ take_while p xs ++ drop (length (take_while p xs)) xs
-front_and_rest p xs = rw (length-prefix_len p xs) (sym (take-append-drop (prefix_len p xs) xs))
+-- a list is its prefix and what stands after it
+prefix_and_rest : (p : ℕ → Bool) (xs : List ℕ) → xs ≡ take_while p xs ++ drop (length (take_while p xs)) xs
+prefix_and_rest p xs = rw (length-prefix_len p xs) (sym (take-append-drop (prefix_len p xs) xs))
 
 parts_of : (text : List ℕ) → text ≡ part_number text ++ (part_letters text ++ part_rest text)
 parts_of text =
-    front_and_rest no_letter text
-    ∙ ap (λ (rest : List ℕ). part_number text ++ rest) (front_and_rest is_ascii_alphabetic (drop (length (part_number text)) text))
+    prefix_and_rest no_letter text
+    ∙ ap (λ (rest : List ℕ). part_number text ++ rest) (prefix_and_rest is_ascii_alphabetic (drop (length (part_number text)) text))
 
 list_all-weaker : (p q : ℕ → Bool) → ((c : ℕ) → p c ≡ true → q c ≡ true) → (xs : List ℕ) → list_all p xs ≡ true → list_all q xs ≡ true
 list_all-weaker p q weaker [] all = refl
