@@ -26,7 +26,7 @@ pub data AreDigits (base : ℕ) : List ℕ → Type 0 where
 abbrev pub without_underscores : List ℕ → List ℕ
 without_underscores text = filter (λ c. not (c == byte "_")) text
 
--- the number that a whole text of digits of a base is
+-- the number that a whole text of digits of a base is, where it is one: the law `digits_are_their_number` says it by the relation
 abbrev pub digits_read : ℕ → List ℕ → Option ℕ
 digits_read base text =
     if are_digits base false text then Some (digits_value base (without_underscores text)) else None
