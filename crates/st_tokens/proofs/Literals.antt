@@ -12,7 +12,7 @@ use Rattle.st_tokens.specs.Characters.{is_word_byte, AreWordBytes, BeginsWord}
 use Rattle.st_tokens.specs.Scanning.{run, after_run, base_of, digits_at, number_at, signed_at, boolean_at, literal_at, positive_found}
 use Rattle.st_tokens.specs.Words.{IsSame}
 use Rattle.st_tokens.proofs.Names.{is_name, same_name, name_word, word_words}
-use Rattle.st_tokens.proofs.Numbers.{first_digit, Found, Alive, Based, read_words, digits_parts, digits_made, number_shape, base_cases, base_words, hash_run, number_found, number_only}
+use Rattle.st_tokens.proofs.Numbers.{first_digit, Found, Alive, Based, read_words, digits_parts, digits_made, number_shape, base_cases, base_words, hash_run, number_is_found, number_only}
 use Rattle.st_tokens.proofs.Runs.{run_splits, after_run_not, run_is, words_in_run}
 use Rattle.st_tokens.proofs.Cases.{by_test, is_equal, not_both, some_parts}
 
@@ -105,7 +105,7 @@ unsigned_found : (text rest : List ℕ) (v : ℤ) → (slice_index text 0 == 45)
     → option_map positive_found (number_at text) ≡ Some (v, rest) → SignedFound text rest v
 unsigned_found text rest v m p h =
     let q = mapped_parts pos (number_at text) v rest h in
-    let f = number_found text rest q.0 q.1 in
+    let f = number_is_found text rest q.0 q.1 in
     record {
       prefix = f.prefix;
       value = pos f.value;

@@ -25,7 +25,7 @@ use Rattle.st_tokens.proofs.Firsts.{form_begins, opens_text, only_number, only_s
 use Rattle.st_tokens.proofs.Literals.{literal_found, literal_only, is_same, same_test}
 use Rattle.st_tokens.proofs.Marks.{IsDouble, IsSingle, symbol_cases, single_is, double_is}
 use Rattle.st_tokens.proofs.Names.{keyword_is, short_no_elem, elem_found, elem_is, elem_name, name_word, word_words, not_unclean, not_reserved, begins_word_byte}
-use Rattle.st_tokens.proofs.Numbers.{Found, number_found as number_is_found, number_only, hash_split, hash_run, hash_test, no_hash_test, tail_of}
+use Rattle.st_tokens.proofs.Numbers.{Found, number_is_found, number_only, hash_split, hash_run, hash_test, no_hash_test, tail_of}
 use Rattle.st_tokens.proofs.Runs.{run_splits, run_words, run_is, words_in_run, words_append}
 use Rattle.st_tokens.proofs.Cases.{by_test, not_both, some_parts}
 

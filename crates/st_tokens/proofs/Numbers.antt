@@ -231,9 +231,9 @@ number_based_found text rest v base t named h = let p = digits_parts base (tail_
       let f = ap length b.splits in let g = ap length r.0 in omega arith
 
 -- what is read is the longest number
-pub number_found : (text rest : List ℕ) (v : ℕ) → number_at text ≡ Some (v, rest) → NumberFound text rest v
+pub number_is_found : (text rest : List ℕ) (v : ℕ) → number_at text ≡ Some (v, rest) → NumberFound text rest v
 unfolding number_at
-number_found text rest v h = by_test (begins_with (codes "#") (after_run text))
+number_is_found text rest v h = by_test (begins_with (codes "#") (after_run text))
     (λ t. at t (base_of (run text)) refl (rw t at h))
     (λ t. number_plain_found text rest v t (rw t at h)) where
       at : begins_with (codes "#") (after_run text) ≡ true → (o : Option ℕ) → base_of (run text) ≡ o
