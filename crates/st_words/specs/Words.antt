@@ -28,10 +28,10 @@ file_app name = with_rule (with_rule (new_app name) file_rule) program_rule
 abbrev pub run_app : App
 run_app = with_rule (file_app (codes "run")) steps_rule
 
--- the program's own settings: one of the subcommands is required, and `help` is none of them
+-- the program's own settings: it has a version, one of the subcommands is required, and `help` is none of them
 abbrev pub stc_top : App
 stc_top = record {
-  top = record (new_app (codes "stc")).top { subcommand_required = true; disable_help_subcommand = true };
+  top = record (new_app (codes "stc")).top { has_version = true; subcommand_required = true; disable_help_subcommand = true };
   subs = [];
 }
 

@@ -3,4 +3,4 @@
 
 mod words;
 
-pub use words::{Order, Verb, read_words};
+pub use words::{DEFAULT_STEPS, MAX_STEPS, Order, VERSION, Verb, read_words};

@@ -2,7 +2,7 @@
 
 ghost use Rattle.std.specs.Prelude.{◌≡◌, ℕ, [], IfErr, IfOk, IfSome, IsNone, OnOk, map, option_map, false};
 ghost use Rattle.clap.specs.Words.{app_of, kind_of, subcommand_rows_of};
-ghost use Rattle.clap.specs.declared.builder.command.Command.TheViews.{out-Command as fields_of};
+ghost use Rattle.clap.specs.declared.builder.command.Command.TheViews.{out-Command};
 ghost use Rattle.st_words.specs.Words.{AreInOrder, HasLimit, IsFaultOf, IsLimitOf, IsOrder, IsRunnable, IsStepLimit, chosen_by, faults_of, file_app, run_app, stc_app, verb_name};
 
 use clap::error::ErrorKind;
@@ -11,10 +11,13 @@ use std::alloc::{AllocError, Global};
 use std::convert::AsStr;
 
 /// The most steps that one scan may be given.
-const MOST_STEPS: u32 = 10_000_000;
+pub const MAX_STEPS: u32 = 10_000_000;
 
-/// The steps of one scan where the words name no limit.
-const USUAL_STEPS: u32 = 100_000;
+/// The step limit of a scan where the words name none.
+pub const DEFAULT_STEPS: u32 = 100_000;
+
+/// The program's version, which `--version` prints behind its name.
+pub const VERSION: &str = "0.1.0";
 
 /// What is to be done with the source text.
 #[derive(Clone, Copy, Debug, PartialEq, Eq)]
@@ -31,12 +34,12 @@ pub struct Order<'a> {
     pub file: &'a str,
     /// The name of the main program.
     pub main: &'a str,
-    /// The most steps of one scan, from 1 to 10,000,000.
+    /// The step limit of a scan, from 1 to 10,000,000.
     pub steps: u32,
 }
 
 /// The order that the words give, of which the first is the program's own name. An error is a
-/// request for help, a fault of usage, or want of memory.
+/// request for help or for the version, a fault of usage, or want of memory.
 pub fn read_words<'a, S: AsStr>(alloc: Global, words: &'a [S]) -> Result<Order<'a>, Error>
     ensures order { IfOk result (λ order. IsOrder order (chosen_by (map S.text words.entry.now))) }
     ensures faultless { OnOk result (faults_of (map S.text words.entry.now) ≡ []) }
@@ -60,18 +63,20 @@ pub fn read_words<'a, S: AsStr>(alloc: Global, words: &'a [S]) -> Result<Order<'
 fn stc_command<'a>(alloc: Global) -> Result<Command<'a>, AllocError>
     ensures { IfOk result (λ command. app_of command ≡ stc_app) }
 {
+    let run = run_command(alloc)?;
     Command::new(alloc, "stc")
-        .bin_name("stc")?
         .about("A soft controller for programs in Structured Text.")
+        .version(VERSION)
         .subcommand_required(true)
         .disable_help_subcommand(true)
-        .subcommand(run_command(alloc)?)
+        .subcommand(run)?
+        .bin_name("stc")
 }
 
 /// `run FILE --program N [--steps K]`
 fn run_command<'a>(alloc: Global) -> Result<Command<'a>, AllocError>
     ensures app { IfOk result (λ command. app_of command ≡ run_app) }
-    ensures local { IfOk result (λ command. (fields_of command).has_globals ≡ false) }
+    ensures local { IfOk result (λ command. (out-Command command).has_globals ≡ false) }
 {
     let steps = Arg::new(alloc, "steps").long("steps").value_name("K").help(
         "The most steps of one scan, from 1 to 10000000; 100000 where it isn't given",
@@ -84,7 +89,7 @@ fn run_command<'a>(alloc: Global) -> Result<Command<'a>, AllocError>
 /// A subcommand that takes FILE and `--program N`.
 fn file_command<'a>(alloc: Global, name: &'a str) -> Result<Command<'a>, AllocError>
     ensures app { IfOk result (λ command. app_of command ≡ file_app name.entry.now) }
-    ensures local { IfOk result (λ command. (fields_of command).has_globals ≡ false) }
+    ensures local { IfOk result (λ command. (out-Command command).has_globals ≡ false) }
 {
     let file = Arg::new(alloc, "FILE")
         .help("The source text")
@@ -126,14 +131,14 @@ fn verb_named(name: &str) -> Option<Verb>
     }
 }
 
-/// The step limit that K gives, or the usual one where K is not given.
+/// The step limit that K gives, or the default where K is not given.
 fn step_limit(given: Option<&str>) -> Option<u32>
     ensures some { IfSome result (IsLimitOf (option_map (λ text. text.now) given.entry)) }
     ensures none { IsNone result → ¬ HasLimit (option_map (λ text. text.now) given.entry) }
 {
     match given {
         Some(text) => number_in_range(text),
-        None => Some(USUAL_STEPS),
+        None => Some(DEFAULT_STEPS),
     }
 }
 
@@ -143,7 +148,7 @@ fn number_in_range(text: &str) -> Option<u32>
     ensures none { IsNone result → (steps : ℕ) → ¬ IsStepLimit text.now steps }
 {
     let steps: u32 = text.parse().ok()?;
-    if 1 <= steps && steps <= MOST_STEPS {
+    if 1 <= steps && steps <= MAX_STEPS {
         Some(steps)
     } else {
         None

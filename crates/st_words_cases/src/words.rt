@@ -1,6 +1,7 @@
-//! Orders, limits, faults of usage and help, as they run.
+//! Orders, limits, faults of usage, help and the version, as they run, and the texts that a user reads.
 use clap::error::ErrorKind;
-use st_words::{Verb, read_words};
+use st_words::{DEFAULT_STEPS, MAX_STEPS, VERSION, Verb, read_words};
+use std::alloc::Global;
 use std::test::Fail;
 
 #[test]
@@ -10,6 +11,7 @@ fn reads_an_order(rt: HostRuntime) -> Result<(), Fail> {
     assert_eq!(rt; order.file, "a.st");
     assert_eq!(rt; order.main, "Main");
     assert_eq!(rt; order.steps, 100_000);
+    assert_eq!(rt; DEFAULT_STEPS, 100_000);
 
     let words = ["stc", "run", "--steps", "7", "--program=Main", "a.st"];
     let order = read_words(rt.alloc(), &words)?;
@@ -21,6 +23,7 @@ fn reads_an_order(rt: HostRuntime) -> Result<(), Fail> {
 
 #[test]
 fn limits_the_steps(rt: HostRuntime) {
+    assert_eq!(rt; MAX_STEPS, 10_000_000);
     for (steps, is_fit) in [
         ("0", false),
         ("1", true),
@@ -65,4 +68,93 @@ fn answers_with_help(rt: HostRuntime) {
             Err(error) => assert!(rt; error.kind() == ErrorKind::DisplayHelp, "{words:?}"),
         }
     }
+}
+
+/// What a user reads where the words are no order, and the kind of the error.
+fn told<'a>(alloc: Global, words: &'a [&'a str]) -> Result<(ErrorKind, String), Fail> {
+    match read_words(alloc, words) {
+        Ok(_) => Err(Fail::from("the words were taken")),
+        Err(error) => Ok((error.kind(), format!(in alloc; "{error}")?)),
+    }
+}
+
+#[test]
+fn help_names_the_verbs(rt: HostRuntime) -> Result<(), Fail> {
+    let (_, text) = told(rt.alloc(), &["stc", "--help"])?;
+    for part in [
+        "Usage: stc <COMMAND>\n",
+        "\n  run  Run a session over the program",
+        "\n  -h, --help     Print help\n",
+        "\n  -V, --version  Print version\n",
+    ] {
+        assert!(rt; text.as_str().contains(part), "no {part:?} in {text}");
+    }
+    Ok(())
+}
+
+#[test]
+fn help_of_run_names_its_arguments(rt: HostRuntime) -> Result<(), Fail> {
+    for words in [
+        ["stc", "run", "--help"].as_slice(),
+        ["stc", "run", "a.st", "-h"].as_slice(),
+    ] {
+        let (_, text) = told(rt.alloc(), words)?;
+        for part in [
+            "Usage: stc run [OPTIONS] --program <N> <FILE>\n",
+            "\n  <FILE>  The source text\n",
+            "--program <N>  The name of the main program\n",
+            "--steps <K>    The most steps of one scan, from 1 to 10000000; 100000 where it isn't given\n",
+        ] {
+            assert!(rt; text.as_str().contains(part), "no {part:?} in {text}");
+        }
+    }
+    Ok(())
+}
+
+#[test]
+fn faults_name_what_is_wrong(rt: HostRuntime) -> Result<(), Fail> {
+    for (words, parts) in [
+        (
+            ["stc", "run", "a.st"].as_slice(),
+            ["error: ", "--program <N>", "Usage: stc run "],
+        ),
+        (
+            ["stc", "run", "--program", "Main"].as_slice(),
+            ["error: ", "<FILE>", "Usage: stc run "],
+        ),
+        (
+            ["stc", "walk", "a.st", "--program", "Main"].as_slice(),
+            ["error: ", "'walk'", "Usage: stc "],
+        ),
+        (
+            ["stc", "run", "a.st", "--program", "Main", "--scans", "3"].as_slice(),
+            ["error: ", "'--scans'", "Usage: stc run "],
+        ),
+        (
+            ["stc", "run", "a.st", "--program", "Main", "--steps", "0"].as_slice(),
+            [
+                "error: ",
+                "'--steps <K>' is a number from 1 to 10000000",
+                "Usage: stc ",
+            ],
+        ),
+        (["stc"].as_slice(), ["error: ", "subcommand", "run"]),
+    ] {
+        let (_, text) = told(rt.alloc(), words)?;
+        for part in parts {
+            assert!(rt; text.as_str().contains(part), "no {part:?} in {text}");
+        }
+    }
+    Ok(())
+}
+
+#[test]
+fn answers_with_the_version(rt: HostRuntime) -> Result<(), Fail> {
+    for flag in ["--version", "-V"] {
+        let (kind, text) = told(rt.alloc(), &["stc", flag])?;
+        assert!(rt; kind == ErrorKind::DisplayVersion, "{flag}");
+        assert_eq!(rt; text.as_str(), "stc 0.1.0\n");
+    }
+    assert_eq!(rt; VERSION, "0.1.0");
+    Ok(())
 }

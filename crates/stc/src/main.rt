@@ -1,19 +1,32 @@
 //! The program `stc`: a soft controller for programs in Structured Text, driven line by line.
 #![tactic(auto)]
 
-ghost use Rattle.std.specs.Prelude.{◌≡◌, ◌≢◌, ◌⊎◌};
+ghost use Rattle.std.specs.Prelude.{◌≡◌, ◌≢◌, ◌⊎◌, ◌↔◌, ◌||◌, ◌<◌, ◌^◌, [], ◌∷◌, false, true, IsTrue, codes, length, map};
+ghost use Rattle.std.specs.Io.KnownBytes.{Appends};
 ghost use Rattle.clap.specs.Words.{kind_of};
+ghost use Rattle.st_control.specs.Loads.{OfLoad};
+ghost use Rattle.st_session.specs.Lines.{lines_of};
+ghost use Rattle.st_session.specs.Pending.{OnBytes, OnReading};
+ghost use Rattle.st_session.specs.Replies.{ended};
+ghost use Rattle.st_session.specs.Runs.{OfProgram, WritesAll, WritesPart, WritesRead};
+ghost use Rattle.st_words.specs.Words.{HasLimit, chosen_by, faults_of, limit_of};
+ghost use Rattle.st_words.specs.declared.words.Verb.TheVariants.{Run};
+ghost use Rattle.stc.specs.Statuses.{EndsAsLoaded, EndsBy, EndsByOneOf};
 
 use clap::error::ErrorKind;
-use st_session::{ACCEPTED, DEVICE_FAILED, FromReader, NO_MEMORY, ToWriter, run_text};
+use st_session::{
+    ACCEPTED, DEVICE_FAILED, FromReader, NO_MEMORY, NO_PROGRAM, Sink, Source, ToWriter, run_text,
+};
 use st_words::{Order, Verb, read_words};
+use std::alloc::Global;
+use std::convert::AsStr;
 use std::fs::File;
 use std::io::{self, Read};
 use std::process::ExitCode;
 use std::rt::{Env, Files};
 
-/// One byte more than a source text may have, so that a longer text is seen to be too long.
-const MOST_BYTES: u64 = 1_048_577;
+/// The most bytes that are read of a file: one more than a text may have, so that a longer text is seen to be too long.
+const MAX_READ_BYTES: u64 = 1_048_577;
 
 /// The words are at fault.
 const USAGE: u8 = 2;
@@ -24,17 +37,13 @@ fn main(rt: HostRuntime) -> ExitCode {
 
 /// Does what the program's words order, and answers its status.
 fn run<R: Env + Files + Input + Print + Eprint + AllocGlobal>(rt: &R) -> u8 {
-    let words = match given_words(rt) {
-        Ok(words) => words,
-        Err(error) if error.kind() == io::ErrorKind::OutOfMemory => return NO_MEMORY,
+    match given_words(rt) {
+        Ok(words) => obey_words(rt, words.as_slice()),
+        Err(error) if error.kind() == io::ErrorKind::OutOfMemory => NO_MEMORY,
         Err(_) => {
             let _ = eprintln!(rt; "error: a word is not text in UTF-8");
-            return USAGE;
+            USAGE
         }
-    };
-    match read_words(rt.alloc(), words.as_slice()) {
-        Ok(order) => obey(rt, order),
-        Err(error) => explain(rt, &error),
     }
 }
 
@@ -44,20 +53,31 @@ fn given_words<R: Env + AllocGlobal>(rt: &R) -> io::Result<Vec<String>> {
     Ok(words.collect(rt.alloc())?)
 }
 
-/// Writes the help that was asked for, or what is wrong with the words, and answers the status.
-fn explain<R: Print + Eprint>(rt: &R, error: &clap::Error) -> u8
-    ensures memory { kind_of error.now ≡ ErrorKind.OutOfMemory → result ≡ NO_MEMORY }
-    ensures help { kind_of error.now ≡ ErrorKind.DisplayHelp → (result ≡ ACCEPTED) ⊎ (result ≡ DEVICE_FAILED) }
-    ensures usage { kind_of error.now ≢ ErrorKind.OutOfMemory → kind_of error.now ≢ ErrorKind.DisplayHelp
-        → kind_of error.now ≢ ErrorKind.DisplayVersion → (result ≡ USAGE) ⊎ (result ≡ DEVICE_FAILED) }
+/// Obeys the words, of which the first is the program's own name, or says why they are no order, and answers the status.
+fn obey_words<R: Files + Input + Print + Eprint + AllocGlobal, S: AsStr>(rt: &R, words: &[S]) -> u8
+    ensures fault { faults_of (map S.text words.now) ≢ [] → EndsByOneOf (faults_of (map S.text words.now)) result }
+    ensures limit { faults_of (map S.text words.now) ≡ [] → ¬ HasLimit (limit_of (chosen_by (map S.text words.now)))
+        → EndsByOneOf (ErrorKind.ValueValidation ∷ []) result }
 {
-    if error.kind() == ErrorKind::OutOfMemory {
-        return NO_MEMORY;
+    match read_words(rt.alloc(), words) {
+        Ok(order) => obey(rt, order),
+        Err(error) => explain(rt, &error),
     }
-    if error.print(rt).is_err() {
-        return DEVICE_FAILED;
+}
+
+/// Writes the help or the version that was asked for, or what is wrong with the words, and answers the status.
+fn explain<R: Print + Eprint>(rt: &R, error: &clap::Error) -> u8
+    ensures { EndsBy (kind_of error.now) result }
+{
+    let status = match error.kind() {
+        ErrorKind::OutOfMemory => return NO_MEMORY,
+        ErrorKind::DisplayHelp | ErrorKind::DisplayVersion => ACCEPTED,
+        _ => USAGE,
+    };
+    match error.print(rt) {
+        Ok(()) => status,
+        Err(_) => DEVICE_FAILED,
     }
-    if error.use_stderr() { USAGE } else { ACCEPTED }
 }
 
 /// Reads the source text and does with it what is ordered.
@@ -76,17 +96,59 @@ fn obey<R: Files + Input + Print + Eprint + AllocGlobal>(rt: &R, order: Order<'_
 fn read_source<R: Files + AllocGlobal>(rt: &R, path: &str) -> io::Result<Vec<u8>> {
     let file = std::fs::open(rt, path)?;
     let mut text = Vec::new(rt.alloc());
-    file.take(MOST_BYTES).read_to_end(&mut text)?;
+    file.take(MAX_READ_BYTES).read_to_end(&mut text)?;
     Ok(text)
 }
 
-/// Does with the source text what is ordered.
-fn serve<R: Input + Print + AllocGlobal>(rt: &R, order: Order<'_>, text: &[u8]) -> u8 {
+/// Does with the source text what is ordered, on standard input and output.
+///
+/// No clause knows the bytes of standard input. So of some lines the status is theirs.
+fn serve<R: Input + Print + AllocGlobal>(rt: &R, order: Order<'_>, text: &[u8]) -> u8
+    ensures run_status { order.entry.verb ≡ Run → result ≢ DEVICE_FAILED → result ≢ NO_MEMORY
+        → EndsAsLoaded text.now order.entry.main.now order.entry.steps result }
+{
     let mut source = FromReader::new(rt.reader());
     let mut sink = ToWriter::new(io::writer(rt));
+    obey_text(rt.alloc(), order, text, &mut source, &mut sink)
+}
+
+/// Does with a source text what is ordered, on devices that haven't failed, and answers the status.
+///
+/// Where the verb is `run`, that is what `run_text` does with the main program and under the step limit of the order.
+fn obey_text<R: Source, W: Sink>(
+    alloc: Global,
+    order: Order<'_>,
+    text: &[u8],
+    source: &mut R,
+    sink: &mut W,
+) -> u8
+    requires source { R.has_failed source.old ≡ false }
+    requires sink { W.has_failed sink.old ≡ false }
+
+    // The replies to all lines are written, or the refusal of the load.
+    ensures run_all { order.entry.verb ≡ Run → result ≢ DEVICE_FAILED → result ≢ NO_MEMORY
+        → OnBytes (R.rest source.old) (λ bytes. OfLoad text.now order.entry.main.now order.entry.steps
+        (WritesAll (lines_of bytes) result (W.taken sink.old) (W.taken sink.new))) }
+    ensures run_memory { order.entry.verb ≡ Run → result ≡ NO_MEMORY → Appends (W.taken sink.old) (W.taken sink.new) []
+        ⊎ Appends (W.taken sink.old) (W.taken sink.new) (ended (codes "refused M")) }
+
+    // A text that is too long is refused for that alone, also where there is no memory.
+    ensures run_long { order.entry.verb ≡ Run → 2 ^ 20 < length text.now → result ≢ DEVICE_FAILED → (result ≡ NO_PROGRAM)
+        × Appends (W.taken sink.old) (W.taken sink.new) (ended (codes "refused S4 line 1")) }
+
+    // A device has failed, and the run ended there. Where it is the source, the text was loaded, and of the lines that were
+    // read whole none is lost.
+    ensures run_part { order.entry.verb ≡ Run → result ≡ DEVICE_FAILED
+        → OnBytes (R.rest source.old) (λ bytes. OfLoad text.now order.entry.main.now order.entry.steps
+        (WritesPart (lines_of bytes) (W.taken sink.old) (W.taken sink.new))) }
+    ensures run_read { order.entry.verb ≡ Run → R.has_failed source.new ≡ true
+        → OnReading (R.rest source.old) (R.rest source.new) (λ bytes rest. OfProgram text.now order.entry.main.now
+        order.entry.steps (WritesRead bytes rest (W.taken sink.old) (W.taken sink.new))) }
+    ensures failed { IsTrue (R.has_failed source.new || W.has_failed sink.new) ↔ (result ≡ DEVICE_FAILED) }
+{
     let main = order.main.as_bytes();
     match order.verb {
-        Verb::Run => run_text(rt.alloc(), text, main, order.steps, &mut source, &mut sink),
+        Verb::Run => run_text(alloc, text, main, order.steps, source, sink),
     }
 }
 

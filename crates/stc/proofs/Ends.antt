@@ -1,0 +1,20 @@
+-- What the program's words give: an order has a limit, and an error that explains them ends the program by one of their
+-- faults.
+use Rattle.std.proofs.Common.{◌≡◌, ◌≢◌, ℕ, List, [], inl, inr, subst}
+use Rattle.std.specs.Prelude.{◌⊎◌, Option, Some, None}
+use Rattle.clap.specs.Words.{HasKind, Kinds, Row, Text, kind_of}
+use Rattle.clap.specs.declared.error.Error.{Error}
+use Rattle.clap.specs.declared.error.kind.ErrorKind.TheVariants as kind
+use Rattle.stc.specs.Statuses.{EndsBy, EndsByOneOf}
+use Rattle.st_words.specs.Words.{HasLimit, IsOrder, limit_of}
+use Rattle.st_words.specs.declared.words.Order.{Order}
+
+pub order_has_limit : (order : Order) (met : Option (Text × List Row)) → IsOrder order met → HasLimit (limit_of met)
+order_has_limit order None is = absurd is
+order_has_limit order (Some m) is = (order.steps, is.3)
+
+pub ends_by_fault : (faults : Kinds) (e : Error) (status : ℕ) → HasKind faults e ⊎ ((faults ≡ []) × (kind_of e ≡ kind.ValueValidation))
+    → EndsBy (kind_of e) status → faults ≢ [] → EndsByOneOf faults status
+ends_by_fault faults e status (inl (inl memory)) ends some = inl (subst (λ k. EndsBy k status) memory ends)
+ends_by_fault faults e status (inl (inr among)) ends some = inr (kind_of e, among, ends)
+ends_by_fault faults e status (inr p) ends some = absurd (some p.0)
