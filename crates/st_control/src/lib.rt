@@ -9,7 +9,7 @@ mod state;
 mod thin;
 mod undoing;
 
-pub use controller::{Controller, Report};
+pub use controller::{Controller, MAX_RECORDS, Report};
 pub use laws::{
     command_changes_one_path, record_undoes_command, steps_keep_states_whole,
     undos_give_back_states,
