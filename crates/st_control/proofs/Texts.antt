@@ -9,6 +9,7 @@ use Rattle.st_tree.specs.declared.leaf.Leaf.{Leaf}
 use Rattle.st_tree.specs.declared.tree.unit.Unit.{Unit as ProgramUnit}
 use Rattle.st_control.specs.Texts.{IsReadAs, TextsGiveOneList, refusal_of, refusal_of_units}
 use Rattle.st_control.specs.ThinPrograms.{IsThinProgram}
+use Rattle.st_control.specs.declared.refusal.Refusal.TheVariants as refusals
 use Rattle.st_control.specs.declared.thin.fault.ThinFault.{ThinFault}
 use Rattle.st_control.specs.declared.thin.fault.ThinFault.TheVariants.{Memory, NotThin}
 use Rattle.st_control.proofs.ThinPrograms.{one_list as one_list_of_units}
@@ -27,3 +28,9 @@ pub units_refuse : (text main : List ℕ) (units : List ProgramUnit) (fault : Th
     → IsReadAs text main (Err (refusal_of_units fault))
 units_refuse text main units Memory short is_text refused = inr (short, inl refl)
 units_refuse text main units NotThin short is_text refused = inr (short, inr (inr (refl, (units, is_text, refused refl))))
+
+-- units that are a program are refused for want of memory alone
+pub only_memory : (main : List ℕ) (units : List ProgramUnit) (leaves : List Leaf) (fault : ThinFault) → IsThinProgram units main leaves
+    → (fault ≡ NotThin → (others : List Leaf) → IsThinProgram units main others → ⊥) → refusal_of_units fault ≡ refusals.M
+only_memory main units leaves Memory is_thin refused = refl
+only_memory main units leaves NotThin is_thin refused = absurd (refused refl leaves is_thin)

@@ -1,5 +1,5 @@
 //! The controller.
-ghost use Rattle.std.specs.Prelude.{◌≡◌, ◌+◌, ◌<◌, ◌≤◌, ◌^◌, ◌++◌, ◌∷◌, [], Err, IfErr, IfOk, IfSome, OnOk, length, vec_capacity, vec_len};
+ghost use Rattle.std.specs.Prelude.{◌≡◌, ◌+◌, ◌<◌, ◌≤◌, ◌^◌, ◌++◌, ◌∷◌, [], Err, IfErr, IfOk, IfSome, List, MatchResult, Ok, OnOk, length, vec_capacity, vec_len};
 ghost use Rattle.st_control.specs.Controllers.{DropsNewest, Keeps, Takes, first_controller, force_count, machine_of, record_of, shown_to};
 ghost use Rattle.st_control.specs.Loads.{IsLoaded};
 ghost use Rattle.st_control.specs.Machine.{step, undo_step};
@@ -7,6 +7,7 @@ ghost use Rattle.st_control.specs.Machine.Command.{force, release, write};
 ghost use Rattle.st_control.specs.States.{IsWhole, leaf_of};
 ghost use Rattle.st_control.specs.Texts.{IsReadAs};
 ghost use Rattle.st_layout.specs.Layout.{leaf_at};
+ghost use Rattle.st_tree.specs.declared.leaf.Leaf.{Leaf};
 ghost use Rattle.st_values.specs.Values.{IsValue};
 
 use crate::record::Record;
@@ -71,6 +72,10 @@ impl<M: Memory> Controller<M> {
         ensures ok { IfOk result (λ controller. IsLoaded text.now main.now limit controller) }
         ensures refused { IfErr result (λ refusal. IsReadAs text.now main.now (Err refusal)) }
         ensures long { 2 ^ 20 < length text.now → result ≡ Err (Refusal.S 4 1) }
+
+        // A text that is read as a program is loaded as it, unless memory runs out.
+        ensures only { (leaves : List Leaf) → IsReadAs text.now main.now (Ok leaves)
+            → MatchResult result (λ controller. controller ≡ first_controller leaves main.now limit) (λ refusal. refusal ≡ Refusal.M) }
     {
         let units = parse(alloc, text)?;
         let leaves = read_thin(alloc, units.as_slice(), main)?;
