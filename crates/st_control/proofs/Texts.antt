@@ -1,5 +1,5 @@
 -- Texts that are programs, and the refusals of others.
-use Rattle.std.proofs.Common.{◌≡◌, ◌<◌, ◌≤◌, ◌^◌, ℕ, List, length, Result, Ok, Err, inl, inr, refl, subst, sym, ◌∙◌, ap}
+use Rattle.std.proofs.Common.{◌≡◌, ◌<◌, ◌≤◌, ◌^◌, ℕ, List, length, Result, Ok, Err, inl, inr, refl, subst}
 use Rattle.std.proofs.lemmas.Bool.{cases_lt}
 use Rattle.st_syntax.proofs.Top.{one_text}
 use Rattle.st_syntax.specs.Texts.{Explains, IsTextOf}

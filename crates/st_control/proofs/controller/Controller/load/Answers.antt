@@ -2,6 +2,7 @@ use Rattle.std.proofs.Common.{◌≡◌, ◌∙◌, ℕ, List, ap, rules, subst,
 use Rattle.std.proofs.lemmas.Result.{IfOk-weaker, MatchResult-from_both, err_from_is_err_and}
 use Rattle.st_syntax.specs.Texts.{IsTextOf}
 use Rattle.st_control.specs.Controllers.{first_controller}
+use Rattle.st_control.specs.Texts.{refusal_of}
 use Rattle.st_control.specs.ThinPrograms.{IsThinProgram}
 use Rattle.st_control.specs.declared.refusal.Refusal.TheVariants as refusals
 use Rattle.st_control.proofs.Texts.{only_memory, parsed_short, units_refuse}
@@ -16,6 +17,11 @@ returns-in_err-leaves-clause-refused g c =
     rw (returned.1, returned.2)
     (units_refuse c.args.text.now c.args.main.now c.as_slice.result.now c.in_err-leaves.field-0.0
     (parsed_short c.args.text.now c.in_ok-units.units _ c.in_ok-units.ensures.long) is_text (λ is_fault. c.in_err-leaves.ensures.refused (ap Err is_fault)))
+
+pub returns-in_err-units-clause-only : goal.returns-in_err-units-clause-only
+returns-in_err-units-clause-only g c =
+    let returned = err_from_is_err_and c.from_residual.result c.from_residual.ensures.1 in
+    λ leaves program. rw (returned.1, returned.2) (ap refusal_of (c.in_err-units.ensures.only program.1.0 program.0 program.1.1))
 
 pub returns-in_err-leaves-clause-only : goal.returns-in_err-leaves-clause-only
 returns-in_err-leaves-clause-only g c =
