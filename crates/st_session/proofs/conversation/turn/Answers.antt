@@ -5,8 +5,8 @@ use Rattle.st_session.specs.Inputs.{pending}
 use Rattle.st_session.specs.declared.input.Found.TheVariants.{Line, TooLong}
 use Rattle.st_session.proofs.RunLemmas.{StopsIn-line, StopsIn-none, TurnsOver-line}
 use Rattle.st_session.proofs.TakingLemmas.{OnErr-from, TakesFound-same}
-use Rattle.st_session.proofs.engine.turn.Goals.{in-TooLong, in-Line}
-use Rattle.st_session.proofs.engine.turn.Goals as goal
+use Rattle.st_session.proofs.conversation.turn.Goals.{in-TooLong, in-Line}
+use Rattle.st_session.proofs.conversation.turn.Goals as goal
 
 pub returns-in_err-next_line-clause-err : goal.returns-in_err-next_line-clause-err
 returns-in_err-next_line-clause-err g c =

@@ -1,18 +1,18 @@
 //! A session: each line of a source is acted on, and its reply written to a sink.
-ghost use Rattle.std.specs.Prelude.{◌≡◌, ◌≤◌, ◌<◌, ◌↔◌, ◌||◌, ℕ, [], true, false, take, IfOk, IfSome, IsTrue, OnErr, OnOk, OnSome, is_err, vec_capacity};
+ghost use Rattle.std.specs.Prelude.{◌≡◌, ◌≤◌, ◌<◌, ◌↔◌, ◌||◌, ℕ, [], true, false, take, IfOk, IsTrue, OnErr, OnOk, OnSome, is_err, vec_capacity};
 ghost use Rattle.std.specs.Io.KnownBytes.{Appends};
 ghost use Rattle.st_control.specs.Controllers.{machine_of};
 ghost use Rattle.st_session.specs.Inputs.{left, pending, unread};
-ghost use Rattle.st_session.specs.Pending.{OnKnown};
-ghost use Rattle.st_session.specs.Replies.{answer as answer_to, value_given as given_at};
-ghost use Rattle.st_session.specs.Requests.{Request as Ask, request_of};
+ghost use Rattle.st_session.specs.Pending.{OnBytes, OnReading};
+ghost use Rattle.st_session.specs.Replies.{answer, value_given};
+ghost use Rattle.st_session.specs.Requests.{RequestView, request_of};
 ghost use Rattle.st_session.specs.Sessions.{AnswersAll, AnswersRead, LosesPart, StopsIn, TurnsOver};
 
 use crate::devices::{DeviceFault, Sink, Source};
-use crate::input::{Found, Input, LINE};
+use crate::input::{Found, Input, MAX_LINE_BYTES};
 use crate::reply::Reply;
 use crate::request::{Request, read_request};
-use st_control::{Controller, Refusal};
+use st_control::{Controller, NO_SUCH_LINE, NO_SUCH_PATH, Refusal};
 use st_layout::Memory;
 use st_values::{Elem, Value, read_value};
 use std::alloc::{AllocError, Global};
@@ -37,8 +37,8 @@ const VALUE_OF_NONE: Value = Value {
 };
 
 /// The value that a text is for the leaf with this path. A text that is no value of the leaf's type counts as one of none.
-fn value_given<M: Memory>(controller: &Controller<M>, path: &[u8], text: &[u8]) -> Value
-    ensures { result ≡ given_at (machine_of controller.now).state path.now text.now }
+fn read_given<M: Memory>(controller: &Controller<M>, path: &[u8], text: &[u8]) -> Value
+    ensures { result ≡ value_given (machine_of controller.now).state path.now text.now }
 {
     match controller.find(path) {
         Some(leaf) => read_value(controller.elem(leaf), text).unwrap_or(VALUE_OF_NONE),
@@ -48,11 +48,11 @@ fn value_given<M: Memory>(controller: &Controller<M>, path: &[u8], text: &[u8]) 
 
 /// Replies what the leaf with this path holds, and answers whether that is a refusal.
 fn show<M: Memory>(controller: &Controller<M>, path: &[u8], reply: &mut Reply) -> bool
-    ensures reply { reply.new ≡ (answer_to (Ask.show path.now) (machine_of controller.now)).reply }
-    ensures refused { result ≡ (answer_to (Ask.show path.now) (machine_of controller.now)).refused }
+    ensures reply { reply.new ≡ (answer (RequestView.show path.now) (machine_of controller.now)).reply }
+    ensures refused { result ≡ (answer (RequestView.show path.now) (machine_of controller.now)).refused }
 {
     let (Some(leaf), Ok((value, forced))) = (controller.find(path), controller.get(path)) else {
-        return reply.answer(Err(Refusal::O(1)));
+        return reply.answer(Err(Refusal::O(NO_SUCH_PATH)));
     };
     reply.show(controller.shown(leaf), value, forced);
     false
@@ -66,13 +66,13 @@ fn write<M: Memory>(
     reply: &mut Reply,
 ) -> bool
     ensures machine { machine_of controller.new
-        ≡ (answer_to (Ask.write path.now text.now) (machine_of controller.old)).machine }
+        ≡ (answer (RequestView.write path.now text.now) (machine_of controller.old)).machine }
     ensures reply { reply.new
-        ≡ (answer_to (Ask.write path.now text.now) (machine_of controller.old)).reply }
+        ≡ (answer (RequestView.write path.now text.now) (machine_of controller.old)).reply }
     ensures refused { result
-        ≡ (answer_to (Ask.write path.now text.now) (machine_of controller.old)).refused }
+        ≡ (answer (RequestView.write path.now text.now) (machine_of controller.old)).refused }
 {
-    let value = value_given(controller, path, text);
+    let value = read_given(controller, path, text);
     reply.answer(controller.write(path, value))
 }
 
@@ -84,19 +84,19 @@ fn force<M: Memory>(
     reply: &mut Reply,
 ) -> bool
     ensures machine { machine_of controller.new
-        ≡ (answer_to (Ask.force path.now text.now) (machine_of controller.old)).machine }
+        ≡ (answer (RequestView.force path.now text.now) (machine_of controller.old)).machine }
     ensures reply { reply.new
-        ≡ (answer_to (Ask.force path.now text.now) (machine_of controller.old)).reply }
+        ≡ (answer (RequestView.force path.now text.now) (machine_of controller.old)).reply }
     ensures refused { result
-        ≡ (answer_to (Ask.force path.now text.now) (machine_of controller.old)).refused }
+        ≡ (answer (RequestView.force path.now text.now) (machine_of controller.old)).refused }
 {
-    let value = value_given(controller, path, text);
+    let value = read_given(controller, path, text);
     reply.answer(controller.force(path, value))
 }
 
 /// Replies how the controller stands, and answers that this is no refusal.
 fn report<M: Memory>(controller: &Controller<M>, reply: &mut Reply) -> bool
-    ensures reply { reply.new ≡ (answer_to Ask.status (machine_of controller.now)).reply }
+    ensures reply { reply.new ≡ (answer RequestView.status (machine_of controller.now)).reply }
     ensures refused { result ≡ false }
 {
     reply.report(controller.status());
@@ -110,9 +110,9 @@ fn act<M: Memory>(
     request: Request<'_>,
     reply: &mut Reply,
 ) -> bool
-    ensures machine { machine_of controller.new ≡ (answer_to (request_of request.entry) (machine_of controller.old)).machine }
-    ensures reply { reply.new ≡ (answer_to (request_of request.entry) (machine_of controller.old)).reply }
-    ensures refused { result ≡ (answer_to (request_of request.entry) (machine_of controller.old)).refused }
+    ensures machine { machine_of controller.new ≡ (answer (request_of request.entry) (machine_of controller.old)).machine }
+    ensures reply { reply.new ≡ (answer (request_of request.entry) (machine_of controller.old)).reply }
+    ensures refused { result ≡ (answer (request_of request.entry) (machine_of controller.old)).refused }
 {
     match request {
         Request::Nothing => {
@@ -125,7 +125,7 @@ fn act<M: Memory>(
         Request::Release(path) => reply.answer(controller.release(path)),
         Request::Undo => reply.answer(controller.undo(alloc)),
         Request::Status => report(controller, reply),
-        Request::Unknown => reply.answer(Err(Refusal::O(11))),
+        Request::Unknown => reply.answer(Err(Refusal::O(NO_SUCH_LINE))),
     }
 }
 
@@ -161,7 +161,7 @@ impl Buffers {
     {
         Ok(Buffers {
             input: Input::new(alloc)?,
-            line: Vec::with_capacity(alloc, LINE)?,
+            line: Vec::with_capacity(alloc, MAX_LINE_BYTES)?,
             reply: Reply::new(alloc)?,
         })
     }
@@ -177,13 +177,13 @@ fn turn<M: Memory, R: Source, W: Sink>(
 ) -> Result<Option<bool>, DeviceFault>
     requires source { R.has_failed source.old ≡ false }
     requires sink { W.has_failed sink.old ≡ false }
-    ensures ok { IfOk result (λ refused. OnKnown
+    ensures ok { IfOk result (λ refused. OnReading
         (pending buffers.old.input (R.rest source.old)) (pending buffers.new.input (R.rest source.new))
         (TurnsOver refused buffers.new.input.at_end (machine_of controller.old) (machine_of controller.new)
         (W.taken sink.old) (W.taken sink.new))) }
-    ensures err { OnErr result (IfSome (pending buffers.old.input (R.rest source.old))
+    ensures err { OnErr result (OnBytes (pending buffers.old.input (R.rest source.old))
         (StopsIn (machine_of controller.old) (machine_of controller.new) (W.taken sink.old) (W.taken sink.new))) }
-    ensures read { R.has_failed source.new ≡ true → OnKnown
+    ensures read { R.has_failed source.new ≡ true → OnReading
         (pending buffers.old.input (R.rest source.old)) (R.rest source.new)
         (LosesPart buffers.old.input.at_end (machine_of controller.old) (machine_of controller.new)
         (W.taken sink.old) (W.taken sink.new)) }
@@ -196,7 +196,7 @@ fn turn<M: Memory, R: Source, W: Sink>(
 {
     let refused = match buffers.input.next_line(source, &mut buffers.line)? {
         Found::End => return Ok(None),
-        Found::TooLong => buffers.reply.answer(Err(Refusal::O(11))),
+        Found::TooLong => buffers.reply.answer(Err(Refusal::O(NO_SUCH_LINE))),
         Found::Line => {
             let request = read_request(buffers.line.as_slice());
             act(alloc, controller, request, &mut buffers.reply)
@@ -216,11 +216,11 @@ fn answer_lines<M: Memory, R: Source, W: Sink>(
 ) -> Result<bool, DeviceFault>
     requires source { R.has_failed source.old ≡ false }
     requires sink { W.has_failed sink.old ≡ false }
-    ensures ok { IfOk result (λ refused. IfSome (pending buffers.old.input (R.rest source.old))
+    ensures ok { IfOk result (λ refused. OnBytes (pending buffers.old.input (R.rest source.old))
         (AnswersAll refused (machine_of controller.old) (machine_of controller.new) (W.taken sink.old) (W.taken sink.new))) }
-    ensures err { OnErr result (IfSome (pending buffers.old.input (R.rest source.old))
+    ensures err { OnErr result (OnBytes (pending buffers.old.input (R.rest source.old))
         (StopsIn (machine_of controller.old) (machine_of controller.new) (W.taken sink.old) (W.taken sink.new))) }
-    ensures read { R.has_failed source.new ≡ true → OnKnown
+    ensures read { R.has_failed source.new ≡ true → OnReading
         (pending buffers.old.input (R.rest source.old)) (R.rest source.new)
         (AnswersRead (machine_of controller.old) (machine_of controller.new) (W.taken sink.old) (W.taken sink.new)) }
     ensures failed { (R.has_failed source.new || W.has_failed sink.new) ≡ is_err result }
@@ -243,15 +243,15 @@ pub fn session<M: Memory, R: Source, W: Sink>(
     requires sink { W.has_failed sink.old ≡ false }
 
     // Every line is answered, unless a device fails or there is no memory for the session's own buffers.
-    ensures clean { result ≡ Outcome.Clean → IfSome (R.rest source.old)
+    ensures clean { result ≡ Outcome.Clean → OnBytes (R.rest source.old)
         (AnswersAll false (machine_of controller.old) (machine_of controller.new) (W.taken sink.old) (W.taken sink.new)) }
-    ensures refused { result ≡ Outcome.Refused → IfSome (R.rest source.old)
+    ensures refused { result ≡ Outcome.Refused → OnBytes (R.rest source.old)
         (AnswersAll true (machine_of controller.old) (machine_of controller.new) (W.taken sink.old) (W.taken sink.new)) }
 
     // A device has failed, and the session ended there. Of the lines that were read whole none is lost.
-    ensures device { result ≡ Outcome.Device → IfSome (R.rest source.old)
+    ensures device { result ≡ Outcome.Device → OnBytes (R.rest source.old)
         (StopsIn (machine_of controller.old) (machine_of controller.new) (W.taken sink.old) (W.taken sink.new)) }
-    ensures read { R.has_failed source.new ≡ true → OnKnown (R.rest source.old) (R.rest source.new)
+    ensures read { R.has_failed source.new ≡ true → OnReading (R.rest source.old) (R.rest source.new)
         (AnswersRead (machine_of controller.old) (machine_of controller.new) (W.taken sink.old) (W.taken sink.new)) }
     ensures failed { IsTrue (R.has_failed source.new || W.has_failed sink.new) ↔ (result ≡ Outcome.Device) }
 

@@ -1,6 +1,6 @@
 use Rattle.std.proofs.Common.{refl, ◌∙◌}
 use Rattle.st_session.proofs.StepLemmas.{history_length}
-use Rattle.st_session.proofs.engine.report.Goals as goal
+use Rattle.st_session.proofs.conversation.report.Goals as goal
 
 pub returns-clause-reply : goal.returns-clause-reply
 returns-clause-reply g c =
