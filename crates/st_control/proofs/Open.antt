@@ -1,5 +1,5 @@
 -- Forced leaves are open, whatever is written, forced, released and undone.
-use Rattle.std.proofs.Common.{ℕ, ◌≡◌, Bool, true, false, ◌⊎◌, inl, inr, List, zero, suc, length, set, replicate, pos, subst, sym, ◌∙◌, arith}
+use Rattle.std.proofs.Common.{ℕ, ◌≡◌, Bool, true, false, inl, inr, List, zero, suc, length, set, replicate, pos, subst, sym, ◌∙◌, arith}
 use Rattle.std.proofs.lemmas.Bool.Decides.{eqb_tells}
 use Rattle.std.proofs.lemmas.List.{get_or-set_other}
 use Rattle.st_control.specs.States.{ForcesAreOpen, IsMoment, IsOpenAt}

@@ -1,15 +1,14 @@
 -- What an accepted command leaves in its record, and that states stay whole.
-use Rattle.std.proofs.Common.{ℕ, ◌≡◌, ◌∙◌, ◌<◌, Bool, true, List, [], ◌∷◌, get_or, length, false, refl, sym, ap, subst, arith, unwrap_or, ◌&&◌}
+use Rattle.std.proofs.Common.{ℕ, ◌≡◌, ◌∙◌, ◌<◌, Bool, true, List, [], ◌∷◌, get_or, length, false, refl, sym, ap, subst, unwrap_or, ◌&&◌}
 use Rattle.std.specs.Prelude.{Ok, Some}
 use Rattle.std.proofs.lemmas.Bool.{not-false}
 use Rattle.std.proofs.lemmas.Bool.Decides.{Decides-eqb}
 use Rattle.std.proofs.lemmas.List.{length-set}
-use Rattle.st_control.specs.Controllers.{force_record, leaf_at_path, record_of, release_record, write_record}
+use Rattle.st_control.specs.Controllers.{force_record, leaf_at_path, release_record, write_record}
 use Rattle.st_control.specs.Laws.{RecordFits, RecordUndoesCommand, StepsKeepWhole}
-use Rattle.st_control.specs.Machine.{Machine, force_causes, is_value_of, leaf_to_force}
+use Rattle.st_control.specs.Machine.{force_causes, is_value_of, leaf_to_force}
 use Rattle.st_control.specs.Machine.Command.{force, release, write}
 use Rattle.st_control.specs.States.{FitsRecord, IsOpenAt, IsWhole, StateView, forced, leaf_of, released, undone, written}
-use Rattle.st_control.specs.declared.record.Record.{Record}
 use Rattle.st_control.specs.declared.record.Record.TheVariants.{Force, Release, Write}
 use Rattle.st_control.proofs.Changes.{force_accepts, found_at, release_accepts, write_accepts}
 use Rattle.st_control.proofs.Open.{mark_keeps_open}

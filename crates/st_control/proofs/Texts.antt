@@ -1,13 +1,12 @@
 -- Texts that are programs, and the refusals of others.
-use Rattle.std.proofs.Common.{◌≡◌, ◌<◌, ◌≤◌, ◌^◌, ℕ, List, length, Result, Ok, Err, inl, inr, refl, subst}
+use Rattle.std.proofs.Common.{◌≡◌, ◌<◌, ◌≤◌, ◌^◌, ℕ, List, length, Ok, Err, inl, inr, refl, subst}
 use Rattle.std.proofs.lemmas.Bool.{cases_lt}
 use Rattle.st_syntax.proofs.Top.{one_text}
-use Rattle.st_syntax.specs.Texts.{Explains, IsTextOf}
+use Rattle.st_syntax.specs.Texts.{IsTextOf}
 use Rattle.st_tokens.specs.declared.fault.SyntaxFault.{SyntaxFault}
-use Rattle.st_tokens.specs.declared.fault.SyntaxFault.TheVariants as faults
 use Rattle.st_tree.specs.declared.leaf.Leaf.{Leaf}
 use Rattle.st_tree.specs.declared.tree.unit.Unit.{Unit as ProgramUnit}
-use Rattle.st_control.specs.Texts.{IsReadAs, TextsGiveOneList, refusal_of, refusal_of_units}
+use Rattle.st_control.specs.Texts.{IsReadAs, TextsGiveOneList, refusal_of_units}
 use Rattle.st_control.specs.ThinPrograms.{IsThinProgram}
 use Rattle.st_control.specs.declared.refusal.Refusal.TheVariants as refusals
 use Rattle.st_control.specs.declared.thin.fault.ThinFault.{ThinFault}

@@ -38,8 +38,8 @@ returns-in-Ok-clause-only g c =
     λ leaves program.
     let units = c.as_slice.ensures.value ∙ c.in_ok-units.ensures.only program.1.0 program.0 program.1.1 in
     let same : c.in-Ok.layout ≡ leaves =
-        c.in-Ok.ensures ∙ one_list c.as_slice.result.now c.args.main.now c.in_ok-leaves.leaves leaves c.in_ok-leaves.ensures.ok
-        (subst (λ it. IsThinProgram it c.args.main.now leaves) (sym units) program.1.2) in
+    c.in-Ok.ensures ∙ one_list c.as_slice.result.now c.args.main.now c.in_ok-leaves.leaves leaves c.in_ok-leaves.ensures.ok
+    (subst (λ it. IsThinProgram it c.args.main.now leaves) (sym units) program.1.2) in
     MatchResult-from_both c.start.result (λ controller. controller ≡ first_controller leaves c.args.main.now c.args.limit) (λ refusal. refusal ≡ refusals.M)
     (IfOk-weaker c.start.result _ (λ controller. controller ≡ first_controller leaves c.args.main.now c.args.limit)
     (λ controller is. is ∙ (ap (λ (it : List Leaf). first_controller it c.in_ok-name.name c.args.limit) same ∙ ap (λ (it : List ℕ). first_controller leaves it c.args.limit) name))
