@@ -1,4 +1,4 @@
-//! Values of all fourteen types, written and shown.
+//! Values of all fourteen types, written and shown, up to the bounds of each.
 ghost use Rattle.std.specs.Prelude.{IfOk};
 ghost use Rattle.st_layout.specs.Layout.{IsSound};
 
@@ -10,83 +10,159 @@ use st_values::{Elem, Value};
 use std::alloc::{AllocError, Global};
 use std::test::Fail;
 
-/// A type, a session over one variable of it, and what is written.
+/// A type, its greatest and its least value as they are written and as they are shown, the value that a variable begins
+/// with, and what is written for one above and for one below.
 struct Case {
     elem: Elem,
-    session: &'static [u8],
-    written: &'static [u8],
+    greatest: &'static [u8],
+    greatest_shown: &'static [u8],
+    least: &'static [u8],
+    least_shown: &'static [u8],
+    initial_shown: &'static [u8],
+    above: &'static [u8],
+    below: &'static [u8],
 }
 
 const CASES: [Case; 14] = [
     Case {
         elem: Elem::Bool,
-        session: b"write Main.V true\nforce main.v true\nshow Main.V\nundo\nundo\nwrite MAIN.V 18446744073709551616\n",
-        written: b"ok\nok\nMain.V = TRUE forced\nok\nok\nrefused O3\n",
+        greatest: b"TRUE",
+        greatest_shown: b"TRUE",
+        least: b"false",
+        least_shown: b"FALSE",
+        initial_shown: b"FALSE",
+        above: b"2",
+        below: b"-1",
     },
     Case {
         elem: Elem::Sint,
-        session: b"write Main.V -128\nforce main.v -128\nshow Main.V\nundo\nundo\nwrite MAIN.V 18446744073709551616\n",
-        written: b"ok\nok\nMain.V = -128 forced\nok\nok\nrefused O3\n",
+        greatest: b"127",
+        greatest_shown: b"127",
+        least: b"-128",
+        least_shown: b"-128",
+        initial_shown: b"0",
+        above: b"128",
+        below: b"-129",
     },
     Case {
         elem: Elem::Int,
-        session: b"write Main.V 16#7FFF\nforce main.v 16#7FFF\nshow Main.V\nundo\nundo\nwrite MAIN.V 18446744073709551616\n",
-        written: b"ok\nok\nMain.V = 32767 forced\nok\nok\nrefused O3\n",
+        greatest: b"16#7FFF",
+        greatest_shown: b"32767",
+        least: b"-32768",
+        least_shown: b"-32768",
+        initial_shown: b"0",
+        above: b"32768",
+        below: b"-32769",
     },
     Case {
         elem: Elem::Dint,
-        session: b"write Main.V DINT#-2147483648\nforce main.v DINT#-2147483648\nshow Main.V\nundo\nundo\nwrite MAIN.V 18446744073709551616\n",
-        written: b"ok\nok\nMain.V = -2147483648 forced\nok\nok\nrefused O3\n",
+        greatest: b"2147483647",
+        greatest_shown: b"2147483647",
+        least: b"DINT#-2147483648",
+        least_shown: b"-2147483648",
+        initial_shown: b"0",
+        above: b"DINT#2147483648",
+        below: b"-2147483649",
     },
     Case {
         elem: Elem::Lint,
-        session: b"write Main.V 9223372036854775807\nforce main.v 9223372036854775807\nshow Main.V\nundo\nundo\nwrite MAIN.V 18446744073709551616\n",
-        written: b"ok\nok\nMain.V = 9223372036854775807 forced\nok\nok\nrefused O3\n",
+        greatest: b"9223372036854775807",
+        greatest_shown: b"9223372036854775807",
+        least: b"-9223372036854775808",
+        least_shown: b"-9223372036854775808",
+        initial_shown: b"0",
+        above: b"9223372036854775808",
+        below: b"-9223372036854775809",
     },
     Case {
         elem: Elem::Usint,
-        session: b"write Main.V 2#1111_1111\nforce main.v 2#1111_1111\nshow Main.V\nundo\nundo\nwrite MAIN.V 18446744073709551616\n",
-        written: b"ok\nok\nMain.V = 255 forced\nok\nok\nrefused O3\n",
+        greatest: b"2#1111_1111",
+        greatest_shown: b"255",
+        least: b"0",
+        least_shown: b"0",
+        initial_shown: b"0",
+        above: b"256",
+        below: b"-1",
     },
     Case {
         elem: Elem::Uint,
-        session: b"write Main.V 65_535\nforce main.v 65_535\nshow Main.V\nundo\nundo\nwrite MAIN.V 18446744073709551616\n",
-        written: b"ok\nok\nMain.V = 65535 forced\nok\nok\nrefused O3\n",
+        greatest: b"65_535",
+        greatest_shown: b"65535",
+        least: b"0",
+        least_shown: b"0",
+        initial_shown: b"0",
+        above: b"65536",
+        below: b"-1",
     },
     Case {
         elem: Elem::Udint,
-        session: b"write Main.V udint#16#ffff_ffff\nforce main.v udint#16#ffff_ffff\nshow Main.V\nundo\nundo\nwrite MAIN.V 18446744073709551616\n",
-        written: b"ok\nok\nMain.V = 4294967295 forced\nok\nok\nrefused O3\n",
+        greatest: b"udint#16#ffff_ffff",
+        greatest_shown: b"4294967295",
+        least: b"0",
+        least_shown: b"0",
+        initial_shown: b"0",
+        above: b"16#1_0000_0000",
+        below: b"-1",
     },
     Case {
         elem: Elem::Ulint,
-        session: b"write Main.V 18446744073709551615\nforce main.v 18446744073709551615\nshow Main.V\nundo\nundo\nwrite MAIN.V 18446744073709551616\n",
-        written: b"ok\nok\nMain.V = 18446744073709551615 forced\nok\nok\nrefused O3\n",
+        greatest: b"18446744073709551615",
+        greatest_shown: b"18446744073709551615",
+        least: b"0",
+        least_shown: b"0",
+        initial_shown: b"0",
+        above: b"18446744073709551616",
+        below: b"-1",
     },
     Case {
         elem: Elem::Byte,
-        session: b"write Main.V 16#0f\nforce main.v 16#0f\nshow Main.V\nundo\nundo\nwrite MAIN.V 18446744073709551616\n",
-        written: b"ok\nok\nMain.V = 16#F forced\nok\nok\nrefused O3\n",
+        greatest: b"255",
+        greatest_shown: b"16#FF",
+        least: b"16#0",
+        least_shown: b"16#0",
+        initial_shown: b"16#0",
+        above: b"16#100",
+        below: b"-1",
     },
     Case {
         elem: Elem::Word,
-        session: b"write Main.V 255\nforce main.v 255\nshow Main.V\nundo\nundo\nwrite MAIN.V 18446744073709551616\n",
-        written: b"ok\nok\nMain.V = 16#FF forced\nok\nok\nrefused O3\n",
+        greatest: b"WORD#16#ffff",
+        greatest_shown: b"16#FFFF",
+        least: b"0",
+        least_shown: b"16#0",
+        initial_shown: b"16#0",
+        above: b"65536",
+        below: b"-1",
     },
     Case {
         elem: Elem::Dword,
-        session: b"write Main.V DWORD#8#17\nforce main.v DWORD#8#17\nshow Main.V\nundo\nundo\nwrite MAIN.V 18446744073709551616\n",
-        written: b"ok\nok\nMain.V = 16#F forced\nok\nok\nrefused O3\n",
+        greatest: b"DWORD#8#37_777_777_777",
+        greatest_shown: b"16#FFFFFFFF",
+        least: b"0",
+        least_shown: b"16#0",
+        initial_shown: b"16#0",
+        above: b"4294967296",
+        below: b"-1",
     },
     Case {
         elem: Elem::Lword,
-        session: b"write Main.V 16#FFFF_FFFF_FFFF_FFFF\nforce main.v 16#FFFF_FFFF_FFFF_FFFF\nshow Main.V\nundo\nundo\nwrite MAIN.V 18446744073709551616\n",
-        written: b"ok\nok\nMain.V = 16#FFFFFFFFFFFFFFFF forced\nok\nok\nrefused O3\n",
+        greatest: b"16#FFFF_FFFF_FFFF_FFFF",
+        greatest_shown: b"16#FFFFFFFFFFFFFFFF",
+        least: b"0",
+        least_shown: b"16#0",
+        initial_shown: b"16#0",
+        above: b"16#1_0000_0000_0000_0000",
+        below: b"-1",
     },
     Case {
         elem: Elem::Time,
-        session: b"write Main.V t#1h30m_2.5s\nforce main.v t#1h30m_2.5s\nshow Main.V\nundo\nundo\nwrite MAIN.V 18446744073709551616\n",
-        written: b"ok\nok\nMain.V = T#5402500ms forced\nok\nok\nrefused O3\n",
+        greatest: b"T#9223372036854775807ms",
+        greatest_shown: b"T#9223372036854775807ms",
+        least: b"time#-9223372036854775808ms",
+        least_shown: b"T#-9223372036854775808ms",
+        initial_shown: b"T#0ms",
+        above: b"T#9223372036854775808ms",
+        below: b"T#-9223372036854775809ms",
     },
 ];
 
@@ -112,6 +188,54 @@ fn only_leaf(alloc: Global, elem: Elem) -> Result<List<Leaf>, AllocError>
     Ok(List { items })
 }
 
+/// The parts of a text, one after another.
+fn joined(alloc: Global, parts: &[&[u8]]) -> Result<Vec<u8>, AllocError> {
+    let mut text = Vec::new(alloc);
+    for part in parts {
+        text.extend_from_slice(part)?;
+    }
+    Ok(text)
+}
+
+/// The greatest value is written and forced, and both are taken back; then the least one is written, and those outside the
+/// bounds are refused.
+fn session_of(alloc: Global, case: &Case) -> Result<Vec<u8>, AllocError> {
+    joined(
+        alloc,
+        &[
+            b"write Main.V ",
+            case.greatest,
+            b"\nforce main.v ",
+            case.greatest,
+            b"\nshow Main.V\nundo\nshow MAIN.V\nundo\nshow Main.V\nwrite Main.V ",
+            case.least,
+            b"\nshow Main.V\nwrite Main.V ",
+            case.above,
+            b"\nforce Main.V ",
+            case.below,
+            b"\nstatus\n",
+        ],
+    )
+}
+
+/// What that session has to write.
+fn written_of(alloc: Global, case: &Case) -> Result<Vec<u8>, AllocError> {
+    joined(
+        alloc,
+        &[
+            b"ok\nok\nMain.V = ",
+            case.greatest_shown,
+            b" forced\nok\nMain.V = ",
+            case.greatest_shown,
+            b"\nok\nMain.V = ",
+            case.initial_shown,
+            b"\nok\nMain.V = ",
+            case.least_shown,
+            b"\nrefused O3\nrefused O3\nrunning 0 forces 0 undo 1\n",
+        ],
+    )
+}
+
 #[test]
 fn values_are_written_and_shown(rt: HostRuntime) -> Result<(), Fail> {
     let alloc = rt.alloc();
@@ -120,11 +244,13 @@ fn values_are_written_and_shown(rt: HostRuntime) -> Result<(), Fail> {
         let name = Name::of(b"Main").ok_or("a short name")?;
         let started = Controller::<Cells>::start(alloc, layout, name, 1);
         let mut controller = started.ok().ok_or("a controller")?;
-        let mut source = Bytes::new(case.session, 5, 1 << 40);
+        let lines = session_of(alloc, case)?;
+        let mut source = Bytes::new(&lines, 5, 1 << 40);
         let mut sink = Sheet::new(alloc, 7, 1 << 40);
         let outcome = session(alloc, &mut controller, &mut source, &mut sink);
+        let written = written_of(alloc, case)?;
         assert_eq!(rt; outcome, Outcome::Refused);
-        assert_eq!(rt; sink.written(), case.written);
+        assert_eq!(rt; sink.written(), written.as_slice());
     }
     Ok(())
 }

@@ -83,7 +83,7 @@ fn keeps_values_and_forces(rt: HostRuntime) -> Result<(), Fail> {
 }
 
 #[test]
-fn finds_paths_in_any_case(rt: HostRuntime) -> Result<(), Fail> {
+fn finds_paths_ignoring_case(rt: HostRuntime) -> Result<(), Fail> {
     let layout = two_leaves(rt.alloc())?;
     let long = [65; 256];
     assert_eq!(rt; layout.leaf(b"main.cOUNT"), Some(1));

@@ -1,5 +1,6 @@
 //! Texts that are no programs.
 use crate::running::{FIRST, run};
+use std::alloc::Global;
 use std::test::Fail;
 
 /// A text, and what its refusal has to be.
@@ -70,6 +71,52 @@ fn beginnings_are_refused(rt: HostRuntime) -> Result<(), Fail> {
         };
         assert_eq!(rt; ran.status, 1);
         assert_eq!(rt; ran.written.as_slice(), written.as_slice());
+    }
+    Ok(())
+}
+
+/// A program whose body assigns a number in so many parentheses.
+fn in_parentheses(alloc: Global, levels: usize) -> Result<Vec<u8>, Fail> {
+    let mut text = Vec::new(alloc);
+    text.extend_from_slice(b"PROGRAM Main\nA := ")?;
+    for _ in 0..levels {
+        text.push(b'(')?;
+    }
+    text.push(b'1')?;
+    for _ in 0..levels {
+        text.push(b')')?;
+    }
+    text.extend_from_slice(b"; END_PROGRAM")?;
+    Ok(text)
+}
+
+/// 64 levels are in the grammar (this body is none that a program may have yet), and a 65th is refused.
+#[test]
+fn deep_texts_are_refused(rt: HostRuntime) -> Result<(), Fail> {
+    let cases: [(usize, &[u8]); 2] = [(64, b"refused C10 line 0\n"), (65, b"refused S3 line 2\n")];
+    for (levels, written) in cases {
+        let text = in_parentheses(rt.alloc(), levels)?;
+        let ran = run(rt.alloc(), &text, b"show Main.A\n", 4096)?;
+        assert_eq!(rt; ran.status, 1);
+        assert_eq!(rt; ran.written.as_slice(), written);
+    }
+    Ok(())
+}
+
+/// A text has at most 1,048,576 bytes. One that is longer is refused for that, also where it has no tokens.
+#[test]
+fn long_texts_are_refused(rt: HostRuntime) -> Result<(), Fail> {
+    let mut text = Vec::from_slice(rt.alloc(), FIRST)?;
+    text.resize(1_048_576, b' ')?;
+    let ran = run(rt.alloc(), &text, b"show Main.A\n", 4096)?;
+    assert_eq!(rt; ran.status, 0);
+    assert_eq!(rt; ran.written.as_slice(), b"Main.A = 3\n".as_slice());
+    for last in [b' ', b'$'] {
+        text.truncate(1_048_576);
+        text.push(last)?;
+        let ran = run(rt.alloc(), &text, b"show Main.A\n", 4096)?;
+        assert_eq!(rt; ran.status, 1);
+        assert_eq!(rt; ran.written.as_slice(), b"refused S4 line 1\n".as_slice());
     }
     Ok(())
 }

@@ -3,8 +3,9 @@ use Rattle.std.proofs.Common.{ℕ, Bool, true, false, ◌≡◌, List, [], ◌�
 use Rattle.std.specs.Prelude.{Err, None, Ok, Option, Result, Some, cond, if◌then◌else◌}
 use Rattle.std.specs.Option.{option_map_or}
 use Rattle.std.specs.Str.{bytes_eq}
+use Rattle.st_control.specs.Causes.{no_such_path}
 use Rattle.st_control.specs.Laws.{Changes, ChangesOnePath, is_same_path}
-use Rattle.st_control.specs.Machine.{Cause, Machine, accept, accept_at, force_causes, is_full, leaf_unless, release_causes, unless, write_causes}
+use Rattle.st_control.specs.Machine.{Cause, Machine, accept, accept_at, force_causes, is_full, leaf_unless, release_causes, step, unless, write_causes}
 use Rattle.st_control.specs.Machine.Command.{force, release, write}
 use Rattle.st_control.specs.States.{IsWhole, StateView, forced, leaf_of, released, written}
 use Rattle.st_layout.proofs.Maps.{mark_changes_one_force, set_changes_one_value}
@@ -21,24 +22,55 @@ unless_gives (cause ∷ causes) result other h =
     elim cause.1 as (λ b. cond b (Err cause.0) (unless causes result) ≡ Ok other → result ≡ other)
     [ true ↦ λ refused. cc | false ↦ λ passes. unless_gives causes result other passes ] h
 
+-- no cause holds
+abbrev pub NoneHolds : List Cause → Type 0
+NoneHolds [] = Unit {0}
+NoneHolds (cause ∷ causes) = (cause.1 ≡ false) × NoneHolds causes
+
+-- what isn't refused has no cause
+unless_allows : (causes : List Cause) (result other : ℕ) → unless causes result ≡ Ok other → NoneHolds causes
+unless_allows [] result other h = tt
+unless_allows (cause ∷ causes) result other h = by cause.1 refl h (unless_allows causes result other) where
+  by : (b : Bool) → cause.1 ≡ b → cond b (Err cause.0) (unless causes result) ≡ Ok other → (unless causes result ≡ Ok other → NoneHolds causes) → NoneHolds (cause ∷ causes)
+  by true is refused later = absurd (cc)
+  by false is passes later = (is, later passes)
+
 -- a leaf is found only at the path
-found_at : (place : Option ℕ) (causes : ℕ → List Cause) (leaf : ℕ) → option_map_or (λ i. unless (causes i) i) place (Err 1) ≡ Ok leaf → place ≡ Some leaf
+pub found_at : (place : Option ℕ) (causes : ℕ → List Cause) (leaf : ℕ) → option_map_or (λ i. unless (causes i) i) place (Err no_such_path) ≡ Ok leaf → place ≡ Some leaf
 found_at None causes leaf h = cc
 found_at (Some i) causes leaf h = ap Some (unless_gives (causes i) i leaf h)
 
--- an accepted command changed the leaf that has its path
-pub record Accepts (m next : Machine) (path : List ℕ) (change : ℕ → StateView) : Type 0 where
+allowed_at : (place : Option ℕ) (causes : ℕ → List Cause) (leaf : ℕ) → option_map_or (λ i. unless (causes i) i) place (Err no_such_path) ≡ Ok leaf → NoneHolds (causes leaf)
+allowed_at None causes leaf h = absurd (cc)
+allowed_at (Some i) causes leaf h = subst (λ it. NoneHolds (causes it)) (unless_gives (causes i) i leaf h) (unless_allows (causes i) i leaf h)
+
+-- an accepted command changed the leaf that has its path, where no cause holds
+pub record Accepts (m next : Machine) (path : List ℕ) (change : ℕ → StateView) (causes : ℕ → List Cause) : Type 0 where
   pub leaf : ℕ
   pub found : leaf_of m.state path ≡ Some leaf
+  pub allowed : NoneHolds (causes leaf)
   pub next_is : change leaf ≡ next.state
 
-accepts_by : (m next : Machine) (path : List ℕ) (change : ℕ → StateView) (causes : ℕ → List Cause) (leaf : Result ℕ ℕ) → leaf ≡ leaf_unless m.state path causes → accept_at m change leaf ≡ Ok next → Accepts m next path change
+accepts_by : (m next : Machine) (path : List ℕ) (change : ℕ → StateView) (causes : ℕ → List Cause) (leaf : Result ℕ ℕ) → leaf ≡ leaf_unless m.state path causes → accept_at m change leaf ≡ Ok next → Accepts m next path change causes
 accepts_by m next path change causes (Ok leaf) is h = record {
   leaf = leaf;
   found = found_at (leaf_of m.state path) causes leaf (sym is);
+  allowed = allowed_at (leaf_of m.state path) causes leaf (sym is);
   next_is = let same : accept m (change leaf) ≡ next = cc in ap (λ (n : Machine). n.state) same;
 }
 accepts_by m next path change causes (Err number) is h = cc
+
+pub write_accepts : (path : List ℕ) (value : Value) (m next : Machine) → step (write path value) m ≡ Ok next → Accepts m next path (λ leaf. written m.state leaf value) (write_causes m.state (is_full m) value)
+write_accepts path value m next accepted =
+    accepts_by m next path (λ leaf. written m.state leaf value) (write_causes m.state (is_full m) value) (leaf_unless m.state path (write_causes m.state (is_full m) value)) refl accepted
+
+pub force_accepts : (path : List ℕ) (value : Value) (m next : Machine) → step (force path value) m ≡ Ok next → Accepts m next path (λ leaf. forced m.state leaf value) (force_causes m.state (is_full m) value)
+force_accepts path value m next accepted =
+    accepts_by m next path (λ leaf. forced m.state leaf value) (force_causes m.state (is_full m) value) (leaf_unless m.state path (force_causes m.state (is_full m) value)) refl accepted
+
+pub release_accepts : (path : List ℕ) (m next : Machine) → step (release path) m ≡ Ok next → Accepts m next path (λ leaf. released m.state leaf) (release_causes m.state (is_full m))
+release_accepts path m next accepted =
+    accepts_by m next path (λ leaf. released m.state leaf) (release_causes m.state (is_full m)) (leaf_unless m.state path (release_causes m.state (is_full m))) refl accepted
 
 -- the path of the leaf that was found is the command's
 same_path : (s : StateView) (path other : List ℕ) (leaf : ℕ) → leaf_of s path ≡ Some leaf → bytes_eq (raised other) (leaf_at s.leaves leaf).path ≡ is_same_path other path
@@ -62,14 +94,14 @@ gets_force s path on leaf whole found other =
 
 pub changes_one_path : ChangesOnePath
 changes_one_path (write path value) m next whole accepted =
-    let a = accepts_by m next path (λ leaf. written m.state leaf value) (write_causes m.state (is_full m) value) (leaf_unless m.state path (write_causes m.state (is_full m) value)) refl accepted in
+    let a = write_accepts path value m next accepted in
     subst (λ (s : StateView). Changes (write path value) m.state s) a.next_is
     (gets_value m.state path value a.leaf whole a.found, λ other. refl, record { leaves = refl; now = refl; status = refl })
 changes_one_path (force path value) m next whole accepted =
-    let a = accepts_by m next path (λ leaf. forced m.state leaf value) (force_causes m.state (is_full m) value) (leaf_unless m.state path (force_causes m.state (is_full m) value)) refl accepted in
+    let a = force_accepts path value m next accepted in
     subst (λ (s : StateView). Changes (force path value) m.state s) a.next_is
     (gets_value m.state path value a.leaf whole a.found, gets_force m.state path true a.leaf whole a.found, record { leaves = refl; now = refl; status = refl })
 changes_one_path (release path) m next whole accepted =
-    let a = accepts_by m next path (λ leaf. released m.state leaf) (release_causes m.state (is_full m)) (leaf_unless m.state path (release_causes m.state (is_full m))) refl accepted in
+    let a = release_accepts path m next accepted in
     subst (λ (s : StateView). Changes (release path) m.state s) a.next_is
     (λ other. refl, gets_force m.state path false a.leaf whole a.found, record { leaves = refl; now = refl; status = refl })

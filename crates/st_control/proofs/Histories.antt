@@ -16,7 +16,7 @@ kept c s left = record { state = s; records = c.records ++ left ∷ []; main = c
 pub machine_of-kept : (c : ControllerView) (s : StateView) (left : Record) → undone s left ≡ c.state → machine_of (kept c s left) ≡ accept (machine_of c) s
 machine_of-kept c s left back =
     rw (reverse-append c.records (left ∷ []))
-    (ap (λ (t : StateView). accept (record { state = t; history = states_before t (reverse c.records) }) s) back)
+    (ap (λ (t : StateView). accept (record { state = t; history = states_before t (reverse c.records); main = c.main; limit = c.limit }) s) back)
 
 -- it makes the chain of the records one longer
 pub coherent-kept : (before s : StateView) (records : List Record) (left : Record) → undone s left ≡ before → FitsRecord s left → IsCoherent before records → IsCoherent s (records ++ left ∷ [])
@@ -46,4 +46,4 @@ pub takes_accepted : (c : ControllerView) (change : ℕ → StateView) (find : B
     → len ≡ length c.records → Ok leaf ≡ find (nat_le 256 len) → s ≡ change leaf → undone s left ≡ c.state
     → Takes {A = Unit {0}} (accept_at (machine_of c) change (find (is_full (machine_of c)))) c (Ok tt) (kept c s left)
 takes_accepted c change find len leaf s left len_is found changed back =
-    rw (is_full-records c len len_is, ← found) (refl, machine_of-kept c s left back ∙ ap (accept (machine_of c)) changed, refl, refl)
+    rw (is_full-records c len len_is, ← found) (refl, machine_of-kept c s left back ∙ ap (accept (machine_of c)) changed)

@@ -1,5 +1,7 @@
 pub mod Changes
 pub mod Histories
+pub mod Open
+pub mod Records
 pub mod Steps
 pub mod Texts
 pub mod ThinDeclarations

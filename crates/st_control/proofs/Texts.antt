@@ -1,12 +1,14 @@
 -- Texts that are programs, and the refusals of others.
-use Rattle.std.proofs.Common.{◌≡◌, ℕ, List, inl, inr, refl, subst}
+use Rattle.std.proofs.Common.{◌≡◌, ◌<◌, ◌≤◌, ◌^◌, ℕ, List, length, Ok, Err, inl, inr, refl, subst}
+use Rattle.std.proofs.lemmas.Bool.{cases_lt}
 use Rattle.st_syntax.proofs.Top.{one_text}
 use Rattle.st_syntax.specs.Texts.{IsTextOf}
+use Rattle.st_tokens.specs.declared.fault.SyntaxFault.{SyntaxFault}
 use Rattle.st_tree.specs.declared.leaf.Leaf.{Leaf}
 use Rattle.st_tree.specs.declared.tree.unit.Unit.{Unit as ProgramUnit}
-use Rattle.st_control.specs.Controllers.{RefusesLoad}
-use Rattle.st_control.specs.Texts.{TextsGiveOneList, refusal_of_units}
+use Rattle.st_control.specs.Texts.{IsReadAs, TextsGiveOneList, refusal_of_units}
 use Rattle.st_control.specs.ThinPrograms.{IsThinProgram}
+use Rattle.st_control.specs.declared.refusal.Refusal.TheVariants as refusals
 use Rattle.st_control.specs.declared.thin.fault.ThinFault.{ThinFault}
 use Rattle.st_control.specs.declared.thin.fault.ThinFault.TheVariants.{Memory, NotThin}
 use Rattle.st_control.proofs.ThinPrograms.{one_list as one_list_of_units}
@@ -16,8 +18,18 @@ pub one_list : TextsGiveOneList
 one_list text main leaves others (units, is_text, is_thin) (more, is_other, is_more) =
     one_list_of_units more main leaves others (subst (λ it. IsThinProgram it main leaves) (one_text text units more is_text is_other) is_thin) is_more
 
--- units that aren't taken refuse the load
-pub refuses_units : (text main : List ℕ) (units : List ProgramUnit) (fault : ThinFault) → IsTextOf text units → (fault ≡ NotThin → (leaves : List Leaf) → IsThinProgram units main leaves → ⊥)
-    → RefusesLoad text main (refusal_of_units fault)
-refuses_units text main units Memory is_text refused = inl refl
-refuses_units text main units NotThin is_text refused = inr (inr (refl, (units, is_text, refused refl)))
+-- a text that is parsed isn't too long
+pub parsed_short : {A : Type 0} (text : List ℕ) (units : A) (fault : SyntaxFault) → (2 ^ 20 < length text → Ok units ≡ Err fault) → length text ≤ 2 ^ 20
+parsed_short text units fault long = elim (cases_lt (2 ^ 20) (length text)) [ inl longer ↦ absurd (cc (long longer)) | inr short ↦ short ]
+
+-- units that aren't taken refuse the text
+pub units_refuse : (text main : List ℕ) (units : List ProgramUnit) (fault : ThinFault) → length text ≤ 2 ^ 20 → IsTextOf text units → (fault ≡ NotThin → (leaves : List Leaf) → IsThinProgram units main leaves → ⊥)
+    → IsReadAs text main (Err (refusal_of_units fault))
+units_refuse text main units Memory short is_text refused = inr (short, inl refl)
+units_refuse text main units NotThin short is_text refused = inr (short, inr (inr (refl, (units, is_text, refused refl))))
+
+-- units that are a program are refused for want of memory alone
+pub only_memory : (main : List ℕ) (units : List ProgramUnit) (leaves : List Leaf) (fault : ThinFault) → IsThinProgram units main leaves
+    → (fault ≡ NotThin → (others : List Leaf) → IsThinProgram units main others → ⊥) → refusal_of_units fault ≡ refusals.M
+only_memory main units leaves Memory is_thin refused = refl
+only_memory main units leaves NotThin is_thin refused = absurd (refused refl leaves is_thin)

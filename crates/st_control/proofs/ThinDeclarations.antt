@@ -12,7 +12,7 @@ use Rattle.st_tree.specs.declared.tree.declaration.Declaration.{Declaration}
 use Rattle.st_control.specs.ThinLists.{Joins, Refuses}
 use Rattle.st_control.specs.declared.thin.fault.ThinFault.{ThinFault}
 use Rattle.st_control.specs.declared.thin.fault.ThinFault.TheVariants.{Memory, NotThin}
-use Rattle.st_control.specs.ThinPrograms.{Declares, leaf_of}
+use Rattle.st_control.specs.ThinPrograms.{Declares, declared_leaf}
 
 -- a path of at most 255 bytes
 abbrev IsShort : Leaf → Type 0
@@ -66,9 +66,9 @@ pub ruleset any_items = (list_any-map)
 
 -- the leaves of the first declarations, and that of the next one
 pub Declares-more : (program : List ℕ) (declarations : List Declaration) (i : ℕ) (none one : Declaration) (leaves : List Leaf) (leaf : Leaf) → i < length declarations → one ≡ get_or declarations i none
-    → Declares program (take i declarations) leaves → leaf_of program one ≡ Some leaf → Joins leaves leaf → Declares program (take (i + 1) declarations) (leaves ++ leaf ∷ [])
+    → Declares program (take i declarations) leaves → declared_leaf program one ≡ Some leaf → Joins leaves leaf → Declares program (take (i + 1) declarations) (leaves ++ leaf ∷ [])
 Declares-more program declarations i none one leaves leaf below is_one declares gives joins = record {
-  gives = map_more (leaf_of program) declarations i none below ∙ (rw (← is_one, declares.gives, gives) (sym (map-append Some leaves (leaf ∷ []))));
+  gives = map_more (declared_leaf program) declarations i none below ∙ (rw (← is_one, declares.gives, gives) (sym (map-append Some leaves (leaf ∷ []))));
   distinct = all_pairs_push IsApart leaves leaf declares.distinct joins.apart;
   short = All-push IsShort leaves leaf declares.short joins.short;
   few = omega (arith, length-append leaves (leaf ∷ []), joins.few);
@@ -92,20 +92,20 @@ one_list program declarations leaves others one other = Some-injective leaves ot
 -- there are as many leaves as declarations
 as_many : (program : List ℕ) (declarations : List Declaration) (all : List Leaf) → Declares program declarations all → length all ≡ length declarations
 as_many program declarations all declares =
-    sym (length-map all Some) ∙ ap length (sym declares.gives) ∙ length-map declarations (leaf_of program)
+    sym (length-map all Some) ∙ ap length (sym declares.gives) ∙ length-map declarations (declared_leaf program)
 
 -- each declaration gives its leaf
 pub leaf_at_place : (program : List ℕ) (declarations : List Declaration) (all : List Leaf) (i : ℕ) (none : Declaration) → i < length declarations → Declares program declarations all
-    → leaf_of program (get_or declarations i none) ≡ Some (get_or all i no_leaf)
+    → declared_leaf program (get_or declarations i none) ≡ Some (get_or all i no_leaf)
 leaf_at_place program declarations all i none below declares =
-    sym (get_or-map (leaf_of program) declarations i none None below)
+    sym (get_or-map (declared_leaf program) declarations i none None below)
     ∙ ap (λ given. get_or given i None) declares.gives
     ∙ get_or-map Some all i no_leaf None (omega (arith, as_many program declarations all declares))
 
 -- the leaves of the first declarations are the first leaves
 first_leaves : (program : List ℕ) (declarations : List Declaration) (leaves all : List Leaf) (i : ℕ) → Declares program (take i declarations) leaves → Declares program declarations all → leaves ≡ take i all
 first_leaves program declarations leaves all i declares whole = Some-injective leaves (take i all)
-    (sym declares.gives ∙ sym (take-map (leaf_of program) i declarations) ∙ ap (take i) whole.gives ∙ take-map Some i all)
+    (sym declares.gives ∙ sym (take-map (declared_leaf program) i declarations) ∙ ap (take i) whole.gives ∙ take-map Some i all)
 
 -- the next leaf may stand behind the first ones
 pub next_joins : (program : List ℕ) (declarations : List Declaration) (leaves all : List Leaf) (i : ℕ) → i < length declarations → Declares program (take i declarations) leaves → Declares program declarations all
@@ -123,16 +123,16 @@ next_joins program declarations leaves all i below declares whole =
 
 -- a declaration that is refused gives no leaf
 pub refused_leaf : (program : List ℕ) (declarations : List Declaration) (all : List Leaf) (i : ℕ) (none one : Declaration) (fault : ThinFault) → i < length declarations → one ≡ get_or declarations i none
-    → Declares program declarations all → fault ≡ NotThin → Refuses (leaf_of program one) fault → ⊥
+    → Declares program declarations all → fault ≡ NotThin → Refuses (declared_leaf program one) fault → ⊥
 refused_leaf program declarations all i none one NotThin below is_one declares is_fault refuses =
     let given = leaf_at_place program declarations all i none below declares in
-    let gives = ap (leaf_of program) is_one in
+    let gives = ap (declared_leaf program) is_one in
     absurd (cc (given, gives, refuses))
 refused_leaf program declarations all i none one Memory below is_one declares is_fault refuses = absurd (cc)
 
 -- the leaf that the next declaration gives may stand behind the first ones
 pub given_joins : (program : List ℕ) (declarations : List Declaration) (leaves all : List Leaf) (i : ℕ) (none one : Declaration) (leaf : Leaf) → i < length declarations → one ≡ get_or declarations i none
-    → Declares program (take i declarations) leaves → Declares program declarations all → leaf_of program one ≡ Some leaf → Joins leaves leaf
+    → Declares program (take i declarations) leaves → Declares program declarations all → declared_leaf program one ≡ Some leaf → Joins leaves leaf
 given_joins program declarations leaves all i none one leaf below is_one declares whole gives =
-    let same : get_or all i no_leaf ≡ leaf = cc (gives, ap (leaf_of program) is_one, leaf_at_place program declarations all i none below whole) in
+    let same : get_or all i no_leaf ≡ leaf = cc (gives, ap (declared_leaf program) is_one, leaf_at_place program declarations all i none below whole) in
     subst (Joins leaves) same (next_joins program declarations leaves all i below declares whole)

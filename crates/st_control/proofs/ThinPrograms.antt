@@ -17,7 +17,7 @@ use Rattle.st_tree.specs.declared.tree.declaration.Initial.TheVariants as initia
 use Rattle.st_tree.specs.declared.tree.declaration.VarBlock.{VarBlock}
 use Rattle.st_tree.specs.declared.tree.unit.Pou.{Pou}
 use Rattle.st_values.specs.declared.value.Value.{Value}
-use Rattle.st_control.specs.ThinPrograms.{Declares, IsOnlyBlock, UnitsGiveOneList, initial_value, leaf, leaf_of, literal_value, only_name, type_of}
+use Rattle.st_control.specs.ThinPrograms.{Declares, IsOnlyBlock, UnitsGiveOneList, initial_value, leaf, declared_leaf, literal_value, only_name, type_of}
 use Rattle.st_control.proofs.ThinDeclarations.{one_list as one_list_of_declarations}
 
 -- ---- one leaf
@@ -61,8 +61,8 @@ record LeafSo (found : Leaf) : Type 0 where
   initial : IsValueOf found found.initial
 
 -- it holds of the leaf of each declaration that gives one
-leaf_of-so : (program : List ℕ) (declaration : Declaration) (found : Leaf) → leaf_of program declaration ≡ Some found → LeafSo found
-leaf_of-so program declaration found gives = by_name (only_name declaration.names) gives where
+declared_leaf-so : (program : List ℕ) (declaration : Declaration) (found : Leaf) → declared_leaf program declaration ≡ Some found → LeafSo found
+declared_leaf-so program declaration found gives = by_name (only_name declaration.names) gives where
   by_value : (name : List ℕ) (elem : Elem) (value : Option Value) → initial_value elem declaration.initial ≡ value → option_and_then (λ it. Some (leaf program name it)) value ≡ Some found → LeafSo found
   by_value name elem None is_value gives = absurd (cc)
   by_value name elem (Some value) is_value gives =
@@ -78,12 +78,12 @@ leaf_of-so program declaration found gives = by_name (only_name declaration.name
   by_name (Some name) gives = by_type name (type_of declaration.specification) gives
 
 -- and of the leaves of a list of declarations
-leaves_so : (program : List ℕ) (declarations : List Declaration) (leaves : List Leaf) → map (leaf_of program) declarations ≡ map Some leaves → All LeafSo leaves
+leaves_so : (program : List ℕ) (declarations : List Declaration) (leaves : List Leaf) → map (declared_leaf program) declarations ≡ map Some leaves → All LeafSo leaves
 leaves_so program [] [] gives = λ k d below. absurd (omega arith)
 leaves_so program [] (leaf ∷ leaves) gives = absurd (cc)
 leaves_so program (declaration ∷ declarations) [] gives = absurd (cc)
 leaves_so program (declaration ∷ declarations) (leaf ∷ leaves) gives =
-    All-cons LeafSo leaf leaves (leaf_of-so program declaration leaf (cc)) (leaves_so program declarations leaves (cc))
+    All-cons LeafSo leaf leaves (declared_leaf-so program declaration leaf (cc)) (leaves_so program declarations leaves (cc))
 
 -- the leaves of declarations make a layout
 pub IsSound-of : (program : List ℕ) (declarations : List Declaration) (leaves : List Leaf) → Declares program declarations leaves → IsSound leaves

@@ -1,12 +1,13 @@
 -- What contracts see of a controller, and the machine that it stands for.
-use Rattle.std.specs.Prelude.{ℕ, ◌≡◌, ◌⊎◌, Bool, List, [], ◌∷◌, ◌++◌, reverse, count_by, unwrap_or, Option, Some, None, Result, Ok, Err, IsOk}
-use Rattle.st_control.specs.Machine.{Machine}
+use Rattle.std.specs.Prelude.{ℕ, ◌≡◌, Bool, List, [], ◌∷◌, ◌++◌, reverse, count_by, unwrap_or, Option, Some, None, Result, Ok, Err, IsOk}
+use Rattle.st_control.specs.Causes.{no_such_path}
+use Rattle.st_control.specs.Machine.{Command, Machine}
+use Rattle.st_control.specs.Machine.Command.{force, release, write}
 use Rattle.st_control.specs.States.{StateView, first_state, leaf_of, undone, FitsRecord}
-use Rattle.st_control.specs.Texts.{IsFaultOf, IsOtherText, IsProgram}
 use Rattle.st_control.specs.declared.record.Record.{Record}
 use Rattle.st_control.specs.declared.record.Record.TheVariants.{Force, Release, Write}
 use Rattle.st_control.specs.declared.refusal.Refusal.{Refusal}
-use Rattle.st_control.specs.declared.refusal.Refusal.TheVariants.{C, M, O}
+use Rattle.st_control.specs.declared.refusal.Refusal.TheVariants.{O}
 use Rattle.st_layout.specs.Memory.{value_at, forced_at}
 use Rattle.st_tree.specs.declared.leaf.Leaf.{Leaf}
 use Rattle.st_values.specs.declared.value.Value.{Value}
@@ -23,14 +24,6 @@ pub record ControllerView : Type 0 where
 abbrev pub first_controller : List Leaf → List ℕ → ℕ → ControllerView
 first_controller leaves main limit = record { state = first_state leaves; records = []; main = main; limit = limit }
 
--- the controller is one of the program of this name that the text is
-abbrev pub IsLoaded : List ℕ → List ℕ → ℕ → ControllerView → Type 0
-IsLoaded text main limit c = (leaves : List Leaf) × IsProgram text main leaves × (c ≡ first_controller leaves main limit)
-
--- a load is refused by a fault of the text, as C10 line 0 where the text is no program of this name, or for want of memory
-abbrev pub RefusesLoad : List ℕ → List ℕ → Refusal → Type 0
-RefusesLoad text main refusal = (refusal ≡ M) ⊎ (IsFaultOf text refusal ⊎ ((refusal ≡ C 10 0) × IsOtherText text main))
-
 -- the states that undoing the records gives, one after another, from the newest record on
 abbrev pub states_before : StateView → List Record → List StateView
 states_before s [] = []
@@ -38,7 +31,7 @@ states_before s (record' ∷ records) = undone s record' ∷ states_before (undo
 
 -- the machine that a controller stands for
 abbrev pub machine_of : ControllerView → Machine
-machine_of c = record { state = c.state; history = states_before c.state (reverse c.records) }
+machine_of c = record { state = c.state; history = states_before c.state (reverse c.records); main = c.main; limit = c.limit }
 
 -- the newest record fits the state, and each earlier one the state that undoing the later ones leaves
 abbrev pub FitsChain : StateView → List Record → Type 0
@@ -50,7 +43,7 @@ IsCoherent s records = FitsChain s (reverse records)
 
 -- the call did this step of the machine: it was accepted, or refused by that number with all left as it was
 abbrev pub Takes : {A : Type 0} → Result Machine ℕ → ControllerView → Result A Refusal → ControllerView → Type 0
-Takes (Ok next) old result new = IsOk result × (machine_of new ≡ next) × (new.main ≡ old.main) × (new.limit ≡ old.limit)
+Takes (Ok next) old result new = IsOk result × (machine_of new ≡ next)
 Takes (Err number) old result new = (result ≡ Err (O number)) × (new ≡ old)
 
 -- ---- what a command leaves in its record
@@ -71,6 +64,12 @@ force_record s path = Force (leaf_at_path s path) (value_at s.content.values (le
 abbrev pub release_record : StateView → List ℕ → Record
 release_record s path = Release (leaf_at_path s path)
 
+-- what an accepted command leaves
+abbrev pub record_of : Command → StateView → Record
+record_of (write path value) s = write_record s path
+record_of (force path value) s = force_record s path
+record_of (release path) s = release_record s path
+
 -- the records have one more, which is this
 abbrev pub Keeps : ControllerView → ControllerView → Record → Type 0
 Keeps old new newest = new.records ≡ old.records ++ newest ∷ []
@@ -81,12 +80,13 @@ DropsNewest old new = (newest : Record) × (old.records ≡ new.records ++ newes
 
 -- ---- what a controller shows
 
--- the value of a leaf and whether it is forced, or that there is none (1)
+-- the value of a leaf and whether it is forced
 abbrev pub value_and_force : StateView → ℕ → Value × Bool
 value_and_force s leaf = (value_at s.content.values leaf, forced_at s.content.forced leaf)
 
+-- the same of the leaf that was found, if there is one
 abbrev pub shown_to : StateView → Option ℕ → Result (Value × Bool) Refusal
-shown_to s None = Err (O 1)
+shown_to s None = Err (O no_such_path)
 shown_to s (Some leaf) = Ok (value_and_force s leaf)
 
 -- how many leaves are forced

@@ -1,9 +1,10 @@
 -- What holds of all lists of commands.
 use Rattle.std.specs.Prelude.{ℕ, ◌≡◌, Bool, true, false, List, ◌++◌, length, Option, Some, Ok, if◌then◌else◌}
 use Rattle.std.specs.Str.{bytes_eq}
+use Rattle.st_control.specs.Controllers.{record_of}
 use Rattle.st_control.specs.Machine.{Command, Machine, after_all, after_undos, passed, step}
 use Rattle.st_control.specs.Machine.Command.{force, release, write}
-use Rattle.st_control.specs.States.{IsWhole, StateView}
+use Rattle.st_control.specs.States.{FitsRecord, IsWhole, StateView, undone}
 use Rattle.st_layout.specs.Laws.{is_forced, value_of}
 use Rattle.st_layout.specs.Layout.{raised}
 use Rattle.st_values.specs.declared.value.Value.{Value}
@@ -26,7 +27,7 @@ value_in s path = value_of s.leaves s.content path
 abbrev pub is_forced_in : StateView → List ℕ → Bool
 is_forced_in s path = is_forced s.leaves s.content path
 
--- the two paths are one, in any case
+-- the two paths are one, ignoring case
 abbrev pub is_same_path : List ℕ → List ℕ → Bool
 is_same_path path other = bytes_eq (raised path) (raised other)
 
@@ -59,3 +60,28 @@ Changes (release path) old new = KeepsValues old new × GetsForce path false old
 -- A command that is accepted changes the value or the force at its own path, and at no other.
 abbrev pub ChangesOnePath : Type 0
 ChangesOnePath = (command : Command) (m next : Machine) → IsWhole m.state → step command m ≡ Ok next → Changes command m.state next.state
+
+-- ---- what every step keeps
+
+-- the name of the main program and the step limit stay
+pub record KeepsLoad (old new : Machine) : Type 0 where
+  pub main : new.main ≡ old.main
+  pub limit : new.limit ≡ old.limit
+
+-- Whatever commands are given, and however many undos: what was loaded stays.
+abbrev pub LoadStays : Type 0
+LoadStays = (commands : List Command) (undos : ℕ) (m : Machine) → KeepsLoad m (after_undos undos (after_all commands m))
+
+-- A command that is accepted makes a whole state of a whole state.
+abbrev pub StepsKeepWhole : Type 0
+StepsKeepWhole = (command : Command) (m next : Machine) → IsWhole m.state → step command m ≡ Ok next → IsWhole next.state
+
+-- ---- one record
+
+-- What a command that is accepted leaves in its record gives back the state before, from the state after alone.
+abbrev pub RecordUndoesCommand : Type 0
+RecordUndoesCommand = (command : Command) (m next : Machine) → step command m ≡ Ok next → undone next.state (record_of command m.state) ≡ m.state
+
+-- And the record fits the state after, so that it can be undone there.
+abbrev pub RecordFits : Type 0
+RecordFits = (command : Command) (m next : Machine) → IsWhole m.state → step command m ≡ Ok next → FitsRecord next.state (record_of command m.state)

@@ -1,5 +1,7 @@
+pub mod Causes
 pub mod Controllers
 pub mod Laws
+pub mod Loads
 pub mod Machine
 pub mod States
 pub mod Texts

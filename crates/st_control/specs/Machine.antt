@@ -3,6 +3,7 @@
 use Rattle.std.specs.Prelude.{ℕ, zero, suc, Bool, not, ◌&&◌, if◌then◌else◌, nat_le, List, [], ◌∷◌, ◌++◌, length, Result, Ok, Err}
 use Rattle.std.specs.Option.{option_map_or}
 use Rattle.std.specs.Result.{result_unwrap_or}
+use Rattle.st_control.specs.Causes.{is_forced, no_such_path, not_forced, not_of_type, not_open, nothing_to_undo, undo_full}
 use Rattle.st_control.specs.States.{StateView, leaf_of, written, forced, released}
 use Rattle.st_layout.specs.Layout.{leaf_at, is_open}
 use Rattle.st_layout.specs.Memory.{forced_at}
@@ -11,10 +12,13 @@ use Rattle.st_values.specs.Values.{is_value}
 use Rattle.st_tree.specs.declared.leaf.Leaf.{Leaf}
 use Rattle.st_values.specs.declared.value.Value.{Value}
 
--- the states to go back to are those before each command that isn't undone, the newest first
+-- The states to go back to are those before each command that isn't undone, the newest first. The name of the main program
+-- and the step limit are those of the load.
 pub record Machine : Type 0 where
   pub state : StateView
   pub history : List StateView
+  pub main : List ℕ
+  pub limit : ℕ
 
 -- a command that can be undone
 pub data Command : Type 0 where
@@ -40,25 +44,25 @@ is_value_of leaf value = is_same value.elem leaf.elem && is_value value
 -- the causes at a leaf that is there, in the order of their numbers
 abbrev pub write_causes : StateView → Bool → Value → ℕ → List Cause
 write_causes s full value leaf =
-    (2, not (is_open (leaf_at s.leaves leaf).role))
-    ∷ (3, not (is_value_of (leaf_at s.leaves leaf) value))
-    ∷ (4, forced_at s.content.forced leaf)
-    ∷ (6, full)
+    (not_open, not (is_open (leaf_at s.leaves leaf).role))
+    ∷ (not_of_type, not (is_value_of (leaf_at s.leaves leaf) value))
+    ∷ (is_forced, forced_at s.content.forced leaf)
+    ∷ (undo_full, full)
     ∷ []
 
 abbrev pub force_causes : StateView → Bool → Value → ℕ → List Cause
 force_causes s full value leaf =
-    (2, not (is_open (leaf_at s.leaves leaf).role))
-    ∷ (3, not (is_value_of (leaf_at s.leaves leaf) value))
-    ∷ (6, full)
+    (not_open, not (is_open (leaf_at s.leaves leaf).role))
+    ∷ (not_of_type, not (is_value_of (leaf_at s.leaves leaf) value))
+    ∷ (undo_full, full)
     ∷ []
 
 abbrev pub release_causes : StateView → Bool → ℕ → List Cause
-release_causes s full leaf = (5, not (forced_at s.content.forced leaf)) ∷ (6, full) ∷ []
+release_causes s full leaf = (not_forced, not (forced_at s.content.forced leaf)) ∷ (undo_full, full) ∷ []
 
--- the leaf of a path, unless there is none (1) or a cause holds there
+-- the leaf of a path, unless there is none or a cause holds there
 abbrev pub leaf_unless : StateView → List ℕ → (ℕ → List Cause) → Result ℕ ℕ
-leaf_unless s path causes = option_map_or (λ leaf. unless (causes leaf) leaf) (leaf_of s path) (Err 1)
+leaf_unless s path causes = option_map_or (λ leaf. unless (causes leaf) leaf) (leaf_of s path) (Err no_such_path)
 
 -- the leaf that a command changes, or the number of its refusal
 abbrev pub leaf_to_write : StateView → Bool → List ℕ → Value → Result ℕ ℕ
@@ -78,7 +82,7 @@ is_full m = nat_le 256 (length m.history)
 
 -- the command was accepted: the state is the new one, and the one before can be gone back to
 abbrev pub accept : Machine → StateView → Machine
-accept m s = record { state = s; history = m.state ∷ m.history }
+accept m s = record { state = s; history = m.state ∷ m.history; main = m.main; limit = m.limit }
 
 abbrev pub accept_at : Machine → (ℕ → StateView) → Result ℕ ℕ → Result Machine ℕ
 accept_at m change (Ok leaf) = Ok (accept m (change leaf))
@@ -90,13 +94,13 @@ step (write path value) m = accept_at m (λ leaf. written m.state leaf value) (l
 step (force path value) m = accept_at m (λ leaf. forced m.state leaf value) (leaf_to_force m.state (is_full m) path value)
 step (release path) m = accept_at m (λ leaf. released m.state leaf) (leaf_to_release m.state (is_full m) path)
 
--- undo goes back to the newest of the states, or is refused (7)
-abbrev pub back_from : List StateView → Result Machine ℕ
-back_from [] = Err 7
-back_from (s ∷ states) = Ok (record { state = s; history = states })
+-- undo goes back to the newest of the states, if there is one
+abbrev pub back_from : Machine → List StateView → Result Machine ℕ
+back_from m [] = Err nothing_to_undo
+back_from m (s ∷ states) = Ok (record { state = s; history = states; main = m.main; limit = m.limit })
 
 abbrev pub undo_step : Machine → Result Machine ℕ
-undo_step m = back_from m.history
+undo_step m = back_from m m.history
 
 -- ---- lists of commands
 

@@ -1,11 +1,11 @@
 -- The state of a controller, and what commands make of it.
-use Rattle.std.specs.Prelude.{ℕ, ℤ, pos, ◌<◌, true, false, List, Option, length}
+use Rattle.std.specs.Prelude.{ℕ, ℤ, pos, ◌≡◌, ◌<◌, ◌≤ℤ◌, ◌^◌, Bool, true, false, List, Option, length}
 use Rattle.st_control.specs.declared.record.Record.{Record}
 use Rattle.st_control.specs.declared.record.Record.TheVariants.{Write, Force, Release}
 use Rattle.st_control.specs.declared.state.Status.{Status}
 use Rattle.st_control.specs.declared.state.Status.TheVariants.{Running}
-use Rattle.st_layout.specs.Layout.{IsSound, IsValueAt, number_of}
-use Rattle.st_layout.specs.Memory.{Content, Fits, initial_content, with_value, with_force}
+use Rattle.st_layout.specs.Layout.{IsSound, IsValueAt, is_open, leaf_at, number_of}
+use Rattle.st_layout.specs.Memory.{Content, Fits, forced_at, initial_content, with_value, with_force}
 use Rattle.st_tree.specs.declared.leaf.Leaf.{Leaf}
 use Rattle.st_values.specs.declared.value.Value.{Value}
 
@@ -16,16 +16,32 @@ pub record StateView : Type 0 where
   pub now : ℤ
   pub status : Status
 
--- what each state of a controller keeps: its leaves are those of a layout, and it has one value of the right type for each
+-- an operator may write and force the leaf of this number
+abbrev pub IsOpenAt : List Leaf → ℕ → Type 0
+IsOpenAt leaves leaf = is_open (leaf_at leaves leaf).role ≡ true
+
+-- only open leaves are forced
+abbrev pub ForcesAreOpen : List Leaf → List Bool → Type 0
+ForcesAreOpen leaves forced = (leaf : ℕ) → forced_at forced leaf ≡ true → IsOpenAt leaves leaf
+
+-- a moment, in milliseconds
+pub record IsMoment (now : ℤ) : Type 0 where
+  pub early : pos 0 ≤ℤ now
+  pub late : now ≤ℤ pos (10 ^ 15)
+
+-- What each state of a controller keeps: its leaves are those of a layout, it has one value of the right type for each,
+-- only open leaves are forced, and its moment is one.
 pub record IsWhole (s : StateView) : Type 0 where
   pub sound : IsSound s.leaves
   pub fits : Fits s.leaves s.content
+  pub forces : ForcesAreOpen s.leaves s.content.forced
+  pub moment : IsMoment s.now
 
 -- the state that a program begins with: initial values, no force, moment 0, running
 abbrev pub first_state : List Leaf → StateView
 first_state leaves = record { leaves = leaves; content = initial_content leaves; now = pos 0; status = Running }
 
--- the number of the leaf with this path, in any case
+-- the number of the leaf with this path, ignoring case
 abbrev pub leaf_of : StateView → List ℕ → Option ℕ
 leaf_of s path = number_of s.leaves path
 
@@ -51,8 +67,8 @@ undone s (Write leaf old) = with_content s (with_value s.content leaf old)
 undone s (Force leaf old was) = with_content s (with_force (with_value s.content leaf old) leaf was)
 undone s (Release leaf) = with_content s (with_force s.content leaf true)
 
--- the record can be one of a command that left this state: its leaf is there, and the value is one of the leaf's type
+-- the record can be one of a command that left this state: its leaf is there and open, and the value is one of the leaf's type
 abbrev pub FitsRecord : StateView → Record → Type 0
-FitsRecord s (Write leaf old) = (leaf < length s.leaves) × IsValueAt s.leaves leaf old
-FitsRecord s (Force leaf old was) = (leaf < length s.leaves) × IsValueAt s.leaves leaf old
-FitsRecord s (Release leaf) = leaf < length s.leaves
+FitsRecord s (Write leaf old) = (leaf < length s.leaves) × IsOpenAt s.leaves leaf × IsValueAt s.leaves leaf old
+FitsRecord s (Force leaf old was) = (leaf < length s.leaves) × IsOpenAt s.leaves leaf × IsValueAt s.leaves leaf old
+FitsRecord s (Release leaf) = (leaf < length s.leaves) × IsOpenAt s.leaves leaf

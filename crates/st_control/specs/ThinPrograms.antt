@@ -18,7 +18,7 @@ use Rattle.st_tree.specs.declared.tree.declaration.Specification.{Specification}
 use Rattle.st_tree.specs.declared.tree.declaration.Specification.TheVariants as specifications
 use Rattle.st_tree.specs.declared.tree.declaration.TypeName.TheVariants as type_names
 use Rattle.st_tree.specs.declared.tree.declaration.VarBlock.{VarBlock}
-use Rattle.st_tree.specs.declared.tree.place.Identifier.{Identifier}
+use Rattle.st_tree.specs.declared.tree.position.Identifier.{Identifier}
 use Rattle.st_tree.specs.declared.tree.unit.Body.TheVariants as bodies
 use Rattle.st_tree.specs.declared.tree.unit.Pou.{Pou}
 use Rattle.st_tree.specs.declared.tree.unit.Unit.{Unit as ProgramUnit}
@@ -61,16 +61,16 @@ leaf program name value =
     record { path = raised shown; shown = shown; spine = codes "PROGRAM" ∷ []; elem = value.elem; initial = value; role = Plain }
 
 -- the leaf that a declaration gives, where it declares one variable of such a type with such a value
-abbrev pub leaf_of : List ℕ → Declaration → Option Leaf
-leaf_of program declaration = do
+abbrev pub declared_leaf : List ℕ → Declaration → Option Leaf
+declared_leaf program declaration = do
   name ← only_name declaration.names
   elem ← type_of declaration.specification
   value ← initial_value elem declaration.initial
   Some (leaf program name value)
 
--- The declarations give these leaves, in order. No two have one path, so no name stands twice in any case.
+-- The declarations give these leaves, in order. No two have one path, so no name stands twice, ignoring case.
 pub record Declares (program : List ℕ) (declarations : List Declaration) (leaves : List Leaf) : Type 0 where
-  pub gives : map (leaf_of program) declarations ≡ map Some leaves
+  pub gives : map (declared_leaf program) declarations ≡ map Some leaves
   pub distinct : AllPairs (λ leaf other. leaf.path ≢ other.path) leaves
   pub short : All (λ leaf. length leaf.path ≤ 255) leaves
   pub few : length leaves ≤ 65536
@@ -82,7 +82,7 @@ pub record IsOnlyBlock (program : Pou) (block : VarBlock) : Type 0 where
   pub is_only : program.variables ≡ block ∷ []
   pub is_internal : block.kind ≡ sections.Internal
 
--- The units are one program, of the name in question in any case, with one block of variables and no statements.
+-- The units are one program, of the name in question ignoring case, with one block of variables and no statements.
 pub record IsThinProgram (units : List ProgramUnit) (main : List ℕ) (leaves : List Leaf) : Type 0 where
   pub program : Pou
   pub block : VarBlock

@@ -1,15 +1,17 @@
 //! The controller.
-ghost use Rattle.std.specs.Prelude.{◌≡◌, ◌+◌, ◌<◌, ◌≤◌, ◌++◌, ◌∷◌, [], Err, IfErr, IfOk, IfSome, OnOk, length, vec_capacity, vec_len};
-ghost use Rattle.st_control.specs.Controllers.{DropsNewest, IsLoaded, Keeps, RefusesLoad, Takes, first_controller, force_count, force_record, machine_of, release_record, shown_to, write_record};
+ghost use Rattle.std.specs.Prelude.{◌≡◌, ◌+◌, ◌<◌, ◌≤◌, ◌^◌, ◌++◌, ◌∷◌, [], Err, IfErr, IfOk, IfSome, List, MatchResult, Ok, OnOk, length, vec_capacity, vec_len};
+ghost use Rattle.st_control.specs.Controllers.{DropsNewest, Keeps, Takes, first_controller, force_count, machine_of, record_of, shown_to};
+ghost use Rattle.st_control.specs.Loads.{IsLoaded};
 ghost use Rattle.st_control.specs.Machine.{step, undo_step};
 ghost use Rattle.st_control.specs.Machine.Command.{force, release, write};
 ghost use Rattle.st_control.specs.States.{IsWhole, leaf_of};
+ghost use Rattle.st_control.specs.Texts.{IsReadAs};
 ghost use Rattle.st_layout.specs.Layout.{leaf_at};
-ghost use Rattle.st_tokens.specs.declared.scan.TheConstants.{MOST_BYTES};
+ghost use Rattle.st_tree.specs.declared.leaf.Leaf.{Leaf};
 ghost use Rattle.st_values.specs.Values.{IsValue};
 
 use crate::record::Record;
-use crate::refusal::Refusal;
+use crate::refusal::{NO_SUCH_PATH, NOTHING_TO_UNDO, Refusal};
 use crate::state::{State, Status};
 use crate::thin::{ThinFault, read_thin};
 use crate::undoing::revert;
@@ -21,7 +23,7 @@ use std::alloc::Global;
 use std::marker::Model;
 
 /// How many commands can be undone.
-const MOST_RECORDS: usize = 256;
+pub const MAX_RECORDS: usize = 256;
 
 /// What an operator is told of a controller as a whole.
 #[derive(Clone, Copy)]
@@ -38,7 +40,7 @@ pub struct Report {
 
 /// A controller: a program's state, and the records of the commands that can be undone.
 ///
-/// Room for all its 256 records is made at its load, so that no command needs memory for its record.
+/// Room for all its 256 records is made at its load, so that no command is refused for want of memory.
 #[derive(Drop)]
 pub struct Controller<M: Memory> {
     state: State<M>,
@@ -60,16 +62,20 @@ impl<M: Memory> Model for Controller<M> {
 }
 
 impl<M: Memory> Controller<M> {
-    /// Loads the program of the name `main`, in any case, from a text: initial values, no force, moment 0, running, and
+    /// Loads the program of the name `main`, ignoring case, from a text: initial values, no force, moment 0, running, and
     /// nothing to undo. `limit` is the step limit of a scan, which is kept.
     ///
     /// Refused as S1 where the text has no tokens, S2 where the tokens aren't in the grammar, S3 where more levels are open
-    /// than may be, each with a line, S4 line 1 where the text is too long, C10 line 0 where it is no such program, and
-    /// else for want of memory alone.
+    /// than may be, each with a line, C10 line 0 where it is no such program, and else for want of memory alone. A text of
+    /// more than 1,048,576 bytes is refused as S4 line 1, whatever else holds of it.
     pub fn load(alloc: Global, text: &[u8], main: &[u8], limit: u32) -> Result<Self, Refusal>
         ensures ok { IfOk result (λ controller. IsLoaded text.now main.now limit controller) }
-        ensures refused { IfErr result (λ refusal. RefusesLoad text.now main.now refusal) }
-        ensures long { MOST_BYTES < length text.now → result ≡ Err (Refusal.S 4 1) }
+        ensures refused { IfErr result (λ refusal. IsReadAs text.now main.now (Err refusal)) }
+        ensures long { 2 ^ 20 < length text.now → result ≡ Err (Refusal.S 4 1) }
+
+        // A text that is read as a program is loaded as it, unless memory runs out.
+        ensures only { (leaves : List Leaf) → IsReadAs text.now main.now (Ok leaves)
+            → MatchResult result (λ controller. controller ≡ first_controller leaves main.now limit) (λ refusal. refusal ≡ Refusal.M) }
     {
         let units = parse(alloc, text)?;
         let leaves = read_thin(alloc, units.as_slice(), main)?;
@@ -90,7 +96,7 @@ impl<M: Memory> Controller<M> {
         let Ok(memory) = M::fresh(alloc, &layout) else {
             return Err(Refusal::M);
         };
-        let Ok(records) = Vec::with_capacity(alloc, MOST_RECORDS) else {
+        let Ok(records) = Vec::with_capacity(alloc, MAX_RECORDS) else {
             return Err(Refusal::M);
         };
         Ok(Controller {
@@ -106,7 +112,7 @@ impl<M: Memory> Controller<M> {
         })
     }
 
-    /// The number of the leaf with this path, in any case.
+    /// The number of the leaf with this path, ignoring case.
     pub fn find(&self, path: &[u8]) -> Option<u32>
         ensures value { result ≡ leaf_of self.now.state path.now }
         ensures below { IfSome result (λ leaf. leaf < length self.now.state.leaves) }
@@ -142,7 +148,7 @@ impl<M: Memory> Controller<M> {
                 self.state.memory.get(layout, leaf),
                 self.state.memory.forced(layout, leaf),
             )),
-            None => Err(Refusal::O(1)),
+            None => Err(Refusal::O(NO_SUCH_PATH)),
         }
     }
 
@@ -152,9 +158,9 @@ impl<M: Memory> Controller<M> {
     /// O4 where it is forced, O6 where the undo list is full.
     pub fn write(&mut self, path: &[u8], value: Value) -> Result<(), Refusal>
         ensures step { Takes (step (write path.now value) (machine_of self.old)) self.old result self.new }
-        ensures record { OnOk result (Keeps self.old self.new (write_record self.old.state path.now)) }
+        ensures record { OnOk result (Keeps self.old self.new (record_of (write path.now value) self.old.state)) }
     {
-        let full = self.records.len() >= MOST_RECORDS;
+        let full = self.records.len() >= MAX_RECORDS;
         match self.state.leaf_to_write(full, path, value) {
             Err(number) => Err(Refusal::O(number)),
             Ok(leaf) => {
@@ -171,9 +177,9 @@ impl<M: Memory> Controller<M> {
     /// O6 where the undo list is full.
     pub fn force(&mut self, path: &[u8], value: Value) -> Result<(), Refusal>
         ensures step { Takes (step (force path.now value) (machine_of self.old)) self.old result self.new }
-        ensures record { OnOk result (Keeps self.old self.new (force_record self.old.state path.now)) }
+        ensures record { OnOk result (Keeps self.old self.new (record_of (force path.now value) self.old.state)) }
     {
-        let full = self.records.len() >= MOST_RECORDS;
+        let full = self.records.len() >= MAX_RECORDS;
         match self.state.leaf_to_force(full, path, value) {
             Err(number) => Err(Refusal::O(number)),
             Ok(leaf) => {
@@ -189,9 +195,9 @@ impl<M: Memory> Controller<M> {
     /// Refused as O1 where there is no such path, O5 where the leaf isn't forced, O6 where the undo list is full.
     pub fn release(&mut self, path: &[u8]) -> Result<(), Refusal>
         ensures step { Takes (step (release path.now) (machine_of self.old)) self.old result self.new }
-        ensures record { OnOk result (Keeps self.old self.new (release_record self.old.state path.now)) }
+        ensures record { OnOk result (Keeps self.old self.new (record_of (release path.now) self.old.state)) }
     {
-        let full = self.records.len() >= MOST_RECORDS;
+        let full = self.records.len() >= MAX_RECORDS;
         match self.state.leaf_to_release(full, path) {
             Err(number) => Err(Refusal::O(number)),
             Ok(leaf) => {
@@ -202,7 +208,7 @@ impl<M: Memory> Controller<M> {
         }
     }
 
-    /// Takes back the newest command that isn't undone. It leaves no record itself, and takes no memory.
+    /// Takes back the newest command that isn't undone. It leaves no record itself, and is never refused for want of memory.
     ///
     /// Refused as O7 where there is nothing to undo.
     pub fn undo(&mut self, alloc: Global) -> Result<(), Refusal>
@@ -210,7 +216,7 @@ impl<M: Memory> Controller<M> {
         ensures record { OnOk result (DropsNewest self.old self.new) }
     {
         let Some(newest) = self.records.pop() else {
-            return Err(Refusal::O(7));
+            return Err(Refusal::O(NOTHING_TO_UNDO));
         };
         match revert(alloc, &mut self.state, newest) {
             Ok(()) => Ok(()),

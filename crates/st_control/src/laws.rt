@@ -1,5 +1,5 @@
 //! What holds of all lists of commands.
-ghost use Rattle.st_control.specs.Laws.{ChangesOnePath, GoesThroughStates, IsGivenBack};
+ghost use Rattle.st_control.specs.Laws.{ChangesOnePath, GoesThroughStates, IsGivenBack, LoadStays, RecordFits, RecordUndoesCommand, StepsKeepWhole};
 
 /// Whatever commands are given, as many undos as were accepted give back the states before, in order, and the history.
 ///
@@ -12,4 +12,16 @@ pub fn undos_give_back_states()
 /// A command that is accepted changes the value or the force at its own path, and at no other.
 pub fn command_changes_one_path()
     ensures { ChangesOnePath }
+{}
+
+/// What a command that is accepted leaves in its record fits the state after, and gives back the state before from it alone.
+pub fn record_undoes_command()
+    ensures gives_back { RecordUndoesCommand }
+    ensures fits { RecordFits }
+{}
+
+/// A command that is accepted makes a whole state of a whole state, and what was loaded stays whatever is commanded and undone.
+pub fn steps_keep_states_whole()
+    ensures whole { StepsKeepWhole }
+    ensures load { LoadStays }
 {}

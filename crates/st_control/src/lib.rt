@@ -9,10 +9,16 @@ mod state;
 mod thin;
 mod undoing;
 
-pub use controller::{Controller, Report};
-pub use laws::{command_changes_one_path, undos_give_back_states};
+pub use controller::{Controller, MAX_RECORDS, Report};
+pub use laws::{
+    command_changes_one_path, record_undoes_command, steps_keep_states_whole,
+    undos_give_back_states,
+};
 pub use record::Record;
-pub use refusal::Refusal;
+pub use refusal::{
+    IS_FORCED, NO_SUCH_LINE, NO_SUCH_PATH, NOT_FORCED, NOT_OF_TYPE, NOT_OPEN, NOTHING_TO_UNDO,
+    Refusal, UNDO_FULL,
+};
 pub use state::{RunFault, RunFaultKind, State, Status};
 pub use thin::{texts_give_one_list, units_give_one_list};
 pub use undoing::revert;

@@ -5,6 +5,30 @@ ghost use Rattle.st_control.specs.Texts.{refusal_of, refusal_of_units};
 use crate::thin::ThinFault;
 use st_tokens::SyntaxFault;
 
+/// There is no leaf with this path.
+pub const NO_SUCH_PATH: u8 = 1;
+
+/// An operator may not write or force the leaf.
+pub const NOT_OPEN: u8 = 2;
+
+/// The value isn't one of the leaf's type.
+pub const NOT_OF_TYPE: u8 = 3;
+
+/// The leaf is forced.
+pub const IS_FORCED: u8 = 4;
+
+/// The leaf isn't forced.
+pub const NOT_FORCED: u8 = 5;
+
+/// As many commands can be undone as may be.
+pub const UNDO_FULL: u8 = 6;
+
+/// There is nothing to undo.
+pub const NOTHING_TO_UNDO: u8 = 7;
+
+/// A session has no such line.
+pub const NO_SUCH_LINE: u8 = 11;
+
 /// Why a command is refused. Of several causes the one with the lowest number is named.
 #[derive(Clone, Copy, Debug, PartialEq, Eq)]
 pub enum Refusal {
@@ -12,9 +36,7 @@ pub enum Refusal {
     S { number: u8, line: u32 },
     /// The program is at fault: the number of the cause, and a line.
     C { number: u8, line: u32 },
-    /// An operator's command can't be done:
-    /// 1 there is no such path, 2 the leaf isn't open, 3 the value isn't one of the leaf's type, 4 the leaf is forced,
-    /// 5 it isn't forced, 6 the undo list is full, 7 there is nothing to undo.
+    /// An operator's command can't be done: the number of the cause, which is one of the constants above.
     O(u8),
     /// There is no memory.
     M,

@@ -1,10 +1,11 @@
 //! The state of a controller.
 ghost use Rattle.std.specs.Prelude.{◌≡◌, ◌<◌, IfOk, IsTrue, OnOk, count_by, false, true, length};
-ghost use Rattle.st_control.specs.Machine.{is_value_of as has_value};
-ghost use Rattle.st_layout.specs.Layout.{IsValueAt, IsValueOf, is_open as is_open_role};
+ghost use Rattle.st_control.specs.Machine.{is_value_of};
+ghost use Rattle.st_layout.specs.Layout.{IsValueAt, IsValueOf, is_open};
 ghost use Rattle.st_layout.specs.Memory.{forced_at, value_at};
 
 use crate::record::Record;
+use crate::refusal::{IS_FORCED, NO_SUCH_PATH, NOT_FORCED, NOT_OF_TYPE, NOT_OPEN, UNDO_FULL};
 use st_layout::{Layout, Memory};
 use st_tree::{Leaf, Name, Role};
 use st_values::{Value, is_value};
@@ -55,60 +56,62 @@ pub struct State<M: Memory> {
 }
 
 impl<M: Memory> Model for State<M> {
-    ghost use Rattle.st_control.specs.States.{StateView};
+    ghost use Rattle.st_control.specs.States.{ForcesAreOpen, IsMoment, StateView};
 
     ghost Value = { StateView };
 
     ghost view = { λ s. record { leaves = s.layout; content = M.content s.layout s.memory; now = s.now; status = s.status } };
 
-    ghost invariant = { λ s. M.IsOver s.layout s.memory };
+    ghost invariant = { λ s. M.IsOver s.layout s.memory × ForcesAreOpen s.layout (M.content s.layout s.memory).forced × IsMoment s.now };
 }
 
 impl<M: Memory> State<M> {
-    ghost use Rattle.st_control.specs.States.{FitsRecord, IsWhole, forced, leaf_of, released, undone, written};
+    ghost use Rattle.st_control.specs.States.{FitsRecord, IsOpenAt, IsWhole, forced, leaf_of, released, undone, written};
     ghost use Rattle.st_control.specs.Machine.{leaf_to_force, leaf_to_release, leaf_to_write};
 
     /// The leaf that a write would set, or the number of its refusal.
     pub(crate) fn leaf_to_write(&self, full: bool, path: &[u8], value: Value) -> Result<u32, u8>
         ensures value { result ≡ leaf_to_write self.entry.now full path.now value }
         ensures below { IfOk result (λ leaf. leaf < length self.entry.now.leaves) }
+        ensures opens { IfOk result (λ leaf. IsOpenAt self.entry.now.leaves leaf) }
         ensures fits { IfOk result (λ leaf. IsValueAt self.entry.now.leaves leaf value) }
         ensures room { OnOk result (full ≡ false) }
     {
         let Some(leaf) = self.layout.leaf(path) else {
-            return Err(1);
+            return Err(NO_SUCH_PATH);
         };
         let declared = self.layout.at(leaf);
         if !is_open(declared.role) {
-            return Err(2);
+            return Err(NOT_OPEN);
         }
         if !is_value_of(declared, value) {
-            return Err(3);
+            return Err(NOT_OF_TYPE);
         }
         if self.memory.forced(&self.layout, leaf) {
-            return Err(4);
+            return Err(IS_FORCED);
         }
-        if full { Err(6) } else { Ok(leaf) }
+        if full { Err(UNDO_FULL) } else { Ok(leaf) }
     }
 
     /// The leaf that a force would set, or the number of its refusal.
     pub(crate) fn leaf_to_force(&self, full: bool, path: &[u8], value: Value) -> Result<u32, u8>
         ensures value { result ≡ leaf_to_force self.entry.now full path.now value }
         ensures below { IfOk result (λ leaf. leaf < length self.entry.now.leaves) }
+        ensures opens { IfOk result (λ leaf. IsOpenAt self.entry.now.leaves leaf) }
         ensures fits { IfOk result (λ leaf. IsValueAt self.entry.now.leaves leaf value) }
         ensures room { OnOk result (full ≡ false) }
     {
         let Some(leaf) = self.layout.leaf(path) else {
-            return Err(1);
+            return Err(NO_SUCH_PATH);
         };
         let declared = self.layout.at(leaf);
         if !is_open(declared.role) {
-            return Err(2);
+            return Err(NOT_OPEN);
         }
         if !is_value_of(declared, value) {
-            return Err(3);
+            return Err(NOT_OF_TYPE);
         }
-        if full { Err(6) } else { Ok(leaf) }
+        if full { Err(UNDO_FULL) } else { Ok(leaf) }
     }
 
     /// The leaf that a release would let go, or the number of its refusal.
@@ -119,18 +122,19 @@ impl<M: Memory> State<M> {
         ensures room { OnOk result (full ≡ false) }
     {
         let Some(leaf) = self.layout.leaf(path) else {
-            return Err(1);
+            return Err(NO_SUCH_PATH);
         };
         if !self.memory.forced(&self.layout, leaf) {
-            return Err(5);
+            return Err(NOT_FORCED);
         }
-        if full { Err(6) } else { Ok(leaf) }
+        if full { Err(UNDO_FULL) } else { Ok(leaf) }
     }
 
     /// Sets the value of a leaf, and answers what undoes it.
     #[tactic(auto, using(crate::proofs::Undone::undone_written))]
     pub(crate) fn write(&mut self, leaf: u32, value: Value) -> Record
         requires below { leaf < length self.old.leaves }
+        requires opens { IsOpenAt self.old.leaves leaf }
         requires fits { IsValueAt self.old.leaves leaf value }
         ensures record { result ≡ Record.Write leaf (value_at self.old.content.values leaf) }
         ensures new { self.new ≡ written self.old leaf value }
@@ -146,6 +150,7 @@ impl<M: Memory> State<M> {
     #[tactic(auto, using(crate::proofs::Undone::undone_forced))]
     pub(crate) fn force(&mut self, leaf: u32, value: Value) -> Record
         requires below { leaf < length self.old.leaves }
+        requires opens { IsOpenAt self.old.leaves leaf }
         requires fits { IsValueAt self.old.leaves leaf value }
         ensures record { result ≡ Record.Force leaf (value_at self.old.content.values leaf) (forced_at self.old.content.forced leaf) }
         ensures new { self.new ≡ forced self.old leaf value }
@@ -190,14 +195,14 @@ impl<M: Memory> State<M> {
 
 /// Tests whether an operator may write and force a leaf of this role.
 fn is_open(role: Role) -> bool
-    ensures { result ≡ is_open_role role }
+    ensures { result ≡ is_open role }
 {
     matches!(role, Role::Plain | Role::ProcessInput)
 }
 
 /// Tests whether a leaf takes the value.
 fn is_value_of(leaf: &Leaf, value: Value) -> bool
-    ensures value { result ≡ has_value leaf.now value }
+    ensures value { result ≡ is_value_of leaf.now value }
     ensures fits { IsTrue result → IsValueOf leaf.now value }
 {
     value.elem.is(leaf.elem) && is_value(value)

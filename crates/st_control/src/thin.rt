@@ -10,15 +10,15 @@ mod variable;
 mod variables;
 
 pub(crate) use fault::ThinFault;
-use st_tree::tree::{Body, Pou, VarKind, Unit, VarBlock};
+use st_tree::tree::{Body, Pou, Unit, VarBlock, VarKind};
 use st_tree::{Leaf, List};
 use std::alloc::Global;
 use variables::read_variables;
 
-/// The most bytes of a program's name.
-const MOST_NAME_BYTES: usize = 128;
+/// How many bytes a name may have.
+const MAX_NAME_BYTES: usize = 128;
 
-/// Reads units as the program of this name, in any case, and gives the leaves of its variables, in order.
+/// Reads units as the program of this name, ignoring case, and gives the leaves of its variables, in order.
 ///
 /// # Errors
 /// `NotThin` where the units are no such program, `Memory` where memory ran out.
@@ -32,7 +32,7 @@ pub(crate) fn read_thin(alloc: Global, units: &[Unit], main: &[u8]) -> Result<Li
         return Err(ThinFault::NotThin);
     };
     let name = program.name.spelling.as_slice();
-    if !name.eq_ignore_ascii_case(main) || name.len() > MOST_NAME_BYTES {
+    if !name.eq_ignore_ascii_case(main) || name.len() > MAX_NAME_BYTES {
         return Err(ThinFault::NotThin);
     }
     if !does_nothing(&program.body) {

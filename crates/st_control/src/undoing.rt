@@ -7,7 +7,7 @@ use crate::state::State;
 use st_layout::Memory;
 use std::alloc::Global;
 
-/// Gives back the state before the command that left this record. It takes no memory, and is never refused.
+/// Gives back the state before the command that left this record. It is never refused, not for want of memory either.
 pub fn revert<M: Memory>(_alloc: Global, state: &mut State<M>, newest: Record) -> Result<(), Record>
     requires { FitsRecord state.old newest }
     ensures ok { OnOk result (state.new ≡ undone state.old newest) }

@@ -17,7 +17,7 @@ PlacesAreApart = (leaves : List Leaf) (i j : ℕ) → i < j → j < length leave
 abbrev pub LastPlaceEnds : Type 0
 LastPlaceEnds = (leaves : List Leaf) (i : ℕ) → i + 1 ≡ length leaves → offset_of leaves i + width_of (leaf_at leaves i).elem ≡ total_width leaves
 
--- the value at a path, in any case
+-- the value at a path, ignoring case
 abbrev pub value_of : List Leaf → Content → List ℕ → Option Value
 value_of leaves content path = option_map (value_at content.values) (number_of leaves path)
 

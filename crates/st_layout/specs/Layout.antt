@@ -31,7 +31,7 @@ raised path = map to_ascii_uppercase path
 abbrev pub paths_of : List Leaf → List (List ℕ)
 paths_of leaves = map (λ leaf. leaf.path) leaves
 
--- the number of the leaf with this path, in any case
+-- the number of the leaf with this path, ignoring case
 unfoldable pub number_of : List Leaf → List ℕ → Option ℕ
 number_of leaves path = position (bytes_eq (raised path)) (paths_of leaves)
 

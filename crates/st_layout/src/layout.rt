@@ -9,8 +9,11 @@ use st_tree::{Leaf, List};
 use std::alloc::{AllocError, Global};
 use std::marker::Model;
 
-/// The most bytes of a path.
-const MOST_BYTES: usize = 255;
+/// How many bytes a path may have.
+pub const MAX_PATH_BYTES: usize = 255;
+
+/// How many leaves a program may have.
+pub const MAX_LEAVES: usize = 65_536;
 
 /// The leaves of a program, which are numbered from 0 in order, and a table of their paths.
 #[derive(Drop)]
@@ -83,7 +86,7 @@ impl Layout {
         &self.leaves[leaf as usize]
     }
 
-    /// The number of the leaf with this path, which may be in any case. There is none exactly where no leaf has the path.
+    /// The number of the leaf with this path, ignoring case. There is none exactly where no leaf has the path.
     pub fn leaf(&self, path: &[u8]) -> Option<u32>
         ensures value { result ≡ number_of self.now path.now }
         ensures below { IfSome result (λ i. i < length self.now) }
@@ -91,7 +94,7 @@ impl Layout {
         ensures listed { IsSome result ↔ Contains (paths_of self.now) (raised path.now) }
     {
         let names = &self.names;
-        if path.len() > MOST_BYTES {
+        if path.len() > MAX_PATH_BYTES {
             return None;
         }
         let buffer = raised(path);
@@ -142,11 +145,11 @@ fn place_of(names: &IndexSet<Vec<u8>>, path: &[u8]) -> Option<usize>
 }
 
 /// The path in upper case, and zeros after it.
-fn raised(path: &[u8]) -> [u8; MOST_BYTES]
+fn raised(path: &[u8]) -> [u8; MAX_PATH_BYTES]
     requires { length path.now ≤ 255 }
     ensures { take (length path.now) result ≡ raised path.now }
 {
-    let mut bytes = [0; MOST_BYTES];
+    let mut bytes = [0; MAX_PATH_BYTES];
     for (i, byte) in path.iter().enumerate() {
         bytes[i] = byte.to_ascii_uppercase();
     }

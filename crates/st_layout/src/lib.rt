@@ -8,5 +8,5 @@ mod memory;
 
 pub use cells::Cells;
 pub use laws::{content_is_a_map, places_follow};
-pub use layout::Layout;
+pub use layout::{Layout, MAX_LEAVES, MAX_PATH_BYTES};
 pub use memory::Memory;

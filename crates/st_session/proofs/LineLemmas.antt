@@ -61,7 +61,7 @@ NoLf-more part byte no_lf other =
 -- the line so far: of a line that is too long, only the first 4,096 bytes are kept
 pub record LineSoFar (is_empty is_long : Bool) (line bytes rest : List ℕ) : Type 0 where
   pub part : List ℕ
-  pub front : bytes ≡ part ++ rest
+  pub split : bytes ≡ part ++ rest
   pub no_lf : NoLf part
   pub kept : line ≡ take 4096 part
   pub empty : is_empty ≡ (length part == 0)
@@ -76,11 +76,11 @@ pub line_ended : (is_empty is_long at_end : Bool) (line bytes rest more text : L
     → (is_long ≡ true → found ≡ F.TooLong) → (is_long ≡ false → (found ≡ F.Line) × (text ≡ strip_carriage_return line))
     → TakesFound found at_end text bytes more
 line_ended is_empty true at_end line bytes rest more text found so next long short =
-    rw (long refl) (inl (record { part = so.part; front = so.front ∙ ap (λ xs. so.part ++ xs) next; no_lf = so.no_lf; is = rw (← so.long) refl }))
+    rw (long refl) (inl (record { part = so.part; split = so.split ∙ ap (λ xs. so.part ++ xs) next; no_lf = so.no_lf; is = rw (← so.long) refl }))
 line_ended is_empty false at_end line bytes rest more text found so next long short =
     rw ((short refl).0) (inl (record {
       part = so.part;
-      front = so.front ∙ ap (λ xs. so.part ++ xs) next;
+      split = so.split ∙ ap (λ xs. so.part ++ xs) next;
       no_lf = so.no_lf;
       is = rw ((short refl).1, ← so.long, kept_whole line so.part so.kept so.long) refl;
     }))
@@ -90,10 +90,10 @@ pub line_last : (is_empty is_long at_end : Bool) (line bytes rest more : List �
     → (is_long ≡ true → found ≡ F.TooLong) → (is_long ≡ false → found ≡ F.Line)
     → TakesFound found at_end line bytes more
 line_last is_empty true at_end line bytes rest more found so bytes_read none ended long short =
-    let whole : bytes ≡ so.part = so.front ∙ ap (λ xs. so.part ++ xs) none.0 ∙ append-nil so.part in
+    let whole : bytes ≡ so.part = so.split ∙ ap (λ xs. so.part ++ xs) none.0 ∙ append-nil so.part in
     rw (long refl) (inr (record { whole = none.1; no_lf = rw whole so.no_lf; some = rw whole (is_some so.part (sym bytes_read ∙ so.empty)); is = rw (whole, ← so.long) refl }, ended))
 line_last is_empty false at_end line bytes rest more found so bytes_read none ended long short =
-    let whole : bytes ≡ so.part = so.front ∙ ap (λ xs. so.part ++ xs) none.0 ∙ append-nil so.part in
+    let whole : bytes ≡ so.part = so.split ∙ ap (λ xs. so.part ++ xs) none.0 ∙ append-nil so.part in
     rw (short refl) (inr (record { whole = none.1; no_lf = rw whole so.no_lf; some = rw whole (is_some so.part (sym bytes_read ∙ so.empty)); is = rw (whole, ← so.long, kept_whole line so.part so.kept so.long) refl }, ended))
 
 -- another byte was taken, and there is room for it
@@ -105,7 +105,7 @@ byte_kept is_empty is_long line bytes rest more after byte so next other room pu
     let whole : line ≡ so.part = so.kept ∙ take_all 4096 so.part (omega (arith, line_length)) in
     record {
       part = so.part ++ byte ∷ [];
-      front = so.front ∙ ap (λ xs. so.part ++ xs) next ∙ sym (append_assoc so.part (byte ∷ []) more);
+      split = so.split ∙ ap (λ xs. so.part ++ xs) next ∙ sym (append_assoc so.part (byte ∷ []) more);
       no_lf = NoLf-more so.part byte so.no_lf other;
       kept = pushed ∙ ap (λ xs. xs ++ byte ∷ []) whole ∙ sym (take_all 4096 (so.part ++ byte ∷ []) (omega (arith, line_length, longer)));
       empty = sym (is_not_empty (so.part ++ byte ∷ []) (omega (arith, longer)));
@@ -119,7 +119,7 @@ byte_dropped is_empty is_long line bytes rest more byte so next other full =
     let line_length : length line ≡ min 4096 (length so.part) = ap length so.kept ∙ length-take 4096 so.part in
     let longer = length-append so.part (byte ∷ []) in record {
       part = so.part ++ byte ∷ [];
-      front = so.front ∙ ap (λ xs. so.part ++ xs) next ∙ sym (append_assoc so.part (byte ∷ []) more);
+      split = so.split ∙ ap (λ xs. so.part ++ xs) next ∙ sym (append_assoc so.part (byte ∷ []) more);
       no_lf = NoLf-more so.part byte so.no_lf other;
       kept = so.kept ∙ sym (take-append-le 4096 so.part (byte ∷ []) (omega (arith, line_length)));
       empty = sym (is_not_empty (so.part ++ byte ∷ []) (omega (arith, longer)));

@@ -1,16 +1,17 @@
 -- Lemmas on runs over lines.
 use Rattle.std.proofs.Common.{◌≡◌, ℕ, ◌+◌, Bool, true, false, List, [], ◌∷◌, ◌++◌, length, take, min, inl, inr, refl, ap, sym, ◌∙◌, arith, append_assoc, append-nil}
-use Rattle.std.specs.Prelude.{Option, Some, None, ◌||◌, IfSome}
+use Rattle.std.specs.Prelude.{Option, Some, None, ◌||◌}
 use Rattle.std.specs.Io.KnownBytes.{Appends}
 use Rattle.std.proofs.Math.Seq.{take-append-add}
 use Rattle.std.proofs.lemmas.List.{take_min, take-append-le}
 use Rattle.std.proofs.KnownBytes.{Appends-nil, Appends-trans}
 use Rattle.st_control.specs.Machine.{Machine}
 use Rattle.st_session.specs.Lines.{Line, lines_of, whole_lines_of}
-use Rattle.st_session.specs.Pending.{OnKnown, TakesLine}
+use Rattle.st_session.specs.Pending.{OnBytes, OnReading, TakesLine}
 use Rattle.st_session.specs.Replies.{machine_after, replies, some_refused, turn}
-use Rattle.st_session.specs.Sessions.{AnswersRead, LosesPart, StopsIn, Turns, TurnsOver}
+use Rattle.st_session.specs.Sessions.{AnswersAll, AnswersRead, LosesPart, StopsIn, Turns, TurnsOver}
 use Rattle.st_session.proofs.LineLemmas.{lines_of-ended, lines_of-last, whole_lines_of-ended, whole_lines_of-part}
+use Rattle.st_session.proofs.TakingLemmas.{OnBytes-all, OnReading-end, OnReading-then}
 
 -- ---- lists of lines
 
@@ -43,22 +44,22 @@ some_refused-append (line ∷ lines) more m =
 -- the bytes of one line, with its LF where it has one
 record FirstLine (at_end : Bool) (line : Line) (bytes rest : List ℕ) : Type 0 where
   read : List ℕ
-  front : bytes ≡ read ++ rest
+  split : bytes ≡ read ++ rest
   lines : lines_of bytes ≡ line ∷ lines_of rest
   whole : at_end ≡ false → (more : List ℕ) → whole_lines_of (read ++ more) ≡ line ∷ whole_lines_of more
 
 first_line : (at_end : Bool) (line : Line) (bytes rest : List ℕ) → TakesLine at_end line bytes rest → FirstLine at_end line bytes rest
 first_line at_end line bytes rest (inl takes) =
-    let split : (more : List ℕ) → (takes.part ++ 10 ∷ []) ++ more ≡ takes.part ++ 10 ∷ more = λ more. append_assoc takes.part (10 ∷ []) more in
+    let parted : (more : List ℕ) → (takes.part ++ 10 ∷ []) ++ more ≡ takes.part ++ 10 ∷ more = λ more. append_assoc takes.part (10 ∷ []) more in
     record {
       read = takes.part ++ 10 ∷ [];
-      front = takes.front ∙ sym (split rest);
-      lines = rw (takes.front, takes.is) (lines_of-ended takes.part rest takes.no_lf);
-      whole = λ _ more. rw (split more, takes.is) (whole_lines_of-ended takes.part more takes.no_lf);
+      split = takes.split ∙ sym (parted rest);
+      lines = rw (takes.split, takes.is) (lines_of-ended takes.part rest takes.no_lf);
+      whole = λ _ more. rw (parted more, takes.is) (whole_lines_of-ended takes.part more takes.no_lf);
     }
 first_line at_end line bytes rest (inr takes) = record {
   read = bytes;
-  front = sym (append-nil bytes) ∙ ap (λ xs. bytes ++ xs) (sym takes.0.whole);
+  split = sym (append-nil bytes) ∙ ap (λ xs. bytes ++ xs) (sym takes.0.whole);
   lines = rw (takes.0.whole, takes.0.is) (lines_of-last bytes takes.0.no_lf takes.0.some);
   whole = λ not_ended. let ended = takes.1 in cc (not_ended, ended);
 }
@@ -68,7 +69,7 @@ first_line at_end line bytes rest (inr takes) = record {
 pub record SoFar (at_end : Bool) (old new : Machine) (before now : Option (List ℕ)) (refused : Bool) (bytes rest : List ℕ) : Type 0 where
   pub done : List Line
   pub read : List ℕ
-  pub front : bytes ≡ read ++ rest
+  pub split : bytes ≡ read ++ rest
   pub lines : lines_of bytes ≡ done ++ lines_of rest
   pub whole : at_end ≡ false → (more : List ℕ) → whole_lines_of (read ++ more) ≡ done ++ whole_lines_of more
   pub machine : new ≡ machine_after done old
@@ -77,7 +78,7 @@ pub record SoFar (at_end : Bool) (old new : Machine) (before now : Option (List 
 
 pub none_answered : (at_end : Bool) (m : Machine) (before : Option (List ℕ)) (bytes : List ℕ) → SoFar at_end m m before before false bytes bytes
 none_answered at_end m before bytes =
-    record { done = []; read = []; front = refl; lines = refl; whole = λ not_ended more. refl; machine = refl; told = Appends-nil before; refusals = refl }
+    record { done = []; read = []; split = refl; lines = refl; whole = λ not_ended more. refl; machine = refl; told = Appends-nil before; refusals = refl }
 
 -- one more line was answered
 pub SoFar-more : (was_end at_end : Bool) (old mid new : Machine) (before between now : Option (List ℕ)) (refused is_refused : Bool) (x y z : List ℕ)
@@ -91,7 +92,7 @@ SoFar-more was_end at_end old mid new before between now refused is_refused x y 
     record {
       done = so.done ++ one;
       read = so.read ++ first.read;
-      front = so.front ∙ ap (λ xs. so.read ++ xs) first.front ∙ sym (append_assoc so.read first.read z);
+      split = so.split ∙ ap (λ xs. so.read ++ xs) first.split ∙ sym (append_assoc so.read first.read z);
       lines = so.lines ∙ ap (λ ls. so.done ++ ls) first.lines ∙ sym (append_assoc so.done one (lines_of z));
       whole = λ not_ended more. ap whole_lines_of (append_assoc so.read first.read more) ∙ so.whole (ended not_ended) (first.read ++ more)
           ∙ ap (λ ls. so.done ++ ls) (first.whole not_ended more) ∙ sym (append_assoc so.done one (whole_lines_of more));
@@ -109,7 +110,7 @@ AnswersRead-SoFar at_end old mid new before between now refused x y z so lost =
     so.whole lost.not_ended part ∙ ap (λ ls. so.done ++ ls) (whole_lines_of-part part lost.part.2) ∙ append-nil so.done in
     record {
       read = so.read ++ part;
-      front = so.front ∙ ap (λ xs. so.read ++ xs) lost.part.1 ∙ sym (append_assoc so.read part z);
+      split = so.split ∙ ap (λ xs. so.read ++ xs) lost.part.1 ∙ sym (append_assoc so.read part z);
       answers = record { machine = lost.machine ∙ so.machine ∙ ap (λ ls. machine_after ls old) (sym all); told = rw (lost.told, all) so.told };
     }
 
@@ -134,37 +135,46 @@ StopsIn-SoFar at_end old mid new before between now refused x y so stop =
           (Appends-trans before between now (replies so.done old) (replies stop.done mid ++ part) so.told stop.told);
     }
 
+-- there were no more lines
+pub AnswersAll-SoFar : (was_end at_end : Bool) (old mid new : Machine) (before between now : Option (List ℕ)) (refused : Bool) (x y z : List ℕ)
+    → SoFar was_end old mid before between refused x y → TurnsOver None at_end mid new between now y z → AnswersAll refused old new before now x
+AnswersAll-SoFar was_end at_end old mid new before between now refused x y z so none =
+    let all : lines_of x ≡ so.done = so.lines ∙ ap (λ ys. so.done ++ lines_of ys) none.0 ∙ append-nil so.done in
+    record {
+      answers = record { machine = none.1 ∙ so.machine ∙ ap (λ ls. machine_after ls old) (sym all); told = rw (none.2, all) so.told };
+      refusals = so.refusals ∙ ap (λ ls. some_refused ls old) (sym all);
+    }
+
 -- ---- one line
 
-pub TurnsOver-line : (a b : Option (List ℕ)) (at_end : Bool) (line : Line) (old new : Machine) (before now : Option (List ℕ)) (reply : List ℕ) (refused : Bool) → OnKnown a b (TakesLine at_end line)
+pub TurnsOver-line : (a b : Option (List ℕ)) (at_end : Bool) (line : Line) (old new : Machine) (before now : Option (List ℕ)) (reply : List ℕ) (refused : Bool) → OnReading a b (TakesLine at_end line)
     → new ≡ (turn line old).machine → reply ≡ (turn line old).reply → refused ≡ (turn line old).refused → Appends before now reply
-    → OnKnown a b (TurnsOver (Some refused) at_end old new before now)
-TurnsOver-line None b at_end line old new before now reply refused takes machine is_reply refusal told = tt
-TurnsOver-line (Some x) None at_end line old new before now reply refused takes machine is_reply refusal told = absurd takes
-TurnsOver-line (Some x) (Some y) at_end line old new before now reply refused takes machine is_reply refusal told =
-    record { line = line; takes = takes; machine = machine; told = rw (← is_reply) told; refusal = refusal }
+    → OnReading a b (TurnsOver (Some refused) at_end old new before now)
+TurnsOver-line a b at_end line old new before now reply refused takes machine is_reply refusal told =
+    OnReading-then a b (TakesLine at_end line) (TurnsOver (Some refused) at_end old new before now)
+    (λ x y is_taken. record { line = line; takes = is_taken; machine = machine; told = rw (← is_reply) told; refusal = refusal }) takes
 
 -- the reply was cut
-pub StopsIn-line : (a b : Option (List ℕ)) (at_end : Bool) (line : Line) (old new : Machine) (before now : Option (List ℕ)) (reply : List ℕ) → OnKnown a b (TakesLine at_end line)
+pub StopsIn-line : (a b : Option (List ℕ)) (at_end : Bool) (line : Line) (old new : Machine) (before now : Option (List ℕ)) (reply : List ℕ) → OnReading a b (TakesLine at_end line)
     → new ≡ (turn line old).machine → reply ≡ (turn line old).reply → ((count : ℕ) × Appends before now (take count reply))
-    → IfSome a (StopsIn old new before now)
-StopsIn-line None b at_end line old new before now reply takes machine is_reply told = tt
-StopsIn-line (Some x) None at_end line old new before now reply takes machine is_reply told = absurd takes
-StopsIn-line (Some x) (Some y) at_end line old new before now reply takes machine is_reply told = record {
-  done = [];
-  last = line ∷ [];
-  more = lines_of y;
-  part = told.0;
-  all = (first_line at_end line x y takes).lines;
-  one = omega arith;
-  machine = machine;
-  told = rw (append-nil (turn line old).reply, ← is_reply) told.1;
-}
+    → OnBytes a (StopsIn old new before now)
+StopsIn-line a b at_end line old new before now reply takes machine is_reply told =
+    OnReading-end a b (TakesLine at_end line) (StopsIn old new before now)
+    (λ x y is_taken. record {
+      done = [];
+      last = line ∷ [];
+      more = lines_of y;
+      part = told.0;
+      all = (first_line at_end line x y is_taken).lines;
+      one = omega arith;
+      machine = machine;
+      told = rw (append-nil (turn line old).reply, ← is_reply) told.1;
+    }) takes
 
 -- nothing was done
-pub StopsIn-none : (a : Option (List ℕ)) (m : Machine) (before : Option (List ℕ)) → IfSome a (StopsIn m m before before)
-StopsIn-none None m before = tt
-StopsIn-none (Some bytes) m before = record { done = []; last = []; more = lines_of bytes; part = 0; all = refl; one = omega arith; machine = refl; told = Appends-nil before }
+pub StopsIn-none : (a : Option (List ℕ)) (m : Machine) (before : Option (List ℕ)) → OnBytes a (StopsIn m m before before)
+StopsIn-none a m before = OnBytes-all a (StopsIn m m before before)
+    (λ bytes. record { done = []; last = []; more = lines_of bytes; part = 0; all = refl; one = omega arith; machine = refl; told = Appends-nil before })
 
 -- a session that stopped wrote a beginning of the replies
 pub take-StopsIn : (old new : Machine) (before now : Option (List ℕ)) (bytes : List ℕ) → StopsIn old new before now bytes → (count : ℕ) × Appends before now (take count (replies (lines_of bytes) old))

@@ -1,20 +1,76 @@
 -- Lemmas on what a run writes.
-use Rattle.std.proofs.Common.{ℕ, List, [], inl, inr, refl}
-use Rattle.std.specs.Prelude.{◌⊎◌, Option, Some, None, IfSome, Err}
-use Rattle.st_control.specs.Controllers.{RefusesLoad}
+use Rattle.std.proofs.Common.{◌≡◌, ◌≢◌, ◌<◌, ◌^◌, ℕ, List, [], length, inl, inr, refl, arith, subst, sym, take}
+use Rattle.std.specs.Prelude.{◌⊎◌, Option, Ok, Err, Bool, codes, if◌then◌else◌}
+use Rattle.std.specs.Io.KnownBytes.{Appends}
+use Rattle.std.proofs.lemmas.Fmt.{decimal_digit}
+use Rattle.st_control.specs.Causes.{too_long}
+use Rattle.st_control.specs.Controllers.{ControllerView, machine_of}
+use Rattle.st_control.specs.Loads.{OfLoad}
+use Rattle.st_control.specs.Machine.{Machine}
+use Rattle.st_control.specs.Texts.{IsReadAs}
 use Rattle.st_control.specs.declared.refusal.Refusal.{Refusal}
 use Rattle.st_control.specs.declared.refusal.Refusal.TheVariants.{M}
 use Rattle.st_session.specs.Lines.{lines_of}
-use Rattle.st_session.specs.Runs.{OfLoad, WritesPart}
+use Rattle.st_session.specs.Pending.{OnBytes, OnReading}
+use Rattle.st_session.specs.Replies.{ended, refusal_text}
+use Rattle.st_session.specs.Runs.{WritesAll, WritesPart, WritesRead}
+use Rattle.st_session.specs.Sessions.{AnswersAll, AnswersRead, StopsIn}
+use Rattle.st_session.proofs.RunLemmas.{take-StopsIn}
+use Rattle.st_session.proofs.TakingLemmas.{OnBytes-all, OnBytes-then, OnReading-then}
 
--- what holds of all bytes holds of the known ones
-pub IfSome-all : (known : Option (List ℕ)) (P : List ℕ → Type 0) → ((bytes : List ℕ) → P bytes) → IfSome known P
-IfSome-all None P all = tt
-IfSome-all (Some bytes) P all = all bytes
+-- a text that is too long is refused for that
+pub is_too_long : (text main : List ℕ) (refusal : Refusal) → IsReadAs text main (Err refusal) → 2 ^ 20 < length text → refusal ≡ too_long
+is_too_long text main refusal (inl is) long = is.1
+is_too_long text main refusal (inr short) long = absurd (omega (arith, short.0, long))
 
--- a refusal was cut, or that of want of memory, which any text may have
-pub WritesPart-refused : (text main : List ℕ) (limit : ℕ) (refusal : Refusal) (before now : Option (List ℕ)) → RefusesLoad text main refusal
-    → WritesPart [] before now (Err refusal) ⊎ WritesPart [] before now (Err M)
-    → (bytes : List ℕ) → OfLoad text main limit (WritesPart (lines_of bytes) before now)
-WritesPart-refused text main limit refusal before now refuses (inl part) bytes = (Err refusal, refuses, part)
-WritesPart-refused text main limit refusal before now refuses (inr part) bytes = (Err M, inl refl, part)
+-- its text
+too_long_text : refusal_text too_long ≡ codes "refused S4 line 1"
+too_long_text = rw (decimal_digit 4 (omega arith), decimal_digit 1 (omega arith)) refl
+
+pub WritesAll-long : (refusal : Refusal) (status : ℕ) (before now : Option (List ℕ)) → refusal ≡ too_long → (status ≡ 1) × Appends before now (ended (codes "refused S4 line 1"))
+    → WritesAll [] status before now (Err refusal)
+WritesAll-long refusal status before now is written = subst (λ (r : Refusal). WritesAll [] status before now (Err r)) (sym is) (written.0, subst (λ (text : List ℕ). Appends before now (ended text)) (sym too_long_text) written.1)
+
+pub long_written : (refusal : Refusal) (status : ℕ) (before now : Option (List ℕ)) → refusal ≡ too_long → WritesAll [] status before now (Err refusal)
+    → (status ≡ 1) × Appends before now (ended (codes "refused S4 line 1"))
+long_written refusal status before now is written =
+    let all = subst (λ (r : Refusal). WritesAll [] status before now (Err r)) is written in
+    (all.0, subst (λ (text : List ℕ). Appends before now (ended text)) too_long_text all.1)
+
+pub WritesPart-long : (refusal : Refusal) (before now : Option (List ℕ)) → refusal ≡ too_long → ((count : ℕ) × Appends before now (take count (ended (codes "refused S4 line 1"))))
+    → WritesPart [] before now (Err refusal)
+WritesPart-long refusal before now is part = subst (λ (r : Refusal). WritesPart [] before now (Err r)) (sym is) (part.0, subst (λ (text : List ℕ). Appends before now (take part.0 (ended text))) (sym too_long_text) part.1)
+
+-- where a refusal of another cause than the text's length was read, the text is short enough for want of memory
+short_text : (text main : List ℕ) (refusal : Refusal) → IsReadAs text main (Err refusal) → refusal ≢ too_long → IsReadAs text main (Err M)
+short_text text main refusal (inl long) other = absurd (other long.1)
+short_text text main refusal (inr short) other = inr (short.0, inl refl)
+
+-- a refusal was cut, or that of want of memory
+pub WritesPart-refused : (text main : List ℕ) (limit : ℕ) (refusal : Refusal) (known before now : Option (List ℕ)) → IsReadAs text main (Err refusal)
+    → WritesPart [] before now (Err refusal) ⊎ ((refusal ≢ too_long) × WritesPart [] before now (Err M))
+    → OnBytes known (λ bytes. OfLoad text main limit (WritesPart (lines_of bytes) before now))
+WritesPart-refused text main limit refusal known before now refuses (inl part) =
+    OnBytes-all known (λ bytes. OfLoad text main limit (WritesPart (lines_of bytes) before now)) (λ bytes. (Err refusal, refuses, part))
+WritesPart-refused text main limit refusal known before now refuses (inr part) =
+    OnBytes-all known (λ bytes. OfLoad text main limit (WritesPart (lines_of bytes) before now)) (λ bytes. (Err M, short_text text main refusal refuses part.0, part.1))
+
+-- ---- what a session's answers are for a run
+
+pub WritesAll-answers : (known : Option (List ℕ)) (refused : Bool) (c : ControllerView) (new : Machine) (before now : Option (List ℕ)) → OnBytes known (AnswersAll refused (machine_of c) new before now)
+    → OnBytes known (λ bytes. WritesAll (lines_of bytes) (if refused then 3 else 0) before now (Ok c))
+WritesAll-answers known refused c new before now answers =
+    OnBytes-then known (AnswersAll refused (machine_of c) new before now) (λ bytes. WritesAll (lines_of bytes) (if refused then 3 else 0) before now (Ok c))
+    (λ bytes all. (rw (← all.refusals) refl, all.answers.told)) answers
+
+pub WritesPart-stops : (known : Option (List ℕ)) (c : ControllerView) (new : Machine) (before now : Option (List ℕ)) → OnBytes known (StopsIn (machine_of c) new before now)
+    → OnBytes known (λ bytes. WritesPart (lines_of bytes) before now (Ok c))
+WritesPart-stops known c new before now stops =
+    OnBytes-then known (StopsIn (machine_of c) new before now) (λ bytes. WritesPart (lines_of bytes) before now (Ok c))
+    (λ bytes stop. take-StopsIn (machine_of c) new before now bytes stop) stops
+
+pub WritesRead-answers : (known rest : Option (List ℕ)) (c : ControllerView) (new : Machine) (before now : Option (List ℕ)) → OnReading known rest (AnswersRead (machine_of c) new before now)
+    → OnReading known rest (λ x y. WritesRead x y before now c)
+WritesRead-answers known rest c new before now answers =
+    OnReading-then known rest (AnswersRead (machine_of c) new before now) (λ x y. WritesRead x y before now c)
+    (λ x y read. (read.read, read.split, read.answers.told)) answers

@@ -10,6 +10,10 @@ use Rattle.st_control.specs.declared.refusal.Refusal.{Refusal}
 use Rattle.st_session.specs.Replies.{result_text, stepped}
 
 -- the turn of a command, from what the controller's call answers
+pub stepped-machine : {A : Type 0} (next : Result Machine ℕ) (old new : ControllerView) (result : Result A Refusal) → Takes next old result new → machine_of new ≡ (stepped (machine_of old) next).machine
+stepped-machine (Ok next) old new result takes = takes.1
+stepped-machine (Err number) old new result takes = ap machine_of takes.1
+
 pub stepped-reply : {A : Type 0} (next : Result Machine ℕ) (old new : ControllerView) (result : Result A Refusal) → Takes next old result new → (stepped (machine_of old) next).reply ≡ result_text result
 stepped-reply (Ok next) old new (Ok done) takes = refl
 stepped-reply (Ok next) old new (Err refusal) takes = let ok = takes.0 in cc ok

@@ -7,11 +7,11 @@ use Rattle.std.proofs.lemmas.List.{length-take}
 use Rattle.std.proofs.lemmas.List.Splits.{slice_split-cons_yes}
 use Rattle.st_session.specs.Words.{HasNoBlankFirst, is_blank, has_bytes, words_of}
 
--- the blanks at the front
+-- the blanks that a text begins with
 abbrev pub blanks_of : List ℕ → ℕ
 blanks_of text = prefix_len is_blank text
 
--- a blank at the front separates nothing
+-- a blank that a text begins with separates nothing
 words_of-blank : (byte : ℕ) (text : List ℕ) → is_blank byte ≡ true → words_of (byte ∷ text) ≡ words_of text
 words_of-blank byte text blank = ap (filter has_bytes) (slice_split-cons_yes is_blank byte text blank)
 
@@ -34,20 +34,20 @@ no_blank_first [] = λ some. absurd (omega arith)
 no_blank_first (byte ∷ text) = no_blank_step byte text (is_blank byte) refl (no_blank_first text)
 
 -- the first part ends at the first blank, and the words of the other parts are those from there on
-record Front (text : List ℕ) : Type 0 where
+record Beginning (text : List ℕ) : Type 0 where
   parts : List (List ℕ)
   split : slice_split is_blank text ≡ take (position_or_len is_blank text) text ∷ parts
   words : filter has_bytes parts ≡ words_of (drop (position_or_len is_blank text) text)
 
-front_step : (byte : ℕ) (text : List ℕ) (blank : Bool) → is_blank byte ≡ blank → Front text → Front (byte ∷ text)
-front_step byte text true is rest = record { parts = slice_split is_blank text; split = rw is refl; words = rw is (sym (words_of-blank byte text is)) }
-front_step byte text false is rest =
+beginning_step : (byte : ℕ) (text : List ℕ) (blank : Bool) → is_blank byte ≡ blank → Beginning text → Beginning (byte ∷ text)
+beginning_step byte text true is rest = record { parts = slice_split is_blank text; split = rw is refl; words = rw is (sym (words_of-blank byte text is)) }
+beginning_step byte text false is rest =
     let next : 1 + position_or_len is_blank text ≡ suc (position_or_len is_blank text) = omega arith in
     record { parts = rest.parts; split = rw (is, next, rest.split) refl; words = rw (is, next) rest.words }
 
-front : (text : List ℕ) → Front text
-front [] = record { parts = []; split = refl; words = refl }
-front (byte ∷ text) = front_step byte text (is_blank byte) refl (front text)
+beginning : (text : List ℕ) → Beginning text
+beginning [] = record { parts = []; split = refl; words = refl }
+beginning (byte ∷ text) = beginning_step byte text (is_blank byte) refl (beginning text)
 
 is_some : (part : List ℕ) → 0 < length part → has_bytes part ≡ true
 is_some part some = grind (arith, common_steps)
@@ -58,4 +58,4 @@ pub words_of-word : (text : List ℕ) → 0 < length text → HasNoBlankFirst te
 words_of-word text some first =
     let first_part = take (position_or_len is_blank text) text in
     let part_length : length first_part ≡ min (position_or_len is_blank text) (length text) = length-take (position_or_len is_blank text) text in
-    rw ((front text).split, is_some first_part (omega (arith, part_length, first some)), (front text).words) refl
+    rw ((beginning text).split, is_some first_part (omega (arith, part_length, first some)), (beginning text).words) refl

@@ -1,5 +1,5 @@
 -- The bytes that are still to be taken from an input over its source.
-use Rattle.std.specs.Prelude.{ℕ, ◌*◌, ◌+◌, ◌-◌, List, Option, slice_range, option_map, if◌then◌else◌}
+use Rattle.std.specs.Prelude.{ℕ, ◌*◌, ◌+◌, ◌-◌, List, Option, Some, slice_range, if◌then◌else◌}
 use Rattle.std.specs.Io.KnownBytes.{prepend_known}
 use Rattle.st_session.specs.declared.input.Input.{Input}
 
@@ -7,9 +7,9 @@ use Rattle.st_session.specs.declared.input.Input.{Input}
 abbrev pub unread : Input → List ℕ
 unread input = slice_range input.buffer.items input.at input.end
 
--- what is unread, and what the source still has: after its end nothing is read any more
+-- what is unread, and what the source still has: after its end nothing is read any more, so that this is known
 abbrev pub pending : Input → Option (List ℕ) → Option (List ℕ)
-pending input rest = if input.at_end then option_map (λ _. unread input) rest else prepend_known (unread input) rest
+pending input rest = if input.at_end then Some (unread input) else prepend_known (unread input) rest
 
 -- a number that falls with each byte that is taken
 abbrev pub left : Input → ℕ → ℕ

@@ -1,14 +1,21 @@
--- What was read of known bytes.
+-- The bytes of a source, and what was read of them.
 use Rattle.std.specs.Prelude.{◌≡◌, ◌<◌, ◌⊎◌, ℕ, Bool, true, false, List, [], ◌∷◌, ◌++◌, length, All, Option, Some, None, ⊤}
 use Rattle.st_session.specs.Lines.{Line, is_lf, ended_line, last_line}
 use Rattle.st_session.specs.declared.input.Found.{Found}
 use Rattle.st_session.specs.declared.input.Found.TheVariants as F
 
--- known bytes stay known, and P holds of them before and after
-abbrev pub OnKnown : Option (List ℕ) → Option (List ℕ) → (List ℕ → List ℕ → Type 0) → Type 0
-OnKnown None new P = ⊤
-OnKnown (Some bytes) None P = ⊥
-OnKnown (Some bytes) (Some rest) P = P bytes rest
+-- the bytes can be those of a source: where they are known they are these, and else they can be any
+abbrev pub CanBe : Option (List ℕ) → List ℕ → Type 0
+CanBe None bytes = ⊤
+CanBe (Some known) bytes = bytes ≡ known
+
+-- P holds of the known bytes, and of some bytes where they aren't known
+abbrev pub OnBytes : Option (List ℕ) → (List ℕ → Type 0) → Type 0
+OnBytes known P = (bytes : List ℕ) × CanBe known bytes × P bytes
+
+-- the same of the bytes before and after, whichever are left
+abbrev pub OnReading : Option (List ℕ) → Option (List ℕ) → (List ℕ → List ℕ → Type 0) → Type 0
+OnReading old new P = (rest : List ℕ) → CanBe new rest → OnBytes old (λ bytes. P bytes rest)
 
 -- the first byte was taken, or there is none
 abbrev pub TakesByte : Option ℕ → List ℕ → List ℕ → Type 0
@@ -26,7 +33,7 @@ TakesPart bytes rest = (part : List ℕ) × (bytes ≡ part ++ rest) × NoLf par
 -- the line before the first LF was taken, with its LF
 pub record TakesEnded (line : Line) (bytes rest : List ℕ) : Type 0 where
   pub part : List ℕ
-  pub front : bytes ≡ part ++ 10 ∷ rest
+  pub split : bytes ≡ part ++ 10 ∷ rest
   pub no_lf : NoLf part
   pub is : line ≡ ended_line part
 

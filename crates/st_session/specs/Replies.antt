@@ -2,9 +2,9 @@
 use Rattle.std.specs.Prelude.{ℕ, ℤ, pos, Bool, true, false, if◌then◌else◌, ◌||◌, List, [], ◌∷◌, ◌++◌, length, codes, unwrap_or, Option, Some, None, Result, Ok, Err}
 use Rattle.std.specs.Fmt.{decimal}
 use Rattle.std.specs.Option.{option_map_or}
+use Rattle.st_control.specs.Causes.{no_such_line, no_such_path}
 use Rattle.st_control.specs.Controllers.{force_count}
-use Rattle.st_control.specs.Machine.{Machine, step, undo_step}
-use Rattle.st_control.specs.Machine.{Command as Do}
+use Rattle.st_control.specs.Machine.{Command, Machine, step, undo_step}
 use Rattle.st_control.specs.States.{StateView, leaf_of}
 use Rattle.st_control.specs.declared.refusal.Refusal.{Refusal}
 use Rattle.st_control.specs.declared.refusal.Refusal.TheVariants.{S, C, O, M}
@@ -15,12 +15,11 @@ use Rattle.st_control.specs.declared.state.Status.TheVariants.{Running, Halted}
 use Rattle.st_layout.specs.Layout.{leaf_at}
 use Rattle.st_layout.specs.Memory.{value_at, forced_at}
 use Rattle.st_session.specs.Lines.{Line}
-use Rattle.st_session.specs.Requests.{Request, request_in}
-use Rattle.st_session.specs.Requests.{Request as Ask}
+use Rattle.st_session.specs.Requests.{RequestView, request_in}
 use Rattle.st_session.specs.Words.{words_of}
 use Rattle.st_values.specs.Readings.{reads}
 use Rattle.st_values.specs.Texts.{signed_text, text}
-use Rattle.st_values.specs.declared.elem.Elem.TheVariants.{Bool as BOOL}
+use Rattle.st_values.specs.declared.elem.Elem.TheVariants as E
 use Rattle.st_values.specs.declared.value.Value.{Value}
 
 -- ---- texts
@@ -65,7 +64,7 @@ report_text status now forces undo =
 
 -- a value of no type
 abbrev pub value_of_none : Value
-value_of_none = record { elem = BOOL; bits = pos 2 }
+value_of_none = record { elem = E.Bool; bits = pos 2 }
 
 -- the value that a text is for the leaf with this path: a text that is no value of the leaf's type counts as one of none
 abbrev pub value_given : StateView → List ℕ → List ℕ → Value
@@ -91,26 +90,26 @@ abbrev pub stepped : Machine → Result Machine ℕ → Turn
 stepped m (Ok next) = told next (codes "ok")
 stepped m (Err number) = refuses m (O number)
 
--- a leaf is shown, if there is one (O1)
+-- a leaf is shown, if there is one
 abbrev pub shown : Machine → Option ℕ → Turn
-shown m None = refuses m (O 1)
+shown m None = refuses m (O no_such_path)
 shown m (Some leaf) =
     told m (shown_text (leaf_at m.state.leaves leaf).shown (value_at m.state.content.values leaf) (forced_at m.state.content.forced leaf))
 
--- what a request does: nothing is also replied nothing, and what there is not is refused (O11)
-abbrev pub answer : Request → Machine → Turn
-answer Ask.nothing m = record { reply = []; refused = false; machine = m }
-answer (Ask.show path) m = shown m (leaf_of m.state path)
-answer (Ask.write path given) m = stepped m (step (Do.write path (value_given m.state path given)) m)
-answer (Ask.force path given) m = stepped m (step (Do.force path (value_given m.state path given)) m)
-answer (Ask.release path) m = stepped m (step (Do.release path) m)
-answer Ask.undo m = stepped m (undo_step m)
-answer Ask.status m = told m (report_text m.state.status m.state.now (force_count m.state) (length m.history))
-answer Ask.unknown m = refuses m (O 11)
+-- what a request does: nothing is also replied nothing
+abbrev pub answer : RequestView → Machine → Turn
+answer RequestView.nothing m = record { reply = []; refused = false; machine = m }
+answer (RequestView.show path) m = shown m (leaf_of m.state path)
+answer (RequestView.write path given) m = stepped m (step (Command.write path (value_given m.state path given)) m)
+answer (RequestView.force path given) m = stepped m (step (Command.force path (value_given m.state path given)) m)
+answer (RequestView.release path) m = stepped m (step (Command.release path) m)
+answer RequestView.undo m = stepped m (undo_step m)
+answer RequestView.status m = told m (report_text m.state.status m.state.now (force_count m.state) (length m.history))
+answer RequestView.unknown m = refuses m (O no_such_line)
 
 -- what a line does: a line that is too long asks for nothing that there is
 abbrev pub turn : Line → Machine → Turn
-turn None m = refuses m (O 11)
+turn None m = refuses m (O no_such_line)
 turn (Some line) m = answer (request_in (words_of line)) m
 
 -- ---- lists of lines

@@ -1,24 +1,12 @@
 -- What a run of a program's text does: it is loaded, and a session's lines are answered.
-use Rattle.std.specs.Prelude.{◌≡◌, ℕ, if◌then◌else◌, List, ◌++◌, take, Option, Result, Ok, Err}
+use Rattle.std.specs.Prelude.{◌≡◌, ℕ, if◌then◌else◌, List, ◌++◌, take, Option, Ok, Err}
 use Rattle.std.specs.Io.KnownBytes.{Appends}
-use Rattle.st_control.specs.Controllers.{ControllerView, IsLoaded, RefusesLoad, machine_of}
+use Rattle.st_control.specs.Controllers.{ControllerView, machine_of}
+use Rattle.st_control.specs.Loads.{IsLoaded, Loaded}
 use Rattle.st_control.specs.declared.refusal.Refusal.{Refusal}
 use Rattle.st_control.specs.declared.refusal.Refusal.TheVariants.{M}
 use Rattle.st_session.specs.Lines.{Line, whole_lines_of}
 use Rattle.st_session.specs.Replies.{ended, refusal_text, replies, some_refused}
-
--- what the load of a text answers: a controller, or why there is none
-abbrev pub Loaded : Type 0
-Loaded = Result ControllerView Refusal
-
--- a text may be loaded as this
-abbrev pub Loads : List ℕ → List ℕ → ℕ → Loaded → Type 0
-Loads text main limit (Ok c) = IsLoaded text main limit c
-Loads text main limit (Err refusal) = RefusesLoad text main refusal
-
--- something holds of what the text is loaded as
-abbrev pub OfLoad : List ℕ → List ℕ → ℕ → (Loaded → Type 0) → Type 0
-OfLoad text main limit P = (loaded : Loaded) × Loads text main limit loaded × P loaded
 
 -- what a run writes: the replies to the lines, or the refusal of the load
 abbrev pub output_of : Loaded → List Line → List ℕ
@@ -44,5 +32,9 @@ abbrev pub WritesPart : List Line → Option (List ℕ) → Option (List ℕ) �
 WritesPart lines before now loaded = (count : ℕ) × Appends before now (take count (output_of loaded lines))
 
 -- of the bytes that were read, the lines that stand whole were answered
-abbrev pub WritesRead : List ℕ → List ℕ → Option (List ℕ) → Option (List ℕ) → Loaded → Type 0
-WritesRead bytes rest before now loaded = (read : List ℕ) × (bytes ≡ read ++ rest) × Appends before now (output_of loaded (whole_lines_of read))
+abbrev pub WritesRead : List ℕ → List ℕ → Option (List ℕ) → Option (List ℕ) → ControllerView → Type 0
+WritesRead bytes rest before now c = (read : List ℕ) × (bytes ≡ read ++ rest) × Appends before now (replies (whole_lines_of read) (machine_of c))
+
+-- the text was loaded, and something holds of its controller
+abbrev pub OfProgram : List ℕ → List ℕ → ℕ → (ControllerView → Type 0) → Type 0
+OfProgram text main limit P = (c : ControllerView) × IsLoaded text main limit c × P c

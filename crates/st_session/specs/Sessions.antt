@@ -31,7 +31,7 @@ pub record StopsIn (old new : Machine) (before now : Option (List ℕ)) (bytes :
 -- the source failed: of the bytes that were read before, every line that stands whole was answered, and no more
 pub record AnswersRead (old new : Machine) (before now : Option (List ℕ)) (bytes rest : List ℕ) : Type 0 where
   pub read : List ℕ
-  pub front : bytes ≡ read ++ rest
+  pub split : bytes ≡ read ++ rest
   pub answers : Answers (whole_lines_of read) old new before now
 
 -- a line was taken and answered

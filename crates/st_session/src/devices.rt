@@ -20,7 +20,8 @@ pub trait Source {
     /// Whether it has failed.
     ghost has_failed: { Self → Bool };
 
-    /// Reads a piece into the front of the buffer, which has room, and answers its size. Answers 0 only at the end.
+    /// Reads a piece into the buffer, from its beginning on, and answers its size. The buffer has room, and 0 is answered only at
+    /// the end.
     fn read_some(&mut self, buffer: &mut [u8]) -> Result<usize, DeviceFault>
         requires room { 0 < length buffer.old }
         requires works { has_failed self.old ≡ false }
@@ -43,7 +44,7 @@ pub trait Sink {
     /// Whether it has failed.
     ghost has_failed: { Self → Bool };
 
-    /// Takes the front of the bytes, and answers its size, which is at least 1.
+    /// Takes a beginning of the bytes, and answers its size, which is at least 1.
     fn write_some(&mut self, bytes: &[u8]) -> Result<usize, DeviceFault>
         requires some { 0 < length bytes.now }
         requires works { has_failed self.old ≡ false }

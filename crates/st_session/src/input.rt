@@ -5,15 +5,15 @@
 ghost use Rattle.std.specs.Prelude.{◌≡◌, ◌≤◌, ◌<◌, true, false, Some, None, IfOk, OnErr, OnOk, OnSome, is_err, [], vec_len, vec_capacity};
 ghost use Rattle.std.specs.Io.KnownBytes.{Keeps, IsAtEnd};
 ghost use Rattle.std.specs.Str.Lines.{strip_carriage_return};
-ghost use Rattle.st_session.specs.Pending.{IsFound, OnKnown, TakesByte, TakesFound, TakesPart};
+ghost use Rattle.st_session.specs.Pending.{IsFound, OnReading, TakesByte, TakesFound, TakesPart};
 
 use crate::devices::{DeviceFault, Source};
 use std::alloc::{AllocError, Global};
 
 /// The most bytes of a line before its LF, and of a piece that is read.
-pub const LINE: usize = 4096;
+pub const MAX_LINE_BYTES: usize = 4096;
 
-/// What was found at the front of the input.
+/// What was found next in the input.
 pub enum Found {
     /// No more bytes.
     End,
@@ -45,7 +45,7 @@ impl Input {
         ensures not_ended { IfOk result (λ input. input.at_end ≡ false) }
     {
         Ok(Input {
-            buffer: vec![in alloc; 0; LINE]?,
+            buffer: vec![in alloc; 0; MAX_LINE_BYTES]?,
             at: 0,
             end: 0,
             at_end: false,
@@ -79,7 +79,7 @@ impl Input {
     /// Takes the next byte.
     fn next_byte<R: Source>(&mut self, source: &mut R) -> Result<Option<u8>, DeviceFault>
         requires { R.has_failed source.old ≡ false }
-        ensures bytes { IfOk result (λ byte. OnKnown (pending self.old (R.rest source.old))
+        ensures bytes { IfOk result (λ byte. OnReading (pending self.old (R.rest source.old))
             (pending self.new (R.rest source.new)) (TakesByte byte)) }
         ensures at_end { IfOk result (λ byte. byte ≡ None → self.new.at_end ≡ true) }
         ensures err { OnErr result (Keeps (R.rest source.old) (R.rest source.new)) }
@@ -110,9 +110,9 @@ impl Input {
     ) -> Result<Found, DeviceFault>
         requires works { R.has_failed source.old ≡ false }
         requires room { 4096 ≤ vec_capacity line.old }
-        ensures line { IfOk result (λ found. OnKnown (pending self.old (R.rest source.old))
+        ensures line { IfOk result (λ found. OnReading (pending self.old (R.rest source.old))
             (pending self.new (R.rest source.new)) (TakesFound found self.new.at_end line.new.items)) }
-        ensures err { OnErr result (OnKnown (pending self.old (R.rest source.old)) (R.rest source.new) TakesPart) }
+        ensures err { OnErr result (OnReading (pending self.old (R.rest source.old)) (R.rest source.new) TakesPart) }
         ensures not_ended { OnErr result (self.old.at_end ≡ false) }
         ensures progress { IfOk result (λ found. IsFound found → left self.new (R.reads_left source.new)
             < left self.old (R.reads_left source.old)) }
@@ -128,7 +128,7 @@ impl Input {
                 return Ok(ended(line, is_long));
             }
             is_empty = false;
-            if line.len() < LINE {
+            if line.len() < MAX_LINE_BYTES {
                 let _ = line.push(byte);
             } else {
                 is_long = true;

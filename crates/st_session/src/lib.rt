@@ -3,8 +3,8 @@
 //! The lines come from a [`Source`] and the replies go to a [`Sink`].
 #![tactic(auto)]
 
+mod conversation;
 mod devices;
-mod engine;
 mod input;
 mod memory_sink;
 mod memory_source;
@@ -14,11 +14,11 @@ mod request;
 mod run;
 mod writer_sink;
 
+pub use conversation::{Outcome, session};
 pub use devices::{DeviceFault, Sink, Source};
-pub use engine::{Outcome, session};
+pub use input::MAX_LINE_BYTES;
 pub use memory_sink::Sheet;
 pub use memory_source::Bytes;
 pub use reader_source::FromReader;
 pub use run::{ACCEPTED, DEVICE_FAILED, LINE_REFUSED, NO_MEMORY, NO_PROGRAM, run_text};
 pub use writer_sink::ToWriter;
-

@@ -6,7 +6,7 @@ use crate::devices::{DeviceFault, Source};
 use std::io::Read;
 
 /// The most reads that a source over a reader makes. The next one, the 2^62nd, has failed.
-const MOST_READS: u64 = (1 << 62) - 1;
+const MAX_READS: u64 = (1 << 62) - 1;
 
 /// A source over a reader. Any error of the reader is a failure, an interruption too, and so is the 2^62nd read.
 #[derive(Drop)]
@@ -27,7 +27,7 @@ impl<R> FromReader<R> {
     {
         FromReader {
             reader,
-            reads_left: MOST_READS,
+            reads_left: MAX_READS,
             failed: false,
         }
     }

@@ -11,7 +11,7 @@ use std::alloc::{AllocError, Global};
 use std::marker::Model;
 
 /// The most bytes of a reply. The longest ones show a path of 255 bytes.
-const MOST_BYTES: usize = 512;
+const MAX_REPLY_BYTES: usize = 512;
 
 /// A reply. It has room for the longest one from the start, so that no reply needs memory.
 #[derive(Drop)]
@@ -35,7 +35,7 @@ impl Reply {
         ensures { IfOk result (λ reply. reply ≡ []) }
     {
         Ok(Reply {
-            text: Vec::with_capacity(alloc, MOST_BYTES)?,
+            text: Vec::with_capacity(alloc, MAX_REPLY_BYTES)?,
         })
     }
 

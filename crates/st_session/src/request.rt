@@ -3,8 +3,8 @@
 //! The words of a line are separated by spaces and tabs. Command words are in lower case.
 ghost use Rattle.std.specs.Prelude.{◌≡◌, ◌≤◌, ◌∷◌, [], MatchOption, length};
 ghost use Rattle.std.specs.List.{position_or_len, prefix_len};
-ghost use Rattle.st_session.specs.Requests.{path_request as asked_at, request_in, request_of, value_request as asked_with, word_request as asked_alone};
-ghost use Rattle.st_session.specs.Words.{HasNoBlankFirst, is_blank as is_space_or_tab, words_of};
+ghost use Rattle.st_session.specs.Requests.{path_request, request_in, request_of, value_request, word_request};
+ghost use Rattle.st_session.specs.Words.{HasNoBlankFirst, is_blank, words_of};
 
 /// What a line asks for. Paths and values are as the line has them.
 #[derive(Clone, Copy)]
@@ -35,20 +35,20 @@ pub fn read_request(text: &[u8]) -> Request<'_>
         return Request::Nothing;
     };
     let Some((path, rest)) = split_word(rest) else {
-        return word_request(word);
+        return from_one_word(word);
     };
     let Some((value, rest)) = split_word(rest) else {
-        return path_request(word, path);
+        return from_two_words(word, path);
     };
     if split_word(rest).is_some() {
         return Request::Unknown;
     }
-    value_request(word, path, value)
+    from_three_words(word, path, value)
 }
 
 /// What one word asks for.
-fn word_request(word: &[u8]) -> Request<'_>
-    ensures { request_of result ≡ asked_alone word.now }
+fn from_one_word(word: &[u8]) -> Request<'_>
+    ensures { request_of result ≡ word_request word.now }
 {
     if word == b"undo".as_slice() {
         Request::Undo
@@ -60,8 +60,8 @@ fn word_request(word: &[u8]) -> Request<'_>
 }
 
 /// What a word and a path ask for.
-fn path_request<'a>(word: &[u8], path: &'a [u8]) -> Request<'a>
-    ensures { request_of result ≡ asked_at word.now path.now }
+fn from_two_words<'a>(word: &[u8], path: &'a [u8]) -> Request<'a>
+    ensures { request_of result ≡ path_request word.now path.now }
 {
     if word == b"show".as_slice() {
         Request::Show(path)
@@ -73,8 +73,8 @@ fn path_request<'a>(word: &[u8], path: &'a [u8]) -> Request<'a>
 }
 
 /// What a word, a path and a value ask for.
-fn value_request<'a>(word: &[u8], path: &'a [u8], value: &'a [u8]) -> Request<'a>
-    ensures { request_of result ≡ asked_with word.now path.now value.now }
+fn from_three_words<'a>(word: &[u8], path: &'a [u8], value: &'a [u8]) -> Request<'a>
+    ensures { request_of result ≡ value_request word.now path.now value.now }
 {
     if word == b"write".as_slice() {
         Request::Write(path, value)
@@ -106,23 +106,27 @@ fn skip_blanks(text: &[u8]) -> &[u8]
 
 /// How many blanks a text begins with.
 fn blank_len(text: &[u8]) -> usize
-    ensures value { result ≡ prefix_len is_space_or_tab text.now }
+    ensures value { result ≡ prefix_len is_blank text.now }
     ensures within { result ≤ length text.now }
 {
-    text.iter().take_while(|byte| is_blank(**byte)).count()
+    text.iter()
+        .take_while(|byte| is_space_or_tab(**byte))
+        .count()
 }
 
 /// How many bytes stand before the first blank.
 fn word_len(text: &[u8]) -> usize
-    ensures value { result ≡ position_or_len is_space_or_tab text.now }
+    ensures value { result ≡ position_or_len is_blank text.now }
     ensures within { result ≤ length text.now }
 {
-    text.iter().take_while(|byte| !is_blank(**byte)).count()
+    text.iter()
+        .take_while(|byte| !is_space_or_tab(**byte))
+        .count()
 }
 
 /// Tests whether a byte is a space or a tab.
-fn is_blank(byte: u8) -> bool
-    ensures { result ≡ is_space_or_tab byte }
+fn is_space_or_tab(byte: u8) -> bool
+    ensures { result ≡ is_blank byte }
 {
     byte == b' ' || byte == b'\t'
 }

@@ -1,14 +1,16 @@
 //! Running a program's text: it is loaded, and a session's lines are answered.
-ghost use Rattle.std.specs.Prelude.{◌≡◌, ◌≢◌, ◌⊎◌, ◌↔◌, ◌||◌, ℕ, [], false, true, Err, Ok, IfSome, IsTrue, codes, take};
+ghost use Rattle.std.specs.Prelude.{◌≡◌, ◌≢◌, ◌<◌, ◌^◌, ◌⊎◌, ◌↔◌, ◌||◌, ℕ, [], false, true, Err, Ok, IsTrue, codes, length, take};
 ghost use Rattle.std.specs.Io.KnownBytes.{Appends};
+ghost use Rattle.st_control.specs.Causes.{too_long};
+ghost use Rattle.st_control.specs.Loads.{OfLoad};
 ghost use Rattle.st_control.specs.declared.refusal.Refusal.TheVariants.{M};
 ghost use Rattle.st_session.specs.Lines.{lines_of};
-ghost use Rattle.st_session.specs.Pending.{OnKnown};
+ghost use Rattle.st_session.specs.Pending.{OnBytes, OnReading};
 ghost use Rattle.st_session.specs.Replies.{ended};
-ghost use Rattle.st_session.specs.Runs.{OfLoad, WritesAll, WritesPart, WritesRead, refusal_status};
+ghost use Rattle.st_session.specs.Runs.{OfProgram, WritesAll, WritesPart, WritesRead, refusal_status};
 
+use crate::conversation::{Outcome, session, write_all};
 use crate::devices::{Sink, Source};
-use crate::engine::{Outcome, session, write_all};
 use crate::reply::Reply;
 use st_control::{Controller, Refusal};
 use st_layout::Cells;
@@ -43,16 +45,21 @@ pub fn run_text<R: Source, W: Sink>(
     requires sink { W.has_failed sink.old ≡ false }
 
     // The replies to all lines are written, or the refusal of the load.
-    ensures all { result ≢ DEVICE_FAILED → result ≢ NO_MEMORY → IfSome (R.rest source.old) (λ bytes.
+    ensures all { result ≢ DEVICE_FAILED → result ≢ NO_MEMORY → OnBytes (R.rest source.old) (λ bytes.
         OfLoad text.now main.now steps (WritesAll (lines_of bytes) result (W.taken sink.old) (W.taken sink.new))) }
     ensures memory { result ≡ NO_MEMORY → Appends (W.taken sink.old) (W.taken sink.new) []
         ⊎ Appends (W.taken sink.old) (W.taken sink.new) (ended (codes "refused M")) }
 
-    // A device has failed, and the run ended there. Of the lines that were read whole none is lost.
-    ensures part { result ≡ DEVICE_FAILED → IfSome (R.rest source.old) (λ bytes.
+    // A text that is too long is refused for that alone, also where there is no memory.
+    ensures long { 2 ^ 20 < length text.now → result ≢ DEVICE_FAILED → (result ≡ NO_PROGRAM)
+        × Appends (W.taken sink.old) (W.taken sink.new) (ended (codes "refused S4 line 1")) }
+
+    // A device has failed, and the run ended there. Where it is the source, the text was loaded, and of the lines that were
+    // read whole none is lost.
+    ensures part { result ≡ DEVICE_FAILED → OnBytes (R.rest source.old) (λ bytes.
         OfLoad text.now main.now steps (WritesPart (lines_of bytes) (W.taken sink.old) (W.taken sink.new))) }
-    ensures read { R.has_failed source.new ≡ true → OnKnown (R.rest source.old) (R.rest source.new) (λ bytes rest.
-        OfLoad text.now main.now steps (WritesRead bytes rest (W.taken sink.old) (W.taken sink.new))) }
+    ensures read { R.has_failed source.new ≡ true → OnReading (R.rest source.old) (R.rest source.new) (λ bytes rest.
+        OfProgram text.now main.now steps (WritesRead bytes rest (W.taken sink.old) (W.taken sink.new))) }
     ensures failed { IsTrue (R.has_failed source.new || W.has_failed sink.new) ↔ (result ≡ DEVICE_FAILED) }
 {
     match Controller::load(alloc, text, main, steps) {
@@ -70,13 +77,13 @@ fn serve<R: Source, W: Sink>(
 ) -> u8
     requires source { R.has_failed source.old ≡ false }
     requires sink { W.has_failed sink.old ≡ false }
-    ensures all { result ≢ DEVICE_FAILED → result ≢ NO_MEMORY → IfSome (R.rest source.old) (λ bytes.
+    ensures all { result ≢ DEVICE_FAILED → result ≢ NO_MEMORY → OnBytes (R.rest source.old) (λ bytes.
         WritesAll (lines_of bytes) result (W.taken sink.old) (W.taken sink.new) (Ok controller.old)) }
     ensures memory { result ≡ NO_MEMORY → Appends (W.taken sink.old) (W.taken sink.new) [] }
-    ensures part { result ≡ DEVICE_FAILED → IfSome (R.rest source.old) (λ bytes.
+    ensures part { result ≡ DEVICE_FAILED → OnBytes (R.rest source.old) (λ bytes.
         WritesPart (lines_of bytes) (W.taken sink.old) (W.taken sink.new) (Ok controller.old)) }
-    ensures read { R.has_failed source.new ≡ true → OnKnown (R.rest source.old) (R.rest source.new) (λ bytes rest.
-        WritesRead bytes rest (W.taken sink.old) (W.taken sink.new) (Ok controller.old)) }
+    ensures read { R.has_failed source.new ≡ true → OnReading (R.rest source.old) (R.rest source.new) (λ bytes rest.
+        WritesRead bytes rest (W.taken sink.old) (W.taken sink.new) controller.old) }
     ensures failed { IsTrue (R.has_failed source.new || W.has_failed sink.new) ↔ (result ≡ DEVICE_FAILED) }
 {
     match session(alloc, controller, source, sink) {
@@ -87,16 +94,21 @@ fn serve<R: Source, W: Sink>(
     }
 }
 
-/// Writes a refusal, and answers its status. Where there is no memory for its text, that is what is refused.
+/// Writes a refusal, and answers its status. Where there is no memory for its text, that is what is refused; a text that is
+/// too long needs none.
 fn refuse<W: Sink>(alloc: Global, refusal: Refusal, sink: &mut W) -> u8
     requires { W.has_failed sink.old ≡ false }
     ensures all { result ≢ DEVICE_FAILED → result ≢ NO_MEMORY
         → WritesAll [] result (W.taken sink.old) (W.taken sink.new) (Err refusal) }
-    ensures memory { result ≡ NO_MEMORY → Appends (W.taken sink.old) (W.taken sink.new) (ended (codes "refused M")) }
+    ensures memory { result ≡ NO_MEMORY → (refusal ≢ too_long)
+        × Appends (W.taken sink.old) (W.taken sink.new) (ended (codes "refused M")) }
     ensures part { result ≡ DEVICE_FAILED → WritesPart [] (W.taken sink.old) (W.taken sink.new) (Err refusal)
-        ⊎ WritesPart [] (W.taken sink.old) (W.taken sink.new) (Err M) }
+        ⊎ ((refusal ≢ too_long) × WritesPart [] (W.taken sink.old) (W.taken sink.new) (Err M)) }
     ensures failed { IsTrue (W.has_failed sink.new) ↔ (result ≡ DEVICE_FAILED) }
 {
+    if is_too_long(refusal) {
+        return tell(sink, b"refused S4 line 1\n", NO_PROGRAM);
+    }
     match Reply::new(alloc) {
         Ok(mut reply) => {
             reply.refuse(refusal);
@@ -104,6 +116,14 @@ fn refuse<W: Sink>(alloc: Global, refusal: Refusal, sink: &mut W) -> u8
         }
         Err(_) => tell(sink, b"refused M\n", NO_MEMORY),
     }
+}
+
+/// Tests whether the text is longer than a text may be.
+fn is_too_long(refusal: Refusal) -> bool
+    ensures yes { result ≡ true → refusal ≡ too_long }
+    ensures no { result ≡ false → refusal ≢ too_long }
+{
+    matches!(refusal, Refusal::S { number: 4, line: 1 })
 }
 
 /// The status of a refusal.

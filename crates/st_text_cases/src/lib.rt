@@ -5,6 +5,8 @@
 #![tactic(auto)]
 
 #[cfg(test)]
+mod level_texts;
+#[cfg(test)]
 mod token_forms;
 #[cfg(test)]
 mod tree_parts;

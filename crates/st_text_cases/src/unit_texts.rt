@@ -35,47 +35,6 @@ fn body_is_read(
     is_read(rt, alloc, &text, 1)
 }
 
-/// A program with an expression in so many parentheses.
-fn in_parentheses(alloc: Global, levels: usize) -> Result<Vec<u8>, Fail> {
-    let mut text = Vec::new(alloc);
-    text.extend_from_slice(b"PROGRAM Main\nA :=\n")?;
-    for _ in 0..levels {
-        text.push(b'(')?;
-    }
-    text.push(b'1')?;
-    for _ in 0..levels {
-        text.push(b')')?;
-    }
-    text.extend_from_slice(b"; END_PROGRAM")?;
-    Ok(text)
-}
-
-/// A program with a statement in so many IFs, each on its own line.
-fn in_conditions(alloc: Global, levels: usize) -> Result<Vec<u8>, Fail> {
-    let mut text = Vec::new(alloc);
-    text.extend_from_slice(b"PROGRAM Main")?;
-    for _ in 0..levels {
-        text.extend_from_slice(b"\nIF A THEN ;")?;
-    }
-    for _ in 0..levels {
-        text.extend_from_slice(b" END_IF;")?;
-    }
-    text.extend_from_slice(b" END_PROGRAM")?;
-    Ok(text)
-}
-
-#[test]
-fn counts_levels(rt: HostRuntime) -> Result<(), Fail> {
-    let alloc = rt.alloc();
-    is_read(&rt, alloc, &in_parentheses(alloc, 64)?, 1)?;
-    let fault = SyntaxFault::TooDeep { line: 3 };
-    is_refused(&rt, alloc, &in_parentheses(alloc, 65)?, fault);
-    is_read(&rt, alloc, &in_conditions(alloc, 64)?, 1)?;
-    let fault = SyntaxFault::TooDeep { line: 66 };
-    is_refused(&rt, alloc, &in_conditions(alloc, 65)?, fault);
-    Ok(())
-}
-
 #[test]
 fn earlier_fault_decides(rt: HostRuntime) -> Result<(), Fail> {
     let alloc = rt.alloc();

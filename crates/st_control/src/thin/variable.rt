@@ -1,6 +1,6 @@
 //! One variable and its leaf.
 ghost use Rattle.std.specs.Prelude.{◌≡◌, ◌++◌, ◌∷◌, [], IfOk, MatchOption, MatchResult, None, Some, codes};
-ghost use Rattle.st_control.specs.ThinPrograms.{initial_value as value_at_first, leaf as leaf_of_variable, leaf_of, literal_value as value_of_literal, only_name as the_only_name, type_of as type_named};
+ghost use Rattle.st_control.specs.ThinPrograms.{declared_leaf, initial_value, leaf, literal_value, only_name, type_of};
 ghost use Rattle.st_control.specs.ThinLists.{Refuses};
 ghost use Rattle.st_layout.specs.Layout.{raised};
 
@@ -11,14 +11,14 @@ use st_values::{Elem, Value};
 use std::alloc::{AllocError, Global};
 
 /// Reads a declaration, and gives the leaf of its variable.
-#[tactic(auto, unfolding(crate::specs::ThinPrograms::leaf_of))]
+#[tactic(auto, unfolding(crate::specs::ThinPrograms::declared_leaf))]
 pub(super) fn read_variable(
     alloc: Global,
     program: &[u8],
     declaration: &Declaration,
 ) -> Result<Leaf, ThinFault>
-    ensures { MatchResult result (λ leaf. leaf_of program.now declaration.now ≡ Some leaf)
-        (Refuses (leaf_of program.now declaration.now)) }
+    ensures { MatchResult result (λ leaf. declared_leaf program.now declaration.now ≡ Some leaf)
+        (Refuses (declared_leaf program.now declaration.now)) }
 {
     let name = only_name(declaration.names.as_slice()).ok_or(ThinFault::NotThin)?;
     let elem = type_of(&declaration.specification).ok_or(ThinFault::NotThin)?;
@@ -28,7 +28,7 @@ pub(super) fn read_variable(
 
 /// The name, where there is exactly one.
 fn only_name(names: &[Identifier]) -> Option<&[u8]>
-    ensures { MatchOption result (the_only_name names.now ≡ None) (λ name. the_only_name names.now ≡ Some name.now) }
+    ensures { MatchOption result (only_name names.now ≡ None) (λ name. only_name names.now ≡ Some name.now) }
 {
     match names {
         [name] => Some(name.spelling.as_slice()),
@@ -38,7 +38,7 @@ fn only_name(names: &[Identifier]) -> Option<&[u8]>
 
 /// The type, where it is BOOL or INT.
 fn type_of(specification: &Specification) -> Option<Elem>
-    ensures { result ≡ type_named specification.now }
+    ensures { result ≡ type_of specification.now }
 {
     match specification {
         Specification::Simple(TypeName::Elementary(_, Elem::Bool)) => Some(Elem::Bool),
@@ -49,7 +49,7 @@ fn type_of(specification: &Specification) -> Option<Elem>
 
 /// The value that a variable of a type begins with.
 fn initial_value(elem: Elem, initial: &Option<Initial>) -> Option<Value>
-    ensures { result ≡ value_at_first elem initial.now }
+    ensures { result ≡ initial_value elem initial.now }
 {
     match initial {
         None => Some(Value { elem, bits: 0 }),
@@ -60,15 +60,16 @@ fn initial_value(elem: Elem, initial: &Option<Initial>) -> Option<Value>
 
 /// The value that a literal is of a type.
 fn literal_value(elem: Elem, literal: Constant) -> Option<Value>
-    ensures { result ≡ value_of_literal elem literal }
+    ensures { result ≡ literal_value elem literal }
 {
     match (elem, literal) {
-        (_, Constant::Integer(number)) if !number.is_negative && number.magnitude < elem.limit() => {
-            Some(Value {
-                elem,
-                bits: number.magnitude as i128,
-            })
-        }
+        (_, Constant::Integer(number)) if !number.is_negative && number.magnitude < elem.limit() =>
+            {
+                Some(Value {
+                    elem,
+                    bits: number.magnitude as i128,
+                })
+            }
         (Elem::Bool, Constant::Bool(_, truth)) => Some(Value {
             elem,
             bits: i128::from(truth),
@@ -79,7 +80,7 @@ fn literal_value(elem: Elem, literal: Constant) -> Option<Value>
 
 /// The leaf of a variable.
 fn leaf(alloc: Global, program: &[u8], name: &[u8], value: Value) -> Result<Leaf, AllocError>
-    ensures { IfOk result (λ leaf. leaf ≡ leaf_of_variable program.now name.now value) }
+    ensures { IfOk result (λ found. found ≡ leaf program.now name.now value) }
 {
     let shown = shown(alloc, program, name)?;
     Ok(Leaf {

@@ -9,15 +9,10 @@ ghost use Rattle.st_layout.specs.Layout.{paths_of};
 use super::fault::ThinFault;
 use super::variable::read_variable;
 use indexmap::IndexSet;
+use st_layout::{MAX_LEAVES, MAX_PATH_BYTES};
 use st_tree::tree::Declaration;
 use st_tree::{Leaf, List};
 use std::alloc::{AllocError, Global};
-
-/// The most variables that a program may have.
-const MOST_VARIABLES: usize = 65_536;
-
-/// The most bytes of a path.
-const MOST_PATH_BYTES: usize = 255;
 
 /// Reads the declarations of a program, and gives the leaves of their variables.
 pub(super) fn read_variables(
@@ -60,7 +55,7 @@ fn add(
     ensures paths { OnOk result (map (λ key. key.items) paths.new.keys ≡ paths_of leaves.new) }
     ensures refused { result ≡ Err ThinFault.NotThin → Joins leaves.old leaf → ⊥ }
 {
-    if leaves.items.len() >= MOST_VARIABLES || leaf.path.items.len() > MOST_PATH_BYTES {
+    if leaves.items.len() >= MAX_LEAVES || leaf.path.items.len() > MAX_PATH_BYTES {
         return Err(ThinFault::NotThin);
     }
     if !put_path(alloc, leaf.path.items.as_slice(), paths)? {

@@ -1,11 +1,25 @@
+use Rattle.std.specs.Prelude.{Err}
+use Rattle.st_control.specs.Loads.{OfLoad}
 use Rattle.st_session.specs.Lines.{lines_of}
-use Rattle.st_session.specs.Runs.{OfLoad, WritesPart}
-use Rattle.st_session.proofs.ServeLemmas.{IfSome-all, WritesPart-refused}
+use Rattle.st_session.specs.Runs.{WritesAll}
+use Rattle.st_session.proofs.ServeLemmas.{WritesPart-refused, is_too_long, long_written}
+use Rattle.st_session.proofs.TakingLemmas.{OnBytes-all}
 use Rattle.st_session.proofs.run.run_text.Goals as goal
+
+pub returns-in-Err-clause-all : goal.returns-in-Err-clause-all
+returns-in-Err-clause-all g c = λ works memory.
+    let before = g.W.Sink.taken c.args.sink.now in
+    let now = g.W.Sink.taken c.refuse.new.sink in
+    OnBytes-all (g.R.Source.rest c.args.source.now) (λ bytes. OfLoad c.args.text.now c.args.main.now c.args.steps (WritesAll (lines_of bytes) c.refuse.result before now))
+    (λ bytes. (Err c.in-Err.refusal, c.in-Err.ensures.refused, c.refuse.ensures.all works memory))
+
+pub returns-in-Err-clause-long : goal.returns-in-Err-clause-long
+returns-in-Err-clause-long g c = λ long works.
+    let is = is_too_long c.args.text.now c.args.main.now c.in-Err.refusal c.in-Err.ensures.refused long in
+    long_written c.in-Err.refusal c.refuse.result (g.W.Sink.taken c.args.sink.now) (g.W.Sink.taken c.refuse.new.sink) is
+    (c.refuse.ensures.all works (λ memory. (c.refuse.ensures.memory memory).0 is))
 
 pub returns-in-Err-clause-part : goal.returns-in-Err-clause-part
 returns-in-Err-clause-part g c = λ failed.
-    let before = g.W.Sink.taken c.args.sink.now in
-    let now = g.W.Sink.taken c.refuse.new.sink in
-    IfSome-all (g.R.Source.rest c.args.source.now) (λ bytes. OfLoad c.args.text.now c.args.main.now c.args.steps (WritesPart (lines_of bytes) before now))
-    (WritesPart-refused c.args.text.now c.args.main.now c.args.steps c.in-Err.refusal before now c.in-Err.ensures.refused (c.refuse.ensures.part failed))
+    WritesPart-refused c.args.text.now c.args.main.now c.args.steps c.in-Err.refusal (g.R.Source.rest c.args.source.now) (g.W.Sink.taken c.args.sink.now) (g.W.Sink.taken c.refuse.new.sink)
+    c.in-Err.ensures.refused (c.refuse.ensures.part failed)

@@ -2,14 +2,14 @@ use Rattle.std.proofs.Common.{sym, ◌∙◌, arith}
 use Rattle.st_layout.proofs.Paths.{number_from_place, number-Some, number-listed, number-long}
 use Rattle.st_layout.proofs.layout.Layout.leaf.Goals as goal
 
-pub returns-then-path-gt-MOST_BYTES-clause-value :
-    goal.returns-then-path-gt-MOST_BYTES-clause-value
-returns-then-path-gt-MOST_BYTES-clause-value c =
+pub returns-then-path-gt-MAX_PATH_BYTES-clause-value :
+    goal.returns-then-path-gt-MAX_PATH_BYTES-clause-value
+returns-then-path-gt-MAX_PATH_BYTES-clause-value c =
     sym (rw (← c.self.view_is) (number-long c.self.inside.leaves.items c.args.path.now c.self.invariant.sound.short (omega arith)))
 
-pub returns-then-path-gt-MOST_BYTES-clause-listed :
-    goal.returns-then-path-gt-MOST_BYTES-clause-listed
-returns-then-path-gt-MOST_BYTES-clause-listed c = number-listed c.args.self.now c.args.path.now _ (returns-then-path-gt-MOST_BYTES-clause-value c)
+pub returns-then-path-gt-MAX_PATH_BYTES-clause-listed :
+    goal.returns-then-path-gt-MAX_PATH_BYTES-clause-listed
+returns-then-path-gt-MAX_PATH_BYTES-clause-listed c = number-listed c.args.self.now c.args.path.now _ (returns-then-path-gt-MAX_PATH_BYTES-clause-value c)
 
 pub returns-in-Some-clause-value : goal.returns-in-Some-clause-value
 returns-in-Some-clause-value c =

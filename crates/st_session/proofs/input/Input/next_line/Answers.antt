@@ -1,10 +1,10 @@
-use Rattle.std.proofs.Common.{◌≡◌, ◌≤◌, ◌<◌, true, false, arith, refl, length, ◌∙◌, ap}
+use Rattle.std.proofs.Common.{◌++◌, ◌≡◌, ◌≤◌, ◌<◌, true, false, arith, refl, length, ◌∙◌, ap}
 use Rattle.std.specs.Prelude.{Some, None}
-use Rattle.st_session.specs.Inputs.{pending, left}
-use Rattle.st_session.specs.Pending.{TakesByte, TakesFound}
+use Rattle.st_session.specs.Inputs.{pending, left, unread}
+use Rattle.st_session.specs.Pending.{TakesByte, TakesFound, TakesPart}
 use Rattle.st_session.specs.declared.input.Found.TheVariants.{Line, TooLong}
 use Rattle.st_session.proofs.LineLemmas.{LineSoFar, line_ended, line_last, byte_dropped, byte_kept}
-use Rattle.st_session.proofs.TakingLemmas.{OnErr-from, OnKnown-trans, TakesByte-same, not_ended_before}
+use Rattle.st_session.proofs.TakingLemmas.{OnErr-from, OnReading-trans, TakesByte-same, not_ended_before, takes_nothing}
 use Rattle.st_session.proofs.input.Input.next_line.Goals as goal
 
 pub returns-then-byte-eq10-clause-line : goal.returns-then-byte-eq10-clause-line
@@ -13,7 +13,7 @@ returns-then-byte-eq10-clause-line g c =
     let before = pending c.loop-byte.self (g.R.Source.rest c.loop-byte.source) in
     let after = pending c.next_byte.new.self (g.R.Source.rest c.next_byte.new.source) in
     let at_end = c.next_byte.new.self.at_end in
-    OnKnown-trans first before after
+    OnReading-trans first before after
     (LineSoFar c.loop-byte.is_empty c.loop-byte.is_long c.loop-byte.line.items) (TakesByte (Some 10)) (TakesFound c.ended.result at_end c.ended.new.line.items)
     (λ x y z so next. line_ended c.loop-byte.is_empty c.loop-byte.is_long at_end c.loop-byte.line.items x y z c.ended.new.line.items c.ended.result so next c.ended.ensures.long c.ended.ensures.text)
     c.loop-byte.invariant.so_far (TakesByte-same c.in_ok-byte.field-0 (Some 10) before after c.in_ok-byte.ensures.bytes (c.in-Some.is ∙ ap (λ n. Some n) c.if-byte-eq10.true))
@@ -23,11 +23,11 @@ loop-byte-preserved g c =
     let first = pending c.args.self.now (g.R.Source.rest c.args.source.now) in
     let before = pending c.loop-byte.self (g.R.Source.rest c.loop-byte.source) in
     let after = pending c.next_byte.new.self (g.R.Source.rest c.next_byte.new.source) in
-    let full : 4096 ≤ length c.loop-byte.line.items = omega (arith, c.len.ensures, c.loop-byte.line.ok.0, c.if-len-lt-LINE.false) in
+    let full : 4096 ≤ length c.loop-byte.line.items = omega (arith, c.len.ensures, c.loop-byte.line.ok.0, c.if-len-lt-MAX_LINE_BYTES.false) in
     let nearer : left c.next_byte.new.self (g.R.Source.reads_left c.next_byte.new.source) < left c.loop-byte.self (g.R.Source.reads_left c.loop-byte.source) = rw c.in-Some.is at c.in_ok-byte.ensures.progress in
     record {
       room = c.loop-byte.invariant.room;
-      so_far = OnKnown-trans first before after
+      so_far = OnReading-trans first before after
           (LineSoFar c.loop-byte.is_empty c.loop-byte.is_long c.loop-byte.line.items) (TakesByte (Some c.in-Some.byte)) (LineSoFar false true c.loop-byte.line.items)
           (λ x y z so next. byte_dropped c.loop-byte.is_empty c.loop-byte.is_long c.loop-byte.line.items x y z c.in-Some.byte so next c.if-byte-eq10.false full)
           c.loop-byte.invariant.so_far (TakesByte-same c.in_ok-byte.field-0 (Some c.in-Some.byte) before after c.in_ok-byte.ensures.bytes c.in-Some.is);
@@ -37,18 +37,18 @@ loop-byte-preserved g c =
       steady = omega (arith, nearer, c.loop-byte.invariant.steady);
     }
 
-pub loop-byte-preserved-then-len-lt-LINE : goal.loop-byte-preserved-then-len-lt-LINE
-loop-byte-preserved-then-len-lt-LINE g c =
+pub loop-byte-preserved-then-len-lt-MAX_LINE_BYTES : goal.loop-byte-preserved-then-len-lt-MAX_LINE_BYTES
+loop-byte-preserved-then-len-lt-MAX_LINE_BYTES g c =
     let first = pending c.args.self.now (g.R.Source.rest c.args.source.now) in
     let before = pending c.loop-byte.self (g.R.Source.rest c.loop-byte.source) in
     let after = pending c.next_byte.new.self (g.R.Source.rest c.next_byte.new.source) in
-    let room : length c.loop-byte.line.items < 4096 = omega (arith, c.len.ensures, c.loop-byte.line.ok.0, c.if-len-lt-LINE.true) in
-    let pushed = c.push.ensures.succeeds (omega (arith, c.len.ensures, c.if-len-lt-LINE.true, c.loop-byte.invariant.room)) in
+    let room : length c.loop-byte.line.items < 4096 = omega (arith, c.len.ensures, c.loop-byte.line.ok.0, c.if-len-lt-MAX_LINE_BYTES.true) in
+    let pushed = c.push.ensures.succeeds (omega (arith, c.len.ensures, c.if-len-lt-MAX_LINE_BYTES.true, c.loop-byte.invariant.room)) in
     let items = rw pushed at c.push.ensures.items in
     let nearer : left c.next_byte.new.self (g.R.Source.reads_left c.next_byte.new.source) < left c.loop-byte.self (g.R.Source.reads_left c.loop-byte.source) = rw c.in-Some.is at c.in_ok-byte.ensures.progress in
     record {
       room = omega (arith, c.loop-byte.invariant.room, c.push.ensures.capacity);
-      so_far = OnKnown-trans first before after
+      so_far = OnReading-trans first before after
           (LineSoFar c.loop-byte.is_empty c.loop-byte.is_long c.loop-byte.line.items) (TakesByte (Some c.in-Some.byte)) (LineSoFar false c.loop-byte.is_long c.push.new.self.items)
           (λ x y z so next. byte_kept c.loop-byte.is_empty c.loop-byte.is_long c.loop-byte.line.items x y z c.push.new.self.items c.in-Some.byte so next c.if-byte-eq10.false room items)
           c.loop-byte.invariant.so_far (TakesByte-same c.in_ok-byte.field-0 (Some c.in-Some.byte) before after c.in_ok-byte.ensures.bytes c.in-Some.is);
@@ -65,7 +65,7 @@ returns-then-is_long-clause-line g c =
     let after = pending c.next_byte.new.self (g.R.Source.rest c.next_byte.new.source) in
     let at_end = c.next_byte.new.self.at_end in
     let ended : at_end ≡ true = c.in_ok-byte.ensures.at_end c.in_default.is in
-    OnKnown-trans first before after
+    OnReading-trans first before after
     (LineSoFar c.loop-byte.is_empty c.loop-byte.is_long c.loop-byte.line.items) (TakesByte None) (TakesFound TooLong at_end c.loop-byte.line.items)
     (λ x y z so next. line_last c.loop-byte.is_empty c.loop-byte.is_long at_end c.loop-byte.line.items x y z TooLong so c.if-is_empty.false next ended (λ _. refl) (λ short. cc (short, c.if-is_long.true)))
     c.loop-byte.invariant.so_far (TakesByte-same c.in_ok-byte.field-0 None before after c.in_ok-byte.ensures.bytes c.in_default.is)
@@ -77,10 +77,23 @@ returns-else-is_long-clause-line g c =
     let after = pending c.next_byte.new.self (g.R.Source.rest c.next_byte.new.source) in
     let at_end = c.next_byte.new.self.at_end in
     let ended : at_end ≡ true = c.in_ok-byte.ensures.at_end c.in_default.is in
-    OnKnown-trans first before after
+    OnReading-trans first before after
     (LineSoFar c.loop-byte.is_empty c.loop-byte.is_long c.loop-byte.line.items) (TakesByte None) (TakesFound Line at_end c.loop-byte.line.items)
     (λ x y z so next. line_last c.loop-byte.is_empty c.loop-byte.is_long at_end c.loop-byte.line.items x y z Line so c.if-is_empty.false next ended (λ long. cc (long, c.if-is_long.false)) (λ _. refl))
     c.loop-byte.invariant.so_far (TakesByte-same c.in_ok-byte.field-0 None before after c.in_ok-byte.ensures.bytes c.in_default.is)
+
+-- a part of a line was read when the source failed
+pub returns-in_err-byte-clause-err : goal.returns-in_err-byte-clause-err
+returns-in_err-byte-clause-err g c =
+    let first = pending c.args.self.now (g.R.Source.rest c.args.source.now) in
+    let rest = g.R.Source.rest c.loop-byte.source in
+    let before = pending c.loop-byte.self rest in
+    let after = g.R.Source.rest c.next_byte.new.source in
+    OnErr-from c.from_residual.result (OnReading-trans first before after
+    (LineSoFar c.loop-byte.is_empty c.loop-byte.is_long c.loop-byte.line.items) (λ x y. x ≡ y) TakesPart
+    (λ x y z so same. (so.part, so.split ∙ ap (λ ys. so.part ++ ys) same, so.no_lf))
+    c.loop-byte.invariant.so_far
+    (takes_nothing (unread c.loop-byte.self) c.loop-byte.self.at_end rest after c.in_err-byte.ensures.empty.0 c.in_err-byte.ensures.empty.1 c.in_err-byte.ensures.err))
 
 -- the input was open when the source failed, so it was open before
 pub returns-in_err-byte-clause-not_ended : goal.returns-in_err-byte-clause-not_ended

@@ -1,0 +1,152 @@
+//! At most 64 levels are open at once: `(`, `[`, IF, CASE, FOR, WHILE and REPEAT, each alone and all together.
+use st_syntax::parse;
+use st_tokens::SyntaxFault;
+use std::alloc::{AllocError, Global};
+use std::process::Abort;
+use std::test::Fail;
+
+/// What opens and closes a level. The token that opens it stands in the first line after the line feed.
+struct Level {
+    open: &'static [u8],
+    close: &'static [u8],
+}
+
+const PARENTHESES: Level = Level {
+    open: b"\n(",
+    close: b")",
+};
+
+const CALL: Level = Level {
+    open: b"\nF(",
+    close: b")",
+};
+
+const NAMED_ARGUMENT: Level = Level {
+    open: b"\nF(X := ",
+    close: b")",
+};
+
+const SUBSCRIPT: Level = Level {
+    open: b"\nA[",
+    close: b"]",
+};
+
+const IF: Level = Level {
+    open: b"\nIF A THEN ",
+    close: b" END_IF;",
+};
+
+const CASE: Level = Level {
+    open: b"\nCASE A OF 1: ",
+    close: b" END_CASE;",
+};
+
+const FOR: Level = Level {
+    open: b"\nFOR I := 1 TO 2 DO ",
+    close: b" END_FOR;",
+};
+
+const WHILE: Level = Level {
+    open: b"\nWHILE A DO ",
+    close: b" END_WHILE;",
+};
+
+const REPEAT: Level = Level {
+    open: b"\nREPEAT ",
+    close: b" UNTIL A END_REPEAT;",
+};
+
+/// A program whose body has so many levels of statements, in turn of these kinds, around an assignment with so many levels
+/// of expressions, in turn of those kinds. Its first line is `PROGRAM Main`, and each level opens in a line of its own.
+fn nested(
+    alloc: Global,
+    statements: &[&Level],
+    statement_count: usize,
+    expressions: &[&Level],
+    expression_count: usize,
+) -> Result<Vec<u8>, AllocError> {
+    let mut text = Vec::from_slice(alloc, b"PROGRAM Main ")?;
+    open_all(&mut text, statements, statement_count)?;
+    text.extend_from_slice(b"A := ")?;
+    open_all(&mut text, expressions, expression_count)?;
+    text.push(b'1')?;
+    close_all(&mut text, expressions, expression_count)?;
+    text.push(b';')?;
+    close_all(&mut text, statements, statement_count)?;
+    text.extend_from_slice(b" END_PROGRAM")?;
+    Ok(text)
+}
+
+/// Opens so many levels, in turn of these kinds.
+fn open_all(text: &mut Vec<u8>, kinds: &[&Level], count: usize) -> Result<(), AllocError> {
+    for level in kinds.iter().cycle().take(count) {
+        text.extend_from_slice(level.open)?;
+    }
+    Ok(())
+}
+
+/// Closes them, the last first.
+fn close_all(text: &mut Vec<u8>, kinds: &[&Level], count: usize) -> Result<(), AllocError> {
+    let mut left = count;
+    while left > 0 {
+        left -= 1;
+        if let Some(level) = kinds.get(left % kinds.len()) {
+            text.extend_from_slice(level.close)?;
+        }
+    }
+    Ok(())
+}
+
+/// Asserts that a text is one unit.
+fn is_read(rt: &impl Abort, alloc: Global, text: &[u8]) -> Result<(), Fail> {
+    let units = parse(alloc, text)?;
+    assert_eq!(rt; units.len(), 1, "in {text:?}");
+    Ok(())
+}
+
+/// Asserts that a text is refused for the level that opens in this line.
+fn is_too_deep(rt: &impl Abort, alloc: Global, text: &[u8], line: u32) {
+    match parse(alloc, text) {
+        Ok(_) => assert!(rt; false, "in {text:?}"),
+        Err(fault) => assert_eq!(rt; fault, SyntaxFault::TooDeep { line }, "in {text:?}"),
+    }
+}
+
+#[test]
+fn counts_levels_of_expressions(rt: HostRuntime) -> Result<(), Fail> {
+    let alloc = rt.alloc();
+    for kind in [&PARENTHESES, &CALL, &NAMED_ARGUMENT, &SUBSCRIPT] {
+        is_read(&rt, alloc, &nested(alloc, &[&IF], 0, &[kind], 64)?)?;
+        is_too_deep(&rt, alloc, &nested(alloc, &[&IF], 0, &[kind], 65)?, 66);
+    }
+    Ok(())
+}
+
+#[test]
+fn counts_levels_of_statements(rt: HostRuntime) -> Result<(), Fail> {
+    let alloc = rt.alloc();
+    for kind in [&IF, &CASE, &FOR, &WHILE, &REPEAT] {
+        is_read(&rt, alloc, &nested(alloc, &[kind], 64, &[&PARENTHESES], 0)?)?;
+        is_too_deep(
+            &rt,
+            alloc,
+            &nested(alloc, &[kind], 65, &[&PARENTHESES], 0)?,
+            66,
+        );
+    }
+    Ok(())
+}
+
+#[test]
+fn counts_all_levels_together(rt: HostRuntime) -> Result<(), Fail> {
+    let alloc = rt.alloc();
+    let statements = [&IF, &CASE, &FOR, &WHILE, &REPEAT];
+    let expressions = [&PARENTHESES, &CALL, &SUBSCRIPT, &NAMED_ARGUMENT];
+    for count in [1, 7, 32, 60, 63] {
+        let text = nested(alloc, &statements, count, &expressions, 64 - count)?;
+        is_read(&rt, alloc, &text)?;
+        let text = nested(alloc, &statements, count, &expressions, 65 - count)?;
+        is_too_deep(&rt, alloc, &text, 66);
+    }
+    Ok(())
+}
