@@ -10,4 +10,4 @@ mod list;
 pub use cursor::Cursor;
 pub use fault::ReadFault;
 pub use level::MAX_LEVELS;
-pub use list::{listed, many, push, single, words};
+pub use list::{listed, many, single, words};

@@ -1,5 +1,5 @@
 //! Lists of items, each of which a function reads that is passed.
-ghost use Rattle.std.specs.Prelude.{◌≡◌, ◌<◌, ◌≤◌, Bool, Option, [], ◌∷◌, ◌++◌, length, IfErr, IfOk, OnOk};
+ghost use Rattle.std.specs.Prelude.{◌≡◌, ◌<◌, ◌≤◌, Bool, Option, [], ◌∷◌, length, IfErr, IfOk, OnOk};
 ghost use Rattle.st_parser.specs.Names as names;
 ghost use Rattle.st_parser.specs.Reader.Functions.{IsReader, IsTest, ReadsAs, TestsAs};
 ghost use Rattle.st_parser.specs.Reader.Parsers as spec;
@@ -13,25 +13,13 @@ use st_tree::List;
 use st_tree::tree::Identifier;
 use std::alloc::Global;
 
-/// Puts an item behind the others. A first item takes the memory of one.
-pub fn push<T: Drop>(list: &mut List<T>, item: T) -> Result<(), ReadFault>
-    ensures ok { OnOk result (list.new ≡ list.old ++ item ∷ []) }
-    ensures err { IfErr result (λ fault. fault ≡ Memory) }
-{
-    if list.is_empty() {
-        list.items.reserve_exact(1)?;
-    }
-    list.push(item)?;
-    Ok(())
-}
-
 /// A list of one item.
 pub fn single<T: Drop>(alloc: Global, item: T) -> Result<List<T>, ReadFault>
     ensures ok { IfOk result (λ list. list ≡ item ∷ []) }
     ensures err { IfErr result (λ fault. fault ≡ Memory) }
 {
     let mut list = List::new(alloc);
-    push(&mut list, item)?;
+    list.push(item)?;
     Ok(list)
 }
 
@@ -49,7 +37,7 @@ pub fn many<
     let mut found = List::new(alloc);
     'items: while begins(ts) {
         let item = item(alloc, ts)?;
-        push(&mut found, item)?;
+        found.push(item)?;
     }
     Ok(found)
 }
@@ -69,7 +57,7 @@ pub fn listed<T: Drop, F: Fn(Global, &mut Cursor<'_>) -> Result<T, ReadFault>>(
     'items: while ts.at_symbol(Symbol::Comma) {
         ts.bump();
         let next = item(alloc, ts)?;
-        push(&mut found, next)?;
+        found.push(next)?;
     }
     Ok(found)
 }
