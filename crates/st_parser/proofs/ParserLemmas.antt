@@ -39,3 +39,9 @@ open_level_takes x d (t ∷ ts) new (Err f) h m = record { reads = rw h m.reads;
 pub next_at : {A : Type 0} (item : Parser A) (ts us : List Tok) → us ≡ next ts → next_item item ts ≡ item us
 unfolding next_item
 next_at item ts us e = rw e refl
+
+-- the same, where one token or more was taken
+pub takes_made : {A : Type 0} (o : Outcome A) (y : A) (old new : List Tok) (r : Result A ReadFault) → o ≡ Ok (y, new) → length new < length old
+    → IfOk r (λ x. x ≡ y) → IfErr r (λ f. f ≡ Memory) → Takes o r old new
+takes_made o y old new (Ok x) read less same memory = record { reads = reads_made o y new (Ok x) read same memory; shorter = less }
+takes_made o y old new (Err f) read less same memory = record { reads = reads_made o y new (Err f) read same memory; shorter = tt }
