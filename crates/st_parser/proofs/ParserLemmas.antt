@@ -1,5 +1,5 @@
 -- The levels that may still be opened, and what is refused for want of memory.
-use Rattle.std.proofs.Common.{◌≡◌, ℕ, zero, suc, ◌<◌, Bool, true, List, [], ◌∷◌, length, refl, sym, ap, subst, ◌∙◌, arith}
+use Rattle.std.proofs.Common.{◌≡◌, ℕ, zero, suc, ◌<◌, true, List, [], ◌∷◌, length, refl, sym, ap, subst, ◌∙◌, arith}
 use Rattle.std.specs.Prelude.{Result, Ok, Err, IfOk, IfErr}
 use Rattle.st_parser.specs.Names.{Position, ReadFault, Symbol}
 use Rattle.st_parser.specs.declared.fault.ReadFault.TheVariants.{Memory}
