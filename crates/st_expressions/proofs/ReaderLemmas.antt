@@ -1,10 +1,9 @@
 -- The steps of the reading functions that recurse.
-use Rattle.std.proofs.Common.{◌≡◌, ℕ, zero, suc, ◌-◌, ◌<◌, List, [], ◌∷◌, refl, sym, ap, ◌∙◌, sub-one, arith}
-use Rattle.std.specs.Prelude.{Result, Ok, Err, IfOk, IfErr}
-use Rattle.st_parser.specs.declared.fault.ReadFault.TheVariants.{Memory}
+use Rattle.std.proofs.Common.{◌≡◌, ℕ, zero, suc, ◌-◌, ◌<◌, List, [], ◌∷◌, refl, sub-one, arith}
+use Rattle.std.specs.Prelude.{Ok, Err}
 use Rattle.st_tree.specs.declared.tree.expression.Expression.TheVariants as e
-use Rattle.st_parser.specs.Grammar.Tokens.{Tok, position, next}
-use Rattle.st_parser.specs.Reader.Parsers.{Reads, Refuses, Outcome, Deep, enter}
+use Rattle.st_parser.specs.Grammar.Tokens.{Tok, position}
+use Rattle.st_parser.specs.Reader.Parsers.{Refuses}
 use Rattle.st_expressions.specs.Reader.{Inside, inside_of, binary, operations, chain, variable}
 use Rattle.st_parser.proofs.Loops.{refuses_too}
 use Rattle.st_parser.specs.Names.{Expression, Operation, Position, ReadFault}

@@ -1,4 +1,4 @@
-use Rattle.std.proofs.Common.{[], refl, sym, ap, Ok, ◌∙◌, arith}
+use Rattle.std.proofs.Common.{[], sym, ap, Ok, ◌∙◌, arith}
 use Rattle.std.proofs.lemmas.Result.{err_from_is_err_and}
 use Rattle.st_tokens.specs.declared.symbol.Symbol.TheVariants as s
 use Rattle.st_parser.specs.Reader.Parsers as parser
