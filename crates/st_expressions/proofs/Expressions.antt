@@ -3,34 +3,23 @@ use Rattle.std.proofs.Common.{◌≡◌, ℕ, zero, suc, List, [], ◌∷◌, re
 use Rattle.std.specs.Prelude.{Option, Some, None}
 use Rattle.st_tokens.specs.declared.keyword.Keyword.TheVariants as w
 use Rattle.st_tokens.specs.declared.symbol.Symbol.TheVariants as s
-use Rattle.st_tokens.specs.declared.token.Kind.{Kind}
 use Rattle.st_tokens.specs.declared.token.Kind.TheVariants as k
-use Rattle.st_tree.specs.declared.operator.BinOp.{BinOp}
-use Rattle.st_tree.specs.declared.tree.position.Position.{Position}
-use Rattle.st_tree.specs.declared.tree.position.Identifier.{Identifier}
-use Rattle.st_tree.specs.declared.tree.constant.SignedInteger.{SignedInteger}
-use Rattle.st_tree.specs.declared.tree.constant.Constant.{Constant}
 use Rattle.st_tree.specs.declared.tree.constant.Constant.TheVariants as c
-use Rattle.st_tree.specs.declared.tree.expression.Expression.{Expression}
 use Rattle.st_tree.specs.declared.tree.expression.Expression.TheVariants as e
-use Rattle.st_tree.specs.declared.tree.expression.Operation.{Operation}
-use Rattle.st_tree.specs.declared.tree.expression.Variable.{Variable}
-use Rattle.st_tree.specs.declared.tree.expression.Part.{Part}
 use Rattle.st_tree.specs.declared.tree.expression.Part.TheVariants as part
-use Rattle.st_tree.specs.declared.tree.expression.Call.{Call}
-use Rattle.st_tree.specs.declared.tree.expression.Argument.{Argument}
 use Rattle.st_tree.specs.declared.tree.expression.Argument.TheVariants as a
-use Rattle.st_expressions.specs.Grammar.{integer_of, duration_of, operation_of, variable_of, call_of, operator_of, rank_of, IsNumberFirst, IsSignedInteger, unsigned, plus, minus, IsConstant, integer, typed, duration, truth, falsehood, IsRank, unary, alone, chain, IsOperations, no_operation, operations, IsOperation, operation, IsUnary, negation, complement, primary, IsPrimary, constant, variable, call, group, IsVariable, named, IsParts, no_part, parts, IsPart, field, subscripts, IsNextExpressions, no_expression, next_expressions, IsCall, called, IsArguments, no_arguments, arguments, IsNextArguments, no_argument, next_arguments, IsArgument, positional, input, output}
-use Rattle.st_expressions.specs.Levels.{opens, closes}
-use Rattle.st_expressions.specs.Lists.{IsMany, none, more, IsNext, comma, IsListed, listed}
-use Rattle.st_expressions.specs.Parsers as parser
-use Rattle.st_expressions.specs.Parsers.{Parser, and_then, many, is_comma}
-use Rattle.st_expressions.specs.Reading as spec
-use Rattle.st_expressions.specs.Reading.{Inside, begins_part}
-use Rattle.st_expressions.specs.Tokens.{Tok, kind, next, position}
-use Rattle.st_expressions.proofs.Exact.{Relation, Exact, Always, Any, Then, seq, IsOne, one, IsPure, done, IsWord, a_word, IsNumber, a_number, exact_bind, exact_bind_if, exact_as, exact_iff, exact_last, exact_under, exact_pure, made, exact_refuse, exact_on, IsFirst, exact_token, exact_token_if, exact_enter, Behind, exact_symbol, exact_word, exact_number, exact_before, Ends, exact_many, exact_listed}
-use Rattle.st_expressions.proofs.Follows.{Stops, stops_less, stops_at, stops_part, stops_operator, rank_is, begins_integer, integer_begins, begins_constant, constant_begins, primary_begins, argument_begins, part_begins, operation_begins, rank_word, Ending}
-use Rattle.st_expressions.proofs.Room.{At, past, Leads, leads}
+use Rattle.st_expressions.specs.Grammar.{integer_of, duration_of, operation_of, variable_of, call_of, operator_of, precedence_of, IsNumberFirst, IsSignedInteger, unsigned, plus, minus, IsConstant, integer, typed, duration, truth, falsehood, IsBinary, unary, alone, chain, IsOperations, no_operation, operations, IsOperation, operation, IsUnary, negation, complement, primary, IsPrimary, constant, variable, call, parenthesized, IsVariable, named, IsParts, no_part, parts, IsPart, field, subscripts, IsNextExpressions, no_expression, next_expressions, IsCall, called, IsArguments, no_arguments, arguments, IsNextArguments, no_argument, next_arguments, IsArgument, positional, input, output}
+use Rattle.st_parser.specs.Grammar.Levels.{opens, closes}
+use Rattle.st_parser.specs.Grammar.Lists.{IsMany, none, more, IsNext, comma, IsListed, listed}
+use Rattle.st_parser.specs.Reader.Parsers as parser
+use Rattle.st_parser.specs.Reader.Parsers.{Parser, and_then, many}
+use Rattle.st_expressions.specs.Reader as spec
+use Rattle.st_expressions.specs.Reader.{Inside, begins_part}
+use Rattle.st_parser.specs.Grammar.Tokens.{Tok, kind, next, position}
+use Rattle.st_parser.proofs.Exact.{Relation, Exact, Always, Any, Then, seq, IsOne, one, IsPure, done, IsWord, a_word, IsNumber, a_number, exact_bind, exact_bind_if, exact_as, exact_iff, exact_last, exact_under, exact_pure, made, exact_refuse, exact_on, IsFirst, exact_token, exact_token_if, exact_enter, Behind, exact_symbol, symbol_is, exact_identifier, exact_number, exact_before, Ends, exact_many, exact_listed}
+use Rattle.st_expressions.proofs.Follows.{Stops, stops_less, stops_at, stops_part, stops_operator, precedence_is, begins_integer, integer_begins, begins_constant, constant_begins, primary_begins, argument_begins, part_begins, operation_begins, binary_word, Ending}
+use Rattle.st_parser.proofs.Levels.{At, past, Leads, leads}
+use Rattle.st_parser.specs.Names.{Argument, BinOp, Call, Constant, Expression, Identifier, Kind, Operation, Part, Position, SignedInteger, Variable}
 
 -- ---- literals
 
@@ -135,27 +124,27 @@ module _ (r : ℕ) where
 -- what is read behind one more open level is read exactly
 abbrev pub ExactInside : ℕ → Inside → Type 0
 ExactInside zero i = Unit {0}
-ExactInside (suc r) i = (Exact 1 i.expression Always (IsRank 7) (Stops 7) (At r) (At r)) × (Exact 1 i.variable Always IsVariable (Stops 0) (At r) (At r))
+ExactInside (suc r) i = (Exact 1 i.expression Always (IsBinary 7) (Stops 7) (At r) (At r)) × (Exact 1 i.variable Always IsVariable (Stops 0) (At r) (At r))
 
 field_exact : (r : ℕ) → Exact 1 spec.field (IsFirst (k.Symbol s.Dot)) IsPart Any (At r) (At r)
 unfolding spec.field
-field_exact r = exact_token (k.Symbol s.Dot) refl {R = IsPart} (λ p. exact_iff (exact_last (exact_word r) part.Field) (to p) (from p)) where
+field_exact r = exact_token (k.Symbol s.Dot) refl {R = IsPart} (λ p. exact_iff (exact_last (exact_identifier r) part.Field) (to p) (from p)) where
   to : (p : Position) (ts : List Tok) (x : Part) (rest : List Tok) → Then IsWord (λ n. IsPure (part.Field n)) ts x rest → IsPart ((p, k.Symbol s.Dot) ∷ ts) x rest
   to p ts x rest (seq a_word d) = made d (λ y us. IsPart ((p, k.Symbol s.Dot) ∷ ts) y us) field
 
   from : (p : Position) (ts : List Tok) (x : Part) (rest : List Tok) → IsPart ((p, k.Symbol s.Dot) ∷ ts) x rest → Then IsWord (λ n. IsPure (part.Field n)) ts x rest
   from p ts x rest field = seq a_word done
 
-to_expressions : {ts rest : List Tok} {xs : List Expression} → IsMany (IsNext (IsRank 7)) ts xs rest → IsNextExpressions ts xs rest
+to_expressions : {ts rest : List Tok} {xs : List Expression} → IsMany (IsNext (IsBinary 7)) ts xs rest → IsNextExpressions ts xs rest
 to_expressions none = no_expression
 to_expressions (more (comma d) m) = next_expressions d (to_expressions m)
 
-from_expressions : {ts rest : List Tok} {xs : List Expression} → IsNextExpressions ts xs rest → IsMany (IsNext (IsRank 7)) ts xs rest
+from_expressions : {ts rest : List Tok} {xs : List Expression} → IsNextExpressions ts xs rest → IsMany (IsNext (IsBinary 7)) ts xs rest
 from_expressions no_expression = none
 from_expressions (next_expressions d m) = more (comma d) (from_expressions m)
 
 abbrev AreSubscripts : Position → Relation Part
-AreSubscripts p = Then (IsListed (IsRank 7)) (λ xs. Then (IsOne (k.Symbol s.CloseBracket)) (λ q. IsPure (part.Subscripts p xs)))
+AreSubscripts p = Then (IsListed (IsBinary 7)) (λ xs. Then (IsOne (k.Symbol s.CloseBracket)) (λ q. IsPure (part.Subscripts p xs)))
 
 subscripts_to : (p : Position) (ts : List Tok) (x : Part) (rest : List Tok) → AreSubscripts p ts x rest → IsPart ((p, k.Symbol s.OpenBracket) ∷ ts) x rest
 subscripts_to p ts x rest (seq (listed d m) (seq one e)) = made e (λ y us. IsPart ((p, k.Symbol s.OpenBracket) ∷ ts) y us) (subscripts d (to_expressions m))
@@ -164,10 +153,10 @@ subscripts_from : (p : Position) (ts : List Tok) (x : Part) (rest : List Tok) �
 subscripts_from p ts x rest (subscripts d m) = seq (listed d (from_expressions m)) (seq one done)
 
 subscripts_behind : (r : ℕ) (i : Inside) → ExactInside r i
-    → Behind 1 r (λ p ts. and_then (parser.listed i.expression ts) (λ xs us. and_then (parser.symbol s.CloseBracket us) (λ q. parser.pure (part.Subscripts p xs)))) (k.Symbol s.OpenBracket) IsPart Any
+    → Behind 1 r (λ p ts. and_then (parser.listed i.expression ts) (λ xs us. and_then (parser.expect_symbol s.CloseBracket us) (λ q. parser.pure (part.Subscripts p xs)))) (k.Symbol s.OpenBracket) IsPart Any
 subscripts_behind zero i e = tt
 subscripts_behind (suc r) i e = λ p. exact_iff
-    (exact_before (k.Symbol s.CloseBracket) (exact_listed i.expression (IsRank 7) (Stops 7) r e.0 tt) (refl, tt) (exact_symbol s.CloseBracket r refl) (λ xs q. exact_pure (part.Subscripts p xs) Always Any (At (suc r))))
+    (exact_before (k.Symbol s.CloseBracket) (exact_listed i.expression (IsBinary 7) (Stops 7) r e.0 tt) (refl, tt) (exact_symbol s.CloseBracket r refl) (λ xs q. exact_pure (part.Subscripts p xs) Always Any (At (suc r))))
     (subscripts_to p) (subscripts_from p)
 
 module _ (r : ℕ) (i : Inside) (e : ExactInside r i) where
@@ -201,7 +190,7 @@ variable_from ts x rest (named m) = seq a_word (seq (from_parts m) done)
 pub variable_exact : (r : ℕ) (i : Inside) → ExactInside r i → Exact 1 (spec.variable r i) Always IsVariable (Stops 0) (At r) (At r)
 unfolding spec.variable
 variable_exact r i e = exact_as
-    (exact_bind (exact_word r) (λ n. exact_last (exact_many begins_part (spec.part_of r i) IsPart Any (At r) (part_exact r i e) part_begins (λ t h. tt)) (λ ps. variable_of n ps)) (λ n mid rest y d g. tt))
+    (exact_bind (exact_identifier r) (λ n. exact_last (exact_many begins_part (spec.part_of r i) IsPart Any (At r) (part_exact r i e) part_begins (λ t h. tt)) (λ ps. variable_of n ps)) (λ n mid rest y d g. tt))
     (λ ts u. u) (λ ts x rest u d. variable_to ts x rest d) (λ ts x rest u g d. variable_from ts x rest d) (λ t g. (stops_part 0 t g, tt))
 
 -- ---- calls
@@ -219,18 +208,18 @@ closes_stops n _ g = absurd g
 
 -- an expression before a closing token doesn't begin with a word and such a token
 no_name : (u : Kind) → Ending u → (Closes (Some u) → ⊥) → (ts : List Tok) (n : List ℕ) (x : Expression) (rest : List Tok) → kind ts ≡ Some (k.Word n) → kind (next ts) ≡ Some u
-    → Closes (kind rest) → IsRank 7 ts x rest → ⊥
+    → Closes (kind rest) → IsBinary 7 ts x rest → ⊥
 no_name u ending never [] n x rest first second g d = cc
 no_name u ending never (t ∷ []) n x rest first second g d = cc
 no_name u ending never (t ∷ v ∷ ts) n x rest first second g d =
     let word : t.1 ≡ k.Word n = cc in
     let ends : v.1 ≡ u = cc in
-    let d' : IsRank 7 ((t.0, k.Word n) ∷ (v.0, u) ∷ ts) x rest = subst (λ y. IsRank 7 ((t.0, y) ∷ (v.0, u) ∷ ts) x rest) word (subst (λ y. IsRank 7 (t ∷ (v.0, y) ∷ ts) x rest) ends d) in
-    never (subst Closes (rank_word ending d') g)
+    let d' : IsBinary 7 ((t.0, k.Word n) ∷ (v.0, u) ∷ ts) x rest = subst (λ y. IsBinary 7 ((t.0, y) ∷ (v.0, u) ∷ ts) x rest) word (subst (λ y. IsBinary 7 (t ∷ (v.0, y) ∷ ts) x rest) ends d) in
+    never (subst Closes (binary_word ending d') g)
 
 module _ (r : ℕ) (i : Inside) (e : ExactInside (suc r) i) where
   abbrev IsInput : Relation Argument
-  IsInput = Then IsWord (λ n. Then (IsOne (k.Symbol s.Assign)) (λ q. Then (IsRank 7) (λ x. IsPure (a.Input n x))))
+  IsInput = Then IsWord (λ n. Then (IsOne (k.Symbol s.Assign)) (λ q. Then (IsBinary 7) (λ x. IsPure (a.Input n x))))
 
   input_to : (ts : List Tok) (x : Argument) (rest : List Tok) → IsInput ts x rest → IsArgument ts x rest
   input_to ts x rest (seq a_word (seq one (seq d p))) = made p (λ y us. IsArgument ts y us) (input d)
@@ -243,7 +232,7 @@ module _ (r : ℕ) (i : Inside) (e : ExactInside (suc r) i) where
   input_exact : (n : List ℕ) → Exact 1 (spec.input i) (λ ts. (kind (next ts) ≡ Some (k.Symbol s.Assign)) × ((kind ts ≡ Some (k.Word n)) × Always ts)) IsArgument Closes (At r) (At r)
   unfolding spec.input
   input_exact n = exact_as
-      (exact_bind (exact_word r) (λ m. exact_bind (exact_symbol s.Assign r refl) (λ q. exact_last e.0 (λ x. a.Input m x)) (λ q mid rest y d g. tt)) (λ m mid rest y d g. tt))
+      (exact_bind (exact_identifier r) (λ m. exact_bind (exact_symbol s.Assign r refl) (λ q. exact_last e.0 (λ x. a.Input m x)) (λ q mid rest y d g. tt)) (λ m mid rest y d g. tt))
       (λ ts p. tt) (λ ts x rest p d. input_to ts x rest d) (λ ts x rest p g d. input_from n ts x rest p.1.0 p.0 g d) (λ t g. closes_stops 7 t g)
 
   abbrev IsOutput : Relation Argument
@@ -260,7 +249,7 @@ module _ (r : ℕ) (i : Inside) (e : ExactInside (suc r) i) where
   output_exact : (n : List ℕ) → Exact 1 (spec.output i) (λ ts. (kind (next ts) ≡ Some (k.Symbol s.Output)) × ((kind ts ≡ Some (k.Word n)) × Always ts)) IsArgument Closes (At r) (At r)
   unfolding spec.output
   output_exact n = exact_as
-      (exact_bind (exact_word r) (λ m. exact_bind (exact_symbol s.Output r refl) (λ q. exact_last e.1 (λ x. a.Output m x)) (λ q mid rest y d g. tt)) (λ m mid rest y d g. tt))
+      (exact_bind (exact_identifier r) (λ m. exact_bind (exact_symbol s.Output r refl) (λ q. exact_last e.1 (λ x. a.Output m x)) (λ q mid rest y d g. tt)) (λ m mid rest y d g. tt))
       (λ ts p. tt) (λ ts x rest p d. output_to ts x rest d) (λ ts x rest p g d. output_from n ts x rest p.1.0 p.0 g d) (λ t g. closes_stops 0 t g)
 
   -- the first two tokens don't name a parameter
@@ -269,12 +258,12 @@ module _ (r : ℕ) (i : Inside) (e : ExactInside (suc r) i) where
   is_plain (Some (k.Word n)) (Some (k.Symbol s.Output)) = false
   is_plain _ _ = true
 
-  positional_from : (ts : List Tok) (x : Argument) (rest : List Tok) → is_plain (kind ts) (kind (next ts)) ≡ true → IsArgument ts x rest → Then (IsRank 7) (λ y. IsPure (a.Positional y)) ts x rest
+  positional_from : (ts : List Tok) (x : Argument) (rest : List Tok) → is_plain (kind ts) (kind (next ts)) ≡ true → IsArgument ts x rest → Then (IsBinary 7) (λ y. IsPure (a.Positional y)) ts x rest
   positional_from ts x rest h (positional d) = seq d done
   positional_from ts x rest h (input d) = absurd (cc)
   positional_from ts x rest h (output d) = absurd (cc)
 
-  positional_to : (ts : List Tok) (x : Argument) (rest : List Tok) → Then (IsRank 7) (λ y. IsPure (a.Positional y)) ts x rest → IsArgument ts x rest
+  positional_to : (ts : List Tok) (x : Argument) (rest : List Tok) → Then (IsBinary 7) (λ y. IsPure (a.Positional y)) ts x rest → IsArgument ts x rest
   positional_to ts x rest (seq d p) = made p (λ y us. IsArgument ts y us) (positional d)
 
   positional_exact : (t u : Option Kind) → is_plain t u ≡ true → Exact 1 (spec.positional i) (λ ts. (kind (next ts) ≡ u) × ((kind ts ≡ t) × Always ts)) IsArgument Closes (At r) (At r)
@@ -300,10 +289,6 @@ from_arguments : {ts rest : List Tok} {xs : List Argument} → IsNextArguments t
 from_arguments no_argument = none
 from_arguments (next_arguments d m) = more (comma d) (from_arguments m)
 
-close_is : (t : Option Kind) → spec.is_close t ≡ true → t ≡ Some (k.Symbol s.Close)
-close_is (Some (k.Symbol s.Close)) h = refl
-close_is _ h = absurd (cc)
-
 module _ (r : ℕ) (i : Inside) (e : ExactInside (suc r) i) (p : Position) where
   -- behind the '('
   abbrev IsRest : Relation (List Argument)
@@ -322,19 +307,19 @@ module _ (r : ℕ) (i : Inside) (e : ExactInside (suc r) i) (p : Position) where
   full_to : (ts : List Tok) (x : List Argument) (rest : List Tok) → AreArguments ts x rest → IsRest ts x rest
   full_to ts x rest (seq (listed d m) (seq one c)) = made c (λ y us. IsRest ts y us) (arguments d (to_arguments m))
 
-  full_from : (ts : List Tok) (x : List Argument) (rest : List Tok) → spec.is_close (kind ts) ≡ false → IsRest ts x rest → AreArguments ts x rest
+  full_from : (ts : List Tok) (x : List Argument) (rest : List Tok) → parser.is_symbol s.Close (kind ts) ≡ false → IsRest ts x rest → AreArguments ts x rest
   full_from ts x rest h no_arguments = absurd (cc)
   full_from ts x rest h (arguments d m) = seq (listed d (from_arguments m)) (seq one done)
 
-  arguments_by : (b : Bool) → Exact 1 (spec.arguments_by i b) (λ ts. (spec.is_close (kind ts) ≡ b) × Always ts) IsRest Any (At r) (At (suc r))
-  arguments_by true = exact_under (exact_token (k.Symbol s.Close) refl {R = IsRest} (λ q. exact_iff (exact_pure [] Always Any (At (suc r))) (empty_to q) (empty_from q))) (λ ts h. close_is (kind ts) h.0) (λ t g. g)
+  arguments_by : (b : Bool) → Exact 1 (spec.arguments_by i b) (λ ts. (parser.is_symbol s.Close (kind ts) ≡ b) × Always ts) IsRest Any (At r) (At (suc r))
+  arguments_by true = exact_under (exact_token (k.Symbol s.Close) refl {R = IsRest} (λ q. exact_iff (exact_pure [] Always Any (At (suc r))) (empty_to q) (empty_from q))) (λ ts h. symbol_is s.Close (kind ts) h.0) (λ t g. g)
   arguments_by false = exact_as
       (exact_before (k.Symbol s.Close) (exact_listed (spec.argument i) IsArgument Closes r (argument_exact r i e) tt) (refl, tt) (exact_symbol s.Close r refl) (λ xs q. exact_pure xs Always Any (At (suc r))))
       (λ ts h. tt) (λ ts x rest h d. full_to ts x rest d) (λ ts x rest h g d. full_from ts x rest h.0 d) (λ t g. g)
 
   arguments_exact : Exact 1 (spec.arguments i) Always IsRest Any (At r) (At (suc r))
   unfolding spec.arguments
-  arguments_exact = exact_on (λ ts. spec.is_close (kind ts)) (spec.arguments_by i) Always IsRest Any (At r) (At (suc r)) arguments_by
+  arguments_exact = exact_on (λ ts. parser.is_symbol s.Close (kind ts)) (spec.arguments_by i) Always IsRest Any (At r) (At (suc r)) arguments_by
 
 -- '(' arguments ')', and what is made of it
 abbrev Called : Identifier → Relation Call
@@ -364,54 +349,50 @@ word_carries t ts n mid h a_word = h
 pub call_exact : (r : ℕ) (i : Inside) → ExactInside r i → Exact 1 (spec.call r i) (λ ts. kind (next ts) ≡ Some (k.Symbol s.Open)) IsCall Any (At r) (At r)
 unfolding spec.call
 call_exact r i e = exact_iff
-    (exact_bind_if (exact_under (exact_word r) (λ ts p. tt) (λ t g. g)) (λ n. exact_enter 1 r _ (k.Symbol s.Open) refl (called_behind r i e n)) (word_carries (Some (k.Symbol s.Open))) (λ n mid rest y d g. tt))
+    (exact_bind_if (exact_under (exact_identifier r) (λ ts p. tt) (λ t g. g)) (λ n. exact_enter 1 r _ (k.Symbol s.Open) refl (called_behind r i e n)) (word_carries (Some (k.Symbol s.Open))) (λ n mid rest y d g. tt))
     call_to call_from
 
 -- ---- operands
 
-group_to : (p : Position) (ts : List Tok) (x : Expression) (rest : List Tok) → Then (IsRank 7) (λ y. Then (IsOne (k.Symbol s.Close)) (λ q. IsPure (e.Parenthesized p y))) ts x rest
+parenthesized_to : (p : Position) (ts : List Tok) (x : Expression) (rest : List Tok) → Then (IsBinary 7) (λ y. Then (IsOne (k.Symbol s.Close)) (λ q. IsPure (e.Parenthesized p y))) ts x rest
     → IsPrimary ((p, k.Symbol s.Open) ∷ ts) x rest
-group_to p ts x rest (seq d (seq one m)) = made m (λ y us. IsPrimary ((p, k.Symbol s.Open) ∷ ts) y us) (group d)
+parenthesized_to p ts x rest (seq d (seq one m)) = made m (λ y us. IsPrimary ((p, k.Symbol s.Open) ∷ ts) y us) (parenthesized d)
 
-group_from : (p : Position) (ts : List Tok) (x : Expression) (rest : List Tok) → IsPrimary ((p, k.Symbol s.Open) ∷ ts) x rest
-    → Then (IsRank 7) (λ y. Then (IsOne (k.Symbol s.Close)) (λ q. IsPure (e.Parenthesized p y))) ts x rest
-group_from p ts x rest (group d) = seq d (seq one done)
-group_from p ts x rest (variable d) = elim d [ ]
-group_from p ts x rest (call d) = elim d [ ]
-group_from p ts x rest (constant d) = absurd (let wrong = constant_begins d in cc)
+parenthesized_from : (p : Position) (ts : List Tok) (x : Expression) (rest : List Tok) → IsPrimary ((p, k.Symbol s.Open) ∷ ts) x rest
+    → Then (IsBinary 7) (λ y. Then (IsOne (k.Symbol s.Close)) (λ q. IsPure (e.Parenthesized p y))) ts x rest
+parenthesized_from p ts x rest (parenthesized d) = seq d (seq one done)
+parenthesized_from p ts x rest (variable d) = elim d [ ]
+parenthesized_from p ts x rest (call d) = elim d [ ]
+parenthesized_from p ts x rest (constant d) = absurd (let wrong = constant_begins d in cc)
 
-group_behind : (r : ℕ) (i : Inside) → ExactInside r i
-    → Behind 1 r (λ p ts. and_then (i.expression ts) (λ x us. and_then (parser.symbol s.Close us) (λ q. parser.pure (e.Parenthesized p x)))) (k.Symbol s.Open) IsPrimary Any
-group_behind zero i h = tt
-group_behind (suc r) i h = λ p. exact_iff
-    (exact_before (k.Symbol s.Close) h.0 tt (exact_symbol s.Close r refl) (λ x q. exact_pure (e.Parenthesized p x) Always Any (At (suc r)))) (group_to p) (group_from p)
-
-pub open_is : (t : Option Kind) → spec.is_open t ≡ true → t ≡ Some (k.Symbol s.Open)
-open_is (Some (k.Symbol s.Open)) h = refl
-open_is _ h = absurd (cc)
+parenthesized_behind : (r : ℕ) (i : Inside) → ExactInside r i
+    → Behind 1 r (λ p ts. and_then (i.expression ts) (λ x us. and_then (parser.expect_symbol s.Close us) (λ q. parser.pure (e.Parenthesized p x)))) (k.Symbol s.Open) IsPrimary Any
+parenthesized_behind zero i h = tt
+parenthesized_behind (suc r) i h = λ p. exact_iff
+    (exact_before (k.Symbol s.Close) h.0 tt (exact_symbol s.Close r refl) (λ x q. exact_pure (e.Parenthesized p x) Always Any (At (suc r)))) (parenthesized_to p) (parenthesized_from p)
 
 call_as : (ts : List Tok) (x : Expression) (rest : List Tok) → Then IsCall (λ y. IsPure (e.Call y)) ts x rest → IsPrimary ts x rest
 call_as ts x rest (seq d m) = made m (λ y us. IsPrimary ts y us) (call d)
 
-call_back : (n : List ℕ) (ts : List Tok) (x : Expression) (rest : List Tok) → spec.is_open (kind (next ts)) ≡ true → kind ts ≡ Some (k.Word n) → Stops 0 (kind rest) → IsPrimary ts x rest
+call_back : (n : List ℕ) (ts : List Tok) (x : Expression) (rest : List Tok) → parser.is_symbol s.Open (kind (next ts)) ≡ true → kind ts ≡ Some (k.Word n) → Stops 0 (kind rest) → IsPrimary ts x rest
     → Then IsCall (λ y. IsPure (e.Call y)) ts x rest
 call_back n ts x rest second first g (call d) = seq d done
 call_back n ts x rest second first g (constant d) = absurd (let wrong = subst (λ t. begins_constant t ≡ true) first (constant_begins d) in cc)
-call_back n ts x rest second first g (variable (named {ts = us} no_part)) = absurd (subst (Stops 0) (open_is (kind us) second) g)
+call_back n ts x rest second first g (variable (named {ts = us} no_part)) = absurd (subst (Stops 0) (symbol_is s.Open (kind us) second) g)
 call_back n ts x rest second first g (variable (named (parts field m))) = absurd (cc)
 call_back n ts x rest second first g (variable (named (parts (subscripts d k) m))) = absurd (cc)
-call_back n ts x rest second first g (group d) = absurd (cc)
+call_back n ts x rest second first g (parenthesized d) = absurd (cc)
 
 variable_as : (ts : List Tok) (x : Expression) (rest : List Tok) → Then IsVariable (λ y. IsPure (e.Variable y)) ts x rest → IsPrimary ts x rest
 variable_as ts x rest (seq d m) = made m (λ y us. IsPrimary ts y us) (variable d)
 
-variable_back : (n : List ℕ) (ts : List Tok) (x : Expression) (rest : List Tok) → spec.is_open (kind (next ts)) ≡ false → kind ts ≡ Some (k.Word n) → IsPrimary ts x rest
+variable_back : (n : List ℕ) (ts : List Tok) (x : Expression) (rest : List Tok) → parser.is_symbol s.Open (kind (next ts)) ≡ false → kind ts ≡ Some (k.Word n) → IsPrimary ts x rest
     → Then IsVariable (λ y. IsPure (e.Variable y)) ts x rest
 variable_back n ts x rest second first (variable d) = seq d done
 variable_back n ts x rest second first (constant d) = absurd (let wrong = subst (λ t. begins_constant t ≡ true) first (constant_begins d) in cc)
 variable_back n ts x rest second first (call (called no_arguments)) = absurd (cc)
 variable_back n ts x rest second first (call (called (arguments d m))) = absurd (cc)
-variable_back n ts x rest second first (group d) = absurd (cc)
+variable_back n ts x rest second first (parenthesized d) = absurd (cc)
 
 constant_as : (ts : List Tok) (x : Expression) (rest : List Tok) → Then IsConstant (λ y. IsPure (e.Constant y)) ts x rest → IsPrimary ts x rest
 constant_as ts x rest (seq d m) = made m (λ y us. IsPrimary ts y us) (constant d)
@@ -426,7 +407,7 @@ constant_back : (ts : List Tok) (x : Expression) (rest : List Tok) → is_litera
 constant_back ts x rest h (constant d) = seq d done
 constant_back ts x rest h (variable (named d)) = absurd (cc)
 constant_back ts x rest h (call (called d)) = absurd (cc)
-constant_back ts x rest h (group d) = absurd (cc)
+constant_back ts x rest h (parenthesized d) = absurd (cc)
 
 is_number_is : (ts : List Tok) → spec.is_number (kind ts) ≡ false → IsNumberFirst (kind ts) → ⊥
 is_number_is ((p, k.Number n) ∷ ts) h d = cc
@@ -439,19 +420,19 @@ number_is [] h = absurd (cc)
 number_is ((p, _) ∷ ts) h = absurd (cc)
 
 module _ (r : ℕ) (i : Inside) (h : ExactInside r i) where
-  group_exact : Exact 1 (spec.group r i) (IsFirst (k.Symbol s.Open)) IsPrimary Any (At r) (At r)
-  unfolding spec.group
-  group_exact = exact_enter 1 r _ (k.Symbol s.Open) refl (group_behind r i h)
+  parenthesized_exact : Exact 1 (spec.parenthesized r i) (IsFirst (k.Symbol s.Open)) IsPrimary Any (At r) (At r)
+  unfolding spec.parenthesized
+  parenthesized_exact = exact_enter 1 r _ (k.Symbol s.Open) refl (parenthesized_behind r i h)
 
-  named_by : (n : List ℕ) (b : Bool) → Exact 1 (spec.named_by r i b) (λ ts. (spec.is_open (kind (next ts)) ≡ b) × (kind ts ≡ Some (k.Word n))) IsPrimary (Stops 0) (At r) (At r)
-  named_by n true = exact_as (exact_last (call_exact r i h) e.Call) (λ ts p. open_is (kind (next ts)) p.0) (λ ts x rest p d. call_as ts x rest d)
+  named_by : (n : List ℕ) (b : Bool) → Exact 1 (spec.named_by r i b) (λ ts. (parser.is_symbol s.Open (kind (next ts)) ≡ b) × (kind ts ≡ Some (k.Word n))) IsPrimary (Stops 0) (At r) (At r)
+  named_by n true = exact_as (exact_last (call_exact r i h) e.Call) (λ ts p. symbol_is s.Open (kind (next ts)) p.0) (λ ts x rest p d. call_as ts x rest d)
       (λ ts x rest p g d. call_back n ts x rest p.0 p.1 g d) (λ t g. tt)
   named_by n false = exact_as (exact_last (variable_exact r i h) e.Variable) (λ ts p. tt) (λ ts x rest p d. variable_as ts x rest d)
       (λ ts x rest p g d. variable_back n ts x rest p.0 p.1 d) (λ t g. g)
 
   named_exact : (n : List ℕ) → Exact 1 (spec.named r i) (IsFirst (k.Word n)) IsPrimary (Stops 0) (At r) (At r)
   unfolding spec.named
-  named_exact n = exact_on (λ ts. spec.is_open (kind (next ts))) (spec.named_by r i) (IsFirst (k.Word n)) IsPrimary (Stops 0) (At r) (At r) (named_by n)
+  named_exact n = exact_on (λ ts. parser.is_symbol s.Open (kind (next ts))) (spec.named_by r i) (IsFirst (k.Word n)) IsPrimary (Stops 0) (At r) (At r) (named_by n)
 
   literal_exact : (t : Option Kind) → is_literal_first t ≡ true → Exact 1 (λ ts. and_then (spec.constant ts) (λ x. parser.pure (e.Constant x))) (λ ts. (kind ts ≡ t) × Always ts) IsPrimary (Stops 0) (At r) (At r)
   literal_exact t l = exact_as (exact_last (constant_exact r) e.Constant) (λ ts p. tt) (λ ts x rest p d. constant_as ts x rest d)
@@ -459,7 +440,7 @@ module _ (r : ℕ) (i : Inside) (h : ExactInside r i) where
 
   primary_by : (t : Option Kind) → Exact 1 (spec.primary_by r i t) (λ ts. (kind ts ≡ t) × Always ts) IsPrimary (Stops 0) (At r) (At r)
   primary_by (Some (k.Word n)) = exact_under (named_exact n) (λ ts p. p.0) (λ t g. g)
-  primary_by (Some (k.Symbol s.Open)) = exact_under group_exact (λ ts p. p.0) (λ t g. tt)
+  primary_by (Some (k.Symbol s.Open)) = exact_under parenthesized_exact (λ ts p. p.0) (λ t g. tt)
   primary_by t = literal_exact t refl
 
   primary_exact : Exact 1 (spec.primary r i) Always IsPrimary (Stops 0) (At r) (At r)
@@ -531,25 +512,25 @@ from_operations : {n : ℕ} {ts rest : List Tok} {xs : List Operation} → IsOpe
 from_operations no_operation = none
 from_operations (operations d m) = more d (from_operations m)
 
-has_rank_is : (n : ℕ) (op : BinOp) → spec.has_rank n (Some op) ≡ true → rank_of op ≡ n
-has_rank_is n op h = rank_is (rank_of op) n h
+has_precedence_is : (n : ℕ) (op : BinOp) → spec.has_precedence n (Some op) ≡ true → precedence_of op ≡ n
+has_precedence_is n op h = precedence_is (precedence_of op) n h
 
-module _ (r n : ℕ) (P : Parser Expression) (a : Exact 1 P Always (IsRank n) (Stops n) (At r) (At r)) where
-  operation_to : (p : Position) (t : Kind) (op : BinOp) → operator_of t ≡ Some op → rank_of op ≡ suc n → (ts : List Tok) (x : Operation) (rest : List Tok)
-      → Then (IsRank n) (λ y. IsPure (operation_of p op y)) ts x rest → IsOperation n ((p, t) ∷ ts) x rest
+module _ (r n : ℕ) (P : Parser Expression) (a : Exact 1 P Always (IsBinary n) (Stops n) (At r) (At r)) where
+  operation_to : (p : Position) (t : Kind) (op : BinOp) → operator_of t ≡ Some op → precedence_of op ≡ suc n → (ts : List Tok) (x : Operation) (rest : List Tok)
+      → Then (IsBinary n) (λ y. IsPure (operation_of p op y)) ts x rest → IsOperation n ((p, t) ∷ ts) x rest
   operation_to p t op is rank ts x rest (seq d m) = made m (λ y us. IsOperation n ((p, t) ∷ ts) y us) (operation is rank d)
 
   same_some : {x y : BinOp} → ◌≡◌ {A = Option BinOp} (Some x) (Some y) → x ≡ y
   same_some h = cc
 
   operation_from : (p : Position) (t : Kind) (op : BinOp) → operator_of t ≡ Some op → (ts : List Tok) (x : Operation) (rest : List Tok) → IsOperation n ((p, t) ∷ ts) x rest
-      → Then (IsRank n) (λ y. IsPure (operation_of p op y)) ts x rest
+      → Then (IsBinary n) (λ y. IsPure (operation_of p op y)) ts x rest
   operation_from p t op is ts x rest (operation {op = other} {x = y} its rank d) =
-      subst (λ o. Then (IsRank n) (λ y. IsPure (operation_of p o y)) ts (operation_of p other y) rest) (same_some (sym its ∙ is)) (seq d done)
+      subst (λ o. Then (IsBinary n) (λ y. IsPure (operation_of p o y)) ts (operation_of p other y) rest) (same_some (sym its ∙ is)) (seq d done)
 
-  behind_operator : (p : Position) (t : Kind) (op : Option BinOp) → operator_of t ≡ op → spec.has_rank (suc n) op ≡ true
+  behind_operator : (p : Position) (t : Kind) (op : Option BinOp) → operator_of t ≡ op → spec.has_precedence (suc n) op ≡ true
       → Exact 1 (spec.operation_by P p op) Always (λ us. IsOperation n ((p, t) ∷ us)) (Stops n) (At r) (At r)
-  behind_operator p t (Some op) is rank = exact_iff (exact_last a (operation_of p op)) (operation_to p t op is (has_rank_is (suc n) op rank)) (operation_from p t op is)
+  behind_operator p t (Some op) is rank = exact_iff (exact_last a (operation_of p op)) (operation_to p t op is (has_precedence_is (suc n) op rank)) (operation_from p t op is)
   behind_operator p t None is rank = absurd (cc)
 
   -- no operator opens a level
@@ -574,14 +555,14 @@ module _ (r n : ℕ) (P : Parser Expression) (a : Exact 1 P Always (IsRank n) (S
   level_operator (k.Keyword w.EndRepeat) op is = absurd (cc)
   level_operator t op is = refl
 
-  operator_leads : (t : Kind) (op : Option BinOp) → operator_of t ≡ op → spec.has_rank (suc n) op ≡ true → Leads (At r) (At r) t
+  operator_leads : (t : Kind) (op : Option BinOp) → operator_of t ≡ op → spec.has_precedence (suc n) op ≡ true → Leads (At r) (At r) t
   operator_leads t (Some op) is rank = subst (λ c. Leads (At r) (At (past c r)) t) (level_operator t op is) (leads t r (plain_operator t op is))
   operator_leads t None is rank = absurd (cc)
 
-  operator_of_kind : (t : Option Kind) → Exact 1 (λ ts. and_then (parser.skip ts) (λ p. spec.operation_by P p (spec.operator_at t))) (λ ts. (kind ts ≡ t) × (spec.is_operator n (kind ts) ≡ true)) (IsOperation n) (Stops n) (At r) (At r)
-  operator_of_kind (Some t) = by (spec.has_rank (suc n) (operator_of t)) refl where
-    by : (b : Bool) → spec.has_rank (suc n) (operator_of t) ≡ b
-        → Exact 1 (λ ts. and_then (parser.skip ts) (λ p. spec.operation_by P p (operator_of t))) (λ ts. (kind ts ≡ Some t) × (spec.is_operator n (kind ts) ≡ true)) (IsOperation n) (Stops n) (At r) (At r)
+  operator_of_kind : (t : Option Kind) → Exact 1 (λ ts. and_then (parser.bump ts) (λ p. spec.operation_by P p (spec.operator_at t))) (λ ts. (kind ts ≡ t) × (spec.is_operator n (kind ts) ≡ true)) (IsOperation n) (Stops n) (At r) (At r)
+  operator_of_kind (Some t) = by (spec.has_precedence (suc n) (operator_of t)) refl where
+    by : (b : Bool) → spec.has_precedence (suc n) (operator_of t) ≡ b
+        → Exact 1 (λ ts. and_then (parser.bump ts) (λ p. spec.operation_by P p (operator_of t))) (λ ts. (kind ts ≡ Some t) × (spec.is_operator n (kind ts) ≡ true)) (IsOperation n) (Stops n) (At r) (At r)
     by true rank = exact_under
         (exact_token_if t Always (IsOperation n) (Stops n) (At r) (At r) (At r) (operator_leads t (operator_of t) refl rank) (λ p. behind_operator p t (operator_of t) refl rank))
         (λ ts p. (p.0, tt)) (λ t g. g)
@@ -598,12 +579,12 @@ module _ (r n : ℕ) (P : Parser Expression) (a : Exact 1 P Always (IsRank n) (S
 
   operation_exact : Exact 1 (spec.operation P) (λ ts. spec.is_operator n (kind ts) ≡ true) (IsOperation n) (Stops n) (At r) (At r)
   unfolding spec.operation
-  operation_exact = exact_on kind (λ t ts. and_then (parser.skip ts) (λ p. spec.operation_by P p (spec.operator_at t))) (λ ts. spec.is_operator n (kind ts) ≡ true) (IsOperation n) (Stops n) (At r) (At r) operator_of_kind
+  operation_exact = exact_on kind (λ t ts. and_then (parser.bump ts) (λ p. spec.operation_by P p (spec.operator_at t))) (λ ts. spec.is_operator n (kind ts) ≡ true) (IsOperation n) (Stops n) (At r) (At r) operator_of_kind
 
   operator_stops : (t : Option Kind) → spec.is_operator n t ≡ true → Stops n t
   operator_stops (Some t) h = by (operator_of t) refl h where
-    by : (op : Option BinOp) → operator_of t ≡ op → spec.has_rank (suc n) op ≡ true → Stops n (Some t)
-    by (Some op) is rank = stops_at n t op is (let e = has_rank_is (suc n) op rank in omega (arith, e))
+    by : (op : Option BinOp) → operator_of t ≡ op → spec.has_precedence (suc n) op ≡ true → Stops n (Some t)
+    by (Some op) is rank = stops_at n t op is (let e = has_precedence_is (suc n) op rank in omega (arith, e))
     by None is rank = absurd (cc)
   operator_stops None h = tt
 
@@ -611,18 +592,18 @@ module _ (r n : ℕ) (P : Parser Expression) (a : Exact 1 P Always (IsRank n) (S
   operations_exact = exact_many (spec.is_operator n) (spec.operation P) (IsOperation n) (Stops n) (At r) operation_exact (operation_begins n) operator_stops
 
   abbrev IsLevel : Position → Relation Expression
-  IsLevel p = Then (IsRank n) (λ x. Then (IsMany (IsOperation n)) (λ ls. IsPure (spec.chain p x ls)))
+  IsLevel p = Then (IsBinary n) (λ x. Then (IsMany (IsOperation n)) (λ ls. IsPure (spec.chain p x ls)))
 
-  level_is : (ts mid : List Tok) (x : Expression) (rest : List Tok) (ls : List Operation) → IsRank n ts x mid → IsMany (IsOperation n) mid ls rest → IsRank (suc n) ts (spec.chain (position ts) x ls) rest
+  level_is : (ts mid : List Tok) (x : Expression) (rest : List Tok) (ls : List Operation) → IsBinary n ts x mid → IsMany (IsOperation n) mid ls rest → IsBinary (suc n) ts (spec.chain (position ts) x ls) rest
   unfolding spec.chain
   level_is ts mid x rest [] d none = alone d
   level_is ts mid x rest (l ∷ ls) d m = chain d (to_operations m)
 
-  level_to : (p : Position) (ts : List Tok) (x : Expression) (rest : List Tok) → p ≡ position ts → IsLevel p ts x rest → IsRank (suc n) ts x rest
+  level_to : (p : Position) (ts : List Tok) (x : Expression) (rest : List Tok) → p ≡ position ts → IsLevel p ts x rest → IsBinary (suc n) ts x rest
   level_to p ts x rest here (seq {mid = mid} {x = y} d (seq {mid = last} {x = ls} m c)) =
-      made c (λ z us. IsRank (suc n) ts z us) (subst (λ q. IsRank (suc n) ts (spec.chain q y ls) last) (sym here) (level_is ts mid y last ls d m))
+      made c (λ z us. IsBinary (suc n) ts z us) (subst (λ q. IsBinary (suc n) ts (spec.chain q y ls) last) (sym here) (level_is ts mid y last ls d m))
 
-  level_from : (p : Position) (ts : List Tok) (x : Expression) (rest : List Tok) → p ≡ position ts → IsRank (suc n) ts x rest → IsLevel p ts x rest
+  level_from : (p : Position) (ts : List Tok) (x : Expression) (rest : List Tok) → p ≡ position ts → IsBinary (suc n) ts x rest → IsLevel p ts x rest
   unfolding spec.chain
   level_from p ts x rest here (alone d) = seq d (seq none done)
   level_from p ts x rest here (chain {x = y} {l = l} {ls = ls} d m) =
@@ -632,25 +613,25 @@ module _ (r n : ℕ) (P : Parser Expression) (a : Exact 1 P Always (IsRank n) (S
   level_follow p x mid rest y (seq none c) g = made c (λ z us. Ends (spec.is_operator n) (Stops n) (kind us) → Stops n (kind mid)) (λ f. f.1) g
   level_follow p x mid rest y (seq (more {mid = next'} {x = l} d m) c) g = operator_stops (kind mid) (operation_begins n mid l next' d)
 
-  level_exact : (p : Position) → Exact 1 (λ ts. and_then (P ts) (λ x us. and_then (spec.operations P n us) (λ ls. parser.pure (spec.chain p x ls)))) (λ ts. (position ts ≡ p) × Always ts) (IsRank (suc n)) (Stops (suc n)) (At r) (At r)
+  level_exact : (p : Position) → Exact 1 (λ ts. and_then (P ts) (λ x us. and_then (spec.operations P n us) (λ ls. parser.pure (spec.chain p x ls)))) (λ ts. (position ts ≡ p) × Always ts) (IsBinary (suc n)) (Stops (suc n)) (At r) (At r)
   level_exact p = exact_as (exact_bind a (λ x. exact_last operations_exact (spec.chain p x)) (level_follow p)) (λ ts h. tt)
       (λ ts x rest h d. level_to p ts x rest (sym h.0) d) (λ ts x rest h g d. level_from p ts x rest (sym h.0) d) (λ t g. (stops_operator n t g, stops_less n t g))
 
-pub rank_exact : (r : ℕ) (i : Inside) → ExactInside r i → (n : ℕ) → Exact 1 (spec.rank r i n) Always (IsRank n) (Stops n) (At r) (At r)
-unfolding spec.rank
-rank_exact r i h zero = exact_iff (unary_exact r i h) (λ ts x rest d. unary d) (λ ts x rest d. unary_back ts x rest d) where
-  unary_back : (ts : List Tok) (x : Expression) (rest : List Tok) → IsRank 0 ts x rest → IsUnary ts x rest
+pub binary_exact : (r : ℕ) (i : Inside) → ExactInside r i → (n : ℕ) → Exact 1 (spec.binary r i n) Always (IsBinary n) (Stops n) (At r) (At r)
+unfolding spec.binary
+binary_exact r i h zero = exact_iff (unary_exact r i h) (λ ts x rest d. unary d) (λ ts x rest d. unary_back ts x rest d) where
+  unary_back : (ts : List Tok) (x : Expression) (rest : List Tok) → IsBinary 0 ts x rest → IsUnary ts x rest
   unary_back ts x rest (unary d) = d
-rank_exact r i h (suc n) = exact_on position (λ p ts. and_then (spec.rank r i n ts) (λ x us. and_then (spec.operations (spec.rank r i n) n us) (λ ls. parser.pure (spec.chain p x ls)))) Always (IsRank (suc n)) (Stops (suc n)) (At r) (At r)
-    (λ p. level_exact r n (spec.rank r i n) (rank_exact r i h n) p)
+binary_exact r i h (suc n) = exact_on position (λ p ts. and_then (spec.binary r i n ts) (λ x us. and_then (spec.operations (spec.binary r i n) n us) (λ ls. parser.pure (spec.chain p x ls)))) Always (IsBinary (suc n)) (Stops (suc n)) (At r) (At r)
+    (λ p. level_exact r n (spec.binary r i n) (binary_exact r i h n) p)
 
 -- what stands in brackets is read exactly
 pub inside_exact : (r : ℕ) → ExactInside r (spec.inside_of r)
 unfolding spec.inside_of
 inside_exact zero = tt
-inside_exact (suc r) = (rank_exact r (spec.inside_of r) (inside_exact r) 7, variable_exact r (spec.inside_of r) (inside_exact r))
+inside_exact (suc r) = (binary_exact r (spec.inside_of r) (inside_exact r) 7, variable_exact r (spec.inside_of r) (inside_exact r))
 
 -- an expression is read exactly
-pub expression_exact : (r : ℕ) → Exact 1 (spec.expression r) Always (IsRank 7) (Stops 7) (At r) (At r)
+pub expression_exact : (r : ℕ) → Exact 1 (spec.expression r) Always (IsBinary 7) (Stops 7) (At r) (At r)
 unfolding spec.expression
-expression_exact r = rank_exact r (spec.inside_of r) (inside_exact r) 7
+expression_exact r = binary_exact r (spec.inside_of r) (inside_exact r) 7

@@ -5,26 +5,18 @@ use Rattle.std.proofs.Math.Dec.{eqb_refl}
 use Rattle.std.specs.Prelude.{Option, Some, None, ◌==◌}
 use Rattle.st_tokens.specs.declared.keyword.Keyword.TheVariants as w
 use Rattle.st_tokens.specs.declared.symbol.Symbol.TheVariants as s
-use Rattle.st_tokens.specs.declared.token.Kind.{Kind}
 use Rattle.st_tokens.specs.declared.token.Kind.TheVariants as k
-use Rattle.st_tree.specs.declared.operator.BinOp.{BinOp}
-use Rattle.st_tree.specs.declared.tree.constant.SignedInteger.{SignedInteger}
-use Rattle.st_tree.specs.declared.tree.constant.Constant.{Constant}
-use Rattle.st_tree.specs.declared.tree.expression.Expression.{Expression}
-use Rattle.st_tree.specs.declared.tree.expression.Operation.{Operation}
-use Rattle.st_tree.specs.declared.tree.expression.Part.{Part}
-use Rattle.st_tree.specs.declared.tree.expression.Argument.{Argument}
-use Rattle.st_tree.specs.declared.tree.position.Position.{Position}
-use Rattle.st_expressions.specs.Grammar.{IsSignedInteger, unsigned, plus, minus, IsConstant, integer, typed, duration, truth, falsehood, IsRank, unary, alone, chain, IsOperations, operations, IsOperation, operation, IsUnary, negation, complement, primary, IsPrimary, constant, variable, call, group, named, no_part, parts, IsPart, field, subscripts, called, no_arguments, arguments, IsArgument, positional, input, output, operator_of, rank_of}
-use Rattle.st_expressions.specs.Reading.{begins_part, is_operator, has_rank, operator_at}
-use Rattle.st_expressions.specs.Tokens.{Tok, kind}
+use Rattle.st_expressions.specs.Grammar.{IsSignedInteger, unsigned, plus, minus, IsConstant, integer, typed, duration, truth, falsehood, IsBinary, unary, alone, chain, IsOperations, operations, IsOperation, operation, IsUnary, negation, complement, primary, IsPrimary, constant, variable, call, parenthesized, named, no_part, parts, IsPart, field, subscripts, called, no_arguments, arguments, IsArgument, positional, input, output, operator_of, precedence_of}
+use Rattle.st_expressions.specs.Reader.{begins_part, is_operator, has_precedence, operator_at}
+use Rattle.st_parser.specs.Grammar.Tokens.{Tok, kind}
+use Rattle.st_parser.specs.Names.{Argument, BinOp, Constant, Expression, Kind, Operation, Part, Position, SignedInteger}
 
--- the next operator has a rank above n
+-- the next operator has a precedence above n
 abbrev pub Above : ℕ → Option BinOp → Type 0
-Above n (Some op) = n < rank_of op
+Above n (Some op) = n < precedence_of op
 Above n None = Unit {0}
 
--- an expression of rank n can't go on here
+-- an expression of precedence n can't go on here
 abbrev pub Stops : ℕ → Option Kind → Type 0
 Stops n (Some (k.Symbol s.Dot)) = ⊥
 Stops n (Some (k.Symbol s.OpenBracket)) = ⊥
@@ -41,11 +33,11 @@ stops_less n (Some (k.Symbol s.OpenBracket)) h = h
 stops_less n (Some (k.Symbol s.Open)) h = h
 stops_less n t h = above_less n (operator_at t) h
 
-above_is : (n : ℕ) (t : Kind) (op : BinOp) → operator_of t ≡ Some op → n < rank_of op → Above n (operator_of t)
+above_is : (n : ℕ) (t : Kind) (op : BinOp) → operator_of t ≡ Some op → n < precedence_of op → Above n (operator_of t)
 above_is n t op is above = subst (λ x. Above n x) (sym is) above
 
--- an operator of rank n+1 may follow an expression of rank n
-pub stops_at : (n : ℕ) (t : Kind) (op : BinOp) → operator_of t ≡ Some op → n < rank_of op → Stops n (Some t)
+-- an operator of precedence n+1 may follow an expression of precedence n
+pub stops_at : (n : ℕ) (t : Kind) (op : BinOp) → operator_of t ≡ Some op → n < precedence_of op → Stops n (Some t)
 stops_at n (k.Symbol s.Dot) op is above = absurd (cc)
 stops_at n (k.Symbol s.OpenBracket) op is above = absurd (cc)
 stops_at n (k.Symbol s.Open) op is above = absurd (cc)
@@ -56,23 +48,23 @@ stops_part n (Some (k.Symbol s.Dot)) h = absurd h
 stops_part n (Some (k.Symbol s.OpenBracket)) h = absurd h
 stops_part n _ h = refl
 
-other_rank : (a b : ℕ) → (a ≡ b → ⊥) → (a == b) ≡ false
-other_rank a b differ = by (a == b) refl where
+other_precedence : (a b : ℕ) → (a ≡ b → ⊥) → (a == b) ≡ false
+other_precedence a b differ = by (a == b) refl where
   by : (v : Bool) → (a == b) ≡ v → v ≡ false
   by false h = refl
   by true h = absurd (differ (eqb→eq a b (subst T (sym h) tt)))
 
-pub same_rank : (a b : ℕ) → a ≡ b → (a == b) ≡ true
-same_rank a b h = subst (λ c. (a == c) ≡ true) h (by (a == a) refl) where
+pub same_precedence : (a b : ℕ) → a ≡ b → (a == b) ≡ true
+same_precedence a b h = subst (λ c. (a == c) ≡ true) h (by (a == a) refl) where
   by : (v : Bool) → (a == a) ≡ v → v ≡ true
   by true g = refl
   by false g = absurd (subst T g (eqb_refl a))
 
-pub rank_is : (a b : ℕ) → (a == b) ≡ true → a ≡ b
-rank_is a b h = eqb→eq a b (subst T (sym h) tt)
+pub precedence_is : (a b : ℕ) → (a == b) ≡ true → a ≡ b
+precedence_is a b h = eqb→eq a b (subst T (sym h) tt)
 
-above_none : (n : ℕ) (op : Option BinOp) → Above (suc n) op → has_rank (suc n) op ≡ false
-above_none n (Some op) h = other_rank (rank_of op) (suc n) (λ e. omega (arith, e, h))
+above_none : (n : ℕ) (op : Option BinOp) → Above (suc n) op → has_precedence (suc n) op ≡ false
+above_none n (Some op) h = other_precedence (precedence_of op) (suc n) (λ e. omega (arith, e, h))
 above_none n None h = refl
 
 pub stops_operator : (n : ℕ) (t : Option Kind) → Stops (suc n) t → is_operator n t ≡ false
@@ -132,7 +124,7 @@ pub primary_begins : {ts rest : List Tok} {x : Expression} → IsPrimary ts x re
 primary_begins {ts} (constant d) = from_constant (kind ts) (constant_begins d)
 primary_begins (variable (named d)) = refl
 primary_begins (call (called d)) = refl
-primary_begins (group d) = refl
+primary_begins (parenthesized d) = refl
 
 -- an expression begins so
 abbrev pub begins_expression : Option Kind → Bool
@@ -143,27 +135,27 @@ from_primary : (t : Option Kind) → begins_primary t ≡ true → begins_expres
 from_primary (Some (k.Keyword w.Not)) h = refl
 from_primary _ h = h
 
-pub rank_begins : {n : ℕ} {ts rest : List Tok} {x : Expression} → IsRank n ts x rest → begins_expression (kind ts) ≡ true
-rank_begins (unary (negation h d)) = refl
-rank_begins (unary (complement d)) = refl
-rank_begins {ts = ts} (unary (primary d)) = from_primary (kind ts) (primary_begins d)
-rank_begins (alone d) = rank_begins d
-rank_begins (chain d m) = rank_begins d
+pub binary_begins : {n : ℕ} {ts rest : List Tok} {x : Expression} → IsBinary n ts x rest → begins_expression (kind ts) ≡ true
+binary_begins (unary (negation h d)) = refl
+binary_begins (unary (complement d)) = refl
+binary_begins {ts = ts} (unary (primary d)) = from_primary (kind ts) (primary_begins d)
+binary_begins (alone d) = binary_begins d
+binary_begins (chain d m) = binary_begins d
 
 pub part_begins : (ts : List Tok) (x : Part) (rest : List Tok) → IsPart ts x rest → begins_part (kind ts) ≡ true
 part_begins ts x rest field = refl
 part_begins ts x rest (subscripts d m) = refl
 
 pub argument_begins : {ts rest : List Tok} {x : Argument} → IsArgument ts x rest → begins_expression (kind ts) ≡ true
-argument_begins (positional d) = rank_begins d
+argument_begins (positional d) = binary_begins d
 argument_begins (input d) = refl
 argument_begins (output d) = refl
 
-operation_by : (n : ℕ) (t : Kind) (op : BinOp) → operator_of t ≡ Some op → rank_of op ≡ suc n → is_operator n (Some t) ≡ true
-operation_by n t op is rank = subst (λ x. has_rank (suc n) x ≡ true) (sym is) (same_rank (rank_of op) (suc n) rank)
+operation_by : (n : ℕ) (t : Kind) (op : BinOp) → operator_of t ≡ Some op → precedence_of op ≡ suc n → is_operator n (Some t) ≡ true
+operation_by n t op is precedence = subst (λ x. has_precedence (suc n) x ≡ true) (sym is) (same_precedence (precedence_of op) (suc n) precedence)
 
 pub operation_begins : (n : ℕ) (ts : List Tok) (x : Operation) (rest : List Tok) → IsOperation n ts x rest → is_operator n (kind ts) ≡ true
-operation_begins n ts x rest (operation {t = t} {op = op} is rank d) = operation_by n t op is rank
+operation_begins n ts x rest (operation {t = t} {op = op} is precedence d) = operation_by n t op is precedence
 
 -- ---- a word, and a token that no expression has behind one
 
@@ -172,7 +164,7 @@ abbrev pub Ending : Kind → Type 0
 Ending t = (Stops 7 (Some t)) × (operator_of t ≡ None)
 
 operation_not : {n : ℕ} {t : Kind} {ts rest : List Tok} {l : Operation} {ls : List Operation} → kind ts ≡ Some t → operator_of t ≡ None → IsOperations n ts (l ∷ ls) rest → ⊥
-operation_not {t = t} first nothing (operations (operation {t = u} {op = op} is rank d) m) =
+operation_not {t = t} first nothing (operations (operation {t = u} {op = op} is precedence d) m) =
     let same : u ≡ t = cc (first) in let e = ap operator_of same in absurd (cc (e, is, nothing))
 
 primary_word : {p q : Position} {n : List ℕ} {t : Kind} {us rest : List Tok} {x : Expression} → Stops 7 (Some t) → IsPrimary ((p, k.Word n) ∷ (q, t) ∷ us) x rest → kind rest ≡ Some t
@@ -187,7 +179,7 @@ unary_word : {p q : Position} {n : List ℕ} {t : Kind} {us rest : List Tok} {x 
 unary_word stops (primary d) = primary_word stops d
 
 -- where such a token comes behind a word, an expression ends before it
-pub rank_word : {r : ℕ} {p q : Position} {n : List ℕ} {t : Kind} {us rest : List Tok} {x : Expression} → Ending t → IsRank r ((p, k.Word n) ∷ (q, t) ∷ us) x rest → kind rest ≡ Some t
-rank_word e (unary d) = unary_word e.0 d
-rank_word e (alone d) = rank_word e d
-rank_word e (chain d m) = absurd (operation_not (rank_word e d) e.1 m)
+pub binary_word : {r : ℕ} {p q : Position} {n : List ℕ} {t : Kind} {us rest : List Tok} {x : Expression} → Ending t → IsBinary r ((p, k.Word n) ∷ (q, t) ∷ us) x rest → kind rest ≡ Some t
+binary_word e (unary d) = unary_word e.0 d
+binary_word e (alone d) = binary_word e d
+binary_word e (chain d m) = absurd (operation_not (binary_word e d) e.1 m)

@@ -2,27 +2,18 @@
 use Rattle.std.specs.Prelude.{◌≡◌, ℕ, suc, Bool, true, false, ℤ, List, [], ◌∷◌, Option, Some, None}
 use Rattle.st_tokens.specs.declared.keyword.Keyword.TheVariants as w
 use Rattle.st_tokens.specs.declared.symbol.Symbol.TheVariants as s
-use Rattle.st_tokens.specs.declared.token.Kind.{Kind}
 use Rattle.st_tokens.specs.declared.token.Kind.TheVariants as k
-use Rattle.st_tree.specs.declared.operator.BinOp.{BinOp}
 use Rattle.st_tree.specs.declared.operator.BinOp.TheVariants as o
 use Rattle.st_values.specs.declared.value.Value.{Value}
-use Rattle.st_tree.specs.declared.tree.position.Position.{Position}
-use Rattle.st_tree.specs.declared.tree.position.Identifier.{Identifier}
-use Rattle.st_tree.specs.declared.tree.constant.SignedInteger.{SignedInteger}
-use Rattle.st_tree.specs.declared.tree.constant.Duration.{Duration}
-use Rattle.st_tree.specs.declared.tree.constant.Constant.{Constant}
 use Rattle.st_tree.specs.declared.tree.constant.Constant.TheVariants as c
-use Rattle.st_tree.specs.declared.tree.expression.Expression.{Expression}
 use Rattle.st_tree.specs.declared.tree.expression.Expression.TheVariants as e
-use Rattle.st_tree.specs.declared.tree.expression.Operation.{Operation, roll-Operation}
-use Rattle.st_tree.specs.declared.tree.expression.Variable.{Variable, roll-Variable}
-use Rattle.st_tree.specs.declared.tree.expression.Part.{Part}
+use Rattle.st_tree.specs.declared.tree.expression.Operation.{roll-Operation}
+use Rattle.st_tree.specs.declared.tree.expression.Variable.{roll-Variable}
 use Rattle.st_tree.specs.declared.tree.expression.Part.TheVariants as part
-use Rattle.st_tree.specs.declared.tree.expression.Call.{Call, roll-Call}
-use Rattle.st_tree.specs.declared.tree.expression.Argument.{Argument}
+use Rattle.st_tree.specs.declared.tree.expression.Call.{roll-Call}
 use Rattle.st_tree.specs.declared.tree.expression.Argument.TheVariants as a
-use Rattle.st_expressions.specs.Tokens.{identifier, Tok, kind, position}
+use Rattle.st_parser.specs.Grammar.Tokens.{identifier_of, Tok, kind, position}
+use Rattle.st_parser.specs.Names.{Argument, BinOp, Call, Constant, Duration, Expression, Identifier, Kind, Operation, Part, Position, SignedInteger, Variable}
 
 -- ---- what the nodes are made of
 
@@ -60,22 +51,22 @@ operator_of (k.Symbol s.Divide) = Some o.Div
 operator_of (k.Keyword w.Mod) = Some o.Mod
 operator_of _ = None
 
--- The operators' ranks (3.3.1, table 55): each binds its operands before those of a higher rank do.
-abbrev pub rank_of : BinOp → ℕ
-rank_of o.Mul = 1
-rank_of o.Div = 1
-rank_of o.Mod = 1
-rank_of o.Add = 2
-rank_of o.Sub = 2
-rank_of o.Lt = 3
-rank_of o.Gt = 3
-rank_of o.Le = 3
-rank_of o.Ge = 3
-rank_of o.Eq = 4
-rank_of o.Ne = 4
-rank_of o.And = 5
-rank_of o.Xor = 6
-rank_of o.Or = 7
+-- The operators' precedence (3.3.1, table 55): each binds its operands before those of a higher number do.
+abbrev pub precedence_of : BinOp → ℕ
+precedence_of o.Mul = 1
+precedence_of o.Div = 1
+precedence_of o.Mod = 1
+precedence_of o.Add = 2
+precedence_of o.Sub = 2
+precedence_of o.Lt = 3
+precedence_of o.Gt = 3
+precedence_of o.Le = 3
+precedence_of o.Ge = 3
+precedence_of o.Eq = 4
+precedence_of o.Ne = 4
+precedence_of o.And = 5
+precedence_of o.Xor = 6
+precedence_of o.Or = 7
 
 -- the first token is a number
 abbrev pub IsNumberFirst : Option Kind → Type 0
@@ -103,22 +94,22 @@ pub data IsConstant : List Tok → Constant → List Tok → Type 0 where
 -- ---- expressions
 
 mutual
-  -- Rank 7 is an expression, and each rank r above 0 is: rank r-1 { operator of rank r, rank r-1 }. Rank 0 is unary.
-  pub data IsRank : ℕ → List Tok → Expression → List Tok → Type 0 where
-    unary : {ts rest : List Tok} {x : Expression} → IsUnary ts x rest → IsRank 0 ts x rest
-    alone : {r : ℕ} {ts rest : List Tok} {x : Expression} → IsRank r ts x rest → IsRank (suc r) ts x rest
+  -- operand { operator operand }, where the operators have precedence n, and the operands are n - 1. At 0 it is a unary expression, and at 7 any.
+  pub data IsBinary : ℕ → List Tok → Expression → List Tok → Type 0 where
+    unary : {ts rest : List Tok} {x : Expression} → IsUnary ts x rest → IsBinary 0 ts x rest
+    alone : {r : ℕ} {ts rest : List Tok} {x : Expression} → IsBinary r ts x rest → IsBinary (suc r) ts x rest
     chain : {r : ℕ} {ts mid rest : List Tok} {x : Expression} {l : Operation} {ls : List Operation}
-        → IsRank r ts x mid → IsOperations r mid (l ∷ ls) rest → IsRank (suc r) ts (e.Chain (position ts) x (l ∷ ls)) rest
+        → IsBinary r ts x mid → IsOperations r mid (l ∷ ls) rest → IsBinary (suc r) ts (e.Chain (position ts) x (l ∷ ls)) rest
 
   pub data IsOperations : ℕ → List Tok → List Operation → List Tok → Type 0 where
     no_operation : {r : ℕ} {ts : List Tok} → IsOperations r ts [] ts
     operations : {r : ℕ} {ts mid rest : List Tok} {l : Operation} {ls : List Operation}
         → IsOperation r ts l mid → IsOperations r mid ls rest → IsOperations r ts (l ∷ ls) rest
 
-  -- operator of rank r+1, rank r
+  -- operator operand, where the operator has precedence r + 1, and the operand is r
   pub data IsOperation : ℕ → List Tok → Operation → List Tok → Type 0 where
     operation : {r : ℕ} {ts rest : List Tok} {p : Position} {t : Kind} {op : BinOp} {x : Expression}
-        → operator_of t ≡ Some op → rank_of op ≡ suc r → IsRank r ts x rest
+        → operator_of t ≡ Some op → precedence_of op ≡ suc r → IsBinary r ts x rest
         → IsOperation r ((p, t) ∷ ts) (operation_of p op x) rest
 
   -- ['-' | NOT] primary. A '-' before a number belongs to the number.
@@ -134,13 +125,13 @@ mutual
     constant : {ts rest : List Tok} {x : Constant} → IsConstant ts x rest → IsPrimary ts (e.Constant x) rest
     variable : {ts rest : List Tok} {x : Variable} → IsVariable ts x rest → IsPrimary ts (e.Variable x) rest
     call : {ts rest : List Tok} {x : Call} → IsCall ts x rest → IsPrimary ts (e.Call x) rest
-    group : {p q : Position} {ts rest : List Tok} {x : Expression} → IsRank 7 ts x ((q, k.Symbol s.Close) ∷ rest)
+    parenthesized : {p q : Position} {ts rest : List Tok} {x : Expression} → IsBinary 7 ts x ((q, k.Symbol s.Close) ∷ rest)
         → IsPrimary ((p, k.Symbol s.Open) ∷ ts) (e.Parenthesized p x) rest
 
   -- word { part }
   pub data IsVariable : List Tok → Variable → List Tok → Type 0 where
     named : {p : Position} {n : List ℕ} {ts rest : List Tok} {ps : List Part} → IsParts ts ps rest
-        → IsVariable ((p, k.Word n) ∷ ts) (variable_of (identifier p n) ps) rest
+        → IsVariable ((p, k.Word n) ∷ ts) (variable_of (identifier_of p n) ps) rest
 
   pub data IsParts : List Tok → List Part → List Tok → Type 0 where
     no_part : {ts : List Tok} → IsParts ts [] ts
@@ -150,21 +141,21 @@ mutual
   -- '.' word | '[' expression { ',' expression } ']'
   pub data IsPart : List Tok → Part → List Tok → Type 0 where
     field : {p q : Position} {n : List ℕ} {rest : List Tok}
-        → IsPart ((p, k.Symbol s.Dot) ∷ (q, k.Word n) ∷ rest) (part.Field (identifier q n)) rest
+        → IsPart ((p, k.Symbol s.Dot) ∷ (q, k.Word n) ∷ rest) (part.Field (identifier_of q n)) rest
     subscripts : {p q : Position} {ts mid rest : List Tok} {x : Expression} {xs : List Expression}
-        → IsRank 7 ts x mid → IsNextExpressions mid xs ((q, k.Symbol s.CloseBracket) ∷ rest)
+        → IsBinary 7 ts x mid → IsNextExpressions mid xs ((q, k.Symbol s.CloseBracket) ∷ rest)
         → IsPart ((p, k.Symbol s.OpenBracket) ∷ ts) (part.Subscripts p (x ∷ xs)) rest
 
   -- { ',' expression }
   pub data IsNextExpressions : List Tok → List Expression → List Tok → Type 0 where
     no_expression : {ts : List Tok} → IsNextExpressions ts [] ts
-    next_expressions : {p : Position} {ts mid rest : List Tok} {x : Expression} {xs : List Expression} → IsRank 7 ts x mid
+    next_expressions : {p : Position} {ts mid rest : List Tok} {x : Expression} {xs : List Expression} → IsBinary 7 ts x mid
         → IsNextExpressions mid xs rest → IsNextExpressions ((p, k.Symbol s.Comma) ∷ ts) (x ∷ xs) rest
 
   -- word arguments
   pub data IsCall : List Tok → Call → List Tok → Type 0 where
     called : {p : Position} {n : List ℕ} {ts rest : List Tok} {xs : List Argument} → IsArguments ts xs rest
-        → IsCall ((p, k.Word n) ∷ ts) (call_of (identifier p n) xs) rest
+        → IsCall ((p, k.Word n) ∷ ts) (call_of (identifier_of p n) xs) rest
 
   -- '(' [ argument { ',' argument } ] ')'
   pub data IsArguments : List Tok → List Argument → List Tok → Type 0 where
@@ -181,12 +172,12 @@ mutual
 
   -- expression | word ':=' expression | word '=>' variable
   pub data IsArgument : List Tok → Argument → List Tok → Type 0 where
-    positional : {ts rest : List Tok} {x : Expression} → IsRank 7 ts x rest → IsArgument ts (a.Positional x) rest
-    input : {p q : Position} {n : List ℕ} {ts rest : List Tok} {x : Expression} → IsRank 7 ts x rest
-        → IsArgument ((p, k.Word n) ∷ (q, k.Symbol s.Assign) ∷ ts) (a.Input (identifier p n) x) rest
+    positional : {ts rest : List Tok} {x : Expression} → IsBinary 7 ts x rest → IsArgument ts (a.Positional x) rest
+    input : {p q : Position} {n : List ℕ} {ts rest : List Tok} {x : Expression} → IsBinary 7 ts x rest
+        → IsArgument ((p, k.Word n) ∷ (q, k.Symbol s.Assign) ∷ ts) (a.Input (identifier_of p n) x) rest
     output : {p q : Position} {n : List ℕ} {ts rest : List Tok} {x : Variable} → IsVariable ts x rest
-        → IsArgument ((p, k.Word n) ∷ (q, k.Symbol s.Output) ∷ ts) (a.Output (identifier p n) x) rest
+        → IsArgument ((p, k.Word n) ∷ (q, k.Symbol s.Output) ∷ ts) (a.Output (identifier_of p n) x) rest
 
 -- expression
 abbrev pub IsExpression : List Tok → Expression → List Tok → Type 0
-IsExpression = IsRank 7
+IsExpression = IsBinary 7

@@ -1,22 +1,18 @@
 //! Literals.
-ghost use Rattle.std.specs.Prelude.{◌<◌, length, OnOk};
-ghost use Rattle.st_expressions.specs.Parsers.{Reads};
-ghost use Rattle.st_expressions.specs.Reading as spec;
+ghost use Rattle.st_expressions.specs.Reader as spec;
+ghost use Rattle.st_parser.specs.Reader.Parsers.{Takes};
 
-use crate::cursor::Cursor;
-use crate::fault::ReadFault;
-use crate::token::number;
+use st_parser::{Cursor, ReadFault};
 use st_tokens::{Keyword, Kind, Symbol};
 use st_tree::tree::{Constant, Duration, SignedInteger};
 
-/// A sign, and its number.
-#[tactic(auto, unfolding(crate::specs::Reading::signed))]
+/// `('+' | '-') number`
+#[tactic(auto, unfolding(crate::specs::Reader::signed))]
 fn signed(ts: &mut Cursor<'_>, is_negative: bool) -> Result<SignedInteger, ReadFault>
-    ensures read { Reads (spec.signed is_negative ts.old) result ts.new }
-    ensures shorter { OnOk result (length ts.new < length ts.old) }
+    ensures { Takes (spec.signed is_negative ts.old) result ts.old ts.new }
 {
-    let position = ts.skip();
-    let magnitude = number(ts)?;
+    let position = ts.bump();
+    let magnitude = ts.number()?;
     Ok(SignedInteger {
         position,
         is_negative,
@@ -24,19 +20,18 @@ fn signed(ts: &mut Cursor<'_>, is_negative: bool) -> Result<SignedInteger, ReadF
     })
 }
 
-/// Takes a number with or without a sign.
-#[tactic(auto, unfolding(crate::specs::Reading::signed_integer))]
+/// `['+' | '-'] number`
+#[tactic(auto, unfolding(crate::specs::Reader::signed_integer))]
 pub fn signed_integer(ts: &mut Cursor<'_>) -> Result<SignedInteger, ReadFault>
-    ensures read { Reads (spec.signed_integer ts.old) result ts.new }
-    ensures shorter { OnOk result (length ts.new < length ts.old) }
+    ensures { Takes (spec.signed_integer ts.old) result ts.old ts.new }
 {
-    match ts.kind() {
+    match ts.peek() {
         Some(Kind::Number(magnitude)) => {
-            let position = ts.skip();
+            let position = ts.bump();
             Ok(SignedInteger {
                 position,
                 is_negative: false,
-                magnitude,
+                magnitude: *magnitude,
             })
         }
         Some(Kind::Symbol(Symbol::Plus)) => signed(ts, false),
@@ -45,23 +40,22 @@ pub fn signed_integer(ts: &mut Cursor<'_>) -> Result<SignedInteger, ReadFault>
     }
 }
 
-/// Takes a literal.
-#[tactic(auto, unfolding(crate::specs::Reading::constant))]
+/// `signed integer | typed literal | duration | TRUE | FALSE`
+#[tactic(auto, unfolding(crate::specs::Reader::constant))]
 pub fn constant(ts: &mut Cursor<'_>) -> Result<Constant, ReadFault>
-    ensures read { Reads (spec.constant ts.old) result ts.new }
-    ensures shorter { OnOk result (length ts.new < length ts.old) }
+    ensures { Takes (spec.constant ts.old) result ts.old ts.new }
 {
-    match ts.kind() {
-        Some(Kind::Typed(value)) => Ok(Constant::Typed(ts.skip(), value)),
+    match ts.peek() {
+        Some(Kind::Typed(value)) => Ok(Constant::Typed(ts.bump(), *value)),
         Some(Kind::Duration(milliseconds)) => {
-            let position = ts.skip();
+            let position = ts.bump();
             Ok(Constant::Duration(Duration {
                 position,
-                milliseconds,
+                milliseconds: *milliseconds,
             }))
         }
-        Some(Kind::Keyword(Keyword::True)) => Ok(Constant::Bool(ts.skip(), true)),
-        Some(Kind::Keyword(Keyword::False)) => Ok(Constant::Bool(ts.skip(), false)),
+        Some(Kind::Keyword(Keyword::True)) => Ok(Constant::Bool(ts.bump(), true)),
+        Some(Kind::Keyword(Keyword::False)) => Ok(Constant::Bool(ts.bump(), false)),
         _ => Ok(Constant::Integer(signed_integer(ts)?)),
     }
 }

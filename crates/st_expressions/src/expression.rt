@@ -1,29 +1,29 @@
 //! Expressions, and the variables and calls in them. The seven lines of operators are one function.
-ghost use Rattle.std.specs.Prelude.{◌≡◌, ◌+◌, ◌<◌, ◌≤◌, length, IfErr, IfOk, OnOk};
-ghost use Rattle.st_expressions.specs.Grammar.{rank_of};
-ghost use Rattle.st_expressions.specs.Parsers as parser;
-ghost use Rattle.st_expressions.specs.Parsers.{Reads};
-ghost use Rattle.st_expressions.specs.Reading as spec;
-ghost use Rattle.st_expressions.specs.Tokens.{kind, next};
-ghost use Rattle.st_expressions.specs.declared.fault.ReadFault.TheVariants.{Memory};
+ghost use Rattle.std.specs.Prelude.{◌≡◌, ◌↔◌, ◌+◌, ◌<◌, ◌≤◌, ℕ, [], IfErr, IfOk, List as Items, Ok};
+ghost use Rattle.st_expressions.specs.Grammar.{IsExpression, precedence_of};
+ghost use Rattle.st_expressions.specs.Reader as spec;
+ghost use Rattle.st_parser.specs.Grammar.Levels.{IsWithin};
+ghost use Rattle.st_parser.specs.Grammar.Tokens.{kind, next, Tok};
+ghost use Rattle.st_parser.specs.Names as names;
+ghost use Rattle.st_parser.specs.Reader.Parsers as parser;
+ghost use Rattle.st_parser.specs.Reader.Parsers.{MayTake, Takes};
+ghost use Rattle.st_parser.specs.declared.fault.ReadFault.TheVariants.{Memory};
 
 use crate::constant::constant;
-use crate::cursor::Cursor;
-use crate::fault::ReadFault;
-use crate::token::{boxed, enter, is_close, is_comma, symbol, word};
+use st_parser::{Cursor, ReadFault, single};
 use st_tokens::{Keyword, Kind, Symbol};
 use st_tree::tree::{Argument, Call, Expression, Operation, Part, Position, Variable};
-use st_tree::{BinOp, List};
+use st_tree::{BinOp, Boxed, List};
 use std::alloc::Global;
 
-/// The rank of a whole expression.
-const TOP: u8 = 7;
+/// The precedence of the operator that binds last, OR.
+const LOOSEST: u8 = 7;
 
 /// The operator that the first token is.
 fn operator_at(ts: &Cursor<'_>) -> Option<BinOp>
     ensures { result ≡ spec.operator_at (kind ts.now) }
 {
-    let op = match ts.kind()? {
+    let op = match ts.peek()? {
         Kind::Keyword(Keyword::Or) => BinOp::Or,
         Kind::Keyword(Keyword::Xor) => BinOp::Xor,
         Kind::Keyword(Keyword::And) => BinOp::And,
@@ -44,9 +44,9 @@ fn operator_at(ts: &Cursor<'_>) -> Option<BinOp>
     Some(op)
 }
 
-/// The rank of an operator. Those of a lower rank bind their operands first.
-fn rank_of(op: BinOp) -> u8
-    ensures { result ≡ rank_of op }
+/// The precedence of an operator. Those of a lower number bind their operands first.
+fn precedence_of(op: BinOp) -> u8
+    ensures { result ≡ precedence_of op }
 {
     match op {
         BinOp::Mul | BinOp::Div | BinOp::Mod => 1,
@@ -59,13 +59,13 @@ fn rank_of(op: BinOp) -> u8
     }
 }
 
-/// Whether the first token is an operator of rank `rank` + 1.
-fn is_operator(ts: &Cursor<'_>, rank: u8) -> bool
-    requires { rank < 7 }
-    ensures { result ≡ spec.is_operator rank (kind ts.now) }
+/// Whether the first token is an operator of precedence `precedence` + 1.
+fn is_operator(ts: &Cursor<'_>, precedence: u8) -> bool
+    requires { precedence < 7 }
+    ensures { result ≡ spec.is_operator precedence (kind ts.now) }
 {
     match operator_at(ts) {
-        Some(op) => rank_of(op) == rank + 1,
+        Some(op) => precedence_of(op) == precedence + 1,
         None => false,
     }
 }
@@ -75,336 +75,317 @@ fn begins_part(ts: &Cursor<'_>) -> bool
     ensures { result ≡ spec.begins_part (kind ts.now) }
 {
     matches!(
-        ts.kind(),
+        ts.peek(),
         Some(Kind::Symbol(Symbol::Dot | Symbol::OpenBracket))
     )
-}
-
-/// Whether the second token is `(`.
-pub fn is_call(ts: &Cursor<'_>) -> bool
-    ensures { result ≡ spec.is_open (kind (next ts.now)) }
-{
-    matches!(ts.second(), Some(Kind::Symbol(Symbol::Open)))
 }
 
 /// Whether the second token is a number.
 fn is_before_number(ts: &Cursor<'_>) -> bool
     ensures { result ≡ spec.is_number (kind (next ts.now)) }
 {
-    matches!(ts.second(), Some(Kind::Number(_)))
+    matches!(ts.peek_second(), Some(Kind::Number(_)))
 }
 
-#[tactic(auto, unfolding(crate::specs::Reading::field))]
+/// `'.' word`
+#[tactic(auto, unfolding(crate::specs::Reader::field))]
 fn field(alloc: Global, ts: &mut Cursor<'_>) -> Result<Part, ReadFault>
-    ensures read { Reads (spec.field ts.old) result ts.new }
-    ensures shorter { OnOk result (length ts.new < length ts.old) }
+    ensures { Takes (spec.field ts.old) result ts.old ts.new }
 {
-    ts.skip();
-    Ok(Part::Field(word(alloc, ts)?))
+    ts.bump();
+    Ok(Part::Field(ts.identifier(alloc)?))
 }
 
 /// An expression behind one more open level.
 #[cycle(parser)]
-fn inside(alloc: Global, ts: &mut Cursor<'_>, room: u8) -> Result<Expression, ReadFault>
-    requires { 0 < room }
-    ensures read { Reads ((spec.inside_of room).expression ts.old) result ts.new }
-    ensures shorter { OnOk result (length ts.new < length ts.old) }
+fn inside(alloc: Global, ts: &mut Cursor<'_>, depth_left: u8) -> Result<Expression, ReadFault>
+    requires { 0 < depth_left }
+    ensures { Takes ((spec.inside_of depth_left).expression ts.old) result ts.old ts.new }
 {
-    level(alloc, ts, room - 1, TOP)
+    binary(alloc, ts, depth_left - 1, LOOSEST)
 }
 
 /// A variable behind one more open level.
 #[cycle(parser)]
-fn target(alloc: Global, ts: &mut Cursor<'_>, room: u8) -> Result<Variable, ReadFault>
-    requires { 0 < room }
-    ensures read { Reads ((spec.inside_of room).variable ts.old) result ts.new }
-    ensures shorter { OnOk result (length ts.new < length ts.old) }
+fn target(alloc: Global, ts: &mut Cursor<'_>, depth_left: u8) -> Result<Variable, ReadFault>
+    requires { 0 < depth_left }
+    ensures { Takes ((spec.inside_of depth_left).variable ts.old) result ts.old ts.new }
 {
-    variable(alloc, ts, room - 1)
+    variable(alloc, ts, depth_left - 1)
 }
 
+/// `expression { ',' expression }`, inside a bracket
 #[cycle(parser)]
-#[tactic(auto, unfolding(crate::specs::Parsers::next_item))]
-fn next_expression(alloc: Global, ts: &mut Cursor<'_>, room: u8) -> Result<Expression, ReadFault>
-    requires { 0 < room }
-    ensures read { Reads (parser.next_item (spec.inside_of room).expression ts.old) result ts.new }
-    ensures shorter { OnOk result (length ts.new < length ts.old) }
+fn expressions(
+    alloc: Global,
+    ts: &mut Cursor<'_>,
+    depth_left: u8,
+) -> Result<List<Expression>, ReadFault>
+    requires { 0 < depth_left }
+    ensures { Takes (parser.listed (spec.inside_of depth_left).expression ts.old) result ts.old ts.new }
 {
-    ts.skip();
-    inside(alloc, ts, room)
-}
-
-/// The expressions in brackets.
-#[cycle(parser)]
-#[tactic(auto, unfolding(crate::specs::Parsers::leading))]
-fn expressions(alloc: Global, ts: &mut Cursor<'_>, room: u8) -> Result<List<Expression>, ReadFault>
-    requires { 0 < room }
-    ensures read { Reads (parser.listed (spec.inside_of room).expression ts.old) result ts.new }
-    ensures shorter { OnOk result (length ts.new < length ts.old) }
-{
-    let first = inside(alloc, ts, room)?;
-    let mut found = List::new(alloc);
-    found.push(first)?;
-    'items: while is_comma(ts) {
-        let item = next_expression(alloc, ts, room)?;
+    let first = inside(alloc, ts, depth_left)?;
+    let mut found = single(alloc, first)?;
+    'items: while ts.at_symbol(Symbol::Comma) {
+        ts.bump();
+        let item = inside(alloc, ts, depth_left)?;
         found.push(item)?;
     }
     Ok(found)
 }
 
+/// `'[' expressions ']'`
 #[cycle(parser)]
-#[tactic(auto, unfolding(crate::specs::Reading::subscripts))]
-fn subscripts(alloc: Global, ts: &mut Cursor<'_>, room: u8) -> Result<Part, ReadFault>
-    ensures read { Reads (spec.subscripts room (spec.inside_of room) ts.old) result ts.new }
-    ensures shorter { OnOk result (length ts.new < length ts.old) }
+#[tactic(auto, unfolding(crate::specs::Reader::subscripts))]
+fn subscripts(alloc: Global, ts: &mut Cursor<'_>, depth_left: u8) -> Result<Part, ReadFault>
+    ensures { Takes (spec.subscripts depth_left (spec.inside_of depth_left) ts.old) result ts.old ts.new }
 {
-    let position = enter(ts, room)?;
-    let subscripts = expressions(alloc, ts, room)?;
-    symbol(ts, Symbol::CloseBracket)?;
+    let position = ts.enter(depth_left)?;
+    let subscripts = expressions(alloc, ts, depth_left)?;
+    ts.expect_symbol(Symbol::CloseBracket)?;
     Ok(Part::Subscripts(position, subscripts))
 }
 
+/// `'.' word | '[' expressions ']'`
 #[cycle(parser)]
-#[tactic(auto, unfolding(crate::specs::Reading::part_of))]
-fn part(alloc: Global, ts: &mut Cursor<'_>, room: u8) -> Result<Part, ReadFault>
-    ensures read { Reads (spec.part_of room (spec.inside_of room) ts.old) result ts.new }
-    ensures shorter { OnOk result (length ts.new < length ts.old) }
+#[tactic(auto, unfolding(crate::specs::Reader::part_of))]
+fn part(alloc: Global, ts: &mut Cursor<'_>, depth_left: u8) -> Result<Part, ReadFault>
+    ensures { Takes (spec.part_of depth_left (spec.inside_of depth_left) ts.old) result ts.old ts.new }
 {
-    match ts.kind() {
+    match ts.peek() {
         Some(Kind::Symbol(Symbol::Dot)) => field(alloc, ts),
-        _ => subscripts(alloc, ts, room),
+        _ => subscripts(alloc, ts, depth_left),
     }
 }
 
+/// `{ part }`
 #[cycle(parser)]
-fn parts(alloc: Global, ts: &mut Cursor<'_>, room: u8) -> Result<List<Part>, ReadFault>
-    ensures read { Reads (spec.parts room (spec.inside_of room) ts.old) result ts.new }
-    ensures shorter { OnOk result (length ts.new ≤ length ts.old) }
+fn parts(alloc: Global, ts: &mut Cursor<'_>, depth_left: u8) -> Result<List<Part>, ReadFault>
+    ensures { MayTake (spec.parts depth_left (spec.inside_of depth_left) ts.old) result ts.old ts.new }
 {
     let mut found = List::new(alloc);
     'items: while begins_part(ts) {
-        let item = part(alloc, ts, room)?;
+        let item = part(alloc, ts, depth_left)?;
         found.push(item)?;
     }
     Ok(found)
 }
 
-/// Takes a variable, or a part of one. `room` more levels may be opened.
+/// `word { part }`. `depth_left` more levels may be opened.
 #[cycle(parser)]
-#[tactic(auto, unfolding(crate::specs::Reading::variable))]
-pub fn variable(alloc: Global, ts: &mut Cursor<'_>, room: u8) -> Result<Variable, ReadFault>
-    ensures read { Reads (spec.variable room (spec.inside_of room) ts.old) result ts.new }
-    ensures shorter { OnOk result (length ts.new < length ts.old) }
+#[tactic(auto, unfolding(crate::specs::Reader::variable))]
+pub fn variable(alloc: Global, ts: &mut Cursor<'_>, depth_left: u8) -> Result<Variable, ReadFault>
+    ensures { Takes (spec.variable depth_left (spec.inside_of depth_left) ts.old) result ts.old ts.new }
 {
-    let name = word(alloc, ts)?;
-    let parts = parts(alloc, ts, room)?;
+    let name = ts.identifier(alloc)?;
+    let parts = parts(alloc, ts, depth_left)?;
     Ok(Variable { name, parts })
 }
 
+/// `word ':=' expression`
 #[cycle(parser)]
-#[tactic(auto, unfolding(crate::specs::Reading::input))]
-fn input(alloc: Global, ts: &mut Cursor<'_>, room: u8) -> Result<Argument, ReadFault>
-    requires { 0 < room }
-    ensures read { Reads (spec.input (spec.inside_of room) ts.old) result ts.new }
-    ensures shorter { OnOk result (length ts.new < length ts.old) }
+#[tactic(auto, unfolding(crate::specs::Reader::input))]
+fn input(alloc: Global, ts: &mut Cursor<'_>, depth_left: u8) -> Result<Argument, ReadFault>
+    requires { 0 < depth_left }
+    ensures { Takes (spec.input (spec.inside_of depth_left) ts.old) result ts.old ts.new }
 {
-    let name = word(alloc, ts)?;
-    symbol(ts, Symbol::Assign)?;
-    let value = inside(alloc, ts, room)?;
-    Ok(Argument::Input(name, value))
+    let name = ts.identifier(alloc)?;
+    ts.expect_symbol(Symbol::Assign)?;
+    let value = inside(alloc, ts, depth_left)?;
+    Ok(Argument::Input(name, Boxed::new(alloc, value)?))
 }
 
+/// `word '=>' variable`
 #[cycle(parser)]
-#[tactic(auto, unfolding(crate::specs::Reading::output))]
-fn output(alloc: Global, ts: &mut Cursor<'_>, room: u8) -> Result<Argument, ReadFault>
-    requires { 0 < room }
-    ensures read { Reads (spec.output (spec.inside_of room) ts.old) result ts.new }
-    ensures shorter { OnOk result (length ts.new < length ts.old) }
+#[tactic(auto, unfolding(crate::specs::Reader::output))]
+fn output(alloc: Global, ts: &mut Cursor<'_>, depth_left: u8) -> Result<Argument, ReadFault>
+    requires { 0 < depth_left }
+    ensures { Takes (spec.output (spec.inside_of depth_left) ts.old) result ts.old ts.new }
 {
-    let name = word(alloc, ts)?;
-    symbol(ts, Symbol::Output)?;
-    let taker = target(alloc, ts, room)?;
-    Ok(Argument::Output(name, taker))
+    let name = ts.identifier(alloc)?;
+    ts.expect_symbol(Symbol::Output)?;
+    let taker = target(alloc, ts, depth_left)?;
+    Ok(Argument::Output(name, Boxed::new(alloc, taker)?))
 }
 
+/// `expression`, for the parameter at its position
 #[cycle(parser)]
-#[tactic(auto, unfolding(crate::specs::Reading::positional))]
-fn positional(alloc: Global, ts: &mut Cursor<'_>, room: u8) -> Result<Argument, ReadFault>
-    requires { 0 < room }
-    ensures read { Reads (spec.positional (spec.inside_of room) ts.old) result ts.new }
-    ensures shorter { OnOk result (length ts.new < length ts.old) }
+#[tactic(auto, unfolding(crate::specs::Reader::positional))]
+fn positional(alloc: Global, ts: &mut Cursor<'_>, depth_left: u8) -> Result<Argument, ReadFault>
+    requires { 0 < depth_left }
+    ensures { Takes (spec.positional (spec.inside_of depth_left) ts.old) result ts.old ts.new }
 {
-    Ok(Argument::Positional(inside(alloc, ts, room)?))
+    Ok(Argument::Positional(inside(alloc, ts, depth_left)?))
 }
 
-/// An argument of a call, which the token behind its first tells apart.
+/// `expression | word ':=' expression | word '=>' variable`, which the second token tells apart
 #[cycle(parser)]
-#[tactic(auto, unfolding(crate::specs::Reading::argument))]
-fn argument(alloc: Global, ts: &mut Cursor<'_>, room: u8) -> Result<Argument, ReadFault>
-    requires { 0 < room }
-    ensures read { Reads (spec.argument (spec.inside_of room) ts.old) result ts.new }
-    ensures shorter { OnOk result (length ts.new < length ts.old) }
+#[tactic(auto, unfolding(crate::specs::Reader::argument))]
+fn argument(alloc: Global, ts: &mut Cursor<'_>, depth_left: u8) -> Result<Argument, ReadFault>
+    requires { 0 < depth_left }
+    ensures { Takes (spec.argument (spec.inside_of depth_left) ts.old) result ts.old ts.new }
 {
-    match ts.kind() {
-        Some(Kind::Word(_)) => match ts.second() {
-            Some(Kind::Symbol(Symbol::Assign)) => input(alloc, ts, room),
-            Some(Kind::Symbol(Symbol::Output)) => output(alloc, ts, room),
-            _ => positional(alloc, ts, room),
+    match ts.peek() {
+        Some(Kind::Word(_)) => match ts.peek_second() {
+            Some(Kind::Symbol(Symbol::Assign)) => input(alloc, ts, depth_left),
+            Some(Kind::Symbol(Symbol::Output)) => output(alloc, ts, depth_left),
+            _ => positional(alloc, ts, depth_left),
         },
-        _ => positional(alloc, ts, room),
+        _ => positional(alloc, ts, depth_left),
     }
 }
 
+/// `argument { ',' argument }`
 #[cycle(parser)]
-#[tactic(auto, unfolding(crate::specs::Parsers::next_item))]
-fn next_argument(alloc: Global, ts: &mut Cursor<'_>, room: u8) -> Result<Argument, ReadFault>
-    requires { 0 < room }
-    ensures read { Reads (parser.next_item (spec.argument (spec.inside_of room)) ts.old) result ts.new }
-    ensures shorter { OnOk result (length ts.new < length ts.old) }
+fn argument_list(
+    alloc: Global,
+    ts: &mut Cursor<'_>,
+    depth_left: u8,
+) -> Result<List<Argument>, ReadFault>
+    requires { 0 < depth_left }
+    ensures { Takes (parser.listed (spec.argument (spec.inside_of depth_left)) ts.old) result ts.old ts.new }
 {
-    ts.skip();
-    argument(alloc, ts, room)
-}
-
-#[cycle(parser)]
-#[tactic(auto, unfolding(crate::specs::Parsers::leading))]
-fn argument_list(alloc: Global, ts: &mut Cursor<'_>, room: u8) -> Result<List<Argument>, ReadFault>
-    requires { 0 < room }
-    ensures read { Reads (parser.listed (spec.argument (spec.inside_of room)) ts.old) result ts.new }
-    ensures shorter { OnOk result (length ts.new < length ts.old) }
-{
-    let first = argument(alloc, ts, room)?;
-    let mut found = List::new(alloc);
-    found.push(first)?;
-    'items: while is_comma(ts) {
-        let item = next_argument(alloc, ts, room)?;
+    let first = argument(alloc, ts, depth_left)?;
+    let mut found = single(alloc, first)?;
+    'items: while ts.at_symbol(Symbol::Comma) {
+        ts.bump();
+        let item = argument(alloc, ts, depth_left)?;
         found.push(item)?;
     }
     Ok(found)
 }
 
-/// What stands behind the `(` of a call.
+/// `[ argument { ',' argument } ] ')'`
 #[cycle(parser)]
-#[tactic(auto, unfolding(crate::specs::Reading::arguments))]
-fn arguments(alloc: Global, ts: &mut Cursor<'_>, room: u8) -> Result<List<Argument>, ReadFault>
-    requires { 0 < room }
-    ensures read { Reads (spec.arguments (spec.inside_of room) ts.old) result ts.new }
-    ensures shorter { OnOk result (length ts.new ≤ length ts.old) }
+#[tactic(auto, unfolding(crate::specs::Reader::arguments))]
+fn arguments(
+    alloc: Global,
+    ts: &mut Cursor<'_>,
+    depth_left: u8,
+) -> Result<List<Argument>, ReadFault>
+    requires { 0 < depth_left }
+    ensures { MayTake (spec.arguments (spec.inside_of depth_left) ts.old) result ts.old ts.new }
 {
-    if is_close(ts) {
-        ts.skip();
+    if ts.at_symbol(Symbol::Close) {
+        ts.bump();
         return Ok(List::new(alloc));
     }
-    let found = argument_list(alloc, ts, room)?;
-    symbol(ts, Symbol::Close)?;
+    let found = argument_list(alloc, ts, depth_left)?;
+    ts.expect_symbol(Symbol::Close)?;
     Ok(found)
 }
 
-/// Takes a call. `room` more levels may be opened.
+/// `word '(' [ argument { ',' argument } ] ')'`. `depth_left` more levels may be opened.
 #[cycle(parser)]
-#[tactic(auto, unfolding(crate::specs::Reading::call))]
-pub fn call(alloc: Global, ts: &mut Cursor<'_>, room: u8) -> Result<Call, ReadFault>
-    ensures read { Reads (spec.call room (spec.inside_of room) ts.old) result ts.new }
-    ensures shorter { OnOk result (length ts.new < length ts.old) }
+#[tactic(auto, unfolding(crate::specs::Reader::call))]
+pub fn call(alloc: Global, ts: &mut Cursor<'_>, depth_left: u8) -> Result<Call, ReadFault>
+    ensures { Takes (spec.call depth_left (spec.inside_of depth_left) ts.old) result ts.old ts.new }
 {
-    let name = word(alloc, ts)?;
-    enter(ts, room)?;
-    let arguments = arguments(alloc, ts, room)?;
+    let name = ts.identifier(alloc)?;
+    ts.enter(depth_left)?;
+    let arguments = arguments(alloc, ts, depth_left)?;
     Ok(Call { name, arguments })
 }
 
+/// `'(' expression ')'`
 #[cycle(parser)]
-#[tactic(auto, unfolding(crate::specs::Reading::group))]
-fn group(alloc: Global, ts: &mut Cursor<'_>, room: u8) -> Result<Expression, ReadFault>
-    ensures read { Reads (spec.group room (spec.inside_of room) ts.old) result ts.new }
-    ensures shorter { OnOk result (length ts.new < length ts.old) }
+#[tactic(auto, unfolding(crate::specs::Reader::parenthesized))]
+fn parenthesized(
+    alloc: Global,
+    ts: &mut Cursor<'_>,
+    depth_left: u8,
+) -> Result<Expression, ReadFault>
+    ensures { Takes (spec.parenthesized depth_left (spec.inside_of depth_left) ts.old) result ts.old ts.new }
 {
-    let position = enter(ts, room)?;
-    let inner = inside(alloc, ts, room)?;
-    symbol(ts, Symbol::Close)?;
-    Ok(Expression::Parenthesized(position, boxed(alloc, inner)?))
+    let position = ts.enter(depth_left)?;
+    let inner = inside(alloc, ts, depth_left)?;
+    ts.expect_symbol(Symbol::Close)?;
+    Ok(Expression::Parenthesized(position, Boxed::new(alloc, inner)?))
 }
 
-/// What begins with a word: a call or a variable.
+/// `call | variable`
 #[cycle(parser)]
-#[tactic(auto, unfolding(crate::specs::Reading::named))]
-fn named(alloc: Global, ts: &mut Cursor<'_>, room: u8) -> Result<Expression, ReadFault>
-    ensures read { Reads (spec.named room (spec.inside_of room) ts.old) result ts.new }
-    ensures shorter { OnOk result (length ts.new < length ts.old) }
+#[tactic(auto, unfolding(crate::specs::Reader::named))]
+fn named(alloc: Global, ts: &mut Cursor<'_>, depth_left: u8) -> Result<Expression, ReadFault>
+    ensures { Takes (spec.named depth_left (spec.inside_of depth_left) ts.old) result ts.old ts.new }
 {
-    if is_call(ts) {
-        return Ok(Expression::Call(call(alloc, ts, room)?));
+    if ts.before_symbol(Symbol::Open) {
+        return Ok(Expression::Call(call(alloc, ts, depth_left)?));
     }
-    Ok(Expression::Variable(variable(alloc, ts, room)?))
+    Ok(Expression::Variable(variable(alloc, ts, depth_left)?))
 }
 
+/// `literal | variable | call | '(' expression ')'`
 #[cycle(parser)]
-#[tactic(auto, unfolding(crate::specs::Reading::primary))]
-fn primary(alloc: Global, ts: &mut Cursor<'_>, room: u8) -> Result<Expression, ReadFault>
-    ensures read { Reads (spec.primary room (spec.inside_of room) ts.old) result ts.new }
-    ensures shorter { OnOk result (length ts.new < length ts.old) }
+#[tactic(auto, unfolding(crate::specs::Reader::primary))]
+fn primary(alloc: Global, ts: &mut Cursor<'_>, depth_left: u8) -> Result<Expression, ReadFault>
+    ensures { Takes (spec.primary depth_left (spec.inside_of depth_left) ts.old) result ts.old ts.new }
 {
-    match ts.kind() {
-        Some(Kind::Word(_)) => named(alloc, ts, room),
-        Some(Kind::Symbol(Symbol::Open)) => group(alloc, ts, room),
+    match ts.peek() {
+        Some(Kind::Word(_)) => named(alloc, ts, depth_left),
+        Some(Kind::Symbol(Symbol::Open)) => parenthesized(alloc, ts, depth_left),
         _ => Ok(Expression::Constant(constant(ts)?)),
     }
 }
 
+/// `'-' primary`
 #[cycle(parser)]
-#[tactic(auto, unfolding(crate::specs::Reading::negation))]
-fn negation(alloc: Global, ts: &mut Cursor<'_>, room: u8) -> Result<Expression, ReadFault>
-    ensures read { Reads (spec.negation room (spec.inside_of room) ts.old) result ts.new }
-    ensures shorter { OnOk result (length ts.new < length ts.old) }
+#[tactic(auto, unfolding(crate::specs::Reader::negation))]
+fn negation(alloc: Global, ts: &mut Cursor<'_>, depth_left: u8) -> Result<Expression, ReadFault>
+    ensures { Takes (spec.negation depth_left (spec.inside_of depth_left) ts.old) result ts.old ts.new }
 {
-    let position = ts.skip();
-    let operand = primary(alloc, ts, room)?;
-    Ok(Expression::Negate(position, boxed(alloc, operand)?))
+    let position = ts.bump();
+    let operand = primary(alloc, ts, depth_left)?;
+    Ok(Expression::Negate(position, Boxed::new(alloc, operand)?))
 }
 
+/// `NOT primary`
 #[cycle(parser)]
-#[tactic(auto, unfolding(crate::specs::Reading::complement))]
-fn complement(alloc: Global, ts: &mut Cursor<'_>, room: u8) -> Result<Expression, ReadFault>
-    ensures read { Reads (spec.complement room (spec.inside_of room) ts.old) result ts.new }
-    ensures shorter { OnOk result (length ts.new < length ts.old) }
+#[tactic(auto, unfolding(crate::specs::Reader::complement))]
+fn complement(alloc: Global, ts: &mut Cursor<'_>, depth_left: u8) -> Result<Expression, ReadFault>
+    ensures { Takes (spec.complement depth_left (spec.inside_of depth_left) ts.old) result ts.old ts.new }
 {
-    let position = ts.skip();
-    let operand = primary(alloc, ts, room)?;
-    Ok(Expression::Not(position, boxed(alloc, operand)?))
+    let position = ts.bump();
+    let operand = primary(alloc, ts, depth_left)?;
+    Ok(Expression::Not(position, Boxed::new(alloc, operand)?))
 }
 
-/// An operand. A `-` before a number belongs to the number.
+/// `[ '-' | NOT ] primary`. A `-` before a number belongs to the number.
 #[cycle(parser)]
-#[tactic(auto, unfolding(crate::specs::Reading::unary))]
-fn unary(alloc: Global, ts: &mut Cursor<'_>, room: u8) -> Result<Expression, ReadFault>
-    ensures read { Reads (spec.unary room (spec.inside_of room) ts.old) result ts.new }
-    ensures shorter { OnOk result (length ts.new < length ts.old) }
+#[tactic(auto, unfolding(crate::specs::Reader::unary))]
+fn unary(alloc: Global, ts: &mut Cursor<'_>, depth_left: u8) -> Result<Expression, ReadFault>
+    ensures { Takes (spec.unary depth_left (spec.inside_of depth_left) ts.old) result ts.old ts.new }
 {
-    match ts.kind() {
-        Some(Kind::Keyword(Keyword::Not)) => complement(alloc, ts, room),
+    match ts.peek() {
+        Some(Kind::Keyword(Keyword::Not)) => complement(alloc, ts, depth_left),
         Some(Kind::Symbol(Symbol::Minus)) => {
             if is_before_number(ts) {
-                primary(alloc, ts, room)
+                primary(alloc, ts, depth_left)
             } else {
-                negation(alloc, ts, room)
+                negation(alloc, ts, depth_left)
             }
         }
-        _ => primary(alloc, ts, room),
+        _ => primary(alloc, ts, depth_left),
     }
 }
 
+/// `operator operand`, where the operator has precedence `precedence + 1`
 #[cycle(parser)]
-#[tactic(auto, unfolding(crate::specs::Reading::operation))]
-fn operation(alloc: Global, ts: &mut Cursor<'_>, room: u8, rank: u8) -> Result<Operation, ReadFault>
-    requires { rank < 7 }
-    ensures read { Reads (spec.operation (spec.rank room (spec.inside_of room) rank) ts.old) result ts.new }
-    ensures shorter { OnOk result (length ts.new < length ts.old) }
+#[tactic(auto, unfolding(crate::specs::Reader::operation))]
+fn operation(
+    alloc: Global,
+    ts: &mut Cursor<'_>,
+    depth_left: u8,
+    precedence: u8,
+) -> Result<Operation, ReadFault>
+    requires { precedence < 7 }
+    ensures { Takes (spec.operation (spec.binary depth_left (spec.inside_of depth_left) precedence) ts.old) result ts.old ts.new }
 {
     let found = operator_at(ts);
-    let position = ts.skip();
+    let position = ts.bump();
     match found {
         Some(operator) => {
-            let operand = level(alloc, ts, room, rank)?;
+            let operand = binary(alloc, ts, depth_left, precedence)?;
             Ok(Operation {
                 position,
                 operator,
@@ -415,25 +396,26 @@ fn operation(alloc: Global, ts: &mut Cursor<'_>, room: u8, rank: u8) -> Result<O
     }
 }
 
+/// `{ operator operand }`
 #[cycle(parser)]
 fn operations(
     alloc: Global,
     ts: &mut Cursor<'_>,
-    room: u8,
-    rank: u8,
+    depth_left: u8,
+    precedence: u8,
 ) -> Result<List<Operation>, ReadFault>
-    requires { rank < 7 }
-    ensures read { Reads (spec.operations (spec.rank room (spec.inside_of room) rank) rank ts.old) result ts.new }
-    ensures shorter { OnOk result (length ts.new ≤ length ts.old) }
+    requires { precedence < 7 }
+    ensures { MayTake (spec.operations (spec.binary depth_left (spec.inside_of depth_left) precedence) precedence ts.old) result ts.old ts.new }
 {
     let mut found = List::new(alloc);
-    'items: while is_operator(ts, rank) {
-        let item = operation(alloc, ts, room, rank)?;
+    'items: while is_operator(ts, precedence) {
+        let item = operation(alloc, ts, depth_left, precedence)?;
         found.push(item)?;
     }
     Ok(found)
 }
 
+/// The first operand and the operations behind it, or the operand alone where there are none.
 fn chain(
     alloc: Global,
     position: Position,
@@ -446,31 +428,43 @@ fn chain(
     if operations.is_empty() {
         return Ok(first);
     }
-    Ok(Expression::Chain(position, boxed(alloc, first)?, operations))
+    Ok(Expression::Chain(position, Boxed::new(alloc, first)?, operations))
 }
 
-/// An expression whose operators are of this rank or lower.
+/// `operand { operator operand }`, where the operators have this precedence, and the operands the next that binds first
 #[cycle(parser)]
-#[tactic(auto, unfolding(crate::specs::Reading::rank))]
-fn level(alloc: Global, ts: &mut Cursor<'_>, room: u8, rank: u8) -> Result<Expression, ReadFault>
-    requires { rank ≤ 7 }
-    ensures read { Reads (spec.rank room (spec.inside_of room) rank ts.old) result ts.new }
-    ensures shorter { OnOk result (length ts.new < length ts.old) }
+#[tactic(auto, unfolding(crate::specs::Reader::binary))]
+fn binary(
+    alloc: Global,
+    ts: &mut Cursor<'_>,
+    depth_left: u8,
+    precedence: u8,
+) -> Result<Expression, ReadFault>
+    requires { precedence ≤ 7 }
+    ensures { Takes (spec.binary depth_left (spec.inside_of depth_left) precedence ts.old) result ts.old ts.new }
 {
-    if rank == 0 {
-        return unary(alloc, ts, room);
+    if precedence == 0 {
+        return unary(alloc, ts, depth_left);
     }
     let position = ts.position();
-    let first = level(alloc, ts, room, rank - 1)?;
-    let operations = operations(alloc, ts, room, rank - 1)?;
+    let first = binary(alloc, ts, depth_left, precedence - 1)?;
+    let operations = operations(alloc, ts, depth_left, precedence - 1)?;
     chain(alloc, position, first, operations)
 }
 
-/// Takes an expression. `room` more levels may be opened.
-#[tactic(auto, unfolding(crate::specs::Reading::expression))]
-pub fn expression(alloc: Global, ts: &mut Cursor<'_>, room: u8) -> Result<Expression, ReadFault>
-    ensures read { Reads (spec.expression room ts.old) result ts.new }
-    ensures shorter { OnOk result (length ts.new < length ts.old) }
+/// `expression`. `depth_left` more levels may be opened.
+#[tactic(auto, unfolding(crate::specs::Reader::expression))]
+pub fn expression(
+    alloc: Global,
+    ts: &mut Cursor<'_>,
+    depth_left: u8,
+) -> Result<Expression, ReadFault>
+    ensures { Takes (spec.expression depth_left ts.old) result ts.old ts.new }
 {
-    level(alloc, ts, room, TOP)
+    binary(alloc, ts, depth_left, LOOSEST)
 }
+
+/// What is read as an expression, up to the last token, is what the grammar has, with at most so many open levels.
+pub fn expression_is_its_grammar()
+    ensures { (depth_left : ℕ) (ts : Items Tok) (x : names.Expression) → (spec.expression depth_left ts ≡ Ok (x, [])) ↔ (IsExpression ts x [] × IsWithin depth_left ts) }
+{}

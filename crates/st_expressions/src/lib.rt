@@ -2,7 +2,4 @@
 #![tactic(auto)]
 
 pub mod constant;
-pub mod cursor;
 pub mod expression;
-pub mod fault;
-pub mod token;

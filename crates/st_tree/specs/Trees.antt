@@ -6,7 +6,9 @@ use Rattle.st_tree.specs.declared.tree.expression.Part.{Part, fold-Part}
 use Rattle.st_tree.specs.declared.tree.expression.Variable.{Variable, fold-Variable}
 use Rattle.st_tree.specs.declared.tree.expression.Argument.TheOpen.{Argument-F, Expression-F, Part-F}
 use Rattle.st_tree.specs.declared.tree.statement.CaseElement.{CaseElement, fold-CaseElement}
+use Rattle.st_tree.specs.declared.tree.statement.CaseStatement.{CaseStatement, fold-CaseStatement}
 use Rattle.st_tree.specs.declared.tree.statement.ConditionalPart.{ConditionalPart, fold-ConditionalPart}
+use Rattle.st_tree.specs.declared.tree.statement.IfStatement.{IfStatement, fold-IfStatement}
 use Rattle.st_tree.specs.declared.tree.statement.Statement.{Statement, fold-Statement}
 use Rattle.st_tree.specs.declared.tree.statement.Statement.TheOpen.{Statement-F}
 
@@ -46,18 +48,24 @@ variable_has_call x = fold-Variable Bool Bool Bool Bool Bool Bool call_in_argume
 abbrev pub part_has_call : Part → Bool
 part_has_call x = fold-Part Bool Bool Bool Bool Bool Bool call_in_argument call_in_expression call_in_part (λ c. true) (λ o. o.operand) (λ v. any v.parts) x
 
-abbrev pub exit_in_statement : Statement-F Bool Bool Bool → Bool
+abbrev pub exit_in_statement : Statement-F Bool Bool Bool Bool Bool Bool Bool Bool → Bool
 exit_in_statement (Statement-F.Exit p) = true
-exit_in_statement (Statement-F.If p cs ss) = any cs || any ss
-exit_in_statement (Statement-F.Case p x cs ss) = any cs || any ss
+exit_in_statement (Statement-F.If s) = s
+exit_in_statement (Statement-F.Case s) = s
 exit_in_statement _ = false
 
 -- EXIT stands in the statement, and in no loop in it
 abbrev pub has_exit : Statement → Bool
-has_exit x = fold-Statement Bool Bool Bool exit_in_statement (λ c. any c.statements) (λ c. any c.statements) x
+has_exit x = fold-Statement Bool Bool Bool Bool Bool Bool Bool Bool exit_in_statement (λ e. any e.statements) (λ s. any s.cases || any s.otherwise) (λ c. any c.statements) (λ s. false) (λ s. any s.parts || any s.otherwise) (λ s. false) (λ s. false) x
 
-abbrev pub branch_has_exit : ConditionalPart → Bool
-branch_has_exit x = fold-ConditionalPart Bool Bool Bool exit_in_statement (λ c. any c.statements) (λ c. any c.statements) x
+abbrev pub if_has_exit : IfStatement → Bool
+if_has_exit x = fold-IfStatement Bool Bool Bool Bool Bool Bool Bool Bool exit_in_statement (λ e. any e.statements) (λ s. any s.cases || any s.otherwise) (λ c. any c.statements) (λ s. false) (λ s. any s.parts || any s.otherwise) (λ s. false) (λ s. false) x
 
-abbrev pub case_has_exit : CaseElement → Bool
-case_has_exit x = fold-CaseElement Bool Bool Bool exit_in_statement (λ c. any c.statements) (λ c. any c.statements) x
+abbrev pub case_has_exit : CaseStatement → Bool
+case_has_exit x = fold-CaseStatement Bool Bool Bool Bool Bool Bool Bool Bool exit_in_statement (λ e. any e.statements) (λ s. any s.cases || any s.otherwise) (λ c. any c.statements) (λ s. false) (λ s. any s.parts || any s.otherwise) (λ s. false) (λ s. false) x
+
+abbrev pub conditional_has_exit : ConditionalPart → Bool
+conditional_has_exit x = fold-ConditionalPart Bool Bool Bool Bool Bool Bool Bool Bool exit_in_statement (λ e. any e.statements) (λ s. any s.cases || any s.otherwise) (λ c. any c.statements) (λ s. false) (λ s. any s.parts || any s.otherwise) (λ s. false) (λ s. false) x
+
+abbrev pub element_has_exit : CaseElement → Bool
+element_has_exit x = fold-CaseElement Bool Bool Bool Bool Bool Bool Bool Bool exit_in_statement (λ e. any e.statements) (λ s. any s.cases || any s.otherwise) (λ c. any c.statements) (λ s. false) (λ s. any s.parts || any s.otherwise) (λ s. false) (λ s. false) x

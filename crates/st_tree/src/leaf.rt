@@ -1,8 +1,8 @@
-//! The leaves of a program: what has a value while it runs.
+//! The leaves of a program: what has a value while it runs. They are variables, and no part of the syntax.
 use crate::list::List;
 use st_values::{Elem, Value};
 
-/// What a leaf is for.
+/// What a variable of a running program is for. It is no part of the syntax.
 #[derive(Clone, Copy, Debug, PartialEq, Eq)]
 pub enum Role {
     /// A variable that an operator may write and force.
@@ -19,7 +19,9 @@ pub enum Role {
     StepTime,
 }
 
-/// A leaf: a part of the main program that holds one value of an elementary type.
+/// A leaf: a variable of the main program, or a part of one, that holds one value of an elementary type.
+///
+/// It is no part of the syntax: the tree of a program has declarations, and its layout the leaves.
 #[derive(Drop)]
 pub struct Leaf {
     /// Its name from the program on, in upper case, as `MAIN.A`.

@@ -11,5 +11,5 @@ pub mod tree;
 pub use boxed::Boxed;
 pub use leaf::{Leaf, Role};
 pub use list::List;
-pub use name::Name;
+pub use name::{MAX_NAME_BYTES, Name};
 pub use operator::BinOp;

@@ -54,6 +54,13 @@ impl<T> List<T> {
     {
         self.items.as_slice()
     }
+
+    /// Gives back the memory that the items don't need.
+    pub fn shrink_to_fit(&mut self)
+        ensures { self.new ≡ self.old }
+    {
+        self.items.shrink_to_fit();
+    }
 }
 
 impl<T: Copy> List<T> {
@@ -67,11 +74,14 @@ impl<T: Copy> List<T> {
 }
 
 impl<T: Drop> List<T> {
-    /// Puts an item behind the others.
+    /// Puts an item behind the others. The first takes room for itself alone, since most lists have one item.
     pub fn push(&mut self, item: T) -> Result<(), AllocError>
         ensures ok { OnOk result (self.new ≡ self.old ++ item ∷ []) }
         ensures err { OnErr result (self.new ≡ self.old) }
     {
+        if self.is_empty() {
+            self.items.reserve_exact(1)?;
+        }
         self.items.push(item)?;
         Ok(())
     }

@@ -3,14 +3,14 @@ ghost use Rattle.std.specs.Prelude.{◌≡◌, ◌≤◌, ◌-◌, ◌↔◌, �
 
 use std::marker::Model;
 
-/// The most bytes of a name.
-const MOST_BYTES: usize = 128;
+/// The most bytes that a name may have.
+pub const MAX_NAME_BYTES: usize = 128;
 
 /// A name of at most 128 bytes. It is copied, and takes no memory.
 #[derive(Clone, Copy)]
 pub struct Name {
     /// The name, and zeros after it.
-    bytes: [u8; MOST_BYTES],
+    bytes: [u8; MAX_NAME_BYTES],
     len: usize,
 }
 
@@ -35,7 +35,7 @@ impl Name {
         ensures name { IfSome result (λ name. name ≡ text.now) }
         ensures short { IsSome result ↔ (length text.now ≤ 128) }
     {
-        if text.len() > MOST_BYTES {
+        if text.len() > MAX_NAME_BYTES {
             return None;
         }
         Some(Name {
@@ -54,11 +54,11 @@ impl Name {
 }
 
 /// The bytes, with zeros after them.
-fn padded(text: &[u8]) -> [u8; MOST_BYTES]
+fn padded(text: &[u8]) -> [u8; MAX_NAME_BYTES]
     requires { length text.now ≤ 128 }
     ensures { result ≡ text.now ++ replicate (128 - length text.now) 0 }
 {
-    let mut bytes = [0; MOST_BYTES];
+    let mut bytes = [0; MAX_NAME_BYTES];
     for (i, byte) in text.iter().enumerate() {
         bytes[i] = *byte;
     }

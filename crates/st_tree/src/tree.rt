@@ -11,14 +11,17 @@ mod unit;
 
 pub use constant::{Constant, Duration, SignedInteger};
 pub use declaration::{
-    ArrayElement, Declaration, DeclaredType, Initial, VarKind, Specification, Subrange, TypeName,
-    VarBlock,
+    ArrayElement, Declaration, DeclaredType, Initial, Specification, Subrange, TypeName, VarBlock,
+    VarKind,
 };
 pub use expression::{Argument, Call, Expression, Operation, Part, Variable};
 pub use position::{Identifier, Position};
 pub use search::{has_call, has_exit};
-pub use statement::{CaseElement, ConditionalPart, Label, Statement};
+pub use statement::{
+    CaseElement, CaseStatement, ConditionalPart, ForStatement, IfStatement, Label, RepeatStatement,
+    Statement, WhileStatement,
+};
 pub use unit::{
-    Action, ActionQualifier, Association, Body, ChartElement, Function, Pou, Step,
-    Transition, TypeDeclaration, Unit,
+    Action, ActionQualifier, Association, Body, ChartElement, Function, Pou, Step, Transition,
+    TypeDeclaration, Unit,
 };

@@ -16,7 +16,6 @@ pub struct SignedInteger {
 /// A duration (2.2.3.1).
 #[derive(Clone, Copy, Debug, PartialEq, Eq)]
 pub struct Duration {
-    /// Where it stands.
     pub position: Position,
     /// In milliseconds. Each outside -2^63 to 2^63 - 1 counts as 2^64.
     pub milliseconds: i128,
@@ -29,7 +28,6 @@ pub enum Constant {
     Integer(SignedInteger),
     /// A typed literal, as `INT#5`. Its number may lie outside the type's range.
     Typed(Position, Value),
-    /// A duration.
     Duration(Duration),
     /// `TRUE` or `FALSE`.
     Bool(Position, bool),

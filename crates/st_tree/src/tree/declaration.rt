@@ -1,4 +1,5 @@
 //! Declarations of variables and types (2.3.3, 2.4.3).
+use crate::boxed::Boxed;
 use crate::list::List;
 use crate::tree::constant::{Constant, SignedInteger};
 use crate::tree::position::{Identifier, Position};
@@ -7,7 +8,6 @@ use st_values::Elem;
 /// The name of a type.
 #[derive(Drop)]
 pub enum TypeName {
-    /// An elementary type.
     Elementary(Position, Elem),
     /// A declared type, or a function block.
     Declared(Identifier),
@@ -28,7 +28,7 @@ pub enum Specification {
     /// One of a named type.
     Simple(TypeName),
     /// `ARRAY`: its subscripts, and the type of its elements.
-    Array(Position, List<Subrange>, TypeName),
+    Array(Position, List<Subrange>, Boxed<TypeName>),
 }
 
 /// An initial value (2.4.2).
@@ -41,23 +41,22 @@ pub enum Initial {
 }
 
 /// A part of an array's initial values.
-#[derive(Clone, Copy, Debug, PartialEq, Eq)]
+#[derive(Drop)]
 pub enum ArrayElement {
     /// One element.
     Single(Constant),
     /// So many elements in a row, of this value or of the one that their type has.
-    Repeated(Position, u128, Option<Constant>),
+    Repeated(Position, u128, Option<Boxed<Constant>>),
 }
 
 /// Names that are declared together, as variables or as a member.
 #[derive(Drop)]
 pub struct Declaration {
-    /// The names, in order.
     pub names: List<Identifier>,
     /// What each of them is.
     pub specification: Specification,
     /// With which value it begins, where one is written.
-    pub initial: Option<Initial>,
+    pub initial: Option<Boxed<Initial>>,
 }
 
 /// What the variables of a block of declarations are for (2.4.3, table 16).
@@ -80,7 +79,6 @@ pub struct VarBlock {
     pub position: Position,
     /// What its variables are for. RETAIN and NON_RETAIN have no effect, and aren't kept.
     pub kind: VarKind,
-    /// The declarations, in order.
     pub declarations: List<Declaration>,
 }
 
@@ -88,7 +86,7 @@ pub struct VarBlock {
 #[derive(Drop)]
 pub enum DeclaredType {
     /// Another type, or an array, and the value with which its variables begin, where one is written.
-    Derived(Specification, Option<Initial>),
+    Derived(Specification, Option<Boxed<Initial>>),
     /// A structure of these members. Each declares one name.
     Structure(Position, List<Declaration>),
 }

@@ -9,11 +9,9 @@ use crate::tree::position::{Identifier, Position};
 #[cycle(expression)]
 #[derive(Drop)]
 pub enum Expression {
-    /// A literal.
     Constant(Constant),
     /// The value of a variable.
     Variable(Variable),
-    /// A call of a function.
     Call(Call),
     /// An expression in parentheses.
     Parenthesized(Position, Boxed<Expression>),
@@ -32,7 +30,6 @@ pub enum Expression {
 pub struct Operation {
     /// Where the operator stands.
     pub position: Position,
-    /// The operator.
     pub operator: BinOp,
     /// The operand behind it.
     pub operand: Expression,
@@ -75,7 +72,7 @@ pub enum Argument {
     /// A value for the parameter at this position.
     Positional(Expression),
     /// A value for an input, by name.
-    Input(Identifier, Expression),
+    Input(Identifier, Boxed<Expression>),
     /// An output, by name, and the variable that takes it.
-    Output(Identifier, Variable),
+    Output(Identifier, Boxed<Variable>),
 }

@@ -13,8 +13,6 @@ pub struct Position {
 /// A name, spelled as in the text. Names are the same where they differ in case only.
 #[derive(Drop)]
 pub struct Identifier {
-    /// Where it stands.
     pub position: Position,
-    /// Its bytes.
     pub spelling: List<u8>,
 }

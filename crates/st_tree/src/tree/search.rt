@@ -1,9 +1,9 @@
 //! Whether something stands in a tree.
 ghost use Rattle.std.specs.Prelude.{◌≡◌, map};
-ghost use Rattle.st_tree.specs.Trees.{any, branch_has_exit, case_has_exit, has_call, has_exit, operation_has_call, part_has_call, variable_has_call};
+ghost use Rattle.st_tree.specs.Trees.{any, case_has_exit, conditional_has_exit, element_has_exit, has_call, has_exit, if_has_exit, operation_has_call, part_has_call, variable_has_call};
 
 use crate::tree::expression::{Expression, Operation, Part, Variable};
-use crate::tree::statement::{CaseElement, ConditionalPart, Statement};
+use crate::tree::statement::{CaseElement, CaseStatement, ConditionalPart, IfStatement, Statement};
 
 /// Whether EXIT stands in the statement, outside the loops in it.
 #[cycle(exit)]
@@ -12,14 +12,24 @@ pub fn has_exit(statement: &Statement) -> bool
 {
     match statement {
         Statement::Exit(_) => true,
-        Statement::If(_, branches, others) => {
-            any_branch(branches.as_slice()) || any_statement(others.as_slice())
-        }
-        Statement::Case(_, _, cases, others) => {
-            any_case(cases.as_slice()) || any_statement(others.as_slice())
-        }
+        Statement::If(found) => if_has_exit(found.get()),
+        Statement::Case(found) => case_has_exit(found.get()),
         _ => false,
     }
+}
+
+#[cycle(exit)]
+fn if_has_exit(statement: &IfStatement) -> bool
+    ensures { result ≡ if_has_exit statement.now }
+{
+    any_conditional(statement.parts.as_slice()) || any_statement(statement.otherwise.as_slice())
+}
+
+#[cycle(exit)]
+fn case_has_exit(statement: &CaseStatement) -> bool
+    ensures { result ≡ case_has_exit statement.now }
+{
+    any_element(statement.cases.as_slice()) || any_statement(statement.otherwise.as_slice())
 }
 
 #[cycle(exit)]
@@ -35,18 +45,18 @@ fn any_statement(statements: &[Statement]) -> bool
 }
 
 #[cycle(exit)]
-fn branch_has_exit(branch: &ConditionalPart) -> bool
-    ensures { result ≡ branch_has_exit branch.now }
+fn conditional_has_exit(part: &ConditionalPart) -> bool
+    ensures { result ≡ conditional_has_exit part.now }
 {
-    any_statement(branch.statements.as_slice())
+    any_statement(part.statements.as_slice())
 }
 
 #[cycle(exit)]
-fn any_branch(branches: &[ConditionalPart]) -> bool
-    ensures { result ≡ any (map branch_has_exit branches.now) }
+fn any_conditional(parts: &[ConditionalPart]) -> bool
+    ensures { result ≡ any (map conditional_has_exit parts.now) }
 {
-    'items: for item in branches {
-        if branch_has_exit(item) {
+    'items: for item in parts {
+        if conditional_has_exit(item) {
             return true;
         }
     }
@@ -54,18 +64,18 @@ fn any_branch(branches: &[ConditionalPart]) -> bool
 }
 
 #[cycle(exit)]
-fn case_has_exit(case: &CaseElement) -> bool
-    ensures { result ≡ case_has_exit case.now }
+fn element_has_exit(element: &CaseElement) -> bool
+    ensures { result ≡ element_has_exit element.now }
 {
-    any_statement(case.statements.as_slice())
+    any_statement(element.statements.as_slice())
 }
 
 #[cycle(exit)]
-fn any_case(cases: &[CaseElement]) -> bool
-    ensures { result ≡ any (map case_has_exit cases.now) }
+fn any_element(elements: &[CaseElement]) -> bool
+    ensures { result ≡ any (map element_has_exit elements.now) }
 {
-    'items: for item in cases {
-        if case_has_exit(item) {
+    'items: for item in elements {
+        if element_has_exit(item) {
             return true;
         }
     }

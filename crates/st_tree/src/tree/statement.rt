@@ -1,33 +1,102 @@
 //! Statements (3.3.2).
+use crate::boxed::Boxed;
 use crate::list::List;
 use crate::tree::constant::Constant;
 use crate::tree::expression::{Call, Expression, Variable};
 use crate::tree::position::{Identifier, Position};
 
-/// A statement.
+/// A statement. What it holds stands in boxes, since there may be as many statements as bytes of a text.
 #[cycle(statement)]
 #[derive(Drop)]
 pub enum Statement {
     /// `;` alone. The position is its own.
     Empty(Position),
     /// The variable takes the value.
-    Assignment(Variable, Expression),
+    Assignment(Boxed<Variable>, Boxed<Expression>),
     /// An invocation.
-    Call(Call),
+    Call(Boxed<Call>),
     /// `RETURN`
     Return(Position),
     /// `EXIT`
     Exit(Position),
-    /// `IF`: the parts of IF and of each ELSIF, and the statements of ELSE. Without ELSE there are none.
-    If(Position, List<ConditionalPart>, List<Statement>),
-    /// `CASE`: the selector, the cases, and the statements of ELSE. Without ELSE there are none.
-    Case(Position, Expression, List<CaseElement>, List<Statement>),
-    /// `FOR`: the variable, its first and its last value, the step where BY names one, and the statements.
-    For(Position, Identifier, Expression, Expression, Option<Expression>, List<Statement>),
-    /// `WHILE`: the condition, and the statements.
-    While(Position, Expression, List<Statement>),
-    /// `REPEAT`: the statements, and the condition behind UNTIL.
-    Repeat(Position, List<Statement>, Expression),
+    /// `IF`
+    If(Boxed<IfStatement>),
+    /// `CASE`
+    Case(Boxed<CaseStatement>),
+    /// `FOR`
+    For(Boxed<ForStatement>),
+    /// `WHILE`
+    While(Boxed<WhileStatement>),
+    /// `REPEAT`
+    Repeat(Boxed<RepeatStatement>),
+}
+
+/// The first part whose condition is TRUE runs, or else the statements of ELSE (3.3.2.3).
+#[cycle(statement)]
+#[derive(Drop)]
+pub struct IfStatement {
+    /// Where it begins.
+    pub position: Position,
+    /// Those of IF and of each ELSIF, in order.
+    pub parts: List<ConditionalPart>,
+    /// Behind ELSE. Without ELSE there are none.
+    pub otherwise: List<Statement>,
+}
+
+/// The first case that has the selector's value runs, or else the statements of ELSE (3.3.2.3).
+#[cycle(statement)]
+#[derive(Drop)]
+pub struct CaseStatement {
+    /// Where it begins.
+    pub position: Position,
+    /// Behind CASE.
+    pub selector: Expression,
+    /// Behind OF, in order.
+    pub cases: List<CaseElement>,
+    /// Behind ELSE. Without ELSE there are none.
+    pub otherwise: List<Statement>,
+}
+
+/// The statements run once for each value of a variable (3.3.2.4).
+#[cycle(statement)]
+#[derive(Drop)]
+pub struct ForStatement {
+    /// Where it begins.
+    pub position: Position,
+    /// Behind FOR.
+    pub variable: Identifier,
+    /// Its first value, behind `:=`.
+    pub first: Expression,
+    /// Its last value, behind TO.
+    pub last: Expression,
+    /// How far apart two values are. Without BY it is 1.
+    pub step: Option<Expression>,
+    /// Behind DO.
+    pub statements: List<Statement>,
+}
+
+/// The statements run as long as the condition is TRUE, which may be never (3.3.2.4).
+#[cycle(statement)]
+#[derive(Drop)]
+pub struct WhileStatement {
+    /// Where it begins.
+    pub position: Position,
+    /// Behind WHILE.
+    pub condition: Expression,
+    /// Behind DO.
+    pub statements: List<Statement>,
+}
+
+/// The statements run once, and again until the condition is TRUE (3.3.2.4).
+#[cycle(statement)]
+#[derive(Drop)]
+pub struct RepeatStatement {
+    /// Where it begins.
+    pub position: Position,
+    /// Behind REPEAT.
+    pub statements: List<Statement>,
+    /// Behind UNTIL.
+    pub condition: Expression,
 }
 
 /// A condition, and what runs where it is the first that is TRUE.
@@ -51,10 +120,10 @@ pub struct CaseElement {
 }
 
 /// A label of a case.
-#[derive(Clone, Copy, Debug, PartialEq, Eq)]
+#[derive(Drop)]
 pub enum Label {
     /// One value.
     Value(Constant),
     /// All values from the first to the second.
-    Range(Constant, Constant),
+    Range(Boxed<Constant>, Boxed<Constant>),
 }

@@ -12,18 +12,14 @@ use st_values::Elem;
 pub enum Unit {
     /// `TYPE`: the types that it declares.
     Types(Position, List<TypeDeclaration>),
-    /// A function.
     Function(Function),
-    /// A function block.
     FunctionBlock(Pou),
-    /// A program.
     Program(Pou),
 }
 
 /// A declared type.
 #[derive(Drop)]
 pub struct TypeDeclaration {
-    /// Its name.
     pub name: Identifier,
     /// What it stands for.
     pub declared: DeclaredType,
@@ -38,7 +34,6 @@ pub struct Function {
     pub name: Identifier,
     /// The type of its result.
     pub result: Elem,
-    /// Its variables.
     pub variables: List<VarBlock>,
     /// What it does.
     pub statements: List<Statement>,
@@ -49,9 +44,7 @@ pub struct Function {
 pub struct Pou {
     /// Where it begins.
     pub position: Position,
-    /// Its name.
     pub name: Identifier,
-    /// Its variables.
     pub variables: List<VarBlock>,
     /// What it does.
     pub body: Body,
@@ -69,11 +62,8 @@ pub enum Body {
 /// An element of a sequential function chart (2.6).
 #[derive(Drop)]
 pub enum ChartElement {
-    /// A step.
     Step(Step),
-    /// A transition.
     Transition(Transition),
-    /// An action.
     Action(Action),
 }
 
@@ -84,7 +74,6 @@ pub struct Step {
     pub position: Position,
     /// Whether it is an initial step.
     pub is_initial: bool,
-    /// Its name.
     pub name: Identifier,
     /// The actions that it is associated with.
     pub associations: List<Association>,
@@ -130,7 +119,6 @@ pub struct Transition {
 pub struct Action {
     /// Where it begins.
     pub position: Position,
-    /// Its name.
     pub name: Identifier,
     /// What it does.
     pub statements: List<Statement>,

@@ -1,90 +1,85 @@
 use Rattle.std.proofs.Common.{◌+◌, ◌*◌, ◌≤◌, [], length}
-use Rattle.st_expressions.specs.Parsers as parser
-use Rattle.st_expressions.specs.Reading as spec
-use Rattle.st_expressions.proofs.Loops.{Left}
+use Rattle.st_parser.specs.Reader.Parsers as parser
+use Rattle.st_tokens.specs.declared.symbol.Symbol.TheVariants as s
+use Rattle.st_expressions.specs.Reader as spec
+use Rattle.st_parser.proofs.Loops.{Left}
 use Rattle.st_expressions.proofs.expression.+parser.Given as goal
 
 abbrev pub decreases-inside : goal.decreases-inside
-decreases-inside l = 40 * l.room
+decreases-inside l = 40 * l.depth_left
 
 abbrev pub decreases-target : goal.decreases-target
-decreases-target l = 40 * l.room
-
-abbrev pub decreases-next_expression : goal.decreases-next_expression
-decreases-next_expression l = 40 * l.room + 1
+decreases-target l = 40 * l.depth_left
 
 abbrev pub decreases-expressions : goal.decreases-expressions
-decreases-expressions l = 40 * l.room + 2
+decreases-expressions l = 40 * l.depth_left + 2
 
 abbrev pub decreases-subscripts : goal.decreases-subscripts
-decreases-subscripts l = 40 * l.room + 3
+decreases-subscripts l = 40 * l.depth_left + 3
 
 abbrev pub decreases-part : goal.decreases-part
-decreases-part l = 40 * l.room + 4
+decreases-part l = 40 * l.depth_left + 4
 
 abbrev pub decreases-parts : goal.decreases-parts
-decreases-parts l = 40 * l.room + 5
+decreases-parts l = 40 * l.depth_left + 5
 
 abbrev pub decreases-variable : goal.decreases-variable
-decreases-variable l = 40 * l.room + 6
+decreases-variable l = 40 * l.depth_left + 6
 
 abbrev pub decreases-input : goal.decreases-input
-decreases-input l = 40 * l.room + 1
+decreases-input l = 40 * l.depth_left + 1
 
 abbrev pub decreases-output : goal.decreases-output
-decreases-output l = 40 * l.room + 1
+decreases-output l = 40 * l.depth_left + 1
 
 abbrev pub decreases-positional : goal.decreases-positional
-decreases-positional l = 40 * l.room + 1
+decreases-positional l = 40 * l.depth_left + 1
 
 abbrev pub decreases-argument : goal.decreases-argument
-decreases-argument l = 40 * l.room + 2
-
-abbrev pub decreases-next_argument : goal.decreases-next_argument
-decreases-next_argument l = 40 * l.room + 3
+decreases-argument l = 40 * l.depth_left + 2
 
 abbrev pub decreases-argument_list : goal.decreases-argument_list
-decreases-argument_list l = 40 * l.room + 4
+decreases-argument_list l = 40 * l.depth_left + 4
 
 abbrev pub decreases-arguments : goal.decreases-arguments
-decreases-arguments l = 40 * l.room + 5
+decreases-arguments l = 40 * l.depth_left + 5
 
 abbrev pub decreases-call : goal.decreases-call
-decreases-call l = 40 * l.room + 6
+decreases-call l = 40 * l.depth_left + 6
 
-abbrev pub decreases-group : goal.decreases-group
-decreases-group l = 40 * l.room + 1
+abbrev pub decreases-parenthesized : goal.decreases-parenthesized
+decreases-parenthesized l = 40 * l.depth_left + 1
 
 abbrev pub decreases-named : goal.decreases-named
-decreases-named l = 40 * l.room + 7
+decreases-named l = 40 * l.depth_left + 7
 
 abbrev pub decreases-primary : goal.decreases-primary
-decreases-primary l = 40 * l.room + 8
+decreases-primary l = 40 * l.depth_left + 8
 
 abbrev pub decreases-negation : goal.decreases-negation
-decreases-negation l = 40 * l.room + 9
+decreases-negation l = 40 * l.depth_left + 9
 
 abbrev pub decreases-complement : goal.decreases-complement
-decreases-complement l = 40 * l.room + 9
+decreases-complement l = 40 * l.depth_left + 9
 
 abbrev pub decreases-unary : goal.decreases-unary
-decreases-unary l = 40 * l.room + 10
+decreases-unary l = 40 * l.depth_left + 10
 
-abbrev pub decreases-level : goal.decreases-level
-decreases-level l = 40 * l.room + 3 * l.rank + 11
+abbrev pub decreases-binary : goal.decreases-binary
+decreases-binary l = 40 * l.depth_left + 3 * l.precedence + 11
 
 abbrev pub decreases-operation : goal.decreases-operation
-decreases-operation l = 40 * l.room + 3 * l.rank + 12
+decreases-operation l = 40 * l.depth_left + 3 * l.precedence + 12
 
 abbrev pub decreases-operations : goal.decreases-operations
-decreases-operations l = 40 * l.room + 3 * l.rank + 13
+decreases-operations l = 40 * l.depth_left + 3 * l.precedence + 13
 
 abbrev pub decreases-expressions-items : goal.decreases-expressions-items
 decreases-expressions-items l = length l.ts
 
 abbrev pub invariant-expressions-items : goal.invariant-expressions-items
 invariant-expressions-items l = record {
-  left : Left parser.is_comma (parser.next_item (spec.inside_of l.room).expression) l.initial.found l.initial.ts l.found l.ts;
+  left : Left (parser.is_symbol s.Comma) (parser.next_item (spec.inside_of l.depth_left).expression) l.initial.found l.initial.ts l.found l.ts;
   shorter : length l.ts ≤ length l.initial.ts;
 }
 
@@ -93,7 +88,7 @@ decreases-argument_list-items l = length l.ts
 
 abbrev pub invariant-argument_list-items : goal.invariant-argument_list-items
 invariant-argument_list-items l = record {
-  left : Left parser.is_comma (parser.next_item (spec.argument (spec.inside_of l.room))) l.initial.found l.initial.ts l.found l.ts;
+  left : Left (parser.is_symbol s.Comma) (parser.next_item (spec.argument (spec.inside_of l.depth_left))) l.initial.found l.initial.ts l.found l.ts;
   shorter : length l.ts ≤ length l.initial.ts;
 }
 
@@ -102,7 +97,7 @@ decreases-parts-items l = length l.ts
 
 abbrev pub invariant-parts-items : goal.invariant-parts-items
 invariant-parts-items l = record {
-  left : Left spec.begins_part (spec.part_of l.room (spec.inside_of l.room)) [] l.initial.ts l.found l.ts;
+  left : Left spec.begins_part (spec.part_of l.depth_left (spec.inside_of l.depth_left)) [] l.initial.ts l.found l.ts;
   shorter : length l.ts ≤ length l.initial.ts;
 }
 
@@ -111,6 +106,6 @@ decreases-operations-items l = length l.ts
 
 abbrev pub invariant-operations-items : goal.invariant-operations-items
 invariant-operations-items l = record {
-  left : Left (spec.is_operator l.rank) (spec.operation (spec.rank l.room (spec.inside_of l.room) l.rank)) [] l.initial.ts l.found l.ts;
+  left : Left (spec.is_operator l.precedence) (spec.operation (spec.binary l.depth_left (spec.inside_of l.depth_left) l.precedence)) [] l.initial.ts l.found l.ts;
   shorter : length l.ts ≤ length l.initial.ts;
 }

@@ -1,0 +1,5 @@
+pub mod Exact
+pub mod Levels
+pub mod Loops
+pub mod ParserLemmas
+pub mod TokenLemmas

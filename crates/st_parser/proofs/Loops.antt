@@ -1,0 +1,151 @@
+-- Loops that read items as long as the first token passes a test.
+use Rattle.std.proofs.Common.{◌≡◌, ℕ, zero, suc, ◌<◌, List, [], ◌∷◌, ◌++◌, length, refl, sym, ap, ◌∙◌, Bool, true, false, arith, append_assoc, append-nil}
+use Rattle.std.specs.Borrow.{Bor}
+use Rattle.st_tokens.specs.declared.symbol.Symbol.TheVariants as s
+use Rattle.std.specs.Prelude.{Option, Ok, Err}
+use Rattle.st_parser.specs.Names.{Kind, ReadFault}
+use Rattle.st_parser.specs.declared.fault.ReadFault.TheVariants as fault
+use Rattle.st_parser.specs.Grammar.Tokens.{Tok, kind}
+use Rattle.st_parser.specs.Reader.Parsers.{Refuses, Refusal, Wrong, Deep, Outcome, Parser, and_then, many_from, many, leading, listed, is_symbol, next_item}
+use Rattle.st_parser.specs.Reader.Functions.{Behind, ReadsAs, TestsAs}
+
+-- what was found before stands before it
+abbrev pub ahead : {A : Type 0} → List A → Outcome (List A) → Outcome (List A)
+ahead xs (Ok y) = Ok (xs ++ y.0, y.1)
+ahead xs (Err r) = Err r
+
+pub ahead_again : {A : Type 0} (xs : List A) (x : A) (o : Outcome (List A)) → ahead (xs ++ x ∷ []) o ≡ ahead xs (ahead (x ∷ []) o)
+ahead_again xs x (Ok y) = ap (λ zs. Ok (zs, y.1)) (append_assoc xs (x ∷ []) y.0)
+ahead_again xs x (Err r) = refl
+
+-- what is found, with what is left to be read, is all that is read from here
+pub record Left {A : Type 0} (test : Option Kind → Bool) (item : Parser A) (found_before : List A) (start : List Tok) (found : List A) (ts : List Tok) : Type 0 where
+  pub turns : ℕ
+  pub enough : length ts < turns
+  pub same : ahead found (many_from test item turns ts) ≡ ahead found_before (many test item start)
+
+module _ {A : Type 0} (test : Option Kind → Bool) (item : Parser A) where
+  pub at_item : (n : ℕ) (ts : List Tok) (x : A) (mid : List Tok) → test (kind ts) ≡ true → item ts ≡ Ok (x, mid)
+      → many_from test item (suc n) ts ≡ ahead (x ∷ []) (many_from test item n mid)
+  unfolding many_from
+  at_item n ts x mid t h = rw (t, h) (plain (many_from test item n mid)) where
+    plain : (o : Outcome (List A)) → and_then o (λ xs us. Ok (x ∷ xs, us)) ≡ ahead (x ∷ []) o
+    plain (Ok y) = refl
+    plain (Err r) = refl
+
+  pub at_end : (n : ℕ) (ts : List Tok) → test (kind ts) ≡ false → many_from test item (suc n) ts ≡ Ok ([], ts)
+  unfolding many_from
+  at_end n ts t = rw t refl
+
+  pub at_err : (n : ℕ) (ts : List Tok) (r : Refusal) → test (kind ts) ≡ true → item ts ≡ Err r → many_from test item (suc n) ts ≡ Err r
+  unfolding many_from
+  at_err n ts r t h = rw (t, h) refl
+
+pub ahead_none : {A : Type 0} (o : Outcome (List A)) → ahead [] o ≡ o
+ahead_none (Ok y) = refl
+ahead_none (Err r) = refl
+
+module _ {A : Type 0} (test : Option Kind → Bool) (item : Parser A) (found_before : List A) (start : List Tok) where
+  pub left_init : Left test item found_before start found_before start
+  unfolding many
+  left_init = record { turns = suc (length start); enough = omega arith; same = refl }
+
+  step_at : (n : ℕ) (found : List A) (ts : List Tok) (x : A) (mid : List Tok) → length ts < n
+      → ahead found (many_from test item n ts) ≡ ahead found_before (many test item start)
+      → test (kind ts) ≡ true → item ts ≡ Ok (x, mid) → length mid < length ts → Left test item found_before start (found ++ x ∷ []) mid
+  step_at zero found ts x mid h s t e l = absurd (omega arith)
+  step_at (suc n) found ts x mid h s t e l = record {
+    turns = n;
+    enough = omega arith;
+    same = ahead_again found x (many_from test item n mid) ∙ ap (ahead found) (sym (at_item test item n ts x mid t e)) ∙ s;
+  }
+
+  pub left_step : (found : List A) (ts : List Tok) (x : A) (mid : List Tok) → Left test item found_before start found ts
+      → test (kind ts) ≡ true → item ts ≡ Ok (x, mid) → length mid < length ts → Left test item found_before start (found ++ x ∷ []) mid
+  left_step found ts x mid w = step_at w.turns found ts x mid w.enough w.same
+
+  end_at : (n : ℕ) (found : List A) (ts : List Tok) → length ts < n
+      → ahead found (many_from test item n ts) ≡ ahead found_before (many test item start)
+      → test (kind ts) ≡ false → ahead found_before (many test item start) ≡ Ok (found, ts)
+  end_at zero found ts h s t = absurd (omega arith)
+  end_at (suc n) found ts h s t = sym s ∙ ap (ahead found) (at_end test item n ts t) ∙ ap (λ zs. Ok (zs, ts)) (append-nil found)
+
+  pub left_end : (found : List A) (ts : List Tok) → Left test item found_before start found ts → test (kind ts) ≡ false → ahead found_before (many test item start) ≡ Ok (found, ts)
+  left_end found ts w = end_at w.turns found ts w.enough w.same
+
+  err_at : (n : ℕ) (found : List A) (ts : List Tok) (r : Refusal) → length ts < n
+      → ahead found (many_from test item n ts) ≡ ahead found_before (many test item start)
+      → test (kind ts) ≡ true → item ts ≡ Err r → ahead found_before (many test item start) ≡ Err r
+  err_at zero found ts r h s t e = absurd (omega arith)
+  err_at (suc n) found ts r h s t e = sym s ∙ ap (ahead found) (at_err test item n ts r t e)
+
+  pub left_err : (found : List A) (ts : List Tok) (r : Refusal) → Left test item found_before start found ts → test (kind ts) ≡ true → item ts ≡ Err r → ahead found_before (many test item start) ≡ Err r
+  left_err found ts r w = err_at w.turns found ts r w.enough w.same
+
+-- a refusal that is passed on
+pub refuses_too : {A B : Type 0} (o : Outcome A) (p : Outcome B) (f : ReadFault) → ((r : Refusal) → o ≡ Err r → p ≡ Err r) → Refuses o f → Refuses p f
+refuses_too o p fault.Memory g h = tt
+refuses_too o p (fault.NotInGrammar line) g h = g Wrong h
+refuses_too o p (fault.TooDeep line) g h = g Deep h
+
+module _ {A : Type 0} (test : Option Kind → Bool) (item : Parser A) (start : List Tok) where
+  pub loop_end : (found : List A) (ts : List Tok) → Left test item [] start found ts → test (kind ts) ≡ false → many test item start ≡ Ok (found, ts)
+  loop_end found ts w t = sym (ahead_none (many test item start)) ∙ left_end test item [] start found ts w t
+
+  pub loop_err : (found : List A) (ts : List Tok) (f : ReadFault) → Left test item [] start found ts → test (kind ts) ≡ true
+      → Refuses (item ts) f → Refuses (many test item start) f
+  loop_err found ts f w t = refuses_too _ _ f (λ r h. sym (ahead_none (many test item start)) ∙ left_err test item [] start found ts r w t h)
+
+-- cc takes Ok apart, and not a pair
+pub ok_parts : {A : Type 0} {x y : A} {ts us : List Tok} → ◌≡◌ {A = Outcome A} (Ok (x, ts)) (Ok (y, us)) → (x ≡ y) × (ts ≡ us)
+ok_parts {A} {x} {y} {ts} {us} h = let e : ◌≡◌ {A = A × List Tok} (x, ts) (y, us) = cc in (ap (λ z. z.0) e, ap (λ z. z.1) e)
+
+pub ahead_ok : {A : Type 0} (x : A) (o : Outcome (List A)) (xs : List A) (rest : List Tok) → ahead (x ∷ []) o ≡ Ok (xs, rest)
+    → (ys : List A) × (o ≡ Ok (ys, rest)) × (xs ≡ x ∷ ys)
+ahead_ok x (Ok y) xs rest h = let e = ok_parts h in (y.0, ap (λ z. Ok (y.0, z)) e.1, sym e.0)
+ahead_ok x (Err r) xs rest h = absurd (cc)
+
+pub ahead_err : {A : Type 0} (x : A) (o : Outcome (List A)) (r : Refusal) → ahead (x ∷ []) o ≡ Err r → o ≡ Err r
+ahead_err x (Ok y) r h = absurd (cc)
+ahead_err x (Err s) r h = cc
+
+module _ {A : Type 0} (head : Parser A) (test : Option Kind → Bool) (item : Parser A) (start mid : List Tok) (x : A) (first : head start ≡ Ok (x, mid)) where
+  as_ahead : (o : Outcome (List A)) → and_then o (λ xs us. Ok (x ∷ xs, us)) ≡ ahead (x ∷ []) o
+  as_ahead (Ok y) = refl
+  as_ahead (Err r) = refl
+
+  leading_is : leading head test item start ≡ ahead (x ∷ []) (many test item mid)
+  unfolding leading
+  leading_is = rw first (as_ahead (many test item mid))
+
+  -- a loop behind the first item
+  pub leading_end : (one found : List A) (ts : List Tok) → one ≡ [] ++ x ∷ [] → Left test item one mid found ts
+      → test (kind ts) ≡ false → leading head test item start ≡ Ok (found, ts)
+  leading_end one found ts e w t = leading_is ∙ ap (λ zs. ahead zs (many test item mid)) (sym e) ∙ left_end test item one mid found ts w t
+
+  pub leading_err : (one found : List A) (ts : List Tok) (f : ReadFault) → one ≡ [] ++ x ∷ [] → Left test item one mid found ts
+      → test (kind ts) ≡ true → Refuses (item ts) f → Refuses (leading head test item start) f
+  leading_err one found ts f e w t = refuses_too _ _ f (λ r h. leading_is ∙ ap (λ zs. ahead zs (many test item mid)) (sym e) ∙ left_err test item one mid found ts r w t h)
+
+-- item { ',' item }
+module _ {A : Type 0} (item : Parser A) (start : List Tok) where
+  pub listed_first : (f : ReadFault) → Refuses (item start) f → Refuses (listed item start) f
+  unfolding listed leading
+  listed_first f h = refuses_too _ _ f (λ r e. rw e refl) h
+
+  pub listed_end : (mid : List Tok) (x : A) → item start ≡ Ok (x, mid) → (one found : List A) (ts : List Tok) → one ≡ [] ++ x ∷ []
+      → Left (is_symbol s.Comma) (next_item item) one mid found ts → is_symbol s.Comma (kind ts) ≡ false → listed item start ≡ Ok (found, ts)
+  unfolding listed
+  listed_end mid x first = leading_end item (is_symbol s.Comma) (next_item item) start mid x first
+
+  pub listed_err : (mid : List Tok) (x : A) → item start ≡ Ok (x, mid) → (one found : List A) (ts : List Tok) (f : ReadFault) → one ≡ [] ++ x ∷ []
+      → Left (is_symbol s.Comma) (next_item item) one mid found ts → is_symbol s.Comma (kind ts) ≡ true → Refuses (next_item item ts) f → Refuses (listed item start) f
+  unfolding listed
+  listed_err mid x first = leading_err item (is_symbol s.Comma) (next_item item) start mid x first
+
+-- for each parser that a passed function reads, what is found with what is left is all of its list
+abbrev pub EachLeft : {A : Type 0} → (Bor (List Tok) → Bool → Type 0) → Behind A → List Tok → List A → List Tok → Type 0
+EachLeft {A} tests post start found ts = (test : Option Kind → Bool) (p : Parser A) → TestsAs test tests → ReadsAs p post → Left test p [] start found ts
+
+abbrev pub EachNextLeft : {A : Type 0} → Behind A → List A → List Tok → List A → List Tok → Type 0
+EachNextLeft {A} post found_before start found ts = (p : Parser A) → ReadsAs p post → Left (is_symbol s.Comma) (next_item p) found_before start found ts

@@ -1,0 +1,47 @@
+-- The levels that may still be opened, and what is refused for want of memory.
+use Rattle.std.proofs.Common.{◌≡◌, ℕ, zero, suc, ◌<◌, true, List, [], ◌∷◌, length, refl, sym, ap, subst, ◌∙◌, arith}
+use Rattle.std.specs.Prelude.{Result, Ok, Err, IfOk, IfErr}
+use Rattle.st_parser.specs.Names.{Position, ReadFault, Symbol}
+use Rattle.st_parser.specs.declared.fault.ReadFault.TheVariants.{Memory}
+use Rattle.st_parser.specs.Grammar.Tokens.{Tok, kind, position, next}
+use Rattle.st_parser.proofs.Loops.{ok_parts}
+use Rattle.st_parser.specs.Reader.Parsers.{Reads, Outcome, Deep, Parser, Takes, MayTake, is_symbol, enter, open_level, next_item}
+
+pub enter_none : (r : ℕ) (ts : List Tok) → r ≡ 0 → enter r ts ≡ Err Deep
+unfolding enter
+enter_none zero ts none = refl
+enter_none (suc r) ts none = absurd (omega arith)
+
+pub enter_some : (r : ℕ) (ts : List Tok) → (r ≡ 0 → ⊥) → enter r ts ≡ Ok (position ts, next ts)
+unfolding enter
+enter_some zero ts some = absurd (some refl)
+enter_some (suc r) ts some = refl
+
+-- what is refused only for want of memory
+pub reads_made : {A : Type 0} (o : Outcome A) (y : A) (new : List Tok) (r : Result A ReadFault) → o ≡ Ok (y, new)
+    → IfOk r (λ x. x ≡ y) → IfErr r (λ f. f ≡ Memory) → Reads o r new
+reads_made o y new (Ok x) read same memory = read ∙ ap (λ z. Ok (z, new)) (sym same)
+reads_made o y new (Err f) read same memory = rw memory tt
+
+-- what enters a level at a symbol takes the symbol
+pub open_level_takes : (x : Symbol) (d : ℕ) (ts new : List Tok) (r : Result Position ReadFault) → is_symbol x (kind ts) ≡ true
+    → MayTake (enter d ts) r ts new → Takes (open_level x d ts) r ts new
+unfolding open_level enter
+open_level_takes x d [] new r h m = absurd (cc)
+open_level_takes x zero (t ∷ ts) new (Ok a) h m = absurd (let wrong = m.reads in cc)
+open_level_takes x (suc d) (t ∷ ts) new (Ok a) h m = record {
+  reads = rw h m.reads;
+  shorter = subst (λ us. length us < suc (length ts)) (ok_parts m.reads).1 (omega arith);
+}
+open_level_takes x d (t ∷ ts) new (Err f) h m = record { reads = rw h m.reads; shorter = tt }
+
+-- ',' item
+pub next_at : {A : Type 0} (item : Parser A) (ts us : List Tok) → us ≡ next ts → next_item item ts ≡ item us
+unfolding next_item
+next_at item ts us e = rw e refl
+
+-- the same, where one token or more was taken
+pub takes_made : {A : Type 0} (o : Outcome A) (y : A) (old new : List Tok) (r : Result A ReadFault) → o ≡ Ok (y, new) → length new < length old
+    → IfOk r (λ x. x ≡ y) → IfErr r (λ f. f ≡ Memory) → Takes o r old new
+takes_made o y old new (Ok x) read less same memory = record { reads = reads_made o y new (Ok x) read same memory; shorter = less }
+takes_made o y old new (Err f) read less same memory = record { reads = reads_made o y new (Err f) read same memory; shorter = tt }

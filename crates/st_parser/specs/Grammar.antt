@@ -1,0 +1,4 @@
+pub mod Faults
+pub mod Levels
+pub mod Lists
+pub mod Tokens

@@ -1,0 +1,150 @@
+-- Parsers: what is read from the first of some tokens on, or why nothing is.
+use Rattle.std.specs.Prelude.{◌≡◌, ◌<◌, ◌≤◌, ℕ, zero, suc, Bool, true, false, if◌then◌else◌, List, [], ◌∷◌, length, Option, Some, Result, Ok, Err, OnOk}
+use Rattle.st_tokens.specs.declared.symbol.Symbol.TheVariants as s
+use Rattle.st_tokens.specs.declared.token.Kind.TheVariants as k
+use Rattle.st_parser.specs.Names.{Identifier, Keyword, Kind, Position, ReadFault, Symbol}
+use Rattle.st_parser.specs.declared.fault.ReadFault.TheVariants as fault
+use Rattle.st_parser.specs.Grammar.Tokens.{identifier_of, Tok, kind, position, next, same_symbol, same_keyword}
+
+-- not in the grammar, or too deep
+pub data Refusal : Type 0 where
+  Wrong : Refusal
+  Deep : Refusal
+
+-- what was read, and the tokens behind it
+abbrev pub Outcome : Type 0 → Type 0
+Outcome A = Result (A × List Tok) Refusal
+
+abbrev pub Parser : Type 0 → Type 0
+Parser A = List Tok → Outcome A
+
+abbrev pub and_then : {A B : Type 0} → Outcome A → (A → Parser B) → Outcome B
+and_then (Ok x) f = f x.0 x.1
+and_then (Err r) f = Err r
+
+infixl 10 ◌>>=◌
+abbrev pub ◌>>=◌ : {A B : Type 0} → Parser A → (A → Parser B) → Parser B
+p >>= f = λ ts. and_then (p ts) f
+
+infixl 10 ◌>>◌
+abbrev pub ◌>>◌ : {A B : Type 0} → Parser A → Parser B → Parser B
+p >> q = p >>= (λ _. q)
+
+abbrev pub pure : {A : Type 0} → A → Parser A
+pure a = λ ts. Ok (a, ts)
+
+abbrev pub refuse : {A : Type 0} → Parser A
+refuse = λ ts. Err Wrong
+
+-- the first token's position, and the tokens behind it
+abbrev pub bump : Parser Position
+bump = λ ts. Ok (position ts, next ts)
+
+-- what the first token is
+abbrev pub peek : Parser (Option Kind)
+peek = λ ts. Ok (kind ts, ts)
+
+-- what the second token is
+abbrev pub peek_second : Parser (Option Kind)
+peek_second = λ ts. Ok (kind (next ts), ts)
+
+-- where the first token stands
+abbrev pub here : Parser Position
+here = λ ts. Ok (position ts, ts)
+
+-- ---- single tokens
+
+abbrev pub is_symbol : Symbol → Option Kind → Bool
+is_symbol x (Some (k.Symbol y)) = same_symbol x y
+is_symbol x _ = false
+
+abbrev pub is_keyword : Keyword → Option Kind → Bool
+is_keyword x (Some (k.Keyword y)) = same_keyword x y
+is_keyword x _ = false
+
+abbrev pub is_word : Option Kind → Bool
+is_word (Some (k.Word w)) = true
+is_word _ = false
+
+-- takes a token that passes the test
+unfoldable pub expect : (Option Kind → Bool) → Parser Position
+expect test = λ ts. if test (kind ts) then bump ts else Err Wrong
+
+abbrev pub expect_symbol : Symbol → Parser Position
+expect_symbol x = expect (is_symbol x)
+
+abbrev pub expect_keyword : Keyword → Parser Position
+expect_keyword x = expect (is_keyword x)
+
+-- takes a token that opens a level, where one more may be opened
+unfoldable pub enter : ℕ → Parser Position
+enter zero = λ ts. Err Deep
+enter (suc depth_left) = bump
+
+-- takes this symbol, which opens a level
+unfoldable pub open_level : Symbol → ℕ → Parser Position
+open_level x depth_left = λ ts. if is_symbol x (kind ts) then enter depth_left ts else Err Wrong
+
+abbrev pub identifier_by : Option Kind → Parser Identifier
+identifier_by (Some (k.Word w)) = λ ts. Ok (identifier_of (position ts) w, next ts)
+identifier_by _ = refuse
+
+-- a word
+unfoldable pub identifier : Parser Identifier
+identifier = λ ts. identifier_by (kind ts) ts
+
+abbrev pub number_by : Option Kind → Parser ℕ
+number_by (Some (k.Number n)) = λ ts. Ok (n, next ts)
+number_by _ = refuse
+
+-- a number
+unfoldable pub number : Parser ℕ
+number = λ ts. number_by (kind ts) ts
+
+-- ---- lists, whose turns are bounded by the count of tokens
+
+unfoldable pub many_from : {A : Type 0} → (Option Kind → Bool) → Parser A → ℕ → Parser (List A)
+many_from test item zero = refuse
+many_from test item (suc n) = λ ts. if test (kind ts) then (do x ← item; xs ← many_from test item n; pure (x ∷ xs)) ts else Ok ([], ts)
+
+-- { item }, as long as the first token passes the test
+unfoldable pub many : {A : Type 0} → (Option Kind → Bool) → Parser A → Parser (List A)
+many test item = λ ts. many_from test item (suc (length ts)) ts
+
+-- ',' item
+unfoldable pub next_item : {A : Type 0} → Parser A → Parser A
+next_item item = bump >> item
+
+-- first { item }, as long as the first token passes the test
+unfoldable pub leading : {A : Type 0} → Parser A → (Option Kind → Bool) → Parser A → Parser (List A)
+leading first test item = do
+  x ← first
+  xs ← many test item
+  pure (x ∷ xs)
+
+-- item { ',' item }
+unfoldable pub listed : {A : Type 0} → Parser A → Parser (List A)
+listed item = leading item (is_symbol s.Comma) (next_item item)
+
+-- ---- what a function that reads ensures
+
+-- memory may always run out
+abbrev pub Refuses : {A : Type 0} → Outcome A → ReadFault → Type 0
+Refuses o fault.Memory = Unit {0}
+Refuses o (fault.NotInGrammar line) = o ≡ Err Wrong
+Refuses o (fault.TooDeep line) = o ≡ Err Deep
+
+-- the outcome, with these tokens behind it, unless memory runs out
+abbrev pub Reads : {A : Type 0} → Outcome A → Result A ReadFault → List Tok → Type 0
+Reads o (Ok a) rest = o ≡ Ok (a, rest)
+Reads o (Err f) rest = Refuses o f
+
+-- that, and one token or more is taken
+pub record Takes {A : Type 0} (o : Outcome A) (r : Result A ReadFault) (old new : List Tok) : Type 0 where
+  pub reads : Reads o r new
+  pub shorter : OnOk r (length new < length old)
+
+-- that, where no token may be taken
+pub record MayTake {A : Type 0} (o : Outcome A) (r : Result A ReadFault) (old new : List Tok) : Type 0 where
+  pub reads : Reads o r new
+  pub shorter : OnOk r (length new ≤ length old)

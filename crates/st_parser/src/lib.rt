@@ -1,0 +1,13 @@
+//! What all parsers share: the tokens that are left, the parsers' fault, levels, and lists.
+#![tactic(auto)]
+
+mod cursor;
+mod expect;
+mod fault;
+mod level;
+mod list;
+
+pub use cursor::Cursor;
+pub use fault::ReadFault;
+pub use level::MAX_LEVELS;
+pub use list::{listed, many, single, words};
