@@ -1,4 +1,6 @@
 //! At most 64 levels are open at once: `(`, `[`, IF, CASE, FOR, WHILE and REPEAT, each alone and all together.
+ghost use Rattle.std.specs.Prelude.{◌<◌, length};
+
 use st_syntax::parse;
 use st_tokens::SyntaxFault;
 use std::alloc::{AllocError, Global};
@@ -64,7 +66,10 @@ fn nested(
     statement_count: usize,
     expressions: &[&Level],
     expression_count: usize,
-) -> Result<Vec<u8>, AllocError> {
+) -> Result<Vec<u8>, AllocError>
+    requires statements { 0 < length statements.now }
+    requires expressions { 0 < length expressions.now }
+{
     let mut text = Vec::from_slice(alloc, b"PROGRAM Main ")?;
     open_all(&mut text, statements, statement_count)?;
     text.extend_from_slice(b"A := ")?;
@@ -78,19 +83,23 @@ fn nested(
 }
 
 /// Opens so many levels, in turn of these kinds.
-fn open_all(text: &mut Vec<u8>, kinds: &[&Level], count: usize) -> Result<(), AllocError> {
-    for level in kinds.iter().cycle().take(count) {
-        text.extend_from_slice(level.open)?;
+fn open_all(text: &mut Vec<u8>, kinds: &[&Level], count: usize) -> Result<(), AllocError>
+    requires { 0 < length kinds.now }
+{
+    for index in 0..count {
+        if let Some(level) = kinds.get(index % kinds.len()) {
+            text.extend_from_slice(level.open)?;
+        }
     }
     Ok(())
 }
 
 /// Closes them, the last first.
-fn close_all(text: &mut Vec<u8>, kinds: &[&Level], count: usize) -> Result<(), AllocError> {
-    let mut left = count;
-    while left > 0 {
-        left -= 1;
-        if let Some(level) = kinds.get(left % kinds.len()) {
+fn close_all(text: &mut Vec<u8>, kinds: &[&Level], count: usize) -> Result<(), AllocError>
+    requires { 0 < length kinds.now }
+{
+    for closed in 0..count {
+        if let Some(level) = kinds.get((count - closed - 1) % kinds.len()) {
             text.extend_from_slice(level.close)?;
         }
     }
