@@ -11,12 +11,9 @@ mod variables;
 
 pub(crate) use fault::ThinFault;
 use st_tree::tree::{Body, Pou, Unit, VarBlock, VarKind};
-use st_tree::{Leaf, List};
+use st_tree::{Leaf, List, MAX_NAME_BYTES};
 use std::alloc::Global;
 use variables::read_variables;
-
-/// How many bytes a name may have.
-const MAX_NAME_BYTES: usize = 128;
 
 /// Reads units as the program of this name, ignoring case, and gives the leaves of its variables, in order.
 ///
