@@ -1,54 +1,26 @@
 -- The reading functions of charts read their grammar exactly.
-use Rattle.std.proofs.Common.{◌≡◌, ℕ, suc, List, [], ◌∷◌, refl, sym, subst, ◌∙◌, Bool, true, false, arith}
-use Rattle.std.specs.Prelude.{Option, Some, None, Ok, Err}
+use Rattle.std.proofs.Common.{◌≡◌, ℕ, zero, suc, ◌<◌, List, [], ◌∷◌, refl, sym, subst, ◌∙◌, Bool, true, false, arith}
+use Rattle.std.specs.Prelude.{◌↔◌, Option, Some, None, Ok, Err}
 use Rattle.st_tokens.specs.declared.keyword.Keyword.TheVariants as w
 use Rattle.st_tokens.specs.declared.symbol.Symbol.TheVariants as s
-use Rattle.st_tokens.specs.declared.token.Kind.{Kind}
 use Rattle.st_tokens.specs.declared.token.Kind.TheVariants as k
-use Rattle.st_tree.specs.declared.tree.position.Position.{Position}
-use Rattle.st_tree.specs.declared.tree.position.Identifier.{Identifier}
-use Rattle.st_tree.specs.declared.tree.constant.Duration.{Duration}
-use Rattle.st_tree.specs.declared.tree.unit.ActionQualifier.{ActionQualifier}
-use Rattle.st_tree.specs.declared.tree.unit.Association.{Association}
-use Rattle.st_tree.specs.declared.tree.unit.ChartElement.{ChartElement}
 use Rattle.st_tree.specs.declared.tree.unit.ChartElement.TheVariants as c
-use Rattle.st_expressions.specs.Grammar.{IsRank, duration_of}
-use Rattle.st_expressions.specs.Lists.{IsMany, IsListed, listed}
-use Rattle.st_expressions.specs.Parsers as parser
-use Rattle.st_expressions.specs.Parsers.{Outcome, Parser, and_then, is_comma, Deep, Wrong}
-use Rattle.st_expressions.specs.Reading.{is_open, is_close}
-use Rattle.st_expressions.specs.Tokens.{Tok, kind}
-use Rattle.st_expressions.proofs.Exact.{Relation, Found, Exact, Always, Any, Then, seq, IsOne, one, IsPure, done, IsWord, a_word, IsNumber, a_number, exact_bind, exact_as, exact_iff, exact_last, exact_under, exact_zero, exact_pure, made, exact_refuse, exact_on, IsFirst, exact_token, exact_token_if, exact_symbol, exact_keyword, exact_word, exact_number, exact_before, Ends, exact_many, exact_listed}
-use Rattle.st_expressions.proofs.Expressions.{expression_exact, open_is}
-use Rattle.st_expressions.proofs.Loops.{ok_parts}
-use Rattle.st_expressions.proofs.Room.{At, enters}
-use Rattle.st_statements.specs.Grammar.{IsStatements}
-use Rattle.st_statements.specs.ChartReading as spec
-use Rattle.st_statements.specs.ChartReading.{begins_element, is_word}
-use Rattle.st_statements.specs.Charts.{qualifier_of, association_of, step_of, transition_of, action_of, is_priority, IsQualifier, untimed, timed, IsAssociation, unqualified, qualified, step_rest, IsOptionalName, no_name, a_name, IsPriority, no_priority, priority, IsName, name, IsNames, one_name, names, transition_rest, IsElement, initial_step, plain_step, transition, action, IsChart, chart}
+use Rattle.st_parser.specs.Names.{ActionQualifier, Association, ChartElement, Duration, Identifier, Kind, Position}
+use Rattle.st_parser.specs.Grammar.Levels.{IsWithin}
+use Rattle.st_parser.specs.Grammar.Lists.{IsMany, IsListed, listed}
+use Rattle.st_parser.specs.Grammar.Tokens.{Tok, kind}
+use Rattle.st_parser.specs.Reader.Parsers as parser
+use Rattle.st_parser.specs.Reader.Parsers.{Outcome, Parser, and_then, is_symbol, is_word, Deep, Wrong}
+use Rattle.st_parser.proofs.Exact.{Relation, Found, Exact, Always, Any, Then, seq, IsOne, one, IsPure, done, IsWord, a_word, IsNumber, a_number, exact_bind, exact_as, exact_iff, exact_last, exact_under, exact_zero, exact_pure, made, exact_refuse, exact_on, IsFirst, exact_token, exact_token_if, symbol_is, exact_symbol, exact_keyword, exact_open_level, exact_identifier, exact_number, exact_before, Ends, exact_many, exact_listed}
+use Rattle.st_parser.proofs.Levels.{At, enters, fits_from, within_from}
+use Rattle.st_parser.proofs.Loops.{ok_parts}
+use Rattle.st_expressions.specs.Grammar.{IsBinary, duration_of}
+use Rattle.st_expressions.proofs.Expressions.{expression_exact}
+use Rattle.st_statements.specs.Grammar.Charts.{qualifier_of, association_of, step_of, transition_of, action_of, is_priority, IsQualifier, untimed, timed, IsAssociation, unqualified, qualified, step_rest, IsOptionalName, no_name, a_name, IsPriority, no_priority, priority, IsName, name, IsNames, one_name, names, transition_rest, IsElement, initial_step, plain_step, transition, action, IsChart, chart}
+use Rattle.st_statements.specs.Grammar.Statements.{IsStatements}
+use Rattle.st_statements.specs.Reader.Charts as spec
+use Rattle.st_statements.specs.Reader.Charts.{begins_element}
 use Rattle.st_statements.proofs.Statements.{statements_exact}
-
--- ---- '('
-
-opening_not : {ts rest : List Tok} {p : Position} → is_open (kind ts) ≡ false → IsOne (k.Symbol s.Open) ts p rest → ⊥
-opening_not h one = cc
-
-opening_to : (p : Position) (ts : List Tok) (x : Position) (rest : List Tok) → IsPure p ts x rest → IsOne (k.Symbol s.Open) ((p, k.Symbol s.Open) ∷ ts) x rest
-opening_to p ts x rest d = made d (λ y us. IsOne (k.Symbol s.Open) ((p, k.Symbol s.Open) ∷ ts) y us) one
-
-opening_from : (p : Position) (ts : List Tok) (x : Position) (rest : List Tok) → IsOne (k.Symbol s.Open) ((p, k.Symbol s.Open) ∷ ts) x rest → IsPure p ts x rest
-opening_from p ts x rest one = done
-
-module _ (r : ℕ) where
-  opening_by : (b : Bool) → Exact 1 (spec.opening_by (suc r) b) (λ ts. (is_open (kind ts) ≡ b) × Always ts) (IsOne (k.Symbol s.Open)) Any (At (suc r)) (At r)
-  unfolding parser.enter
-  opening_by true = exact_under (exact_token_if (k.Symbol s.Open) Always (IsOne (k.Symbol s.Open)) Any (At (suc r)) (At r) (At r) (enters (k.Symbol s.Open) r refl)
-      (λ p. exact_iff (exact_pure p Always Any (At r)) (opening_to p) (opening_from p))) (λ ts h. (open_is (kind ts) h.0, tt)) (λ t g. g)
-  opening_by false = exact_refuse 1 _ (IsOne (k.Symbol s.Open)) Any (At (suc r)) (At r) (λ ts x rest h d. opening_not h.0 d)
-
-  pub opening_exact : Exact 1 (spec.opening (suc r)) Always (IsOne (k.Symbol s.Open)) Any (At (suc r)) (At r)
-  unfolding spec.opening
-  opening_exact = exact_on (λ ts. is_open (kind ts)) (spec.opening_by (suc r)) Always (IsOne (k.Symbol s.Open)) Any (At (suc r)) (At r) opening_by
 
 -- ---- associations
 
@@ -80,11 +52,7 @@ data IsTime : List Tok → Option Duration → List Tok → Type 0 where
   a_time : {p : Position} {ts rest : List Tok} {d : Duration} → IsDuration ts d rest → IsTime ((p, k.Symbol s.Comma) ∷ ts) (Some d) rest
 
 abbrev NoComma : Option Kind → Type 0
-NoComma t = is_comma t ≡ false
-
-comma_first : (t : Option Kind) → is_comma t ≡ true → t ≡ Some (k.Symbol s.Comma)
-comma_first (Some (k.Symbol s.Comma)) h = refl
-comma_first _ h = absurd (cc)
+NoComma t = is_symbol s.Comma t ≡ false
 
 time_to : (p : Position) (ts : List Tok) (x : Option Duration) (rest : List Tok) → Then IsDuration (λ d. IsPure (Some d)) ts x rest → IsTime ((p, k.Symbol s.Comma) ∷ ts) x rest
 time_to p ts x rest (seq d m) = made m (λ y us. IsTime ((p, k.Symbol s.Comma) ∷ ts) y us) (a_time d)
@@ -96,7 +64,7 @@ time_from p ts x rest g no_time = absurd (cc)
 no_time_to : (ts : List Tok) (x : Option Duration) (rest : List Tok) → IsPure None ts x rest → IsTime ts x rest
 no_time_to ts x rest d = made d (λ y us. IsTime ts y us) no_time
 
-no_time_from : (ts : List Tok) (x : Option Duration) (rest : List Tok) → is_comma (kind ts) ≡ false → IsTime ts x rest → IsPure None ts x rest
+no_time_from : (ts : List Tok) (x : Option Duration) (rest : List Tok) → is_symbol s.Comma (kind ts) ≡ false → IsTime ts x rest → IsPure None ts x rest
 no_time_from ts x rest h no_time = done
 no_time_from ts x rest h (a_time d) = absurd (cc)
 
@@ -114,7 +82,7 @@ data IsQualified : List Tok → Option ActionQualifier → List Tok → Type 0 w
   a_qualifier : {ts rest : List Tok} {x : ActionQualifier} → IsQualifier ts x rest → IsQualified ts (Some x) rest
 
 abbrev OnlyClose : Option Kind → Type 0
-OnlyClose t = is_close t ≡ true
+OnlyClose t = is_symbol s.Close t ≡ true
 
 close_comma : (t : Option Kind) → OnlyClose t → NoComma t
 close_comma (Some (k.Symbol s.Close)) h = refl
@@ -123,7 +91,7 @@ close_comma _ h = absurd (cc)
 no_qualifier_to : (ts : List Tok) (x : Option ActionQualifier) (rest : List Tok) → IsPure None ts x rest → IsQualified ts x rest
 no_qualifier_to ts x rest d = made d (λ y us. IsQualified ts y us) no_qualifier
 
-no_qualifier_from : (ts : List Tok) (x : Option ActionQualifier) (rest : List Tok) → is_close (kind ts) ≡ true → IsQualified ts x rest → IsPure None ts x rest
+no_qualifier_from : (ts : List Tok) (x : Option ActionQualifier) (rest : List Tok) → is_symbol s.Close (kind ts) ≡ true → IsQualified ts x rest → IsPure None ts x rest
 no_qualifier_from ts x rest h no_qualifier = done
 no_qualifier_from ts x rest h (a_qualifier untimed) = absurd (cc)
 no_qualifier_from ts x rest h (a_qualifier timed) = absurd (cc)
@@ -131,7 +99,7 @@ no_qualifier_from ts x rest h (a_qualifier timed) = absurd (cc)
 a_qualifier_to : (ts : List Tok) (x : Option ActionQualifier) (rest : List Tok) → Then IsQualifier (λ q. IsPure (Some q)) ts x rest → IsQualified ts x rest
 a_qualifier_to ts x rest (seq d m) = made m (λ y us. IsQualified ts y us) (a_qualifier d)
 
-a_qualifier_from : (ts : List Tok) (x : Option ActionQualifier) (rest : List Tok) → is_close (kind ts) ≡ false → OnlyClose (kind rest) → IsQualified ts x rest → Then IsQualifier (λ q. IsPure (Some q)) ts x rest
+a_qualifier_from : (ts : List Tok) (x : Option ActionQualifier) (rest : List Tok) → is_symbol s.Close (kind ts) ≡ false → OnlyClose (kind rest) → IsQualified ts x rest → Then IsQualifier (λ q. IsPure (Some q)) ts x rest
 a_qualifier_from ts x rest h g (a_qualifier d) = seq d done
 a_qualifier_from ts x rest h g no_qualifier = absurd (let wrong = sym h ∙ g in cc)
 
@@ -151,31 +119,31 @@ association_begins ts x rest unqualified = refl
 association_begins ts x rest (qualified d) = refl
 
 module _ (r : ℕ) where
-  time_by : (b : Bool) → Exact 0 (spec.time_by b) (λ ts. (is_comma (kind ts) ≡ b) × Always ts) IsTime NoComma (At r) (At r)
+  time_by : (b : Bool) → Exact 0 (spec.time_by b) (λ ts. (is_symbol s.Comma (kind ts) ≡ b) × Always ts) IsTime NoComma (At r) (At r)
   time_by true = exact_zero (exact_under (exact_token (k.Symbol s.Comma) refl {R = IsTime} (λ p. exact_as (exact_last (duration_exact r) (λ d. Some d)) (λ ts u. u)
-      (λ ts x rest u d. time_to p ts x rest d) (λ ts x rest u g d. time_from p ts x rest g d) (λ t g. tt))) (λ ts h. comma_first (kind ts) h.0) (λ t g. g))
+      (λ ts x rest u d. time_to p ts x rest d) (λ ts x rest u g d. time_from p ts x rest g d) (λ t g. tt))) (λ ts h. symbol_is s.Comma (kind ts) h.0) (λ t g. g))
   time_by false = exact_as (exact_pure None Always Any (At r)) (λ ts h. tt) (λ ts x rest h d. no_time_to ts x rest d) (λ ts x rest h g d. no_time_from ts x rest h.0 d) (λ t g. tt)
 
   time_exact : Exact 0 spec.time Always IsTime NoComma (At r) (At r)
   unfolding spec.time
-  time_exact = exact_on (λ ts. is_comma (kind ts)) spec.time_by Always IsTime NoComma (At r) (At r) time_by
+  time_exact = exact_on (λ ts. is_symbol s.Comma (kind ts)) spec.time_by Always IsTime NoComma (At r) (At r) time_by
 
   qualifier_exact : Exact 1 spec.qualifier Always IsQualifier NoComma (At r) (At r)
   unfolding spec.qualifier
-  qualifier_exact = exact_iff (exact_bind (exact_word r) (λ n. exact_last time_exact (qualifier_of n)) (λ n mid rest y d g. tt)) qualifier_to qualifier_from
+  qualifier_exact = exact_iff (exact_bind (exact_identifier r) (λ n. exact_last time_exact (qualifier_of n)) (λ n mid rest y d g. tt)) qualifier_to qualifier_from
 
-  qualified_by : (b : Bool) → Exact 0 (spec.qualified_by b) (λ ts. (is_close (kind ts) ≡ b) × Always ts) IsQualified OnlyClose (At r) (At r)
+  qualified_by : (b : Bool) → Exact 0 (spec.qualified_by b) (λ ts. (is_symbol s.Close (kind ts) ≡ b) × Always ts) IsQualified OnlyClose (At r) (At r)
   qualified_by true = exact_as (exact_pure None Always Any (At r)) (λ ts h. tt) (λ ts x rest h d. no_qualifier_to ts x rest d) (λ ts x rest h g d. no_qualifier_from ts x rest h.0 d) (λ t g. tt)
   qualified_by false = exact_zero (exact_as (exact_last qualifier_exact (λ q. Some q)) (λ ts h. tt) (λ ts x rest h d. a_qualifier_to ts x rest d) (λ ts x rest h g d. a_qualifier_from ts x rest h.0 g d) close_comma)
 
   qualified_exact : Exact 0 spec.qualified Always IsQualified OnlyClose (At r) (At r)
   unfolding spec.qualified
-  qualified_exact = exact_on (λ ts. is_close (kind ts)) spec.qualified_by Always IsQualified OnlyClose (At r) (At r) qualified_by
+  qualified_exact = exact_on (λ ts. is_symbol s.Close (kind ts)) spec.qualified_by Always IsQualified OnlyClose (At r) (At r) qualified_by
 
   association_exact : Exact 1 (spec.association (suc r)) Always IsAssociation Any (At (suc r)) (At (suc r))
   unfolding spec.association
   association_exact = exact_iff
-      (exact_bind (exact_word (suc r)) (λ n. exact_bind (opening_exact r) (λ q. exact_before (k.Symbol s.Close) qualified_exact refl (exact_symbol s.Close r refl)
+      (exact_bind (exact_identifier (suc r)) (λ n. exact_bind (exact_open_level s.Open r refl) (λ q. exact_before (k.Symbol s.Close) qualified_exact refl (exact_symbol s.Close r refl)
       (λ x z. exact_bind (exact_symbol s.Semicolon (suc r) refl) (λ u. exact_pure (association_of n x) Always Any (At (suc r))) (λ u mid rest y d g. tt))) (λ q mid rest y d g. tt)) (λ n mid rest y d g. tt))
       association_to association_from
 
@@ -200,9 +168,9 @@ plain_from : (p : Position) (ts : List Tok) (x : ChartElement) (rest : List Tok)
 plain_from p ts x rest (plain_step (step_rest m)) = seq a_word (seq one (seq m (seq one done)))
 
 module _ (r : ℕ) where
-  step_rule : (p : Position) (b : Bool) → Exact 1 (λ ts. and_then (parser.word ts) (λ n us. and_then (parser.symbol s.Colon us) (λ q vs. and_then (spec.associations (suc r) vs)
-      (λ xs ws. and_then (parser.keyword w.EndStep ws) (λ z. parser.pure (c.Step (step_of p b n xs))))))) Always (StepRule p b) Any (At (suc r)) (At (suc r))
-  step_rule p b = exact_bind (exact_word (suc r)) (λ n. exact_bind (exact_symbol s.Colon (suc r) refl) (λ q. exact_before (k.Keyword w.EndStep) (associations_exact r) (refl, tt) (exact_keyword w.EndStep (suc r) refl)
+  step_rule : (p : Position) (b : Bool) → Exact 1 (λ ts. and_then (parser.identifier ts) (λ n us. and_then (parser.expect_symbol s.Colon us) (λ q vs. and_then (spec.associations (suc r) vs)
+      (λ xs ws. and_then (parser.expect_keyword w.EndStep ws) (λ z. parser.pure (c.Step (step_of p b n xs))))))) Always (StepRule p b) Any (At (suc r)) (At (suc r))
+  step_rule p b = exact_bind (exact_identifier (suc r)) (λ n. exact_bind (exact_symbol s.Colon (suc r) refl) (λ q. exact_before (k.Keyword w.EndStep) (associations_exact r) (refl, tt) (exact_keyword w.EndStep (suc r) refl)
       (λ xs z. exact_pure (c.Step (step_of p b n xs)) Always Any (At (suc r)))) (λ q mid rest y d g. tt)) (λ n mid rest y d g. tt)
 
   initial_exact : Exact 1 (spec.step (suc r) true) (IsFirst (k.Keyword w.InitialStep)) IsElement Any (At (suc r)) (At (suc r))
@@ -219,7 +187,7 @@ abbrev NoWord : Option Kind → Type 0
 NoWord t = is_word t ≡ false
 
 abbrev NoOpen : Option Kind → Type 0
-NoOpen t = is_open t ≡ false
+NoOpen t = is_symbol s.Open t ≡ false
 
 optional_to : (ts : List Tok) (x : Option Identifier) (rest : List Tok) → Then IsWord (λ n. IsPure (Some n)) ts x rest → IsOptionalName ts x rest
 optional_to ts x rest (seq a_word m) = made m (λ y us. IsOptionalName ts y us) a_name
@@ -280,7 +248,7 @@ priority_from p ts x rest g no_priority = absurd (cc)
 no_priority_to : (ts : List Tok) (x : Option ℕ) (rest : List Tok) → IsPure None ts x rest → IsPriority ts x rest
 no_priority_to ts x rest d = made d (λ y us. IsPriority ts y us) no_priority
 
-no_priority_from : (ts : List Tok) (x : Option ℕ) (rest : List Tok) → is_open (kind ts) ≡ false → IsPriority ts x rest → IsPure None ts x rest
+no_priority_from : (ts : List Tok) (x : Option ℕ) (rest : List Tok) → is_symbol s.Open (kind ts) ≡ false → IsPriority ts x rest → IsPure None ts x rest
 no_priority_from ts x rest h no_priority = done
 no_priority_from ts x rest h (priority t) = absurd (cc)
 
@@ -290,8 +258,8 @@ name_to ts x rest a_word = name
 name_from : (ts : List Tok) (x : Identifier) (rest : List Tok) → IsName ts x rest → IsWord ts x rest
 name_from ts x rest name = a_word
 
-pub name_exact : (r : ℕ) → Exact 1 parser.word Always IsName Any (At r) (At r)
-name_exact r = exact_iff (exact_word r) name_to name_from
+pub name_exact : (r : ℕ) → Exact 1 parser.identifier Always IsName Any (At r) (At r)
+name_exact r = exact_iff (exact_identifier r) name_to name_from
 
 names_to : (p : Position) (ts : List Tok) (x : List Identifier) (rest : List Tok) → Then (IsListed IsName) (λ xs. Then (IsOne (k.Symbol s.Close)) (λ q. IsPure xs)) ts x rest → IsNames ((p, k.Symbol s.Open) ∷ ts) x rest
 names_to p ts x rest (seq (listed d m) (seq one e)) = made e (λ y us. IsNames ((p, k.Symbol s.Open) ∷ ts) y us) (names d m)
@@ -303,13 +271,13 @@ names_from p ts x rest (one_name d) = elim d [ ]
 one_to : (ts : List Tok) (x : List Identifier) (rest : List Tok) → Then IsName (λ n. IsPure (n ∷ [])) ts x rest → IsNames ts x rest
 one_to ts x rest (seq d m) = made m (λ y us. IsNames ts y us) (one_name d)
 
-one_from : (ts : List Tok) (x : List Identifier) (rest : List Tok) → is_open (kind ts) ≡ false → IsNames ts x rest → Then IsName (λ n. IsPure (n ∷ [])) ts x rest
+one_from : (ts : List Tok) (x : List Identifier) (rest : List Tok) → is_symbol s.Open (kind ts) ≡ false → IsNames ts x rest → Then IsName (λ n. IsPure (n ∷ [])) ts x rest
 one_from ts x rest h (one_name d) = seq d done
 one_from ts x rest h (names d m) = absurd (cc)
 
 abbrev TransitionRule : Position → Relation ChartElement
 TransitionRule p = Then IsOptionalName (λ n. Then IsPriority (λ m. Then (IsOne (k.Keyword w.From)) (λ q. Then IsNames (λ xs. Then (IsOne (k.Keyword w.To)) (λ u. Then IsNames (λ ys.
-    Then (IsOne (k.Symbol s.Assign)) (λ v. Then (IsRank 7) (λ x. Then (IsOne (k.Symbol s.Semicolon)) (λ y. Then (IsOne (k.Keyword w.EndTransition)) (λ z. IsPure (c.Transition (transition_of p n m xs ys x))))))))))))
+    Then (IsOne (k.Symbol s.Assign)) (λ v. Then (IsBinary 7) (λ x. Then (IsOne (k.Symbol s.Semicolon)) (λ y. Then (IsOne (k.Keyword w.EndTransition)) (λ z. IsPure (c.Transition (transition_of p n m xs ys x))))))))))))
 
 transition_to : (p : Position) (ts : List Tok) (x : ChartElement) (rest : List Tok) → TransitionRule p ts x rest → IsElement ((p, k.Keyword w.Transition) ∷ ts) x rest
 transition_to p ts x rest (seq a (seq b (seq one (seq d (seq one (seq e (seq one (seq f (seq one (seq one g)))))))))) = made g (λ y us. IsElement ((p, k.Keyword w.Transition) ∷ ts) y us) (transition (transition_rest a b d e f))
@@ -344,7 +312,7 @@ chart_from ts x rest (chart d m) = seq d (seq m done)
 
 module _ (r : ℕ) where
   optional_by : (b : Bool) → Exact 0 (spec.optional_by b) (λ ts. (is_word (kind ts) ≡ b) × Always ts) IsOptionalName NoWord (At r) (At r)
-  optional_by true = exact_zero (exact_as (exact_last (exact_word r) (λ n. Some n)) (λ ts h. tt) (λ ts x rest h d. optional_to ts x rest d) (λ ts x rest h g d. optional_from ts x rest h.0 g d) (λ t g. tt))
+  optional_by true = exact_zero (exact_as (exact_last (exact_identifier r) (λ n. Some n)) (λ ts h. tt) (λ ts x rest h d. optional_to ts x rest d) (λ ts x rest h g d. optional_from ts x rest h.0 g d) (λ t g. tt))
   optional_by false = exact_as (exact_pure None Always Any (At r)) (λ ts h. tt) (λ ts x rest h d. no_name_to ts x rest d) (λ ts x rest h g d. no_name_from ts x rest h.0 d) (λ t g. tt)
 
   optional_exact : Exact 0 spec.optional_name Always IsOptionalName NoWord (At r) (At r)
@@ -352,29 +320,29 @@ module _ (r : ℕ) where
   optional_exact = exact_on (λ ts. is_word (kind ts)) spec.optional_by Always IsOptionalName NoWord (At r) (At r) optional_by
 
 module _ (r : ℕ) where
-  priority_by : (b : Bool) → Exact 0 (spec.priority_by (suc r) b) (λ ts. (is_open (kind ts) ≡ b) × Always ts) IsPriority NoOpen (At (suc r)) (At (suc r))
+  priority_by : (b : Bool) → Exact 0 (spec.priority_by (suc r) b) (λ ts. (is_symbol s.Open (kind ts) ≡ b) × Always ts) IsPriority NoOpen (At (suc r)) (At (suc r))
   unfolding parser.enter
   priority_by true = exact_zero (exact_under (exact_token_if (k.Symbol s.Open) Always IsPriority NoOpen (At (suc r)) (At r) (At (suc r)) (enters (k.Symbol s.Open) r refl)
       (λ p. exact_as (exact_bind (priority_word_exact r) (λ q. exact_bind (exact_symbol s.Assign r refl) (λ u. exact_bind (exact_number r) (λ n. exact_bind (exact_symbol s.Close r refl)
       (λ z. exact_pure (Some n) Always Any (At (suc r))) (λ z mid rest y d g. tt)) (λ n mid rest y d g. tt)) (λ u mid rest y d g. tt)) (λ q mid rest y d g. tt))
       (λ ts u. tt) (λ ts x rest u d. priority_to p ts x rest d) (λ ts x rest u g d. priority_from p ts x rest g d) (λ t g. tt)))
-      (λ ts h. (open_is (kind ts) h.0, tt)) (λ t g. g))
+      (λ ts h. (symbol_is s.Open (kind ts) h.0, tt)) (λ t g. g))
   priority_by false = exact_as (exact_pure None Always Any (At (suc r))) (λ ts h. tt) (λ ts x rest h d. no_priority_to ts x rest d) (λ ts x rest h g d. no_priority_from ts x rest h.0 d) (λ t g. tt)
 
   priority_exact : Exact 0 (spec.priority (suc r)) Always IsPriority NoOpen (At (suc r)) (At (suc r))
   unfolding spec.priority
-  priority_exact = exact_on (λ ts. is_open (kind ts)) (spec.priority_by (suc r)) Always IsPriority NoOpen (At (suc r)) (At (suc r)) priority_by
+  priority_exact = exact_on (λ ts. is_symbol s.Open (kind ts)) (spec.priority_by (suc r)) Always IsPriority NoOpen (At (suc r)) (At (suc r)) priority_by
 
-  names_by : (b : Bool) → Exact 1 (spec.names_by (suc r) b) (λ ts. (is_open (kind ts) ≡ b) × Always ts) IsNames Any (At (suc r)) (At (suc r))
+  names_by : (b : Bool) → Exact 1 (spec.names_by (suc r) b) (λ ts. (is_symbol s.Open (kind ts) ≡ b) × Always ts) IsNames Any (At (suc r)) (At (suc r))
   unfolding parser.enter
   names_by true = exact_under (exact_token_if (k.Symbol s.Open) Always IsNames Any (At (suc r)) (At r) (At (suc r)) (enters (k.Symbol s.Open) r refl)
-      (λ p. exact_iff (exact_before (k.Symbol s.Close) (exact_listed parser.word IsName Any r (name_exact r) tt) (refl, tt) (exact_symbol s.Close r refl) (λ xs q. exact_pure xs Always Any (At (suc r)))) (names_to p) (names_from p)))
-      (λ ts h. (open_is (kind ts) h.0, tt)) (λ t g. g)
+      (λ p. exact_iff (exact_before (k.Symbol s.Close) (exact_listed parser.identifier IsName Any r (name_exact r) tt) (refl, tt) (exact_symbol s.Close r refl) (λ xs q. exact_pure xs Always Any (At (suc r)))) (names_to p) (names_from p)))
+      (λ ts h. (symbol_is s.Open (kind ts) h.0, tt)) (λ t g. g)
   names_by false = exact_as (exact_last (name_exact (suc r)) (λ n. n ∷ [])) (λ ts h. tt) (λ ts x rest h d. one_to ts x rest d) (λ ts x rest h g d. one_from ts x rest h.0 d) (λ t g. tt)
 
   names_exact : Exact 1 (spec.names (suc r)) Always IsNames Any (At (suc r)) (At (suc r))
   unfolding spec.names
-  names_exact = exact_on (λ ts. is_open (kind ts)) (spec.names_by (suc r)) Always IsNames Any (At (suc r)) (At (suc r)) names_by
+  names_exact = exact_on (λ ts. is_symbol s.Open (kind ts)) (spec.names_by (suc r)) Always IsNames Any (At (suc r)) (At (suc r)) names_by
 
   transition_exact : Exact 1 (spec.transition (suc r)) (IsFirst (k.Keyword w.Transition)) IsElement Any (At (suc r)) (At (suc r))
   unfolding spec.transition
@@ -388,7 +356,7 @@ module _ (r : ℕ) where
   action_exact : Exact 1 (spec.action (suc r)) (IsFirst (k.Keyword w.Action)) IsElement Any (At (suc r)) (At (suc r))
   unfolding spec.action
   action_exact = exact_token (k.Keyword w.Action) refl {R = IsElement} (λ p. exact_iff
-      (exact_bind (exact_word (suc r)) (λ n. exact_bind (exact_symbol s.Colon (suc r) refl) (λ q. exact_before (k.Keyword w.EndAction) (statements_exact (suc r)) (refl, tt) (exact_keyword w.EndAction (suc r) refl)
+      (exact_bind (exact_identifier (suc r)) (λ n. exact_bind (exact_symbol s.Colon (suc r) refl) (λ q. exact_before (k.Keyword w.EndAction) (statements_exact (suc r)) (refl, tt) (exact_keyword w.EndAction (suc r) refl)
       (λ ss z. exact_pure (c.Action (action_of p n ss)) Always Any (At (suc r)))) (λ q mid rest y d g. tt)) (λ n mid rest y d g. tt))
       (action_to p) (action_from p))
 
@@ -409,3 +377,11 @@ module _ (r : ℕ) where
   chart_exact = exact_iff
       (exact_bind element_exact (λ x. exact_last (exact_many begins_element (spec.element (suc r)) IsElement Any (At (suc r)) (exact_under element_exact (λ ts h. tt) (λ t g. g)) element_begins (λ t h. tt)) (λ xs. x ∷ xs)) (λ x mid rest y d g. tt))
       chart_to chart_from
+
+-- what is read as a chart, up to the last token, is in the grammar, and the other way round
+pub chart_law : (r : ℕ) (ts : List Tok) (xs : List ChartElement) → 0 < r → (spec.chart r ts ≡ Ok (xs, [])) ↔ (IsChart ts xs [] × IsWithin r ts)
+chart_law zero ts xs some = absurd (omega (arith, some))
+chart_law (suc r) ts xs some = (
+  λ read. let found = (chart_exact r).reads ts xs [] tt read in (found.is, within_from ts (suc r) (found.before tt)),
+  λ has. (chart_exact r).read ts xs [] tt has.0 (refl, tt) (fits_from ts (suc r) has.1),
+)

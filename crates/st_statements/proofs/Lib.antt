@@ -1,3 +1,3 @@
 pub mod ChartsExact
-pub mod ReadingLemmas
+pub mod ReaderLemmas
 pub mod Statements

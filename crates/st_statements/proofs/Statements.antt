@@ -1,40 +1,33 @@
 -- The reading functions of statements read their grammar exactly.
 use Rattle.std.proofs.Common.{◌≡◌, ℕ, zero, suc, List, [], ◌∷◌, refl, sym, subst, Bool, true, false}
 use Rattle.std.specs.Prelude.{Option, Some, None}
-use Rattle.st_tokens.specs.declared.keyword.Keyword.{Keyword}
 use Rattle.st_tokens.specs.declared.keyword.Keyword.TheVariants as w
 use Rattle.st_tokens.specs.declared.symbol.Symbol.TheVariants as s
-use Rattle.st_tokens.specs.declared.token.Kind.{Kind}
 use Rattle.st_tokens.specs.declared.token.Kind.TheVariants as k
-use Rattle.st_tree.specs.declared.tree.position.Position.{Position}
-use Rattle.st_tree.specs.declared.tree.constant.Constant.{Constant}
-use Rattle.st_tree.specs.declared.tree.expression.Expression.{Expression}
-use Rattle.st_tree.specs.declared.tree.statement.Statement.{Statement}
-use Rattle.st_tree.specs.declared.tree.statement.Statement.TheVariants as t
-use Rattle.st_tree.specs.declared.tree.statement.ConditionalPart.{ConditionalPart}
-use Rattle.st_tree.specs.declared.tree.statement.CaseElement.{CaseElement}
-use Rattle.st_tree.specs.declared.tree.statement.Label.{Label}
 use Rattle.st_tree.specs.declared.tree.statement.Label.TheVariants as l
-use Rattle.st_expressions.specs.Grammar.{IsConstant, IsRank, IsVariable, named as is_named, no_part, parts, field, subscripts, IsCall, called, no_arguments, arguments}
-use Rattle.st_expressions.specs.Levels.{opens, closes}
-use Rattle.st_expressions.specs.Lists.{IsMany, none, more, IsListed, listed}
-use Rattle.st_expressions.specs.Parsers as parser
-use Rattle.st_expressions.specs.Parsers.{Parser, and_then, many, is_comma}
-use Rattle.st_expressions.specs.Reading.{inside_of, is_open}
-use Rattle.st_expressions.specs.Tokens.{Tok, kind, next}
-use Rattle.st_expressions.proofs.Exact.{Relation, Exact, Always, Any, Then, seq, IsOne, one, IsPure, done, IsWord, a_word, exact_bind, exact_as, exact_iff, exact_last, exact_under, exact_zero, exact_pure, made, exact_refuse, exact_on, IsFirst, at_first, exact_token, exact_enter, Behind, exact_symbol, exact_keyword, exact_word, exact_before, before_token, Ends, exact_many, exact_listed}
-use Rattle.st_expressions.proofs.Expressions.{constant_exact, variable_exact, call_exact, inside_exact, expression_exact, open_is}
+use Rattle.st_tree.specs.declared.tree.statement.Statement.TheVariants as t
+use Rattle.st_parser.specs.Names.{CaseElement, ConditionalPart, Constant, Expression, Keyword, Kind, Label, Position, Statement}
+use Rattle.st_parser.specs.Grammar.Levels.{opens, closes}
+use Rattle.st_parser.specs.Grammar.Lists.{IsMany, none, more, IsListed, listed}
+use Rattle.st_parser.specs.Grammar.Tokens.{Tok, kind, next}
+use Rattle.st_parser.specs.Reader.Parsers as parser
+use Rattle.st_parser.specs.Reader.Parsers.{Parser, and_then, many, is_symbol, is_keyword}
+use Rattle.st_parser.proofs.Exact.{Relation, Exact, Always, Any, Then, seq, IsOne, one, IsPure, done, IsWord, a_word, exact_bind, exact_as, exact_iff, exact_last, exact_under, exact_zero, exact_pure, made, exact_refuse, exact_on, IsFirst, at_first, exact_token, exact_enter, Behind, symbol_is, keyword_is, exact_symbol, exact_keyword, exact_identifier, exact_before, before_token, Ends, exact_many, exact_listed}
+use Rattle.st_parser.proofs.Levels.{At, past}
+use Rattle.st_expressions.specs.Grammar.{IsConstant, IsBinary, IsVariable, named as is_named, no_part, parts, field, subscripts, IsCall, called, no_arguments, arguments}
+use Rattle.st_expressions.specs.Reader.{inside_of}
+use Rattle.st_expressions.proofs.Expressions.{constant_exact, variable_exact, call_exact, inside_exact, expression_exact}
 use Rattle.st_expressions.proofs.Follows.{Stops, constant_begins, begins_constant}
-use Rattle.st_expressions.proofs.Room.{At, past}
-use Rattle.st_statements.specs.Grammar.{part_of, case_of, IsLabel, value, range, IsBy, no_by, by_step, IsStatements, no_statement, statements, IsStatement, empty, assignment, invocation, returning, exiting, selection, choice, counting, while_loop, repeat_loop, IsConditional, conditional, IsElsifs, no_elsif, elsifs, IsElse, no_else, otherwise, IsCase, case, IsCases, no_case, cases}
-use Rattle.st_statements.specs.Reading as spec
-use Rattle.st_statements.specs.Reading.{Deeper, begins_label, begins_statement, is_elsif, is_else, is_by, is_range}
+use Rattle.st_statements.specs.Grammar.Statements.{part_of, case_of, if_of, case_statement_of, for_of, while_of, repeat_of, IsLabel, value, range, IsBy, no_by, by_step, IsStatements, no_statement, statements, IsStatement, empty, assignment, invocation, return_statement, exit_statement, if_statement, case_statement, for_statement, while_statement, repeat_statement, IsConditional, conditional, IsElsifs, no_elsif, elsifs, IsElse, no_else, otherwise, IsCase, case, IsCases, no_case, cases}
+use Rattle.st_statements.specs.Reader.Statements as spec
+use Rattle.st_statements.specs.declared.statement.ForRange.{ForRange}
+use Rattle.st_statements.specs.Reader.Statements.{Deeper, range_of, begins_label, begins_statement}
 
 -- ---- labels
 
 -- a label doesn't go on
 abbrev NoRange : Option Kind → Type 0
-NoRange t = is_range t ≡ false
+NoRange t = is_symbol s.Range t ≡ false
 
 -- behind the first literal of a label
 data IsTail (x : Constant) : List Tok → Label → List Tok → Type 0 where
@@ -62,32 +55,28 @@ ranged_from x p ts y rest g single = absurd (cc)
 single_to : (x : Constant) (ts : List Tok) (y : Label) (rest : List Tok) → IsPure (l.Value x) ts y rest → IsTail x ts y rest
 single_to x ts y rest d = made d (λ z us. IsTail x ts z us) single
 
-single_from : (x : Constant) (ts : List Tok) (y : Label) (rest : List Tok) → is_range (kind ts) ≡ false → IsTail x ts y rest → IsPure (l.Value x) ts y rest
+single_from : (x : Constant) (ts : List Tok) (y : Label) (rest : List Tok) → is_symbol s.Range (kind ts) ≡ false → IsTail x ts y rest → IsPure (l.Value x) ts y rest
 single_from x ts y rest h single = done
 single_from x ts y rest h (ranged d) = absurd (cc)
 
-range_is : (t : Option Kind) → is_range t ≡ true → t ≡ Some (k.Symbol s.Range)
-range_is (Some (k.Symbol s.Range)) h = refl
-range_is _ h = absurd (cc)
-
 module _ (r : ℕ) where
-  tail_by : (x : Constant) (b : Bool) → Exact 0 (spec.label_by x b) (λ ts. (is_range (kind ts) ≡ b) × Always ts) (IsTail x) NoRange (At r) (At r)
+  tail_by : (x : Constant) (b : Bool) → Exact 0 (spec.label_by x b) (λ ts. (is_symbol s.Range (kind ts) ≡ b) × Always ts) (IsTail x) NoRange (At r) (At r)
   tail_by x true = exact_zero (exact_under (exact_token (k.Symbol s.Range) refl {R = IsTail x} (λ p. exact_as (exact_last (constant_exact r) (l.Range x)) (λ ts u. u)
-      (λ ts y rest u d. ranged_to x p ts y rest d) (λ ts y rest u g d. ranged_from x p ts y rest g d) (λ t g. tt))) (λ ts h. range_is (kind ts) h.0) (λ t g. g))
+      (λ ts y rest u d. ranged_to x p ts y rest d) (λ ts y rest u g d. ranged_from x p ts y rest g d) (λ t g. tt))) (λ ts h. symbol_is s.Range (kind ts) h.0) (λ t g. g))
   tail_by x false = exact_as (exact_pure (l.Value x) Always Any (At r)) (λ ts h. tt) (λ ts y rest h d. single_to x ts y rest d) (λ ts y rest h g d. single_from x ts y rest h.0 d) (λ t g. tt)
 
   pub label_exact : Exact 1 spec.label Always IsLabel NoRange (At r) (At r)
   unfolding spec.label
-  label_exact = exact_iff (exact_bind (constant_exact r) (λ x. exact_on (λ ts. is_range (kind ts)) (spec.label_by x) Always (IsTail x) NoRange (At r) (At r) (tail_by x)) (λ x mid rest y d g. tt)) label_to label_from
+  label_exact = exact_iff (exact_bind (constant_exact r) (λ x. exact_on (λ ts. is_symbol s.Range (kind ts)) (spec.label_by x) Always (IsTail x) NoRange (At r) (At r) (tail_by x)) (λ x mid rest y d g. tt)) label_to label_from
 
 -- ---- statements without statements in them
 
-named_not : {p : Position} {n : List ℕ} {ts rest : List Tok} {v : _} → is_open (kind ts) ≡ true → (kind rest ≡ Some (k.Symbol s.Assign)) → IsVariable ((p, k.Word n) ∷ ts) v rest → ⊥
-named_not h e (is_named {ts = us} no_part) = let a = open_is (kind us) h in cc
+named_not : {p : Position} {n : List ℕ} {ts rest : List Tok} {v : _} → is_symbol s.Open (kind ts) ≡ true → (kind rest ≡ Some (k.Symbol s.Assign)) → IsVariable ((p, k.Word n) ∷ ts) v rest → ⊥
+named_not h e (is_named {ts = us} no_part) = let a = symbol_is s.Open (kind us) h in cc
 named_not h e (is_named (parts field m)) = cc
 named_not h e (is_named (parts (subscripts d o) m)) = cc
 
-call_not : {p : Position} {n : List ℕ} {ts rest : List Tok} {c : _} → is_open (kind ts) ≡ false → IsCall ((p, k.Word n) ∷ ts) c rest → ⊥
+call_not : {p : Position} {n : List ℕ} {ts rest : List Tok} {c : _} → is_symbol s.Open (kind ts) ≡ false → IsCall ((p, k.Word n) ∷ ts) c rest → ⊥
 call_not h (called no_arguments) = cc
 call_not h (called (arguments d m)) = cc
 
@@ -97,17 +86,17 @@ IsInvocation = Then IsCall (λ c. Then (IsOne (k.Symbol s.Semicolon)) (λ q. IsP
 invocation_to : (ts : List Tok) (x : Statement) (rest : List Tok) → IsInvocation ts x rest → IsStatement ts x rest
 invocation_to ts x rest (seq d (seq one m)) = made m (λ y us. IsStatement ts y us) (invocation d)
 
-invocation_from : (n : List ℕ) (p : Position) (us : List Tok) → (x : Statement) (rest : List Tok) → is_open (kind us) ≡ true → IsStatement ((p, k.Word n) ∷ us) x rest → IsInvocation ((p, k.Word n) ∷ us) x rest
+invocation_from : (n : List ℕ) (p : Position) (us : List Tok) → (x : Statement) (rest : List Tok) → is_symbol s.Open (kind us) ≡ true → IsStatement ((p, k.Word n) ∷ us) x rest → IsInvocation ((p, k.Word n) ∷ us) x rest
 invocation_from n p us x rest h (invocation d) = seq d (seq one done)
 invocation_from n p us x rest h (assignment d e) = absurd (named_not h refl d)
 
 abbrev IsAssignment : Relation Statement
-IsAssignment = Then IsVariable (λ v. Then (IsOne (k.Symbol s.Assign)) (λ q. Then (IsRank 7) (λ x. Then (IsOne (k.Symbol s.Semicolon)) (λ z. IsPure (t.Assignment v x)))))
+IsAssignment = Then IsVariable (λ v. Then (IsOne (k.Symbol s.Assign)) (λ q. Then (IsBinary 7) (λ x. Then (IsOne (k.Symbol s.Semicolon)) (λ z. IsPure (t.Assignment v x)))))
 
 assignment_to : (ts : List Tok) (x : Statement) (rest : List Tok) → IsAssignment ts x rest → IsStatement ts x rest
 assignment_to ts x rest (seq d (seq one (seq e (seq one m)))) = made m (λ y us. IsStatement ts y us) (assignment d e)
 
-assignment_from : (n : List ℕ) (p : Position) (us : List Tok) → (x : Statement) (rest : List Tok) → is_open (kind us) ≡ false → IsStatement ((p, k.Word n) ∷ us) x rest → IsAssignment ((p, k.Word n) ∷ us) x rest
+assignment_from : (n : List ℕ) (p : Position) (us : List Tok) → (x : Statement) (rest : List Tok) → is_symbol s.Open (kind us) ≡ false → IsStatement ((p, k.Word n) ∷ us) x rest → IsAssignment ((p, k.Word n) ∷ us) x rest
 assignment_from n p us x rest h (assignment d e) = seq d (seq one (seq e (seq one done)))
 assignment_from n p us x rest h (invocation d) = absurd (call_not h d)
 
@@ -122,21 +111,21 @@ empty_from p ts x rest (invocation d) = elim d [ ]
 abbrev IsEnd : Statement → Relation Statement
 IsEnd x = Then (IsOne (k.Symbol s.Semicolon)) (λ z. IsPure x)
 
-returning_to : (p : Position) (ts : List Tok) (x : Statement) (rest : List Tok) → IsEnd (t.Return p) ts x rest → IsStatement ((p, k.Keyword w.Return) ∷ ts) x rest
-returning_to p ts x rest (seq one m) = made m (λ y us. IsStatement ((p, k.Keyword w.Return) ∷ ts) y us) returning
+return_statement_to : (p : Position) (ts : List Tok) (x : Statement) (rest : List Tok) → IsEnd (t.Return p) ts x rest → IsStatement ((p, k.Keyword w.Return) ∷ ts) x rest
+return_statement_to p ts x rest (seq one m) = made m (λ y us. IsStatement ((p, k.Keyword w.Return) ∷ ts) y us) return_statement
 
-returning_from : (p : Position) (ts : List Tok) (x : Statement) (rest : List Tok) → IsStatement ((p, k.Keyword w.Return) ∷ ts) x rest → IsEnd (t.Return p) ts x rest
-returning_from p ts x rest returning = seq one done
-returning_from p ts x rest (assignment d e) = elim d [ ]
-returning_from p ts x rest (invocation d) = elim d [ ]
+return_statement_from : (p : Position) (ts : List Tok) (x : Statement) (rest : List Tok) → IsStatement ((p, k.Keyword w.Return) ∷ ts) x rest → IsEnd (t.Return p) ts x rest
+return_statement_from p ts x rest return_statement = seq one done
+return_statement_from p ts x rest (assignment d e) = elim d [ ]
+return_statement_from p ts x rest (invocation d) = elim d [ ]
 
-exiting_to : (p : Position) (ts : List Tok) (x : Statement) (rest : List Tok) → IsEnd (t.Exit p) ts x rest → IsStatement ((p, k.Keyword w.Exit) ∷ ts) x rest
-exiting_to p ts x rest (seq one m) = made m (λ y us. IsStatement ((p, k.Keyword w.Exit) ∷ ts) y us) exiting
+exit_statement_to : (p : Position) (ts : List Tok) (x : Statement) (rest : List Tok) → IsEnd (t.Exit p) ts x rest → IsStatement ((p, k.Keyword w.Exit) ∷ ts) x rest
+exit_statement_to p ts x rest (seq one m) = made m (λ y us. IsStatement ((p, k.Keyword w.Exit) ∷ ts) y us) exit_statement
 
-exiting_from : (p : Position) (ts : List Tok) (x : Statement) (rest : List Tok) → IsStatement ((p, k.Keyword w.Exit) ∷ ts) x rest → IsEnd (t.Exit p) ts x rest
-exiting_from p ts x rest exiting = seq one done
-exiting_from p ts x rest (assignment d e) = elim d [ ]
-exiting_from p ts x rest (invocation d) = elim d [ ]
+exit_statement_from : (p : Position) (ts : List Tok) (x : Statement) (rest : List Tok) → IsStatement ((p, k.Keyword w.Exit) ∷ ts) x rest → IsEnd (t.Exit p) ts x rest
+exit_statement_from p ts x rest exit_statement = seq one done
+exit_statement_from p ts x rest (assignment d e) = elim d [ ]
+exit_statement_from p ts x rest (invocation d) = elim d [ ]
 
 module _ (r : ℕ) where
   empty_exact : Exact 1 spec.empty (IsFirst (k.Symbol s.Semicolon)) IsStatement Any (At r) (At r)
@@ -144,30 +133,30 @@ module _ (r : ℕ) where
   empty_exact = exact_token (k.Symbol s.Semicolon) refl {R = IsStatement} (λ p. exact_iff (exact_pure (t.Empty p) Always Any (At r)) (empty_to p) (empty_from p))
 
   -- ';', and what it ends
-  end_exact : (x : Statement) → Exact 1 (λ ts. and_then (parser.symbol s.Semicolon ts) (λ z. parser.pure x)) Always (IsEnd x) Any (At r) (At r)
+  end_exact : (x : Statement) → Exact 1 (λ ts. and_then (parser.expect_symbol s.Semicolon ts) (λ z. parser.pure x)) Always (IsEnd x) Any (At r) (At r)
   end_exact x = exact_bind (exact_symbol s.Semicolon r refl) (λ z. exact_pure x Always Any (At r)) (λ z mid rest y d g. tt)
 
-  returning_exact : Exact 1 spec.returning (IsFirst (k.Keyword w.Return)) IsStatement Any (At r) (At r)
-  unfolding spec.returning
-  returning_exact = exact_token (k.Keyword w.Return) refl {R = IsStatement} (λ p. exact_iff (end_exact (t.Return p)) (returning_to p) (returning_from p))
+  return_statement_exact : Exact 1 spec.return_statement (IsFirst (k.Keyword w.Return)) IsStatement Any (At r) (At r)
+  unfolding spec.return_statement
+  return_statement_exact = exact_token (k.Keyword w.Return) refl {R = IsStatement} (λ p. exact_iff (end_exact (t.Return p)) (return_statement_to p) (return_statement_from p))
 
-  exiting_exact : Exact 1 spec.exiting (IsFirst (k.Keyword w.Exit)) IsStatement Any (At r) (At r)
-  unfolding spec.exiting
-  exiting_exact = exact_token (k.Keyword w.Exit) refl {R = IsStatement} (λ p. exact_iff (end_exact (t.Exit p)) (exiting_to p) (exiting_from p))
+  exit_statement_exact : Exact 1 spec.exit_statement (IsFirst (k.Keyword w.Exit)) IsStatement Any (At r) (At r)
+  unfolding spec.exit_statement
+  exit_statement_exact = exact_token (k.Keyword w.Exit) refl {R = IsStatement} (λ p. exact_iff (end_exact (t.Exit p)) (exit_statement_to p) (exit_statement_from p))
 
-  named_by : (n : List ℕ) (b : Bool) → Exact 1 (spec.named_by r b) (λ ts. (is_open (kind (next ts)) ≡ b) × IsFirst (k.Word n) ts) IsStatement Any (At r) (At r)
+  named_by : (n : List ℕ) (b : Bool) → Exact 1 (spec.named_by r b) (λ ts. (is_symbol s.Open (kind (next ts)) ≡ b) × IsFirst (k.Word n) ts) IsStatement Any (At r) (At r)
   unfolding spec.invocation spec.assignment
   named_by n true = exact_as (exact_before (k.Symbol s.Semicolon) (call_exact r (inside_of r) (inside_exact r)) tt (exact_symbol s.Semicolon r refl) (λ c q. exact_pure (t.Call c) Always Any (At r)))
-      (λ ts p. open_is (kind (next ts)) p.0) (λ ts x rest p d. invocation_to ts x rest d)
-      (λ ts x rest p g d. at_first (k.Word n) (λ us. (x : Statement) (rest : List Tok) → is_open (kind (next us)) ≡ true → IsStatement us x rest → IsInvocation us x rest) (invocation_from n) ts p.1 x rest p.0 d) (λ t g. g)
+      (λ ts p. symbol_is s.Open (kind (next ts)) p.0) (λ ts x rest p d. invocation_to ts x rest d)
+      (λ ts x rest p g d. at_first (k.Word n) (λ us. (x : Statement) (rest : List Tok) → is_symbol s.Open (kind (next us)) ≡ true → IsStatement us x rest → IsInvocation us x rest) (invocation_from n) ts p.1 x rest p.0 d) (λ t g. g)
   named_by n false = exact_as (exact_before (k.Symbol s.Assign) (variable_exact r (inside_of r) (inside_exact r)) tt (exact_symbol s.Assign r refl)
       (λ v q. exact_before (k.Symbol s.Semicolon) (expression_exact r) tt (exact_symbol s.Semicolon r refl) (λ x z. exact_pure (t.Assignment v x) Always Any (At r))))
       (λ ts p. tt) (λ ts x rest p d. assignment_to ts x rest d)
-      (λ ts x rest p g d. at_first (k.Word n) (λ us. (x : Statement) (rest : List Tok) → is_open (kind (next us)) ≡ false → IsStatement us x rest → IsAssignment us x rest) (assignment_from n) ts p.1 x rest p.0 d) (λ t g. g)
+      (λ ts x rest p g d. at_first (k.Word n) (λ us. (x : Statement) (rest : List Tok) → is_symbol s.Open (kind (next us)) ≡ false → IsStatement us x rest → IsAssignment us x rest) (assignment_from n) ts p.1 x rest p.0 d) (λ t g. g)
 
   named_exact : (n : List ℕ) → Exact 1 (spec.named r) (IsFirst (k.Word n)) IsStatement Any (At r) (At r)
   unfolding spec.named
-  named_exact n = exact_on (λ ts. is_open (kind (next ts))) (spec.named_by r) (IsFirst (k.Word n)) IsStatement Any (At r) (At r) (named_by n)
+  named_exact n = exact_on (λ ts. is_symbol s.Open (kind (next ts))) (spec.named_by r) (IsFirst (k.Word n)) IsStatement Any (At r) (At r) (named_by n)
 
 -- ---- parts of statements
 
@@ -178,20 +167,16 @@ EndsBlock = Ends begins_statement Any
 -- what is read behind one more open level is read exactly
 abbrev pub ExactDeeper : ℕ → Deeper → Type 0
 ExactDeeper zero d = Unit {0}
-ExactDeeper (suc r) d = (Exact 1 d.expression Always (IsRank 7) (Stops 7) (At r) (At r)) × (Exact 0 d.statements Always IsStatements EndsBlock (At r) (At r))
+ExactDeeper (suc r) d = (Exact 1 d.expression Always (IsBinary 7) (Stops 7) (At r) (At r)) × (Exact 0 d.statements Always IsStatements EndsBlock (At r) (At r))
 
 data IsElsif : List Tok → ConditionalPart → List Tok → Type 0 where
   elsif : {p : Position} {ts rest : List Tok} {x : ConditionalPart} → IsConditional ts x rest → IsElsif ((p, k.Keyword w.Elsif) ∷ ts) x rest
 
-elsif_begins : (ts : List Tok) (x : ConditionalPart) (rest : List Tok) → IsElsif ts x rest → is_elsif (kind ts) ≡ true
+elsif_begins : (ts : List Tok) (x : ConditionalPart) (rest : List Tok) → IsElsif ts x rest → is_keyword w.Elsif (kind ts) ≡ true
 elsif_begins ts x rest (elsif d) = refl
 
 elsif_from : (p : Position) (ts : List Tok) (x : ConditionalPart) (rest : List Tok) → IsElsif ((p, k.Keyword w.Elsif) ∷ ts) x rest → IsConditional ts x rest
 elsif_from p ts x rest (elsif d) = d
-
-elsif_is : (t : Option Kind) → is_elsif t ≡ true → t ≡ Some (k.Keyword w.Elsif)
-elsif_is (Some (k.Keyword w.Elsif)) h = refl
-elsif_is _ h = absurd (cc)
 
 to_elsifs : {ts rest : List Tok} {xs : List ConditionalPart} → IsMany IsElsif ts xs rest → IsElsifs ts xs rest
 to_elsifs none = no_elsif
@@ -257,7 +242,7 @@ label_ends (Some (k.Symbol s.Minus)) h = (refl, tt)
 label_ends _ h = absurd (cc)
 
 abbrev ConditionalRule : Relation ConditionalPart
-ConditionalRule = Then (IsRank 7) (λ x. Then (IsOne (k.Keyword w.Then)) (λ q. Then IsStatements (λ ss. IsPure (part_of x ss))))
+ConditionalRule = Then (IsBinary 7) (λ x. Then (IsOne (k.Keyword w.Then)) (λ q. Then IsStatements (λ ss. IsPure (part_of x ss))))
 
 conditional_to : (ts : List Tok) (x : ConditionalPart) (rest : List Tok) → ConditionalRule ts x rest → IsConditional ts x rest
 conditional_to ts x rest (seq d (seq one (seq e m))) = made m (λ y us. IsConditional ts y us) (conditional d e)
@@ -276,11 +261,7 @@ case_from ts x rest (case d e) = seq d (seq one (seq e done))
 
 -- ELSE may not follow, nor a statement
 abbrev EndsElse : Option Kind → Type 0
-EndsElse t = (is_else t ≡ false) × EndsBlock t
-
-else_is : (t : Option Kind) → is_else t ≡ true → t ≡ Some (k.Keyword w.Else)
-else_is (Some (k.Keyword w.Else)) h = refl
-else_is _ h = absurd (cc)
+EndsElse t = (is_keyword w.Else t ≡ false) × EndsBlock t
 
 else_from : (p : Position) (ts : List Tok) (x : List Statement) (rest : List Tok) → EndsElse (kind rest) → IsElse ((p, k.Keyword w.Else) ∷ ts) x rest → IsStatements ts x rest
 else_from p ts x rest g (otherwise d) = d
@@ -289,29 +270,25 @@ else_from p ts x rest g no_else = absurd (let wrong = g.0 in cc)
 no_else_to : (ts : List Tok) (x : List Statement) (rest : List Tok) → IsPure [] ts x rest → IsElse ts x rest
 no_else_to ts x rest d = made d (λ y us. IsElse ts y us) no_else
 
-no_else_from : (ts : List Tok) (x : List Statement) (rest : List Tok) → is_else (kind ts) ≡ false → IsElse ts x rest → IsPure [] ts x rest
+no_else_from : (ts : List Tok) (x : List Statement) (rest : List Tok) → is_keyword w.Else (kind ts) ≡ false → IsElse ts x rest → IsPure [] ts x rest
 no_else_from ts x rest h no_else = done
 no_else_from ts x rest h (otherwise d) = absurd (cc)
 
 -- BY may not follow
 abbrev EndsBy : Option Kind → Type 0
-EndsBy t = (is_by t ≡ false) × Stops 7 t
+EndsBy t = (is_keyword w.By t ≡ false) × Stops 7 t
 
-by_is : (t : Option Kind) → is_by t ≡ true → t ≡ Some (k.Keyword w.By)
-by_is (Some (k.Keyword w.By)) h = refl
-by_is _ h = absurd (cc)
-
-by_to : (p : Position) (ts : List Tok) (x : Option Expression) (rest : List Tok) → Then (IsRank 7) (λ y. IsPure (Some y)) ts x rest → IsBy ((p, k.Keyword w.By) ∷ ts) x rest
+by_to : (p : Position) (ts : List Tok) (x : Option Expression) (rest : List Tok) → Then (IsBinary 7) (λ y. IsPure (Some y)) ts x rest → IsBy ((p, k.Keyword w.By) ∷ ts) x rest
 by_to p ts x rest (seq d m) = made m (λ y us. IsBy ((p, k.Keyword w.By) ∷ ts) y us) (by_step d)
 
-by_from : (p : Position) (ts : List Tok) (x : Option Expression) (rest : List Tok) → EndsBy (kind rest) → IsBy ((p, k.Keyword w.By) ∷ ts) x rest → Then (IsRank 7) (λ y. IsPure (Some y)) ts x rest
+by_from : (p : Position) (ts : List Tok) (x : Option Expression) (rest : List Tok) → EndsBy (kind rest) → IsBy ((p, k.Keyword w.By) ∷ ts) x rest → Then (IsBinary 7) (λ y. IsPure (Some y)) ts x rest
 by_from p ts x rest g (by_step d) = seq d done
 by_from p ts x rest g no_by = absurd (let wrong = g.0 in cc)
 
 no_by_to : (ts : List Tok) (x : Option Expression) (rest : List Tok) → IsPure None ts x rest → IsBy ts x rest
 no_by_to ts x rest d = made d (λ y us. IsBy ts y us) no_by
 
-no_by_from : (ts : List Tok) (x : Option Expression) (rest : List Tok) → is_by (kind ts) ≡ false → IsBy ts x rest → IsPure None ts x rest
+no_by_from : (ts : List Tok) (x : Option Expression) (rest : List Tok) → is_keyword w.By (kind ts) ≡ false → IsBy ts x rest → IsPure None ts x rest
 no_by_from ts x rest h no_by = done
 no_by_from ts x rest h (by_step d) = absurd (cc)
 
@@ -320,39 +297,39 @@ module _ (r : ℕ) (d : Deeper) (e : ExactDeeper (suc r) d) where
   unfolding spec.conditional
   conditional_exact = exact_iff (exact_before (k.Keyword w.Then) e.0 tt (exact_keyword w.Then r refl) (λ x q. exact_last e.1 (part_of x))) conditional_to conditional_from
 
-  elsif_exact : Exact 1 (spec.elsif d) (λ ts. is_elsif (kind ts) ≡ true) IsElsif EndsBlock (At r) (At r)
+  elsif_exact : Exact 1 (spec.elsif d) (λ ts. is_keyword w.Elsif (kind ts) ≡ true) IsElsif EndsBlock (At r) (At r)
   unfolding spec.elsif
-  elsif_exact = exact_under (exact_token (k.Keyword w.Elsif) refl {R = IsElsif} (λ p. exact_iff conditional_exact (λ ts x rest c. elsif c) (elsif_from p))) (λ ts h. elsif_is (kind ts) h) (λ t g. g)
+  elsif_exact = exact_under (exact_token (k.Keyword w.Elsif) refl {R = IsElsif} (λ p. exact_iff conditional_exact (λ ts x rest c. elsif c) (elsif_from p))) (λ ts h. keyword_is w.Elsif (kind ts) h) (λ t g. g)
 
-  elsif_fits : (t : Option Kind) → is_elsif t ≡ true → EndsBlock t
-  elsif_fits t h = subst EndsBlock (sym (elsif_is t h)) (refl, tt)
+  elsif_fits : (t : Option Kind) → is_keyword w.Elsif t ≡ true → EndsBlock t
+  elsif_fits t h = subst EndsBlock (sym (keyword_is w.Elsif t h)) (refl, tt)
 
-  conditionals_follow : (x : ConditionalPart) (mid rest : List Tok) (y : List ConditionalPart) → Then (IsMany IsElsif) (λ xs. IsPure (x ∷ xs)) mid y rest → Ends is_elsif EndsBlock (kind rest) → EndsBlock (kind mid)
-  conditionals_follow x mid rest y (seq none c) g = made c (λ z us. Ends is_elsif EndsBlock (kind us) → EndsBlock (kind mid)) (λ f. f.1) g
+  conditionals_follow : (x : ConditionalPart) (mid rest : List Tok) (y : List ConditionalPart) → Then (IsMany IsElsif) (λ xs. IsPure (x ∷ xs)) mid y rest → Ends (is_keyword w.Elsif) EndsBlock (kind rest) → EndsBlock (kind mid)
+  conditionals_follow x mid rest y (seq none c) g = made c (λ z us. Ends (is_keyword w.Elsif) EndsBlock (kind us) → EndsBlock (kind mid)) (λ f. f.1) g
   conditionals_follow x mid rest y (seq (more (elsif i) m) c) g = (refl, tt)
 
-  conditionals_exact : Exact 1 (spec.conditionals d) Always AreConditionals (Ends is_elsif EndsBlock) (At r) (At r)
+  conditionals_exact : Exact 1 (spec.conditionals d) Always AreConditionals (Ends (is_keyword w.Elsif) EndsBlock) (At r) (At r)
   unfolding parser.leading
-  conditionals_exact = exact_iff (exact_bind conditional_exact (λ x. exact_last (exact_many is_elsif (spec.elsif d) IsElsif EndsBlock (At r) elsif_exact elsif_begins elsif_fits) (λ xs. x ∷ xs)) conditionals_follow)
+  conditionals_exact = exact_iff (exact_bind conditional_exact (λ x. exact_last (exact_many (is_keyword w.Elsif) (spec.elsif d) IsElsif EndsBlock (At r) elsif_exact elsif_begins elsif_fits) (λ xs. x ∷ xs)) conditionals_follow)
       conditionals_to conditionals_from
 
-  otherwise_by : (b : Bool) → Exact 0 (spec.otherwise_by d b) (λ ts. (is_else (kind ts) ≡ b) × Always ts) IsElse EndsElse (At r) (At r)
+  otherwise_by : (b : Bool) → Exact 0 (spec.otherwise_by d b) (λ ts. (is_keyword w.Else (kind ts) ≡ b) × Always ts) IsElse EndsElse (At r) (At r)
   otherwise_by true = exact_zero (exact_under (exact_token (k.Keyword w.Else) refl {R = IsElse} (λ p. exact_as e.1 (λ ts u. u) (λ ts x rest u i. otherwise i) (λ ts x rest u g i. else_from p ts x rest g i) (λ t g. g.1)))
-      (λ ts h. else_is (kind ts) h.0) (λ t g. g))
+      (λ ts h. keyword_is w.Else (kind ts) h.0) (λ t g. g))
   otherwise_by false = exact_as (exact_pure [] Always Any (At r)) (λ ts h. tt) (λ ts x rest h i. no_else_to ts x rest i) (λ ts x rest h g i. no_else_from ts x rest h.0 i) (λ t g. tt)
 
   otherwise_exact : Exact 0 (spec.otherwise d) Always IsElse EndsElse (At r) (At r)
   unfolding spec.otherwise
-  otherwise_exact = exact_on (λ ts. is_else (kind ts)) (spec.otherwise_by d) Always IsElse EndsElse (At r) (At r) otherwise_by
+  otherwise_exact = exact_on (λ ts. is_keyword w.Else (kind ts)) (spec.otherwise_by d) Always IsElse EndsElse (At r) (At r) otherwise_by
 
-  step_by : (b : Bool) → Exact 0 (spec.step_by d b) (λ ts. (is_by (kind ts) ≡ b) × Always ts) IsBy EndsBy (At r) (At r)
+  step_by : (b : Bool) → Exact 0 (spec.step_by d b) (λ ts. (is_keyword w.By (kind ts) ≡ b) × Always ts) IsBy EndsBy (At r) (At r)
   step_by true = exact_zero (exact_under (exact_token (k.Keyword w.By) refl {R = IsBy} (λ p. exact_as (exact_last e.0 (λ x. Some x)) (λ ts u. u) (λ ts x rest u i. by_to p ts x rest i) (λ ts x rest u g i. by_from p ts x rest g i) (λ t g. g.1)))
-      (λ ts h. by_is (kind ts) h.0) (λ t g. g))
+      (λ ts h. keyword_is w.By (kind ts) h.0) (λ t g. g))
   step_by false = exact_as (exact_pure None Always Any (At r)) (λ ts h. tt) (λ ts x rest h i. no_by_to ts x rest i) (λ ts x rest h g i. no_by_from ts x rest h.0 i) (λ t g. tt)
 
   step_exact : Exact 0 (spec.step d) Always IsBy EndsBy (At r) (At r)
   unfolding spec.step
-  step_exact = exact_on (λ ts. is_by (kind ts)) (spec.step_by d) Always IsBy EndsBy (At r) (At r) step_by
+  step_exact = exact_on (λ ts. is_keyword w.By (kind ts)) (spec.step_by d) Always IsBy EndsBy (At r) (At r) step_by
 
   case_exact : Exact 1 (spec.case d) Always IsCase EndsBlock (At r) (At r)
   unfolding spec.case
@@ -373,133 +350,147 @@ module _ (r : ℕ) (d : Deeper) (e : ExactDeeper (suc r) d) where
 abbrev Closing : Kind → Statement → Relation Statement
 Closing x y = Then (IsOne x) (λ q. Then (IsOne (k.Symbol s.Semicolon)) (λ z. IsPure y))
 
-abbrev SelectionRule : Position → Relation Statement
-SelectionRule p = Then AreConditionals (λ xs. Then IsElse (λ ys. Closing (k.Keyword w.EndIf) (t.If p xs ys)))
+abbrev IfRule : Position → Relation Statement
+IfRule p = Then AreConditionals (λ xs. Then IsElse (λ ys. Closing (k.Keyword w.EndIf) (t.If (if_of p xs ys))))
 
-selection_to : (p : Position) (ts : List Tok) (x : Statement) (rest : List Tok) → SelectionRule p ts x rest → IsStatement ((p, k.Keyword w.If) ∷ ts) x rest
-selection_to p ts x rest (seq (conditionals a m) (seq b (seq one (seq one c)))) = made c (λ y us. IsStatement ((p, k.Keyword w.If) ∷ ts) y us) (selection a m b)
+if_statement_to : (p : Position) (ts : List Tok) (x : Statement) (rest : List Tok) → IfRule p ts x rest → IsStatement ((p, k.Keyword w.If) ∷ ts) x rest
+if_statement_to p ts x rest (seq (conditionals a m) (seq b (seq one (seq one c)))) = made c (λ y us. IsStatement ((p, k.Keyword w.If) ∷ ts) y us) (if_statement a m b)
 
-selection_from : (p : Position) (ts : List Tok) (x : Statement) (rest : List Tok) → IsStatement ((p, k.Keyword w.If) ∷ ts) x rest → SelectionRule p ts x rest
-selection_from p ts x rest (selection a m b) = seq (conditionals a m) (seq b (seq one (seq one done)))
-selection_from p ts x rest (assignment d e) = elim d [ ]
-selection_from p ts x rest (invocation d) = elim d [ ]
+if_statement_from : (p : Position) (ts : List Tok) (x : Statement) (rest : List Tok) → IsStatement ((p, k.Keyword w.If) ∷ ts) x rest → IfRule p ts x rest
+if_statement_from p ts x rest (if_statement a m b) = seq (conditionals a m) (seq b (seq one (seq one done)))
+if_statement_from p ts x rest (assignment d e) = elim d [ ]
+if_statement_from p ts x rest (invocation d) = elim d [ ]
 
-abbrev ChoiceRule : Position → Relation Statement
-ChoiceRule p = Then (IsRank 7) (λ a. Then (IsOne (k.Keyword w.Of)) (λ q. Then AreCases (λ cs. Then IsElse (λ ys. Closing (k.Keyword w.EndCase) (t.Case p a cs ys)))))
+abbrev CaseStatementRule : Position → Relation Statement
+CaseStatementRule p = Then (IsBinary 7) (λ a. Then (IsOne (k.Keyword w.Of)) (λ q. Then AreCases (λ cs. Then IsElse (λ ys. Closing (k.Keyword w.EndCase) (t.Case (case_statement_of p a cs ys))))))
 
-choice_to : (p : Position) (ts : List Tok) (x : Statement) (rest : List Tok) → ChoiceRule p ts x rest → IsStatement ((p, k.Keyword w.Case) ∷ ts) x rest
-choice_to p ts x rest (seq a (seq one (seq (all_cases b m) (seq o (seq one (seq one c)))))) = made c (λ y us. IsStatement ((p, k.Keyword w.Case) ∷ ts) y us) (choice a b m o)
+case_statement_to : (p : Position) (ts : List Tok) (x : Statement) (rest : List Tok) → CaseStatementRule p ts x rest → IsStatement ((p, k.Keyword w.Case) ∷ ts) x rest
+case_statement_to p ts x rest (seq a (seq one (seq (all_cases b m) (seq o (seq one (seq one c)))))) = made c (λ y us. IsStatement ((p, k.Keyword w.Case) ∷ ts) y us) (case_statement a b m o)
 
-choice_from : (p : Position) (ts : List Tok) (x : Statement) (rest : List Tok) → IsStatement ((p, k.Keyword w.Case) ∷ ts) x rest → ChoiceRule p ts x rest
-choice_from p ts x rest (choice a b m o) = seq a (seq one (seq (all_cases b m) (seq o (seq one (seq one done)))))
-choice_from p ts x rest (assignment d e) = elim d [ ]
-choice_from p ts x rest (invocation d) = elim d [ ]
+case_statement_from : (p : Position) (ts : List Tok) (x : Statement) (rest : List Tok) → IsStatement ((p, k.Keyword w.Case) ∷ ts) x rest → CaseStatementRule p ts x rest
+case_statement_from p ts x rest (case_statement a b m o) = seq a (seq one (seq (all_cases b m) (seq o (seq one (seq one done)))))
+case_statement_from p ts x rest (assignment d e) = elim d [ ]
+case_statement_from p ts x rest (invocation d) = elim d [ ]
 
-abbrev CountingRule : Position → Relation Statement
-CountingRule p = Then IsWord (λ n. Then (IsOne (k.Symbol s.Assign)) (λ q. Then (IsRank 7) (λ a. Then (IsOne (k.Keyword w.To)) (λ u. Then (IsRank 7) (λ b. Then IsBy (λ c.
-    Then (IsOne (k.Keyword w.Do)) (λ v. Then IsStatements (λ ss. Closing (k.Keyword w.EndFor) (t.For p n a b c ss)))))))))
+-- the values that a variable of FOR takes
+data IsForRange : List Tok → ForRange → List Tok → Type 0 where
+  bounds : {p : Position} {ts mid then rest : List Tok} {a b : Expression} {c : Option Expression} → IsBinary 7 ts a ((p, k.Keyword w.To) ∷ mid) → IsBinary 7 mid b then → IsBy then c rest → IsForRange ts (range_of a b c) rest
 
-counting_to : (p : Position) (ts : List Tok) (x : Statement) (rest : List Tok) → CountingRule p ts x rest → IsStatement ((p, k.Keyword w.For) ∷ ts) x rest
-counting_to p ts x rest (seq a_word (seq one (seq a (seq one (seq b (seq c (seq one (seq m (seq one (seq one e)))))))))) = made e (λ y us. IsStatement ((p, k.Keyword w.For) ∷ ts) y us) (counting a b c m)
+abbrev RangeRule : Relation ForRange
+RangeRule = Then (IsBinary 7) (λ a. Then (IsOne (k.Keyword w.To)) (λ u. Then (IsBinary 7) (λ b. Then IsBy (λ c. IsPure (range_of a b c)))))
 
-counting_from : (p : Position) (ts : List Tok) (x : Statement) (rest : List Tok) → IsStatement ((p, k.Keyword w.For) ∷ ts) x rest → CountingRule p ts x rest
-counting_from p ts x rest (counting a b c m) = seq a_word (seq one (seq a (seq one (seq b (seq c (seq one (seq m (seq one (seq one done)))))))))
-counting_from p ts x rest (assignment d e) = elim d [ ]
-counting_from p ts x rest (invocation d) = elim d [ ]
+bounds_to : (ts : List Tok) (x : ForRange) (rest : List Tok) → RangeRule ts x rest → IsForRange ts x rest
+bounds_to ts x rest (seq a (seq one (seq b (seq c m)))) = made m (λ y us. IsForRange ts y us) (bounds a b c)
+
+bounds_from : (ts : List Tok) (x : ForRange) (rest : List Tok) → IsForRange ts x rest → RangeRule ts x rest
+bounds_from ts x rest (bounds a b c) = seq a (seq one (seq b (seq c done)))
+
+by_follow : {A : Type 0} {f : Option Expression → A} (mid rest : List Tok) (y : A) → Then IsBy (λ c. IsPure (f c)) mid y rest → EndsBy (kind rest) → Stops 7 (kind mid)
+by_follow mid rest y (seq (by_step d) c) g = tt
+by_follow mid rest y (seq no_by c) g = made c (λ z us. EndsBy (kind us) → Stops 7 (kind mid)) (λ h. h.1) g
+
+bounds_exact : (r : ℕ) (d : Deeper) → ExactDeeper (suc r) d → Exact 1 (spec.for_bounds d) Always IsForRange EndsBy (At r) (At r)
+unfolding spec.for_bounds
+bounds_exact r d e = exact_iff (exact_before (k.Keyword w.To) e.0 tt (exact_keyword w.To r refl) (λ a u. exact_bind e.0 (λ b. exact_last (step_exact r d e) (range_of a b)) (λ b mid rest y c g. by_follow {f = range_of a b} mid rest y c g)))
+    bounds_to bounds_from
+
+abbrev ForRule : Position → Relation Statement
+ForRule p = Then IsWord (λ n. Then (IsOne (k.Symbol s.Assign)) (λ q. Then IsForRange (λ x. Then (IsOne (k.Keyword w.Do)) (λ v. Then IsStatements (λ ss. Closing (k.Keyword w.EndFor) (t.For (for_of p n x.first x.last x.step ss)))))))
+
+for_statement_to : (p : Position) (ts : List Tok) (x : Statement) (rest : List Tok) → ForRule p ts x rest → IsStatement ((p, k.Keyword w.For) ∷ ts) x rest
+for_statement_to p ts x rest (seq a_word (seq one (seq (bounds a b c) (seq one (seq m (seq one (seq one e))))))) = made e (λ y us. IsStatement ((p, k.Keyword w.For) ∷ ts) y us) (for_statement a b c m)
+
+for_statement_from : (p : Position) (ts : List Tok) (x : Statement) (rest : List Tok) → IsStatement ((p, k.Keyword w.For) ∷ ts) x rest → ForRule p ts x rest
+for_statement_from p ts x rest (for_statement a b c m) = seq a_word (seq one (seq (bounds a b c) (seq one (seq m (seq one (seq one done))))))
+for_statement_from p ts x rest (assignment d e) = elim d [ ]
+for_statement_from p ts x rest (invocation d) = elim d [ ]
 
 abbrev WhileRule : Position → Relation Statement
-WhileRule p = Then (IsRank 7) (λ a. Then (IsOne (k.Keyword w.Do)) (λ q. Then IsStatements (λ ss. Closing (k.Keyword w.EndWhile) (t.While p a ss))))
+WhileRule p = Then (IsBinary 7) (λ a. Then (IsOne (k.Keyword w.Do)) (λ q. Then IsStatements (λ ss. Closing (k.Keyword w.EndWhile) (t.While (while_of p a ss)))))
 
 while_to : (p : Position) (ts : List Tok) (x : Statement) (rest : List Tok) → WhileRule p ts x rest → IsStatement ((p, k.Keyword w.While) ∷ ts) x rest
-while_to p ts x rest (seq a (seq one (seq m (seq one (seq one c))))) = made c (λ y us. IsStatement ((p, k.Keyword w.While) ∷ ts) y us) (while_loop a m)
+while_to p ts x rest (seq a (seq one (seq m (seq one (seq one c))))) = made c (λ y us. IsStatement ((p, k.Keyword w.While) ∷ ts) y us) (while_statement a m)
 
 while_from : (p : Position) (ts : List Tok) (x : Statement) (rest : List Tok) → IsStatement ((p, k.Keyword w.While) ∷ ts) x rest → WhileRule p ts x rest
-while_from p ts x rest (while_loop a m) = seq a (seq one (seq m (seq one (seq one done))))
+while_from p ts x rest (while_statement a m) = seq a (seq one (seq m (seq one (seq one done))))
 while_from p ts x rest (assignment d e) = elim d [ ]
 while_from p ts x rest (invocation d) = elim d [ ]
 
 abbrev RepeatRule : Position → Relation Statement
-RepeatRule p = Then IsStatements (λ ss. Then (IsOne (k.Keyword w.Until)) (λ q. Then (IsRank 7) (λ a. Closing (k.Keyword w.EndRepeat) (t.Repeat p ss a))))
+RepeatRule p = Then IsStatements (λ ss. Then (IsOne (k.Keyword w.Until)) (λ q. Then (IsBinary 7) (λ a. Closing (k.Keyword w.EndRepeat) (t.Repeat (repeat_of p ss a)))))
 
 repeat_to : (p : Position) (ts : List Tok) (x : Statement) (rest : List Tok) → RepeatRule p ts x rest → IsStatement ((p, k.Keyword w.Repeat) ∷ ts) x rest
-repeat_to p ts x rest (seq m (seq one (seq a (seq one (seq one c))))) = made c (λ y us. IsStatement ((p, k.Keyword w.Repeat) ∷ ts) y us) (repeat_loop m a)
+repeat_to p ts x rest (seq m (seq one (seq a (seq one (seq one c))))) = made c (λ y us. IsStatement ((p, k.Keyword w.Repeat) ∷ ts) y us) (repeat_statement m a)
 
 repeat_from : (p : Position) (ts : List Tok) (x : Statement) (rest : List Tok) → IsStatement ((p, k.Keyword w.Repeat) ∷ ts) x rest → RepeatRule p ts x rest
-repeat_from p ts x rest (repeat_loop m a) = seq m (seq one (seq a (seq one (seq one done))))
+repeat_from p ts x rest (repeat_statement m a) = seq m (seq one (seq a (seq one (seq one done))))
 repeat_from p ts x rest (assignment d e) = elim d [ ]
 repeat_from p ts x rest (invocation d) = elim d [ ]
 
-selection_follow : {p : Position} (xs : List ConditionalPart) (mid rest : List Tok) (y : Statement) → Then IsElse (λ ys. Closing (k.Keyword w.EndIf) (t.If p xs ys)) mid y rest → Any (kind rest) → Ends is_elsif EndsBlock (kind mid)
-selection_follow xs mid rest y (seq (otherwise d) c) g = (refl, (refl, tt))
-selection_follow xs mid rest y (seq no_else (seq one c)) g = (refl, (refl, tt))
+if_statement_follow : (p : Position) (xs : List ConditionalPart) (mid rest : List Tok) (y : Statement) → Then IsElse (λ ys. Closing (k.Keyword w.EndIf) (t.If (if_of p xs ys))) mid y rest → Any (kind rest) → Ends (is_keyword w.Elsif) EndsBlock (kind mid)
+if_statement_follow p xs mid rest y (seq (otherwise d) c) g = (refl, (refl, tt))
+if_statement_follow p xs mid rest y (seq no_else (seq one c)) g = (refl, (refl, tt))
 
-choice_follow : {p : Position} {a : Expression} (xs : List CaseElement) (mid rest : List Tok) (y : Statement) → Then IsElse (λ ys. Closing (k.Keyword w.EndCase) (t.Case p a xs ys)) mid y rest → Any (kind rest) → Ends begins_label EndsBlock (kind mid)
-choice_follow xs mid rest y (seq (otherwise d) c) g = (refl, (refl, tt))
-choice_follow xs mid rest y (seq no_else (seq one c)) g = (refl, (refl, tt))
-
-by_follow : {S : Option Expression → Relation Statement} (mid rest : List Tok) (y : Statement) → Then IsBy (λ c. Then (IsOne (k.Keyword w.Do)) (λ v. S c)) mid y rest → Stops 7 (kind mid)
-by_follow mid rest y (seq (by_step d) c) = tt
-by_follow mid rest y (seq no_by (seq one c)) = tt
+case_statement_follow : (p : Position) (a : Expression) (xs : List CaseElement) (mid rest : List Tok) (y : Statement) → Then IsElse (λ ys. Closing (k.Keyword w.EndCase) (t.Case (case_statement_of p a xs ys))) mid y rest → Any (kind rest) → Ends begins_label EndsBlock (kind mid)
+case_statement_follow p a xs mid rest y (seq (otherwise d) c) g = (refl, (refl, tt))
+case_statement_follow p a xs mid rest y (seq no_else (seq one c)) g = (refl, (refl, tt))
 
 -- a word that closes a level, and ';'
 closing : (x : Keyword) (r : ℕ) → opens (k.Keyword x) ≡ 0 → (y : Statement)
-    → Exact 1 (λ ts. and_then (parser.keyword x ts) (λ q us. and_then (parser.symbol s.Semicolon us) (λ z. parser.pure y))) Always (Closing (k.Keyword x) y) Any (At r) (At (past (closes (k.Keyword x)) r))
+    → Exact 1 (λ ts. and_then (parser.expect_keyword x ts) (λ q us. and_then (parser.expect_symbol s.Semicolon us) (λ z. parser.pure y))) Always (Closing (k.Keyword x) y) Any (At r) (At (past (closes (k.Keyword x)) r))
 closing x r plain y = exact_bind (exact_keyword x r plain)
     (λ q. exact_bind (exact_symbol s.Semicolon (past (closes (k.Keyword x)) r) refl) (λ z. exact_pure y Always Any (At (past (closes (k.Keyword x)) r))) (λ z mid rest e d g. tt)) (λ q mid rest e d g. tt)
 
 -- what the reading functions do behind the word that opens a level
 module _ (d : Deeper) where
   abbrev after_if : Position → Parser Statement
-  after_if p = λ ts. and_then (spec.conditionals d ts) (λ xs us. and_then (spec.otherwise d us) (λ ys vs. and_then (parser.keyword w.EndIf vs) (λ q ws. and_then (parser.symbol s.Semicolon ws) (λ z. parser.pure (t.If p xs ys)))))
+  after_if p = λ ts. and_then (spec.conditionals d ts) (λ xs us. and_then (spec.otherwise d us) (λ ys vs. and_then (parser.expect_keyword w.EndIf vs) (λ q ws. and_then (parser.expect_symbol s.Semicolon ws) (λ z. parser.pure (t.If (if_of p xs ys))))))
 
   abbrev after_case : Position → Parser Statement
-  after_case p = λ ts. and_then (d.expression ts) (λ a us. and_then (parser.keyword w.Of us) (λ u vs. and_then (spec.cases d vs) (λ cs ws. and_then (spec.otherwise d ws)
-      (λ ys xs. and_then (parser.keyword w.EndCase xs) (λ q zs. and_then (parser.symbol s.Semicolon zs) (λ z. parser.pure (t.Case p a cs ys)))))))
+  after_case p = λ ts. and_then (d.expression ts) (λ a us. and_then (parser.expect_keyword w.Of us) (λ u vs. and_then (spec.cases d vs) (λ cs ws. and_then (spec.otherwise d ws)
+      (λ ys xs. and_then (parser.expect_keyword w.EndCase xs) (λ q zs. and_then (parser.expect_symbol s.Semicolon zs) (λ z. parser.pure (t.Case (case_statement_of p a cs ys))))))))
 
   abbrev after_for : Position → Parser Statement
-  after_for p = λ ts. and_then (parser.word ts) (λ n us. and_then (parser.symbol s.Assign us) (λ q vs. and_then (d.expression vs) (λ a ws. and_then (parser.keyword w.To ws) (λ u xs. and_then (d.expression xs)
-      (λ b ys. and_then (spec.step d ys) (λ c zs. and_then (parser.keyword w.Do zs) (λ v ks. and_then (d.statements ks) (λ ss bs. and_then (parser.keyword w.EndFor bs)
-      (λ y cs. and_then (parser.symbol s.Semicolon cs) (λ z. parser.pure (t.For p n a b c ss)))))))))))
+  after_for p = λ ts. and_then (parser.identifier ts) (λ n us. and_then (parser.expect_symbol s.Assign us) (λ q vs. and_then (spec.for_bounds d vs) (λ x ws. and_then (parser.expect_keyword w.Do ws) (λ v ks. and_then (d.statements ks) (λ ss bs. and_then (parser.expect_keyword w.EndFor bs)
+      (λ y cs. and_then (parser.expect_symbol s.Semicolon cs) (λ z. parser.pure (t.For (for_of p n x.first x.last x.step ss)))))))))
 
   abbrev after_while : Position → Parser Statement
-  after_while p = λ ts. and_then (d.expression ts) (λ a us. and_then (parser.keyword w.Do us) (λ u vs. and_then (d.statements vs) (λ ss ws. and_then (parser.keyword w.EndWhile ws) (λ q xs. and_then (parser.symbol s.Semicolon xs) (λ z. parser.pure (t.While p a ss))))))
+  after_while p = λ ts. and_then (d.expression ts) (λ a us. and_then (parser.expect_keyword w.Do us) (λ u vs. and_then (d.statements vs) (λ ss ws. and_then (parser.expect_keyword w.EndWhile ws) (λ q xs. and_then (parser.expect_symbol s.Semicolon xs) (λ z. parser.pure (t.While (while_of p a ss)))))))
 
   abbrev after_repeat : Position → Parser Statement
-  after_repeat p = λ ts. and_then (d.statements ts) (λ ss us. and_then (parser.keyword w.Until us) (λ u vs. and_then (d.expression vs) (λ a ws. and_then (parser.keyword w.EndRepeat ws) (λ q xs. and_then (parser.symbol s.Semicolon xs) (λ z. parser.pure (t.Repeat p ss a))))))
+  after_repeat p = λ ts. and_then (d.statements ts) (λ ss us. and_then (parser.expect_keyword w.Until us) (λ u vs. and_then (d.expression vs) (λ a ws. and_then (parser.expect_keyword w.EndRepeat ws) (λ q xs. and_then (parser.expect_symbol s.Semicolon xs) (λ z. parser.pure (t.Repeat (repeat_of p ss a)))))))
 
   if_behind : (r : ℕ) → ExactDeeper r d → Behind 1 r after_if (k.Keyword w.If) IsStatement Any
   if_behind zero e = tt
   if_behind (suc r) e = λ p. exact_iff
-      (exact_bind (conditionals_exact r d e) (λ xs. exact_bind (otherwise_exact r d e) (λ ys. closing w.EndIf r refl (t.If p xs ys)) (λ ys mid rest y c g. before_token EndsElse (refl, (refl, tt)) c)) selection_follow)
-      (selection_to p) (selection_from p)
+      (exact_bind (conditionals_exact r d e) (λ xs. exact_bind (otherwise_exact r d e) (λ ys. closing w.EndIf r refl (t.If (if_of p xs ys))) (λ ys mid rest y c g. before_token EndsElse (refl, (refl, tt)) c)) (if_statement_follow p))
+      (if_statement_to p) (if_statement_from p)
 
   case_behind : (r : ℕ) → ExactDeeper r d → Behind 1 r after_case (k.Keyword w.Case) IsStatement Any
   case_behind zero e = tt
   case_behind (suc r) e = λ p. exact_iff
       (exact_before (k.Keyword w.Of) e.0 tt (exact_keyword w.Of r refl) (λ a q. exact_bind (cases_exact r d e)
-      (λ cs. exact_bind (otherwise_exact r d e) (λ ys. closing w.EndCase r refl (t.Case p a cs ys)) (λ ys mid rest y c g. before_token EndsElse (refl, (refl, tt)) c)) choice_follow))
-      (choice_to p) (choice_from p)
+      (λ cs. exact_bind (otherwise_exact r d e) (λ ys. closing w.EndCase r refl (t.Case (case_statement_of p a cs ys))) (λ ys mid rest y c g. before_token EndsElse (refl, (refl, tt)) c)) (case_statement_follow p a)))
+      (case_statement_to p) (case_statement_from p)
 
   for_behind : (r : ℕ) → ExactDeeper r d → Behind 1 r after_for (k.Keyword w.For) IsStatement Any
   for_behind zero e = tt
   for_behind (suc r) e = λ p. exact_iff
-      (exact_bind (exact_word r) (λ n. exact_bind (exact_symbol s.Assign r refl) (λ q. exact_before (k.Keyword w.To) e.0 tt (exact_keyword w.To r refl) (λ a u.
-      exact_bind e.0 (λ b. exact_before (k.Keyword w.Do) (step_exact r d e) (refl, tt) (exact_keyword w.Do r refl) (λ c v.
-      exact_bind e.1 (λ ss. closing w.EndFor r refl (t.For p n a b c ss)) (λ ss mid rest y c' g. before_token EndsBlock (refl, tt) c')))
-      (λ b mid rest y c g. by_follow mid rest y c)))
+      (exact_bind (exact_identifier r) (λ n. exact_bind (exact_symbol s.Assign r refl) (λ q. exact_before (k.Keyword w.Do) (bounds_exact r d e) (refl, tt) (exact_keyword w.Do r refl) (λ x v.
+      exact_bind e.1 (λ ss. closing w.EndFor r refl (t.For (for_of p n x.first x.last x.step ss))) (λ ss mid rest y c g. before_token EndsBlock (refl, tt) c)))
       (λ q mid rest y c g. tt)) (λ n mid rest y c g. tt))
-      (counting_to p) (counting_from p)
+      (for_statement_to p) (for_statement_from p)
 
   while_behind : (r : ℕ) → ExactDeeper r d → Behind 1 r after_while (k.Keyword w.While) IsStatement Any
   while_behind zero e = tt
   while_behind (suc r) e = λ p. exact_iff
-      (exact_before (k.Keyword w.Do) e.0 tt (exact_keyword w.Do r refl) (λ a q. exact_bind e.1 (λ ss. closing w.EndWhile r refl (t.While p a ss)) (λ ss mid rest y c g. before_token EndsBlock (refl, tt) c)))
+      (exact_before (k.Keyword w.Do) e.0 tt (exact_keyword w.Do r refl) (λ a q. exact_bind e.1 (λ ss. closing w.EndWhile r refl (t.While (while_of p a ss))) (λ ss mid rest y c g. before_token EndsBlock (refl, tt) c)))
       (while_to p) (while_from p)
 
   repeat_behind : (r : ℕ) → ExactDeeper r d → Behind 0 r after_repeat (k.Keyword w.Repeat) IsStatement Any
   repeat_behind zero e = tt
   repeat_behind (suc r) e = λ p. exact_iff
-      (exact_before (k.Keyword w.Until) e.1 (refl, tt) (exact_keyword w.Until r refl) (λ ss q. exact_bind e.0 (λ a. closing w.EndRepeat r refl (t.Repeat p ss a)) (λ a mid rest y c g. before_token (Stops 7) tt c)))
+      (exact_before (k.Keyword w.Until) e.1 (refl, tt) (exact_keyword w.Until r refl) (λ ss q. exact_bind e.0 (λ a. closing w.EndRepeat r refl (t.Repeat (repeat_of p ss a))) (λ a mid rest y c g. before_token (Stops 7) tt c)))
       (repeat_to p) (repeat_from p)
 
 -- ---- statements
@@ -508,13 +499,13 @@ statement_begins : {ts rest : List Tok} {x : Statement} → IsStatement ts x res
 statement_begins empty = refl
 statement_begins (assignment (is_named d) e) = refl
 statement_begins (invocation (called d)) = refl
-statement_begins returning = refl
-statement_begins exiting = refl
-statement_begins (selection a m b) = refl
-statement_begins (choice a b m o) = refl
-statement_begins (counting a b c m) = refl
-statement_begins (while_loop a m) = refl
-statement_begins (repeat_loop m a) = refl
+statement_begins return_statement = refl
+statement_begins exit_statement = refl
+statement_begins (if_statement a m b) = refl
+statement_begins (case_statement a b m o) = refl
+statement_begins (for_statement a b c m) = refl
+statement_begins (while_statement a m) = refl
+statement_begins (repeat_statement m a) = refl
 
 pub begins_is : (ts : List Tok) (x : Statement) (rest : List Tok) → IsStatement ts x rest → begins_statement (kind ts) ≡ true
 begins_is ts x rest d = statement_begins d
@@ -528,34 +519,34 @@ from_statements no_statement = none
 from_statements (statements d m) = more d (from_statements m)
 
 module _ (r : ℕ) (d : Deeper) (e : ExactDeeper r d) where
-  selection_exact : Exact 1 (spec.selection r d) (IsFirst (k.Keyword w.If)) IsStatement Any (At r) (At r)
-  unfolding spec.selection
-  selection_exact = exact_enter 1 r (after_if d) (k.Keyword w.If) refl (if_behind d r e)
+  if_statement_exact : Exact 1 (spec.if_statement r d) (IsFirst (k.Keyword w.If)) IsStatement Any (At r) (At r)
+  unfolding spec.if_statement
+  if_statement_exact = exact_enter 1 r (after_if d) (k.Keyword w.If) refl (if_behind d r e)
 
-  choice_exact : Exact 1 (spec.choice r d) (IsFirst (k.Keyword w.Case)) IsStatement Any (At r) (At r)
-  unfolding spec.choice
-  choice_exact = exact_enter 1 r (after_case d) (k.Keyword w.Case) refl (case_behind d r e)
+  case_statement_exact : Exact 1 (spec.case_statement r d) (IsFirst (k.Keyword w.Case)) IsStatement Any (At r) (At r)
+  unfolding spec.case_statement
+  case_statement_exact = exact_enter 1 r (after_case d) (k.Keyword w.Case) refl (case_behind d r e)
 
-  counting_exact : Exact 1 (spec.counting r d) (IsFirst (k.Keyword w.For)) IsStatement Any (At r) (At r)
-  unfolding spec.counting
-  counting_exact = exact_enter 1 r (after_for d) (k.Keyword w.For) refl (for_behind d r e)
+  for_statement_exact : Exact 1 (spec.for_statement r d) (IsFirst (k.Keyword w.For)) IsStatement Any (At r) (At r)
+  unfolding spec.for_statement
+  for_statement_exact = exact_enter 1 r (after_for d) (k.Keyword w.For) refl (for_behind d r e)
 
-  while_exact : Exact 1 (spec.while_loop r d) (IsFirst (k.Keyword w.While)) IsStatement Any (At r) (At r)
-  unfolding spec.while_loop
+  while_exact : Exact 1 (spec.while_statement r d) (IsFirst (k.Keyword w.While)) IsStatement Any (At r) (At r)
+  unfolding spec.while_statement
   while_exact = exact_enter 1 r (after_while d) (k.Keyword w.While) refl (while_behind d r e)
 
-  repeat_exact : Exact 1 (spec.repeat_loop r d) (IsFirst (k.Keyword w.Repeat)) IsStatement Any (At r) (At r)
-  unfolding spec.repeat_loop
+  repeat_exact : Exact 1 (spec.repeat_statement r d) (IsFirst (k.Keyword w.Repeat)) IsStatement Any (At r) (At r)
+  unfolding spec.repeat_statement
   repeat_exact = exact_enter 0 r (after_repeat d) (k.Keyword w.Repeat) refl (repeat_behind d r e)
 
   statement_by : (t : Option Kind) → Exact 1 (spec.statement_by r d t) (λ ts. (kind ts ≡ t) × Always ts) IsStatement Any (At r) (At r)
   statement_by (Some (k.Word n)) = exact_under (named_exact r n) (λ ts p. p.0) (λ t g. g)
   statement_by (Some (k.Symbol s.Semicolon)) = exact_under (empty_exact r) (λ ts p. p.0) (λ t g. g)
-  statement_by (Some (k.Keyword w.Return)) = exact_under (returning_exact r) (λ ts p. p.0) (λ t g. g)
-  statement_by (Some (k.Keyword w.Exit)) = exact_under (exiting_exact r) (λ ts p. p.0) (λ t g. g)
-  statement_by (Some (k.Keyword w.If)) = exact_under selection_exact (λ ts p. p.0) (λ t g. g)
-  statement_by (Some (k.Keyword w.Case)) = exact_under choice_exact (λ ts p. p.0) (λ t g. g)
-  statement_by (Some (k.Keyword w.For)) = exact_under counting_exact (λ ts p. p.0) (λ t g. g)
+  statement_by (Some (k.Keyword w.Return)) = exact_under (return_statement_exact r) (λ ts p. p.0) (λ t g. g)
+  statement_by (Some (k.Keyword w.Exit)) = exact_under (exit_statement_exact r) (λ ts p. p.0) (λ t g. g)
+  statement_by (Some (k.Keyword w.If)) = exact_under if_statement_exact (λ ts p. p.0) (λ t g. g)
+  statement_by (Some (k.Keyword w.Case)) = exact_under case_statement_exact (λ ts p. p.0) (λ t g. g)
+  statement_by (Some (k.Keyword w.For)) = exact_under for_statement_exact (λ ts p. p.0) (λ t g. g)
   statement_by (Some (k.Keyword w.While)) = exact_under while_exact (λ ts p. p.0) (λ t g. g)
   statement_by (Some (k.Keyword w.Repeat)) = exact_under repeat_exact (λ ts p. p.0) (λ t g. g)
   statement_by _ = exact_refuse 1 _ IsStatement Any (At r) (At r) (λ ts x rest p i. let wrong = subst (λ t. begins_statement t ≡ true) p.0 (statement_begins i) in cc)

@@ -1,4 +1,2 @@
-pub mod ChartReading
-pub mod Charts
 pub mod Grammar
-pub mod Reading
+pub mod Reader

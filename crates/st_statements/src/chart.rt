@@ -1,17 +1,15 @@
 //! Elements of sequential function charts (IEC 61131-3:2003, 2.6).
-ghost use Rattle.std.specs.Prelude.{◌≡◌, ◌<◌, ◌≤◌, [], ◌∷◌, length, IfErr, IfOk, OnOk};
-ghost use Rattle.st_expressions.specs.Parsers as parser;
-ghost use Rattle.st_expressions.specs.Parsers.{Reads};
-ghost use Rattle.st_expressions.specs.Tokens.{kind};
-ghost use Rattle.st_statements.specs.ChartReading as spec;
-ghost use Rattle.st_statements.specs.Charts.{is_priority};
-ghost use Rattle.st_expressions.specs.declared.fault.ReadFault.TheVariants.{Memory};
+ghost use Rattle.std.specs.Prelude.{◌≡◌, ◌↔◌, ◌<◌, ℕ, [], List as Items, Ok};
+ghost use Rattle.st_parser.specs.Grammar.Levels.{IsWithin};
+ghost use Rattle.st_parser.specs.Grammar.Tokens.{kind, Tok};
+ghost use Rattle.st_parser.specs.Names as names;
+ghost use Rattle.st_parser.specs.Reader.Parsers.{MayTake, Takes};
+ghost use Rattle.st_statements.specs.Grammar.Charts.{IsChart, is_priority};
+ghost use Rattle.st_statements.specs.Reader.Charts as spec;
 
 use crate::statement::statements;
-use st_expressions::cursor::Cursor;
 use st_expressions::expression::expression;
-use st_expressions::fault::ReadFault;
-use st_expressions::token::{enter, is_close, is_comma, is_open, keyword, number, symbol, word};
+use st_parser::{Cursor, ReadFault, many, single, words};
 use st_tokens::{Keyword, Kind, Symbol};
 use st_tree::List;
 use st_tree::tree::{
@@ -20,44 +18,26 @@ use st_tree::tree::{
 };
 use std::alloc::Global;
 
-/// Whether the first token is a word.
-pub fn is_word(ts: &Cursor<'_>) -> bool
-    ensures { result ≡ spec.is_word (kind ts.now) }
-{
-    matches!(ts.kind(), Some(Kind::Word(_)))
-}
-
 /// Whether the first token begins an element of a chart.
 pub fn begins_element(ts: &Cursor<'_>) -> bool
     ensures { result ≡ spec.begins_element (kind ts.now) }
 {
-    match ts.kind() {
+    match ts.peek() {
         Some(Kind::Keyword(Keyword::InitialStep | Keyword::Step)) => true,
         Some(Kind::Keyword(Keyword::Transition | Keyword::Action)) => true,
         _ => false,
     }
 }
 
-/// Takes `(`, where `room` more levels may be opened.
-#[tactic(auto, unfolding(crate::specs::ChartReading::opening))]
-pub fn opening(ts: &mut Cursor<'_>, room: u8) -> Result<Position, ReadFault>
-    ensures read { Reads (spec.opening room ts.old) result ts.new }
-    ensures shorter { OnOk result (length ts.new ≤ length ts.old) }
-{
-    if is_open(ts) {
-        return enter(ts, room);
-    }
-    Err(ts.unexpected())
-}
-
-#[tactic(auto, unfolding(crate::specs::ChartReading::duration))]
+/// `duration`
+#[tactic(auto, unfolding(crate::specs::Reader::Charts::duration))]
 fn duration(ts: &mut Cursor<'_>) -> Result<Duration, ReadFault>
-    ensures read { Reads (spec.duration ts.old) result ts.new }
-    ensures shorter { OnOk result (length ts.new < length ts.old) }
+    ensures { Takes (spec.duration ts.old) result ts.old ts.new }
 {
-    match ts.kind() {
+    match ts.peek() {
         Some(Kind::Duration(milliseconds)) => {
-            let position = ts.skip();
+            let milliseconds = *milliseconds;
+            let position = ts.bump();
             Ok(Duration {
                 position,
                 milliseconds,
@@ -67,84 +47,83 @@ fn duration(ts: &mut Cursor<'_>) -> Result<Duration, ReadFault>
     }
 }
 
-/// The duration of a qualifier, where it has one.
-#[tactic(auto, unfolding(crate::specs::ChartReading::time))]
+/// `[ ',' duration ]`
+#[tactic(auto, unfolding(crate::specs::Reader::Charts::time))]
 fn time(ts: &mut Cursor<'_>) -> Result<Option<Duration>, ReadFault>
-    ensures read { Reads (spec.time ts.old) result ts.new }
-    ensures shorter { OnOk result (length ts.new ≤ length ts.old) }
+    ensures { MayTake (spec.time ts.old) result ts.old ts.new }
 {
-    if is_comma(ts) {
-        ts.skip();
+    if ts.at_symbol(Symbol::Comma) {
+        ts.bump();
         return Ok(Some(duration(ts)?));
     }
     Ok(None)
 }
 
-#[tactic(auto, unfolding(crate::specs::ChartReading::qualifier))]
+/// `word [ ',' duration ]`
+#[tactic(auto, unfolding(crate::specs::Reader::Charts::qualifier))]
 fn qualifier(alloc: Global, ts: &mut Cursor<'_>) -> Result<ActionQualifier, ReadFault>
-    ensures read { Reads (spec.qualifier ts.old) result ts.new }
-    ensures shorter { OnOk result (length ts.new < length ts.old) }
+    ensures { Takes (spec.qualifier ts.old) result ts.old ts.new }
 {
-    let name = word(alloc, ts)?;
+    let name = ts.identifier(alloc)?;
     let duration = time(ts)?;
     Ok(ActionQualifier { name, duration })
 }
 
-#[tactic(auto, unfolding(crate::specs::ChartReading::qualified))]
+/// `[ qualifier ]`
+#[tactic(auto, unfolding(crate::specs::Reader::Charts::qualified))]
 fn qualified(alloc: Global, ts: &mut Cursor<'_>) -> Result<Option<ActionQualifier>, ReadFault>
-    ensures read { Reads (spec.qualified ts.old) result ts.new }
-    ensures shorter { OnOk result (length ts.new ≤ length ts.old) }
+    ensures { MayTake (spec.qualified ts.old) result ts.old ts.new }
 {
-    if is_close(ts) {
+    if ts.at_symbol(Symbol::Close) {
         return Ok(None);
     }
     Ok(Some(qualifier(alloc, ts)?))
 }
 
-#[tactic(auto, unfolding(crate::specs::ChartReading::association))]
-fn association(alloc: Global, ts: &mut Cursor<'_>, room: u8) -> Result<Association, ReadFault>
-    ensures read { Reads (spec.association room ts.old) result ts.new }
-    ensures shorter { OnOk result (length ts.new < length ts.old) }
+/// `word '(' [ qualifier ] ')' ';'`
+#[tactic(auto, unfolding(crate::specs::Reader::Charts::association))]
+fn association(alloc: Global, ts: &mut Cursor<'_>, depth_left: u8) -> Result<Association, ReadFault>
+    ensures { Takes (spec.association depth_left ts.old) result ts.old ts.new }
 {
-    let name = word(alloc, ts)?;
-    opening(ts, room)?;
+    let name = ts.identifier(alloc)?;
+    ts.open_level(Symbol::Open, depth_left)?;
     let qualifier = qualified(alloc, ts)?;
-    symbol(ts, Symbol::Close)?;
-    symbol(ts, Symbol::Semicolon)?;
+    ts.expect_symbol(Symbol::Close)?;
+    ts.expect_symbol(Symbol::Semicolon)?;
     Ok(Association { name, qualifier })
 }
 
+/// `{ association }`
 fn associations(
     alloc: Global,
     ts: &mut Cursor<'_>,
-    room: u8,
+    depth_left: u8,
 ) -> Result<List<Association>, ReadFault>
-    ensures read { Reads (spec.associations room ts.old) result ts.new }
-    ensures shorter { OnOk result (length ts.new ≤ length ts.old) }
+    ensures { MayTake (spec.associations depth_left ts.old) result ts.old ts.new }
 {
-    let mut found = List::new(alloc);
-    'items: while is_word(ts) {
-        let item = association(alloc, ts, room)?;
-        found.push(item)?;
-    }
-    Ok(found)
+    many(
+        alloc,
+        ts,
+        |ts: &Cursor<'_>| ts.at_word(),
+        |alloc: Global, ts: &mut Cursor<'_>| association(alloc, ts, depth_left),
+    )
 }
 
-#[tactic(auto, unfolding(crate::specs::ChartReading::step))]
+/// `(INITIAL_STEP | STEP) word ':' { association } END_STEP`
+#[tactic(auto, unfolding(crate::specs::Reader::Charts::step))]
 fn step(
     alloc: Global,
     ts: &mut Cursor<'_>,
-    room: u8,
+    depth_left: u8,
     is_initial: bool,
 ) -> Result<ChartElement, ReadFault>
-    ensures read { Reads (spec.step room is_initial ts.old) result ts.new }
-    ensures shorter { OnOk result (length ts.new < length ts.old) }
+    ensures { Takes (spec.step depth_left is_initial ts.old) result ts.old ts.new }
 {
-    let position = ts.skip();
-    let name = word(alloc, ts)?;
-    symbol(ts, Symbol::Colon)?;
-    let associations = associations(alloc, ts, room)?;
-    keyword(ts, Keyword::EndStep)?;
+    let position = ts.bump();
+    let name = ts.identifier(alloc)?;
+    ts.expect_symbol(Symbol::Colon)?;
+    let associations = associations(alloc, ts, depth_left)?;
+    ts.expect_keyword(Keyword::EndStep)?;
     Ok(ChartElement::Step(Step {
         position,
         is_initial,
@@ -153,121 +132,84 @@ fn step(
     }))
 }
 
-#[tactic(auto, unfolding(crate::specs::ChartReading::optional_name))]
+/// `[ word ]`
+#[tactic(auto, unfolding(crate::specs::Reader::Charts::optional_name))]
 fn optional_name(alloc: Global, ts: &mut Cursor<'_>) -> Result<Option<Identifier>, ReadFault>
-    ensures read { Reads (spec.optional_name ts.old) result ts.new }
-    ensures shorter { OnOk result (length ts.new ≤ length ts.old) }
+    ensures { MayTake (spec.optional_name ts.old) result ts.old ts.new }
 {
-    if is_word(ts) {
-        return Ok(Some(word(alloc, ts)?));
+    if ts.at_word() {
+        return Ok(Some(ts.identifier(alloc)?));
     }
     Ok(None)
 }
 
-/// Whether a word is PRIORITY, in any case.
+/// Whether a word is PRIORITY, ignoring case.
 fn is_priority(word: &[u8]) -> bool
     ensures { result ≡ is_priority word.now }
 {
     word.eq_ignore_ascii_case(b"PRIORITY")
 }
 
-#[tactic(auto, unfolding(crate::specs::ChartReading::priority_word))]
+/// `PRIORITY`, which isn't reserved
+#[tactic(auto, unfolding(crate::specs::Reader::Charts::priority_word))]
 fn priority_word(ts: &mut Cursor<'_>) -> Result<Position, ReadFault>
-    ensures read { Reads (spec.priority_word ts.old) result ts.new }
-    ensures shorter { OnOk result (length ts.new < length ts.old) }
+    ensures { Takes (spec.priority_word ts.old) result ts.old ts.new }
 {
-    if let Some(Kind::Word(word)) = ts.kind() {
+    if let Some(Kind::Word(word)) = ts.peek() {
         if is_priority(word.bytes()) {
-            return Ok(ts.skip());
+            return Ok(ts.bump());
         }
     }
     Err(ts.unexpected())
 }
 
-/// The priority of a transition, where it has one.
-#[tactic(auto, unfolding(crate::specs::ChartReading::priority))]
-fn priority(ts: &mut Cursor<'_>, room: u8) -> Result<Option<u128>, ReadFault>
-    ensures read { Reads (spec.priority room ts.old) result ts.new }
-    ensures shorter { OnOk result (length ts.new ≤ length ts.old) }
+/// `[ '(' PRIORITY ':=' number ')' ]`
+#[tactic(auto, unfolding(crate::specs::Reader::Charts::priority))]
+fn priority(ts: &mut Cursor<'_>, depth_left: u8) -> Result<Option<u128>, ReadFault>
+    ensures { MayTake (spec.priority depth_left ts.old) result ts.old ts.new }
 {
-    if is_open(ts) {
-        enter(ts, room)?;
+    if ts.at_symbol(Symbol::Open) {
+        ts.enter(depth_left)?;
         priority_word(ts)?;
-        symbol(ts, Symbol::Assign)?;
-        let number = number(ts)?;
-        symbol(ts, Symbol::Close)?;
+        ts.expect_symbol(Symbol::Assign)?;
+        let number = ts.number()?;
+        ts.expect_symbol(Symbol::Close)?;
         return Ok(Some(number));
     }
     Ok(None)
 }
 
-#[tactic(auto, unfolding(st_expressions::specs::Parsers::next_item))]
-fn next_word(alloc: Global, ts: &mut Cursor<'_>) -> Result<Identifier, ReadFault>
-    ensures read { Reads (parser.next_item parser.word ts.old) result ts.new }
-    ensures shorter { OnOk result (length ts.new < length ts.old) }
+/// `word | '(' word { ',' word } ')'`
+#[tactic(auto, unfolding(crate::specs::Reader::Charts::names))]
+fn names(alloc: Global, ts: &mut Cursor<'_>, depth_left: u8) -> Result<List<Identifier>, ReadFault>
+    ensures { MayTake (spec.names depth_left ts.old) result ts.old ts.new }
 {
-    ts.skip();
-    word(alloc, ts)
-}
-
-/// Takes one or more words with commas between them.
-#[tactic(auto, unfolding(st_expressions::specs::Parsers::leading))]
-pub fn words(alloc: Global, ts: &mut Cursor<'_>) -> Result<List<Identifier>, ReadFault>
-    ensures read { Reads (parser.listed parser.word ts.old) result ts.new }
-    ensures shorter { OnOk result (length ts.new < length ts.old) }
-{
-    let first = word(alloc, ts)?;
-    let mut found = List::new(alloc);
-    found.push(first)?;
-    'items: while is_comma(ts) {
-        let item = next_word(alloc, ts)?;
-        found.push(item)?;
-    }
-    Ok(found)
-}
-
-/// A list of one name.
-pub fn alone(alloc: Global, item: Identifier) -> Result<List<Identifier>, ReadFault>
-    ensures ok { IfOk result (λ list. list ≡ item ∷ []) }
-    ensures err { IfErr result (λ fault. fault ≡ Memory) }
-{
-    let mut names = List::new(alloc);
-    names.push(item)?;
-    Ok(names)
-}
-
-/// The steps before or behind a transition.
-#[tactic(auto, unfolding(crate::specs::ChartReading::names))]
-fn names(alloc: Global, ts: &mut Cursor<'_>, room: u8) -> Result<List<Identifier>, ReadFault>
-    ensures read { Reads (spec.names room ts.old) result ts.new }
-    ensures shorter { OnOk result (length ts.new ≤ length ts.old) }
-{
-    if is_open(ts) {
-        enter(ts, room)?;
+    if ts.at_symbol(Symbol::Open) {
+        ts.enter(depth_left)?;
         let found = words(alloc, ts)?;
-        symbol(ts, Symbol::Close)?;
+        ts.expect_symbol(Symbol::Close)?;
         return Ok(found);
     }
-    let name = word(alloc, ts)?;
-    Ok(alone(alloc, name)?)
+    let name = ts.identifier(alloc)?;
+    Ok(single(alloc, name)?)
 }
 
-#[tactic(auto, unfolding(crate::specs::ChartReading::transition))]
-fn transition(alloc: Global, ts: &mut Cursor<'_>, room: u8) -> Result<ChartElement, ReadFault>
-    ensures read { Reads (spec.transition room ts.old) result ts.new }
-    ensures shorter { OnOk result (length ts.new < length ts.old) }
+/// `TRANSITION [ word ] [ priority ] FROM names TO names ':=' expression ';' END_TRANSITION`
+#[tactic(auto, unfolding(crate::specs::Reader::Charts::transition))]
+fn transition(alloc: Global, ts: &mut Cursor<'_>, depth_left: u8) -> Result<ChartElement, ReadFault>
+    ensures { Takes (spec.transition depth_left ts.old) result ts.old ts.new }
 {
-    let position = ts.skip();
+    let position = ts.bump();
     let name = optional_name(alloc, ts)?;
-    let priority = priority(ts, room)?;
-    keyword(ts, Keyword::From)?;
-    let from = names(alloc, ts, room)?;
-    keyword(ts, Keyword::To)?;
-    let to = names(alloc, ts, room)?;
-    symbol(ts, Symbol::Assign)?;
-    let condition = expression(alloc, ts, room)?;
-    symbol(ts, Symbol::Semicolon)?;
-    keyword(ts, Keyword::EndTransition)?;
+    let priority = priority(ts, depth_left)?;
+    ts.expect_keyword(Keyword::From)?;
+    let from = names(alloc, ts, depth_left)?;
+    ts.expect_keyword(Keyword::To)?;
+    let to = names(alloc, ts, depth_left)?;
+    ts.expect_symbol(Symbol::Assign)?;
+    let condition = expression(alloc, ts, depth_left)?;
+    ts.expect_symbol(Symbol::Semicolon)?;
+    ts.expect_keyword(Keyword::EndTransition)?;
     Ok(ChartElement::Transition(Transition {
         position,
         name,
@@ -278,16 +220,16 @@ fn transition(alloc: Global, ts: &mut Cursor<'_>, room: u8) -> Result<ChartEleme
     }))
 }
 
-#[tactic(auto, unfolding(crate::specs::ChartReading::action))]
-fn action(alloc: Global, ts: &mut Cursor<'_>, room: u8) -> Result<ChartElement, ReadFault>
-    ensures read { Reads (spec.action room ts.old) result ts.new }
-    ensures shorter { OnOk result (length ts.new < length ts.old) }
+/// `ACTION word ':' statements END_ACTION`
+#[tactic(auto, unfolding(crate::specs::Reader::Charts::action))]
+fn action(alloc: Global, ts: &mut Cursor<'_>, depth_left: u8) -> Result<ChartElement, ReadFault>
+    ensures { Takes (spec.action depth_left ts.old) result ts.old ts.new }
 {
-    let position = ts.skip();
-    let name = word(alloc, ts)?;
-    symbol(ts, Symbol::Colon)?;
-    let statements = statements(alloc, ts, room)?;
-    keyword(ts, Keyword::EndAction)?;
+    let position = ts.bump();
+    let name = ts.identifier(alloc)?;
+    ts.expect_symbol(Symbol::Colon)?;
+    let statements = statements(alloc, ts, depth_left)?;
+    ts.expect_keyword(Keyword::EndAction)?;
     Ok(ChartElement::Action(Action {
         position,
         name,
@@ -295,32 +237,40 @@ fn action(alloc: Global, ts: &mut Cursor<'_>, room: u8) -> Result<ChartElement, 
     }))
 }
 
-#[tactic(auto, unfolding(crate::specs::ChartReading::element))]
-fn element(alloc: Global, ts: &mut Cursor<'_>, room: u8) -> Result<ChartElement, ReadFault>
-    ensures read { Reads (spec.element room ts.old) result ts.new }
-    ensures shorter { OnOk result (length ts.new < length ts.old) }
+/// An element, by its first token.
+#[tactic(auto, unfolding(crate::specs::Reader::Charts::element))]
+fn element(alloc: Global, ts: &mut Cursor<'_>, depth_left: u8) -> Result<ChartElement, ReadFault>
+    ensures { Takes (spec.element depth_left ts.old) result ts.old ts.new }
 {
-    match ts.kind() {
-        Some(Kind::Keyword(Keyword::InitialStep)) => step(alloc, ts, room, true),
-        Some(Kind::Keyword(Keyword::Step)) => step(alloc, ts, room, false),
-        Some(Kind::Keyword(Keyword::Transition)) => transition(alloc, ts, room),
-        Some(Kind::Keyword(Keyword::Action)) => action(alloc, ts, room),
+    match ts.peek() {
+        Some(Kind::Keyword(Keyword::InitialStep)) => step(alloc, ts, depth_left, true),
+        Some(Kind::Keyword(Keyword::Step)) => step(alloc, ts, depth_left, false),
+        Some(Kind::Keyword(Keyword::Transition)) => transition(alloc, ts, depth_left),
+        Some(Kind::Keyword(Keyword::Action)) => action(alloc, ts, depth_left),
         _ => Err(ts.unexpected()),
     }
 }
 
-/// Takes the elements of a chart, of which there is one or more. `room` more levels may be opened.
-#[tactic(auto, unfolding(st_expressions::specs::Parsers::leading))]
-pub fn chart(alloc: Global, ts: &mut Cursor<'_>, room: u8) -> Result<List<ChartElement>, ReadFault>
-    ensures read { Reads (spec.chart room ts.old) result ts.new }
-    ensures shorter { OnOk result (length ts.new < length ts.old) }
+/// `element { element }`, where `depth_left` more levels may be opened.
+#[tactic(auto, unfolding(st_parser::specs::Reader::Parsers::leading))]
+pub fn chart(
+    alloc: Global,
+    ts: &mut Cursor<'_>,
+    depth_left: u8,
+) -> Result<List<ChartElement>, ReadFault>
+    ensures { Takes (spec.chart depth_left ts.old) result ts.old ts.new }
 {
-    let first = element(alloc, ts, room)?;
-    let mut found = List::new(alloc);
-    found.push(first)?;
+    let first = element(alloc, ts, depth_left)?;
+    let mut found = single(alloc, first)?;
     'items: while begins_element(ts) {
-        let item = element(alloc, ts, room)?;
+        let item = element(alloc, ts, depth_left)?;
         found.push(item)?;
     }
+    found.shrink_to_fit();
     Ok(found)
 }
+
+/// What is read as a chart, up to the last token, is what the grammar has, with at most so many open levels.
+pub fn chart_is_its_grammar()
+    ensures { (depth_left : ℕ) (ts : Items Tok) (xs : Items names.ChartElement) → 0 < depth_left → (spec.chart depth_left ts ≡ Ok (xs, [])) ↔ (IsChart ts xs [] × IsWithin depth_left ts) }
+{}

@@ -1,25 +1,29 @@
 //! Statements (IEC 61131-3:2003, 3.3.2).
-ghost use Rattle.std.specs.Prelude.{◌≡◌, ◌<◌, ◌≤◌, length, OnOk};
-ghost use Rattle.st_expressions.specs.Parsers as parser;
-ghost use Rattle.st_expressions.specs.Parsers.{Reads};
-ghost use Rattle.st_expressions.specs.Tokens.{kind};
-ghost use Rattle.st_statements.specs.Reading as spec;
+ghost use Rattle.std.specs.Prelude.{◌≡◌, ◌↔◌, ◌<◌, ℕ, [], length, List as Items, Ok};
+ghost use Rattle.st_parser.specs.Grammar.Levels.{IsWithin};
+ghost use Rattle.st_parser.specs.Grammar.Tokens.{kind, Tok};
+ghost use Rattle.st_parser.specs.Names as names;
+ghost use Rattle.st_parser.specs.Reader.Parsers as parser;
+ghost use Rattle.st_parser.specs.Reader.Parsers.{MayTake, Takes};
+ghost use Rattle.st_statements.specs.Grammar.Statements.{IsStatements};
+ghost use Rattle.st_statements.specs.Reader.Statements as spec;
 
 use st_expressions::constant::constant;
-use st_expressions::cursor::Cursor;
-use st_expressions::expression::{call, expression, is_call, variable};
-use st_expressions::fault::ReadFault;
-use st_expressions::token::{enter, is_comma, keyword, symbol, word};
+use st_expressions::expression::{call, expression, variable};
+use st_parser::{Cursor, ReadFault, listed, single};
 use st_tokens::{Keyword, Kind, Symbol};
-use st_tree::List;
-use st_tree::tree::{CaseElement, ConditionalPart, Expression, Label, Statement};
+use st_tree::tree::{
+    CaseElement, CaseStatement, ConditionalPart, Expression, ForStatement, IfStatement, Label,
+    RepeatStatement, Statement, WhileStatement,
+};
+use st_tree::{Boxed, List};
 use std::alloc::Global;
 
 /// Whether the first token begins a label.
 fn begins_label(ts: &Cursor<'_>) -> bool
     ensures { result ≡ spec.begins_label (kind ts.now) }
 {
-    match ts.kind() {
+    match ts.peek() {
         Some(Kind::Number(_) | Kind::Typed(_) | Kind::Duration(_)) => true,
         Some(Kind::Keyword(Keyword::True | Keyword::False)) => true,
         Some(Kind::Symbol(Symbol::Plus | Symbol::Minus)) => true,
@@ -31,7 +35,7 @@ fn begins_label(ts: &Cursor<'_>) -> bool
 fn begins_statement(ts: &Cursor<'_>) -> bool
     ensures { result ≡ spec.begins_statement (kind ts.now) }
 {
-    match ts.kind() {
+    match ts.peek() {
         Some(Kind::Word(_)) => true,
         Some(Kind::Symbol(Symbol::Semicolon)) => true,
         Some(Kind::Keyword(Keyword::Return | Keyword::Exit)) => true,
@@ -41,378 +45,400 @@ fn begins_statement(ts: &Cursor<'_>) -> bool
     }
 }
 
-/// Whether the first token is `..`.
-fn is_range(ts: &Cursor<'_>) -> bool
-    ensures { result ≡ spec.is_range (kind ts.now) }
-{
-    matches!(ts.kind(), Some(Kind::Symbol(Symbol::Range)))
-}
-
-/// Whether the first token is ELSIF.
-fn is_elsif(ts: &Cursor<'_>) -> bool
-    ensures { result ≡ spec.is_elsif (kind ts.now) }
-{
-    matches!(ts.kind(), Some(Kind::Keyword(Keyword::Elsif)))
-}
-
-/// Whether the first token is ELSE.
-fn is_else(ts: &Cursor<'_>) -> bool
-    ensures { result ≡ spec.is_else (kind ts.now) }
-{
-    matches!(ts.kind(), Some(Kind::Keyword(Keyword::Else)))
-}
-
-/// Whether the first token is BY.
-fn is_by(ts: &Cursor<'_>) -> bool
-    ensures { result ≡ spec.is_by (kind ts.now) }
-{
-    matches!(ts.kind(), Some(Kind::Keyword(Keyword::By)))
-}
-
-/// A label: a literal, or a range between two.
-#[tactic(auto, unfolding(crate::specs::Reading::label))]
-fn label(ts: &mut Cursor<'_>) -> Result<Label, ReadFault>
-    ensures read { Reads (spec.label ts.old) result ts.new }
-    ensures shorter { OnOk result (length ts.new < length ts.old) }
+/// `literal [ '..' literal ]`
+#[tactic(auto, unfolding(crate::specs::Reader::Statements::label))]
+fn label(alloc: Global, ts: &mut Cursor<'_>) -> Result<Label, ReadFault>
+    ensures { Takes (spec.label ts.old) result ts.old ts.new }
 {
     let first = constant(ts)?;
-    if is_range(ts) {
-        ts.skip();
+    if ts.at_symbol(Symbol::Range) {
+        ts.bump();
         let last = constant(ts)?;
-        return Ok(Label::Range(first, last));
+        let first = Boxed::new(alloc, first)?;
+        return Ok(Label::Range(first, Boxed::new(alloc, last)?));
     }
     Ok(Label::Value(first))
 }
 
-#[tactic(auto, unfolding(st_expressions::specs::Parsers::next_item))]
-fn next_label(ts: &mut Cursor<'_>) -> Result<Label, ReadFault>
-    ensures read { Reads (parser.next_item spec.label ts.old) result ts.new }
-    ensures shorter { OnOk result (length ts.new < length ts.old) }
-{
-    ts.skip();
-    label(ts)
-}
-
-#[tactic(auto, unfolding(st_expressions::specs::Parsers::leading))]
+/// `label { ',' label }`
 fn labels(alloc: Global, ts: &mut Cursor<'_>) -> Result<List<Label>, ReadFault>
-    ensures read { Reads (parser.listed spec.label ts.old) result ts.new }
-    ensures shorter { OnOk result (length ts.new < length ts.old) }
+    ensures { Takes (parser.listed spec.label ts.old) result ts.old ts.new }
 {
-    let first = label(ts)?;
-    let mut found = List::new(alloc);
-    found.push(first)?;
-    'items: while is_comma(ts) {
-        let item = next_label(ts)?;
-        found.push(item)?;
-    }
-    Ok(found)
+    listed(alloc, ts, label)
 }
 
-#[tactic(auto, unfolding(crate::specs::Reading::empty))]
+/// `';'`
+#[tactic(auto, unfolding(crate::specs::Reader::Statements::empty))]
 fn empty(ts: &mut Cursor<'_>) -> Result<Statement, ReadFault>
     requires { 0 < length ts.old }
-    ensures read { Reads (spec.empty ts.old) result ts.new }
-    ensures shorter { OnOk result (length ts.new < length ts.old) }
+    ensures { Takes (spec.empty ts.old) result ts.old ts.new }
 {
-    Ok(Statement::Empty(ts.skip()))
+    Ok(Statement::Empty(ts.bump()))
 }
 
-#[tactic(auto, unfolding(crate::specs::Reading::returning))]
-fn returning(ts: &mut Cursor<'_>) -> Result<Statement, ReadFault>
-    ensures read { Reads (spec.returning ts.old) result ts.new }
-    ensures shorter { OnOk result (length ts.new < length ts.old) }
+/// `RETURN ';'`
+#[tactic(auto, unfolding(crate::specs::Reader::Statements::return_statement))]
+fn return_statement(ts: &mut Cursor<'_>) -> Result<Statement, ReadFault>
+    ensures { Takes (spec.return_statement ts.old) result ts.old ts.new }
 {
-    let position = ts.skip();
-    symbol(ts, Symbol::Semicolon)?;
+    let position = ts.bump();
+    ts.expect_symbol(Symbol::Semicolon)?;
     Ok(Statement::Return(position))
 }
 
-#[tactic(auto, unfolding(crate::specs::Reading::exiting))]
-fn exiting(ts: &mut Cursor<'_>) -> Result<Statement, ReadFault>
-    ensures read { Reads (spec.exiting ts.old) result ts.new }
-    ensures shorter { OnOk result (length ts.new < length ts.old) }
+/// `EXIT ';'`
+#[tactic(auto, unfolding(crate::specs::Reader::Statements::exit_statement))]
+fn exit_statement(ts: &mut Cursor<'_>) -> Result<Statement, ReadFault>
+    ensures { Takes (spec.exit_statement ts.old) result ts.old ts.new }
 {
-    let position = ts.skip();
-    symbol(ts, Symbol::Semicolon)?;
+    let position = ts.bump();
+    ts.expect_symbol(Symbol::Semicolon)?;
     Ok(Statement::Exit(position))
 }
 
-#[tactic(auto, unfolding(crate::specs::Reading::assignment))]
-fn assignment(alloc: Global, ts: &mut Cursor<'_>, room: u8) -> Result<Statement, ReadFault>
-    ensures read { Reads (spec.assignment room ts.old) result ts.new }
-    ensures shorter { OnOk result (length ts.new < length ts.old) }
+/// `variable ':=' expression ';'`
+#[tactic(auto, unfolding(crate::specs::Reader::Statements::assignment))]
+fn assignment(alloc: Global, ts: &mut Cursor<'_>, depth_left: u8) -> Result<Statement, ReadFault>
+    ensures { Takes (spec.assignment depth_left ts.old) result ts.old ts.new }
 {
-    let target = variable(alloc, ts, room)?;
-    symbol(ts, Symbol::Assign)?;
-    let value = expression(alloc, ts, room)?;
-    symbol(ts, Symbol::Semicolon)?;
-    Ok(Statement::Assignment(target, value))
+    let target = variable(alloc, ts, depth_left)?;
+    ts.expect_symbol(Symbol::Assign)?;
+    let value = expression(alloc, ts, depth_left)?;
+    ts.expect_symbol(Symbol::Semicolon)?;
+    let target = Boxed::new(alloc, target)?;
+    Ok(Statement::Assignment(target, Boxed::new(alloc, value)?))
 }
 
-#[tactic(auto, unfolding(crate::specs::Reading::invocation))]
-fn invocation(alloc: Global, ts: &mut Cursor<'_>, room: u8) -> Result<Statement, ReadFault>
-    ensures read { Reads (spec.invocation room ts.old) result ts.new }
-    ensures shorter { OnOk result (length ts.new < length ts.old) }
+/// `call ';'`
+#[tactic(auto, unfolding(crate::specs::Reader::Statements::invocation))]
+fn invocation(alloc: Global, ts: &mut Cursor<'_>, depth_left: u8) -> Result<Statement, ReadFault>
+    ensures { Takes (spec.invocation depth_left ts.old) result ts.old ts.new }
 {
-    let call = call(alloc, ts, room)?;
-    symbol(ts, Symbol::Semicolon)?;
-    Ok(Statement::Call(call))
+    let call = call(alloc, ts, depth_left)?;
+    ts.expect_symbol(Symbol::Semicolon)?;
+    Ok(Statement::Call(Boxed::new(alloc, call)?))
 }
 
-/// What begins with a word: an invocation or an assignment.
-#[tactic(auto, unfolding(crate::specs::Reading::named))]
-fn named(alloc: Global, ts: &mut Cursor<'_>, room: u8) -> Result<Statement, ReadFault>
-    ensures read { Reads (spec.named room ts.old) result ts.new }
-    ensures shorter { OnOk result (length ts.new < length ts.old) }
+/// `call ';' | variable ':=' expression ';'`
+#[tactic(auto, unfolding(crate::specs::Reader::Statements::named))]
+fn named(alloc: Global, ts: &mut Cursor<'_>, depth_left: u8) -> Result<Statement, ReadFault>
+    ensures { Takes (spec.named depth_left ts.old) result ts.old ts.new }
 {
-    if is_call(ts) {
-        invocation(alloc, ts, room)
+    if ts.before_symbol(Symbol::Open) {
+        invocation(alloc, ts, depth_left)
     } else {
-        assignment(alloc, ts, room)
+        assignment(alloc, ts, depth_left)
     }
 }
 
 /// An expression behind one more open level.
-fn inner(alloc: Global, ts: &mut Cursor<'_>, room: u8) -> Result<Expression, ReadFault>
-    requires { 0 < room }
-    ensures read { Reads ((spec.deeper_of room).expression ts.old) result ts.new }
-    ensures shorter { OnOk result (length ts.new < length ts.old) }
+fn inner(alloc: Global, ts: &mut Cursor<'_>, depth_left: u8) -> Result<Expression, ReadFault>
+    requires { 0 < depth_left }
+    ensures { Takes ((spec.deeper_of depth_left).expression ts.old) result ts.old ts.new }
 {
-    expression(alloc, ts, room - 1)
+    expression(alloc, ts, depth_left - 1)
 }
 
-/// The expression behind BY, where there is one.
-#[tactic(auto, unfolding(crate::specs::Reading::step))]
-fn step(alloc: Global, ts: &mut Cursor<'_>, room: u8) -> Result<Option<Expression>, ReadFault>
-    requires { 0 < room }
-    ensures read { Reads (spec.step (spec.deeper_of room) ts.old) result ts.new }
-    ensures shorter { OnOk result (length ts.new ≤ length ts.old) }
+/// `[ BY expression ]`
+#[tactic(auto, unfolding(crate::specs::Reader::Statements::step))]
+fn step(alloc: Global, ts: &mut Cursor<'_>, depth_left: u8) -> Result<Option<Expression>, ReadFault>
+    requires { 0 < depth_left }
+    ensures { MayTake (spec.step (spec.deeper_of depth_left) ts.old) result ts.old ts.new }
 {
-    if is_by(ts) {
-        ts.skip();
-        return Ok(Some(inner(alloc, ts, room)?));
+    if ts.at_keyword(Keyword::By) {
+        ts.bump();
+        return Ok(Some(inner(alloc, ts, depth_left)?));
     }
     Ok(None)
 }
 
-/// Statements behind one more open level.
-#[cycle(parser)]
-fn block(alloc: Global, ts: &mut Cursor<'_>, room: u8) -> Result<List<Statement>, ReadFault>
-    requires { 0 < room }
-    ensures read { Reads ((spec.deeper_of room).statements ts.old) result ts.new }
-    ensures shorter { OnOk result (length ts.new ≤ length ts.old) }
-{
-    statements(alloc, ts, room - 1)
+/// The values that a variable of FOR takes.
+#[derive(Drop)]
+struct ForRange {
+    first: Expression,
+    last: Expression,
+    step: Option<Expression>,
 }
 
-#[cycle(parser)]
-#[tactic(auto, unfolding(crate::specs::Reading::conditional))]
-fn conditional(alloc: Global, ts: &mut Cursor<'_>, room: u8) -> Result<ConditionalPart, ReadFault>
-    requires { 0 < room }
-    ensures read { Reads (spec.conditional (spec.deeper_of room) ts.old) result ts.new }
-    ensures shorter { OnOk result (length ts.new < length ts.old) }
+/// `expression TO expression [ BY expression ]`
+#[tactic(auto, unfolding(crate::specs::Reader::Statements::for_bounds))]
+fn for_bounds(alloc: Global, ts: &mut Cursor<'_>, depth_left: u8) -> Result<ForRange, ReadFault>
+    requires { 0 < depth_left }
+    ensures { Takes (spec.for_bounds (spec.deeper_of depth_left) ts.old) result ts.old ts.new }
 {
-    let condition = inner(alloc, ts, room)?;
-    keyword(ts, Keyword::Then)?;
-    let statements = block(alloc, ts, room)?;
+    let first = inner(alloc, ts, depth_left)?;
+    ts.expect_keyword(Keyword::To)?;
+    let last = inner(alloc, ts, depth_left)?;
+    let step = step(alloc, ts, depth_left)?;
+    Ok(ForRange { first, last, step })
+}
+
+/// Statements behind one more open level.
+#[cycle(parser)]
+fn block(alloc: Global, ts: &mut Cursor<'_>, depth_left: u8) -> Result<List<Statement>, ReadFault>
+    requires { 0 < depth_left }
+    ensures { MayTake ((spec.deeper_of depth_left).statements ts.old) result ts.old ts.new }
+{
+    statements(alloc, ts, depth_left - 1)
+}
+
+/// `expression THEN statements`
+#[cycle(parser)]
+#[tactic(auto, unfolding(crate::specs::Reader::Statements::conditional))]
+fn conditional(
+    alloc: Global,
+    ts: &mut Cursor<'_>,
+    depth_left: u8,
+) -> Result<ConditionalPart, ReadFault>
+    requires { 0 < depth_left }
+    ensures { Takes (spec.conditional (spec.deeper_of depth_left) ts.old) result ts.old ts.new }
+{
+    let condition = inner(alloc, ts, depth_left)?;
+    ts.expect_keyword(Keyword::Then)?;
+    let statements = block(alloc, ts, depth_left)?;
     Ok(ConditionalPart {
         condition,
         statements,
     })
 }
 
+/// `ELSIF conditional`
 #[cycle(parser)]
-#[tactic(auto, unfolding(crate::specs::Reading::elsif))]
-fn elsif(alloc: Global, ts: &mut Cursor<'_>, room: u8) -> Result<ConditionalPart, ReadFault>
-    requires { 0 < room }
-    ensures read { Reads (spec.elsif (spec.deeper_of room) ts.old) result ts.new }
-    ensures shorter { OnOk result (length ts.new < length ts.old) }
+#[tactic(auto, unfolding(crate::specs::Reader::Statements::elsif))]
+fn elsif(alloc: Global, ts: &mut Cursor<'_>, depth_left: u8) -> Result<ConditionalPart, ReadFault>
+    requires { 0 < depth_left }
+    ensures { Takes (spec.elsif (spec.deeper_of depth_left) ts.old) result ts.old ts.new }
 {
-    ts.skip();
-    conditional(alloc, ts, room)
+    ts.bump();
+    conditional(alloc, ts, depth_left)
 }
 
-/// The parts of IF and of each ELSIF.
+/// `conditional { ELSIF conditional }`
 #[cycle(parser)]
-#[tactic(auto, unfolding(st_expressions::specs::Parsers::leading))]
+#[tactic(auto, unfolding(st_parser::specs::Reader::Parsers::leading))]
 fn conditionals(
     alloc: Global,
     ts: &mut Cursor<'_>,
-    room: u8,
+    depth_left: u8,
 ) -> Result<List<ConditionalPart>, ReadFault>
-    requires { 0 < room }
-    ensures read { Reads (spec.conditionals (spec.deeper_of room) ts.old) result ts.new }
-    ensures shorter { OnOk result (length ts.new < length ts.old) }
+    requires { 0 < depth_left }
+    ensures { Takes (spec.conditionals (spec.deeper_of depth_left) ts.old) result ts.old ts.new }
 {
-    let first = conditional(alloc, ts, room)?;
-    let mut found = List::new(alloc);
-    found.push(first)?;
-    'items: while is_elsif(ts) {
-        let item = elsif(alloc, ts, room)?;
+    let first = conditional(alloc, ts, depth_left)?;
+    let mut found = single(alloc, first)?;
+    'items: while ts.at_keyword(Keyword::Elsif) {
+        let item = elsif(alloc, ts, depth_left)?;
         found.push(item)?;
     }
+    found.shrink_to_fit();
     Ok(found)
 }
 
-/// The statements behind ELSE, where there is one.
+/// `[ ELSE statements ]`
 #[cycle(parser)]
-#[tactic(auto, unfolding(crate::specs::Reading::otherwise))]
-fn otherwise(alloc: Global, ts: &mut Cursor<'_>, room: u8) -> Result<List<Statement>, ReadFault>
-    requires { 0 < room }
-    ensures read { Reads (spec.otherwise (spec.deeper_of room) ts.old) result ts.new }
-    ensures shorter { OnOk result (length ts.new ≤ length ts.old) }
+#[tactic(auto, unfolding(crate::specs::Reader::Statements::otherwise))]
+fn otherwise(
+    alloc: Global,
+    ts: &mut Cursor<'_>,
+    depth_left: u8,
+) -> Result<List<Statement>, ReadFault>
+    requires { 0 < depth_left }
+    ensures { MayTake (spec.otherwise (spec.deeper_of depth_left) ts.old) result ts.old ts.new }
 {
-    if is_else(ts) {
-        ts.skip();
-        return block(alloc, ts, room);
+    if ts.at_keyword(Keyword::Else) {
+        ts.bump();
+        return block(alloc, ts, depth_left);
     }
     Ok(List::new(alloc))
 }
 
+/// `IF conditional { ELSIF conditional } [ ELSE statements ] END_IF ';'`
 #[cycle(parser)]
-#[tactic(auto, unfolding(crate::specs::Reading::selection))]
-fn selection(alloc: Global, ts: &mut Cursor<'_>, room: u8) -> Result<Statement, ReadFault>
-    ensures read { Reads (spec.selection room (spec.deeper_of room) ts.old) result ts.new }
-    ensures shorter { OnOk result (length ts.new < length ts.old) }
+#[tactic(auto, unfolding(crate::specs::Reader::Statements::if_statement))]
+fn if_statement(alloc: Global, ts: &mut Cursor<'_>, depth_left: u8) -> Result<Statement, ReadFault>
+    ensures { Takes (spec.if_statement depth_left (spec.deeper_of depth_left) ts.old) result ts.old ts.new }
 {
-    let position = enter(ts, room)?;
-    let parts = conditionals(alloc, ts, room)?;
-    let statements = otherwise(alloc, ts, room)?;
-    keyword(ts, Keyword::EndIf)?;
-    symbol(ts, Symbol::Semicolon)?;
-    Ok(Statement::If(position, parts, statements))
+    let position = ts.enter(depth_left)?;
+    let parts = conditionals(alloc, ts, depth_left)?;
+    let otherwise = otherwise(alloc, ts, depth_left)?;
+    ts.expect_keyword(Keyword::EndIf)?;
+    ts.expect_symbol(Symbol::Semicolon)?;
+    let statement = IfStatement {
+        position,
+        parts,
+        otherwise,
+    };
+    Ok(Statement::If(Boxed::new(alloc, statement)?))
 }
 
+/// `label { ',' label } ':' statements`
 #[cycle(parser)]
-#[tactic(auto, unfolding(crate::specs::Reading::case))]
-fn case(alloc: Global, ts: &mut Cursor<'_>, room: u8) -> Result<CaseElement, ReadFault>
-    requires { 0 < room }
-    ensures read { Reads (spec.case (spec.deeper_of room) ts.old) result ts.new }
-    ensures shorter { OnOk result (length ts.new < length ts.old) }
+#[tactic(auto, unfolding(crate::specs::Reader::Statements::case))]
+fn case(alloc: Global, ts: &mut Cursor<'_>, depth_left: u8) -> Result<CaseElement, ReadFault>
+    requires { 0 < depth_left }
+    ensures { Takes (spec.case (spec.deeper_of depth_left) ts.old) result ts.old ts.new }
 {
     let labels = labels(alloc, ts)?;
-    symbol(ts, Symbol::Colon)?;
-    let statements = block(alloc, ts, room)?;
+    ts.expect_symbol(Symbol::Colon)?;
+    let statements = block(alloc, ts, depth_left)?;
     Ok(CaseElement { labels, statements })
 }
 
+/// `case { case }`
 #[cycle(parser)]
-#[tactic(auto, unfolding(st_expressions::specs::Parsers::leading))]
-fn cases(alloc: Global, ts: &mut Cursor<'_>, room: u8) -> Result<List<CaseElement>, ReadFault>
-    requires { 0 < room }
-    ensures read { Reads (spec.cases (spec.deeper_of room) ts.old) result ts.new }
-    ensures shorter { OnOk result (length ts.new < length ts.old) }
+#[tactic(auto, unfolding(st_parser::specs::Reader::Parsers::leading))]
+fn cases(alloc: Global, ts: &mut Cursor<'_>, depth_left: u8) -> Result<List<CaseElement>, ReadFault>
+    requires { 0 < depth_left }
+    ensures { Takes (spec.cases (spec.deeper_of depth_left) ts.old) result ts.old ts.new }
 {
-    let first = case(alloc, ts, room)?;
-    let mut found = List::new(alloc);
-    found.push(first)?;
+    let first = case(alloc, ts, depth_left)?;
+    let mut found = single(alloc, first)?;
     'items: while begins_label(ts) {
-        let item = case(alloc, ts, room)?;
+        let item = case(alloc, ts, depth_left)?;
         found.push(item)?;
     }
+    found.shrink_to_fit();
     Ok(found)
 }
 
+/// `CASE expression OF case { case } [ ELSE statements ] END_CASE ';'`
 #[cycle(parser)]
-#[tactic(auto, unfolding(crate::specs::Reading::choice))]
-fn choice(alloc: Global, ts: &mut Cursor<'_>, room: u8) -> Result<Statement, ReadFault>
-    ensures read { Reads (spec.choice room (spec.deeper_of room) ts.old) result ts.new }
-    ensures shorter { OnOk result (length ts.new < length ts.old) }
+#[tactic(auto, unfolding(crate::specs::Reader::Statements::case_statement))]
+fn case_statement(
+    alloc: Global,
+    ts: &mut Cursor<'_>,
+    depth_left: u8,
+) -> Result<Statement, ReadFault>
+    ensures { Takes (spec.case_statement depth_left (spec.deeper_of depth_left) ts.old) result ts.old ts.new }
 {
-    let position = enter(ts, room)?;
-    let selector = inner(alloc, ts, room)?;
-    keyword(ts, Keyword::Of)?;
-    let cases = cases(alloc, ts, room)?;
-    let statements = otherwise(alloc, ts, room)?;
-    keyword(ts, Keyword::EndCase)?;
-    symbol(ts, Symbol::Semicolon)?;
-    Ok(Statement::Case(position, selector, cases, statements))
+    let position = ts.enter(depth_left)?;
+    let selector = inner(alloc, ts, depth_left)?;
+    ts.expect_keyword(Keyword::Of)?;
+    let cases = cases(alloc, ts, depth_left)?;
+    let otherwise = otherwise(alloc, ts, depth_left)?;
+    ts.expect_keyword(Keyword::EndCase)?;
+    ts.expect_symbol(Symbol::Semicolon)?;
+    let statement = CaseStatement {
+        position,
+        selector,
+        cases,
+        otherwise,
+    };
+    Ok(Statement::Case(Boxed::new(alloc, statement)?))
 }
 
+/// `FOR word ':=' expression TO expression [ BY expression ] DO statements END_FOR ';'`
 #[cycle(parser)]
-#[tactic(auto, unfolding(crate::specs::Reading::counting))]
-fn counting(alloc: Global, ts: &mut Cursor<'_>, room: u8) -> Result<Statement, ReadFault>
-    ensures read { Reads (spec.counting room (spec.deeper_of room) ts.old) result ts.new }
-    ensures shorter { OnOk result (length ts.new < length ts.old) }
+#[tactic(auto, unfolding(crate::specs::Reader::Statements::for_statement))]
+fn for_statement(alloc: Global, ts: &mut Cursor<'_>, depth_left: u8) -> Result<Statement, ReadFault>
+    ensures { Takes (spec.for_statement depth_left (spec.deeper_of depth_left) ts.old) result ts.old ts.new }
 {
-    let position = enter(ts, room)?;
-    let variable = word(alloc, ts)?;
-    symbol(ts, Symbol::Assign)?;
-    let first = inner(alloc, ts, room)?;
-    keyword(ts, Keyword::To)?;
-    let last = inner(alloc, ts, room)?;
-    let by = step(alloc, ts, room)?;
-    keyword(ts, Keyword::Do)?;
-    let statements = block(alloc, ts, room)?;
-    keyword(ts, Keyword::EndFor)?;
-    symbol(ts, Symbol::Semicolon)?;
-    Ok(Statement::For(position, variable, first, last, by, statements))
+    let position = ts.enter(depth_left)?;
+    let variable = ts.identifier(alloc)?;
+    ts.expect_symbol(Symbol::Assign)?;
+    let ForRange { first, last, step } = for_bounds(alloc, ts, depth_left)?;
+    ts.expect_keyword(Keyword::Do)?;
+    let statements = block(alloc, ts, depth_left)?;
+    ts.expect_keyword(Keyword::EndFor)?;
+    ts.expect_symbol(Symbol::Semicolon)?;
+    let statement = ForStatement {
+        position,
+        variable,
+        first,
+        last,
+        step,
+        statements,
+    };
+    Ok(Statement::For(Boxed::new(alloc, statement)?))
 }
 
+/// `WHILE expression DO statements END_WHILE ';'`
 #[cycle(parser)]
-#[tactic(auto, unfolding(crate::specs::Reading::while_loop))]
-fn while_loop(alloc: Global, ts: &mut Cursor<'_>, room: u8) -> Result<Statement, ReadFault>
-    ensures read { Reads (spec.while_loop room (spec.deeper_of room) ts.old) result ts.new }
-    ensures shorter { OnOk result (length ts.new < length ts.old) }
+#[tactic(auto, unfolding(crate::specs::Reader::Statements::while_statement))]
+fn while_statement(
+    alloc: Global,
+    ts: &mut Cursor<'_>,
+    depth_left: u8,
+) -> Result<Statement, ReadFault>
+    ensures { Takes (spec.while_statement depth_left (spec.deeper_of depth_left) ts.old) result ts.old ts.new }
 {
-    let position = enter(ts, room)?;
-    let condition = inner(alloc, ts, room)?;
-    keyword(ts, Keyword::Do)?;
-    let statements = block(alloc, ts, room)?;
-    keyword(ts, Keyword::EndWhile)?;
-    symbol(ts, Symbol::Semicolon)?;
-    Ok(Statement::While(position, condition, statements))
+    let position = ts.enter(depth_left)?;
+    let condition = inner(alloc, ts, depth_left)?;
+    ts.expect_keyword(Keyword::Do)?;
+    let statements = block(alloc, ts, depth_left)?;
+    ts.expect_keyword(Keyword::EndWhile)?;
+    ts.expect_symbol(Symbol::Semicolon)?;
+    let statement = WhileStatement {
+        position,
+        condition,
+        statements,
+    };
+    Ok(Statement::While(Boxed::new(alloc, statement)?))
 }
 
+/// `REPEAT statements UNTIL expression END_REPEAT ';'`
 #[cycle(parser)]
-#[tactic(auto, unfolding(crate::specs::Reading::repeat_loop))]
-fn repeat_loop(alloc: Global, ts: &mut Cursor<'_>, room: u8) -> Result<Statement, ReadFault>
-    ensures read { Reads (spec.repeat_loop room (spec.deeper_of room) ts.old) result ts.new }
-    ensures shorter { OnOk result (length ts.new < length ts.old) }
+#[tactic(auto, unfolding(crate::specs::Reader::Statements::repeat_statement))]
+fn repeat_statement(
+    alloc: Global,
+    ts: &mut Cursor<'_>,
+    depth_left: u8,
+) -> Result<Statement, ReadFault>
+    ensures { Takes (spec.repeat_statement depth_left (spec.deeper_of depth_left) ts.old) result ts.old ts.new }
 {
-    let position = enter(ts, room)?;
-    let statements = block(alloc, ts, room)?;
-    keyword(ts, Keyword::Until)?;
-    let condition = inner(alloc, ts, room)?;
-    keyword(ts, Keyword::EndRepeat)?;
-    symbol(ts, Symbol::Semicolon)?;
-    Ok(Statement::Repeat(position, statements, condition))
+    let position = ts.enter(depth_left)?;
+    let statements = block(alloc, ts, depth_left)?;
+    ts.expect_keyword(Keyword::Until)?;
+    let condition = inner(alloc, ts, depth_left)?;
+    ts.expect_keyword(Keyword::EndRepeat)?;
+    ts.expect_symbol(Symbol::Semicolon)?;
+    let statement = RepeatStatement {
+        position,
+        statements,
+        condition,
+    };
+    Ok(Statement::Repeat(Boxed::new(alloc, statement)?))
 }
 
+/// A statement, by its first token.
 #[cycle(parser)]
-#[tactic(auto, unfolding(crate::specs::Reading::statement))]
-fn statement(alloc: Global, ts: &mut Cursor<'_>, room: u8) -> Result<Statement, ReadFault>
-    ensures read { Reads (spec.statement room (spec.deeper_of room) ts.old) result ts.new }
-    ensures shorter { OnOk result (length ts.new < length ts.old) }
+#[tactic(auto, unfolding(crate::specs::Reader::Statements::statement))]
+fn statement(alloc: Global, ts: &mut Cursor<'_>, depth_left: u8) -> Result<Statement, ReadFault>
+    ensures { Takes (spec.statement depth_left (spec.deeper_of depth_left) ts.old) result ts.old ts.new }
 {
-    match ts.kind() {
-        Some(Kind::Word(_)) => named(alloc, ts, room),
+    match ts.peek() {
+        Some(Kind::Word(_)) => named(alloc, ts, depth_left),
         Some(Kind::Symbol(Symbol::Semicolon)) => empty(ts),
-        Some(Kind::Keyword(Keyword::Return)) => returning(ts),
-        Some(Kind::Keyword(Keyword::Exit)) => exiting(ts),
-        Some(Kind::Keyword(Keyword::If)) => selection(alloc, ts, room),
-        Some(Kind::Keyword(Keyword::Case)) => choice(alloc, ts, room),
-        Some(Kind::Keyword(Keyword::For)) => counting(alloc, ts, room),
-        Some(Kind::Keyword(Keyword::While)) => while_loop(alloc, ts, room),
-        Some(Kind::Keyword(Keyword::Repeat)) => repeat_loop(alloc, ts, room),
+        Some(Kind::Keyword(Keyword::Return)) => return_statement(ts),
+        Some(Kind::Keyword(Keyword::Exit)) => exit_statement(ts),
+        Some(Kind::Keyword(Keyword::If)) => if_statement(alloc, ts, depth_left),
+        Some(Kind::Keyword(Keyword::Case)) => case_statement(alloc, ts, depth_left),
+        Some(Kind::Keyword(Keyword::For)) => for_statement(alloc, ts, depth_left),
+        Some(Kind::Keyword(Keyword::While)) => while_statement(alloc, ts, depth_left),
+        Some(Kind::Keyword(Keyword::Repeat)) => repeat_statement(alloc, ts, depth_left),
         _ => Err(ts.unexpected()),
     }
 }
 
-/// Takes as many statements as there are. `room` more levels may be opened.
+/// `{ statement }`, where `depth_left` more levels may be opened.
 #[cycle(parser)]
 pub fn statements(
     alloc: Global,
     ts: &mut Cursor<'_>,
-    room: u8,
+    depth_left: u8,
 ) -> Result<List<Statement>, ReadFault>
-    ensures read { Reads (spec.statements room ts.old) result ts.new }
-    ensures shorter { OnOk result (length ts.new ≤ length ts.old) }
+    ensures { MayTake (spec.statements depth_left ts.old) result ts.old ts.new }
 {
     let mut found = List::new(alloc);
     'items: while begins_statement(ts) {
-        let item = statement(alloc, ts, room)?;
+        let item = statement(alloc, ts, depth_left)?;
         found.push(item)?;
     }
+    found.shrink_to_fit();
     Ok(found)
 }
+
+/// What is read as statements, up to the last token, is what the grammar has, with at most so many open levels.
+pub fn statements_are_their_grammar()
+    ensures { (depth_left : ℕ) (ts : Items Tok) (xs : Items names.Statement) → (spec.statements depth_left ts ≡ Ok (xs, [])) ↔ (IsStatements ts xs [] × IsWithin depth_left ts) }
+{}

@@ -1,60 +1,80 @@
-use Rattle.std.proofs.Common.{[], refl, sym, ◌∙◌, arith}
+use Rattle.std.proofs.Common.{[], sym, ◌∙◌, arith}
 use Rattle.std.proofs.lemmas.Result.{err_from_is_err_and}
-use Rattle.st_statements.specs.Reading as spec
-use Rattle.st_expressions.proofs.Loops.{left_init, left_step, loop_end, loop_err, leading_end, leading_err}
-use Rattle.st_statements.proofs.ReadingLemmas.{deeper_statements}
+use Rattle.st_tokens.specs.declared.keyword.Keyword.TheVariants as w
+use Rattle.st_parser.specs.Reader.Parsers.{is_keyword}
+use Rattle.st_parser.proofs.Loops.{left_init, left_step, loop_end, loop_err, leading_end, leading_err}
+use Rattle.st_statements.specs.Reader.Statements as spec
+use Rattle.st_statements.proofs.ReaderLemmas.{deeper_statements}
 use Rattle.st_statements.proofs.statement.+parser.Goals as goal
 
 pub conditionals-items-init : goal.conditionals-items-init
-conditionals-items-init t c = record { left = left_init spec.is_elsif (spec.elsif (spec.deeper_of c.args.room)) c.push.new.self c.conditional.new.ts; shorter = omega arith }
+conditionals-items-init t c = record { left = left_init (is_keyword w.Elsif) (spec.elsif (spec.deeper_of c.args.depth_left)) c.in_ok-found.found c.conditional.new.ts; shorter = omega arith }
 
-pub conditionals-returns-in_err-item-clause-read : goal.conditionals-returns-in_err-item-clause-read
-conditionals-returns-in_err-item-clause-read t c =
-    let p = err_from_is_err_and c.from_residual-in_err-item.result c.from_residual-in_err-item.ensures.1 in
-    rw (p.1, p.2) (leading_err (spec.conditional (spec.deeper_of c.args.room)) spec.is_elsif (spec.elsif (spec.deeper_of c.args.room)) c.args.ts.now c.conditional.new.ts c.in_ok-first.first c.in_ok-first.ensures.read c.push.new.self c.items.found c.items.ts _ (rw (c.in_ok-push.ensures.ok, c.new-found.ensures) refl) c.items.invariant.left (sym c.is_elsif.ensures ∙ c.items-test.true) c.in_err-item.ensures.read)
+pub conditionals-returns-in_err-item : goal.conditionals-returns-in_err-item
+conditionals-returns-in_err-item t c =
+    let e = err_from_is_err_and c.from_residual-in_err-item.result c.from_residual-in_err-item.ensures.1 in
+    rw (e.1, e.2) (record {
+      reads = leading_err (spec.conditional (spec.deeper_of c.args.depth_left)) (is_keyword w.Elsif) (spec.elsif (spec.deeper_of c.args.depth_left)) c.args.ts.now c.conditional.new.ts c.in_ok-first.first c.in_ok-first.ensures.reads c.in_ok-found.found c.items.found c.items.ts _ c.in_ok-found.ensures.ok c.items.invariant.left (sym c.at_keyword.ensures ∙ c.items-test.true) c.in_err-item.ensures.reads;
+      shorter = tt;
+    })
 
 pub conditionals-items-preserved : goal.conditionals-items-preserved
 conditionals-items-preserved t c = record {
-  left = rw c.in_ok-push-2.ensures.ok (left_step spec.is_elsif (spec.elsif (spec.deeper_of c.args.room)) c.push.new.self c.conditional.new.ts c.items.found c.items.ts _ _ c.items.invariant.left (sym c.is_elsif.ensures ∙ c.items-test.true) c.in_ok-item.ensures.read (omega (arith, c.in_ok-item.ensures.shorter)));
-  shorter = omega (arith, c.in_ok-item.ensures.shorter);
+  left = rw c.in_ok-push.ensures.ok (left_step (is_keyword w.Elsif) (spec.elsif (spec.deeper_of c.args.depth_left)) c.in_ok-found.found c.conditional.new.ts c.items.found c.items.ts _ _ c.items.invariant.left (sym c.at_keyword.ensures ∙ c.items-test.true) c.in_ok-item.ensures.reads (omega (arith, c.in_ok-item.ensures.shorter)));
+  shorter = omega (arith, c.in_ok-item.ensures.shorter, c.items.invariant.shorter);
 }
 
-pub conditionals-returns-clause-read : goal.conditionals-returns-clause-read
-conditionals-returns-clause-read t c = leading_end (spec.conditional (spec.deeper_of c.args.room)) spec.is_elsif (spec.elsif (spec.deeper_of c.args.room)) c.args.ts.now c.conditional.new.ts c.in_ok-first.first c.in_ok-first.ensures.read c.push.new.self c.items.found c.items.ts (rw (c.in_ok-push.ensures.ok, c.new-found.ensures) refl) c.items.invariant.left (sym c.is_elsif.ensures ∙ c.items-test.false)
+pub conditionals-returns : goal.conditionals-returns
+conditionals-returns t c = rw c.shrink_to_fit.ensures (record {
+  reads = leading_end (spec.conditional (spec.deeper_of c.args.depth_left)) (is_keyword w.Elsif) (spec.elsif (spec.deeper_of c.args.depth_left)) c.args.ts.now c.conditional.new.ts c.in_ok-first.first c.in_ok-first.ensures.reads c.in_ok-found.found c.items.found c.items.ts c.in_ok-found.ensures.ok c.items.invariant.left (sym c.at_keyword.ensures ∙ c.items-test.false);
+  shorter = omega (arith, c.in_ok-first.ensures.shorter, c.items.invariant.shorter);
+})
 
 pub cases-items-init : goal.cases-items-init
-cases-items-init t c = record { left = left_init spec.begins_label (spec.case (spec.deeper_of c.args.room)) c.push.new.self c.case.new.ts; shorter = omega arith }
+cases-items-init t c = record { left = left_init spec.begins_label (spec.case (spec.deeper_of c.args.depth_left)) c.in_ok-found.found c.case.new.ts; shorter = omega arith }
 
-pub cases-returns-in_err-item-clause-read : goal.cases-returns-in_err-item-clause-read
-cases-returns-in_err-item-clause-read t c =
-    let p = err_from_is_err_and c.from_residual-in_err-item.result c.from_residual-in_err-item.ensures.1 in
-    rw (p.1, p.2) (leading_err (spec.case (spec.deeper_of c.args.room)) spec.begins_label (spec.case (spec.deeper_of c.args.room)) c.args.ts.now c.case.new.ts c.in_ok-first.first c.in_ok-first.ensures.read c.push.new.self c.items.found c.items.ts _ (rw (c.in_ok-push.ensures.ok, c.new-found.ensures) refl) c.items.invariant.left (sym c.begins_label.ensures ∙ c.items-test.true) c.in_err-item.ensures.read)
+pub cases-returns-in_err-item : goal.cases-returns-in_err-item
+cases-returns-in_err-item t c =
+    let e = err_from_is_err_and c.from_residual-in_err-item.result c.from_residual-in_err-item.ensures.1 in
+    rw (e.1, e.2) (record {
+      reads = leading_err (spec.case (spec.deeper_of c.args.depth_left)) spec.begins_label (spec.case (spec.deeper_of c.args.depth_left)) c.args.ts.now c.case.new.ts c.in_ok-first.first c.in_ok-first.ensures.reads c.in_ok-found.found c.items.found c.items.ts _ c.in_ok-found.ensures.ok c.items.invariant.left (sym c.begins_label.ensures ∙ c.items-test.true) c.in_err-item.ensures.reads;
+      shorter = tt;
+    })
 
 pub cases-items-preserved : goal.cases-items-preserved
 cases-items-preserved t c = record {
-  left = rw c.in_ok-push-2.ensures.ok (left_step spec.begins_label (spec.case (spec.deeper_of c.args.room)) c.push.new.self c.case.new.ts c.items.found c.items.ts _ _ c.items.invariant.left (sym c.begins_label.ensures ∙ c.items-test.true) c.in_ok-item.ensures.read (omega (arith, c.in_ok-item.ensures.shorter)));
-  shorter = omega (arith, c.in_ok-item.ensures.shorter);
+  left = rw c.in_ok-push.ensures.ok (left_step spec.begins_label (spec.case (spec.deeper_of c.args.depth_left)) c.in_ok-found.found c.case.new.ts c.items.found c.items.ts _ _ c.items.invariant.left (sym c.begins_label.ensures ∙ c.items-test.true) c.in_ok-item.ensures.reads (omega (arith, c.in_ok-item.ensures.shorter)));
+  shorter = omega (arith, c.in_ok-item.ensures.shorter, c.items.invariant.shorter);
 }
 
-pub cases-returns-clause-read : goal.cases-returns-clause-read
-cases-returns-clause-read t c = leading_end (spec.case (spec.deeper_of c.args.room)) spec.begins_label (spec.case (spec.deeper_of c.args.room)) c.args.ts.now c.case.new.ts c.in_ok-first.first c.in_ok-first.ensures.read c.push.new.self c.items.found c.items.ts (rw (c.in_ok-push.ensures.ok, c.new-found.ensures) refl) c.items.invariant.left (sym c.begins_label.ensures ∙ c.items-test.false)
+pub cases-returns : goal.cases-returns
+cases-returns t c = rw c.shrink_to_fit.ensures (record {
+  reads = leading_end (spec.case (spec.deeper_of c.args.depth_left)) spec.begins_label (spec.case (spec.deeper_of c.args.depth_left)) c.args.ts.now c.case.new.ts c.in_ok-first.first c.in_ok-first.ensures.reads c.in_ok-found.found c.items.found c.items.ts c.in_ok-found.ensures.ok c.items.invariant.left (sym c.begins_label.ensures ∙ c.items-test.false);
+  shorter = omega (arith, c.in_ok-first.ensures.shorter, c.items.invariant.shorter);
+})
 
 pub statements-items-init : goal.statements-items-init
-statements-items-init t c = record { left = rw c.new-found.ensures (left_init spec.begins_statement (spec.statement c.args.room (spec.deeper_of c.args.room)) [] c.args.ts.now); shorter = omega arith }
+statements-items-init t c = record { left = rw c.new-found.ensures (left_init spec.begins_statement (spec.statement c.args.depth_left (spec.deeper_of c.args.depth_left)) [] c.args.ts.now); shorter = omega arith }
 
-pub statements-returns-in_err-item-clause-read : goal.statements-returns-in_err-item-clause-read
-statements-returns-in_err-item-clause-read t c =
-    let p = err_from_is_err_and c.from_residual.result c.from_residual.ensures.1 in
-    rw (p.1, p.2) (loop_err spec.begins_statement (spec.statement c.args.room (spec.deeper_of c.args.room)) c.args.ts.now c.items.found c.items.ts _ c.items.invariant.left (sym c.begins_statement.ensures ∙ c.items-test.true) c.in_err-item.ensures.read)
+pub statements-returns-in_err-item : goal.statements-returns-in_err-item
+statements-returns-in_err-item t c =
+    let e = err_from_is_err_and c.from_residual.result c.from_residual.ensures.1 in
+    rw (e.1, e.2) (record {
+      reads = loop_err spec.begins_statement (spec.statement c.args.depth_left (spec.deeper_of c.args.depth_left)) c.args.ts.now c.items.found c.items.ts _ c.items.invariant.left (sym c.begins_statement.ensures ∙ c.items-test.true) c.in_err-item.ensures.reads;
+      shorter = tt;
+    })
 
 pub statements-items-preserved : goal.statements-items-preserved
 statements-items-preserved t c = record {
-  left = rw c.in_ok-push.ensures.ok (left_step spec.begins_statement (spec.statement c.args.room (spec.deeper_of c.args.room)) [] c.args.ts.now c.items.found c.items.ts _ _ c.items.invariant.left (sym c.begins_statement.ensures ∙ c.items-test.true) c.in_ok-item.ensures.read (omega (arith, c.in_ok-item.ensures.shorter)));
-  shorter = omega (arith, c.in_ok-item.ensures.shorter);
+  left = rw c.in_ok-push.ensures.ok (left_step spec.begins_statement (spec.statement c.args.depth_left (spec.deeper_of c.args.depth_left)) [] c.args.ts.now c.items.found c.items.ts _ _ c.items.invariant.left (sym c.begins_statement.ensures ∙ c.items-test.true) c.in_ok-item.ensures.reads (omega (arith, c.in_ok-item.ensures.shorter)));
+  shorter = omega (arith, c.in_ok-item.ensures.shorter, c.items.invariant.shorter);
 }
 
-pub statements-returns-clause-read : goal.statements-returns-clause-read
-statements-returns-clause-read t c = loop_end spec.begins_statement (spec.statement c.args.room (spec.deeper_of c.args.room)) c.args.ts.now c.items.found c.items.ts c.items.invariant.left (sym c.begins_statement.ensures ∙ c.items-test.false)
+pub statements-returns : goal.statements-returns
+statements-returns t c = rw c.shrink_to_fit.ensures (record {
+  reads = loop_end spec.begins_statement (spec.statement c.args.depth_left (spec.deeper_of c.args.depth_left)) c.args.ts.now c.items.found c.items.ts c.items.invariant.left (sym c.begins_statement.ensures ∙ c.items-test.false);
+  shorter = c.items.invariant.shorter;
+})
 
-pub block-returns-clause-read : goal.block-returns-clause-read
-block-returns-clause-read t c = rw (deeper_statements c.args.room c.requires) c.statements.ensures.read
+pub block-returns : goal.block-returns
+block-returns t c = rw (deeper_statements c.args.depth_left c.requires) c.statements.ensures

@@ -1,5 +1,5 @@
-use Rattle.st_statements.proofs.ReadingLemmas.{deeper_expression}
+use Rattle.st_statements.proofs.ReaderLemmas.{deeper_expression}
 use Rattle.st_statements.proofs.statement.inner.Goals as goal
 
-pub returns-clause-read : goal.returns-clause-read
-returns-clause-read c = rw (deeper_expression c.args.room c.requires) c.expression.ensures.read
+pub returns : goal.returns
+returns c = rw (deeper_expression c.args.depth_left c.requires) c.expression.ensures

@@ -4,22 +4,12 @@ use Rattle.std.specs.Str.{str_eq_ignore_ascii_case}
 use Rattle.st_tokens.specs.declared.keyword.Keyword.TheVariants as w
 use Rattle.st_tokens.specs.declared.symbol.Symbol.TheVariants as s
 use Rattle.st_tokens.specs.declared.token.Kind.TheVariants as k
-use Rattle.st_tree.specs.declared.tree.position.Position.{Position}
-use Rattle.st_tree.specs.declared.tree.position.Identifier.{Identifier}
-use Rattle.st_tree.specs.declared.tree.constant.Duration.{Duration}
-use Rattle.st_tree.specs.declared.tree.expression.Expression.{Expression}
-use Rattle.st_tree.specs.declared.tree.statement.Statement.{Statement}
-use Rattle.st_tree.specs.declared.tree.unit.Action.{Action}
-use Rattle.st_tree.specs.declared.tree.unit.ActionQualifier.{ActionQualifier}
-use Rattle.st_tree.specs.declared.tree.unit.Association.{Association}
-use Rattle.st_tree.specs.declared.tree.unit.ChartElement.{ChartElement}
 use Rattle.st_tree.specs.declared.tree.unit.ChartElement.TheVariants as c
-use Rattle.st_tree.specs.declared.tree.unit.Step.{Step}
-use Rattle.st_tree.specs.declared.tree.unit.Transition.{Transition}
+use Rattle.st_parser.specs.Names.{Action, ActionQualifier, Association, ChartElement, Duration, Expression, Identifier, Position, Statement, Step, Transition}
+use Rattle.st_parser.specs.Grammar.Lists.{IsMany, IsNext}
+use Rattle.st_parser.specs.Grammar.Tokens.{identifier_of, Tok}
 use Rattle.st_expressions.specs.Grammar.{IsExpression, duration_of}
-use Rattle.st_expressions.specs.Lists.{IsMany, IsNext}
-use Rattle.st_expressions.specs.Tokens.{identifier, Tok}
-use Rattle.st_statements.specs.Grammar.{IsStatements}
+use Rattle.st_statements.specs.Grammar.Statements.{IsStatements}
 
 abbrev pub qualifier_of : Identifier → Option Duration → ActionQualifier
 qualifier_of n d = record { name = n; duration = d }
@@ -36,34 +26,34 @@ transition_of p n m from to x = record { position = p; name = n; priority = m; f
 abbrev pub action_of : Position → Identifier → List Statement → Action
 action_of p n ss = record { position = p; name = n; statements = ss }
 
--- a word is PRIORITY, in any case
+-- a word is PRIORITY, ignoring case
 abbrev pub is_priority : List ℕ → Bool
 is_priority n = str_eq_ignore_ascii_case n (codes "PRIORITY")
 
 -- word [ ',' duration ]
 pub data IsQualifier : List Tok → ActionQualifier → List Tok → Type 0 where
-  untimed : {p : Position} {n : List ℕ} {rest : List Tok} → IsQualifier ((p, k.Word n) ∷ rest) (qualifier_of (identifier p n) None) rest
+  untimed : {p : Position} {n : List ℕ} {rest : List Tok} → IsQualifier ((p, k.Word n) ∷ rest) (qualifier_of (identifier_of p n) None) rest
   timed : {p q r : Position} {n : List ℕ} {d : _} {rest : List Tok}
-      → IsQualifier ((p, k.Word n) ∷ (q, k.Symbol s.Comma) ∷ (r, k.Duration d) ∷ rest) (qualifier_of (identifier p n) (Some (duration_of r d))) rest
+      → IsQualifier ((p, k.Word n) ∷ (q, k.Symbol s.Comma) ∷ (r, k.Duration d) ∷ rest) (qualifier_of (identifier_of p n) (Some (duration_of r d))) rest
 
 -- word '(' [ qualifier ] ')' ';'
 pub data IsAssociation : List Tok → Association → List Tok → Type 0 where
   unqualified : {p q r z : Position} {n : List ℕ} {rest : List Tok}
-      → IsAssociation ((p, k.Word n) ∷ (q, k.Symbol s.Open) ∷ (r, k.Symbol s.Close) ∷ (z, k.Symbol s.Semicolon) ∷ rest) (association_of (identifier p n) None) rest
+      → IsAssociation ((p, k.Word n) ∷ (q, k.Symbol s.Open) ∷ (r, k.Symbol s.Close) ∷ (z, k.Symbol s.Semicolon) ∷ rest) (association_of (identifier_of p n) None) rest
   qualified : {p q r z : Position} {n : List ℕ} {ts rest : List Tok} {x : ActionQualifier}
       → IsQualifier ts x ((r, k.Symbol s.Close) ∷ (z, k.Symbol s.Semicolon) ∷ rest)
-      → IsAssociation ((p, k.Word n) ∷ (q, k.Symbol s.Open) ∷ ts) (association_of (identifier p n) (Some x)) rest
+      → IsAssociation ((p, k.Word n) ∷ (q, k.Symbol s.Open) ∷ ts) (association_of (identifier_of p n) (Some x)) rest
 
 -- word ':' { association } END_STEP
 pub data IsStepRest : Position → Bool → List Tok → Step → List Tok → Type 0 where
   step_rest : {p q r z : Position} {initial : Bool} {n : List ℕ} {ts rest : List Tok} {xs : List Association}
       → IsMany IsAssociation ts xs ((z, k.Keyword w.EndStep) ∷ rest)
-      → IsStepRest p initial ((q, k.Word n) ∷ (r, k.Symbol s.Colon) ∷ ts) (step_of p initial (identifier q n) xs) rest
+      → IsStepRest p initial ((q, k.Word n) ∷ (r, k.Symbol s.Colon) ∷ ts) (step_of p initial (identifier_of q n) xs) rest
 
 -- [ word ]
 pub data IsOptionalName : List Tok → Option Identifier → List Tok → Type 0 where
   no_name : {ts : List Tok} → IsOptionalName ts None ts
-  a_name : {p : Position} {n : List ℕ} {rest : List Tok} → IsOptionalName ((p, k.Word n) ∷ rest) (Some (identifier p n)) rest
+  a_name : {p : Position} {n : List ℕ} {rest : List Tok} → IsOptionalName ((p, k.Word n) ∷ rest) (Some (identifier_of p n)) rest
 
 -- [ '(' PRIORITY ':=' number ')' ]
 pub data IsPriority : List Tok → Option ℕ → List Tok → Type 0 where
@@ -73,7 +63,7 @@ pub data IsPriority : List Tok → Option ℕ → List Tok → Type 0 where
 
 -- word
 pub data IsName : List Tok → Identifier → List Tok → Type 0 where
-  name : {p : Position} {n : List ℕ} {rest : List Tok} → IsName ((p, k.Word n) ∷ rest) (identifier p n) rest
+  name : {p : Position} {n : List ℕ} {rest : List Tok} → IsName ((p, k.Word n) ∷ rest) (identifier_of p n) rest
 
 -- word | '(' word { ',' word } ')'
 pub data IsNames : List Tok → List Identifier → List Tok → Type 0 where
@@ -98,7 +88,7 @@ pub data IsElement : List Tok → ChartElement → List Tok → Type 0 where
   transition : {p : Position} {ts rest : List Tok} {x : Transition} → IsTransitionRest p ts x rest → IsElement ((p, k.Keyword w.Transition) ∷ ts) (c.Transition x) rest
   -- ACTION word ':' statements END_ACTION
   action : {p q r z : Position} {n : List ℕ} {ts rest : List Tok} {ss : List Statement} → IsStatements ts ss ((z, k.Keyword w.EndAction) ∷ rest)
-      → IsElement ((p, k.Keyword w.Action) ∷ (q, k.Word n) ∷ (r, k.Symbol s.Colon) ∷ ts) (c.Action (action_of p (identifier q n) ss)) rest
+      → IsElement ((p, k.Keyword w.Action) ∷ (q, k.Word n) ∷ (r, k.Symbol s.Colon) ∷ ts) (c.Action (action_of p (identifier_of q n) ss)) rest
 
 -- element { element }
 pub data IsChart : List Tok → List ChartElement → List Tok → Type 0 where
