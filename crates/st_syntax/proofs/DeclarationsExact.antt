@@ -3,65 +3,27 @@ use Rattle.std.proofs.Common.{◌≡◌, ℕ, suc, List, [], ◌∷◌, refl, sy
 use Rattle.std.specs.Prelude.{Option, Some, None}
 use Rattle.st_tokens.specs.declared.keyword.Keyword.TheVariants as w
 use Rattle.st_tokens.specs.declared.symbol.Symbol.TheVariants as s
-use Rattle.st_tokens.specs.declared.token.Kind.{Kind}
 use Rattle.st_tokens.specs.declared.token.Kind.TheVariants as k
-use Rattle.st_tree.specs.declared.tree.constant.Constant.{Constant}
-use Rattle.st_tree.specs.declared.tree.declaration.ArrayElement.{ArrayElement}
 use Rattle.st_tree.specs.declared.tree.declaration.ArrayElement.TheVariants as a
-use Rattle.st_tree.specs.declared.tree.declaration.Declaration.{Declaration}
-use Rattle.st_tree.specs.declared.tree.declaration.Initial.{Initial}
 use Rattle.st_tree.specs.declared.tree.declaration.Initial.TheVariants as i
-use Rattle.st_tree.specs.declared.tree.declaration.VarKind.{VarKind}
-use Rattle.st_tree.specs.declared.tree.declaration.VarKind.TheVariants as var_kind
-use Rattle.st_tree.specs.declared.tree.declaration.Specification.{Specification}
 use Rattle.st_tree.specs.declared.tree.declaration.Specification.TheVariants as sp
-use Rattle.st_tree.specs.declared.tree.declaration.Subrange.{Subrange}
-use Rattle.st_tree.specs.declared.tree.declaration.TypeName.{TypeName}
 use Rattle.st_tree.specs.declared.tree.declaration.TypeName.TheVariants as n
-use Rattle.st_tree.specs.declared.tree.declaration.VarBlock.{VarBlock}
-use Rattle.st_tree.specs.declared.tree.position.Position.{Position}
+use Rattle.st_tree.specs.declared.tree.declaration.VarKind.TheVariants as var_kind
+use Rattle.st_parser.specs.Names.{ArrayElement, Constant, Declaration, Initial, Kind, Position, Specification, Subrange, TypeName, VarBlock, VarKind}
+use Rattle.st_parser.specs.Grammar.Lists.{IsMany, none, more, IsListed, listed}
+use Rattle.st_parser.specs.Grammar.Tokens.{Tok, kind, next, position}
+use Rattle.st_parser.specs.Reader.Parsers as parser
+use Rattle.st_parser.specs.Reader.Parsers.{Parser, and_then, is_symbol, is_keyword, is_word}
+use Rattle.st_parser.proofs.Exact.{Relation, Exact, Always, Any, Then, seq, IsOne, one, IsPure, done, IsWord, a_word, IsNumber, a_number, exact_bind, exact_as, exact_iff, exact_last, exact_under, exact_zero, exact_pure, made, exact_refuse, exact_on, IsFirst, exact_token, symbol_is, keyword_is, exact_symbol, exact_keyword, exact_open_level, exact_identifier, exact_number, exact_before, Ends, exact_many, exact_listed}
+use Rattle.st_parser.proofs.Levels.{At}
 use Rattle.st_expressions.specs.Grammar.{IsSignedInteger, unsigned, IsConstant, integer}
-use Rattle.st_expressions.specs.Lists.{IsMany, none, more, IsListed, listed}
-use Rattle.st_expressions.specs.Parsers as parser
-use Rattle.st_expressions.specs.Parsers.{Parser, and_then, is_comma}
-use Rattle.st_expressions.specs.Reading.{is_open, is_close}
-use Rattle.st_expressions.specs.Tokens.{Tok, kind, next, position}
-use Rattle.st_expressions.proofs.Exact.{Relation, Exact, Always, Any, Then, seq, IsOne, one, IsPure, done, IsWord, a_word, IsNumber, a_number, exact_bind, exact_as, exact_iff, exact_last, exact_under, exact_zero, exact_pure, made, exact_refuse, exact_on, IsFirst, exact_token, exact_token_if, exact_symbol, exact_keyword, exact_word, exact_number, exact_before, Ends, exact_many, exact_listed}
 use Rattle.st_expressions.proofs.Expressions.{constant_exact, signed_integer_exact}
 use Rattle.st_expressions.proofs.Follows.{constant_begins, begins_constant}
-use Rattle.st_expressions.proofs.Room.{At, enters}
-use Rattle.st_statements.specs.ChartReading.{is_word}
-use Rattle.st_statements.specs.Charts.{IsName, name}
-use Rattle.st_statements.proofs.ChartsExact.{opening_exact, name_exact}
-use Rattle.st_syntax.specs.DeclarationReading as spec
-use Rattle.st_syntax.specs.DeclarationReading.{is_bracket, is_array, is_repeated, is_assign, is_retention, is_constant, begins_block}
-use Rattle.st_syntax.specs.Declarations.{subrange_of, declaration_of, block_of, IsTypeName, elementary, declared, IsSubrange, subrange, IsSpecification, simple, array, IsArrayElement, single, repeated_default, repeated, IsInitial, initial_constant, initial_array, IsInitialized, uninitialized, initialized, IsDeclaration, declaration, IsMember, member, IsRetention, unsaid, retained, not_retained, IsInternal, variable, constant, IsVarBlock, internal, input, output}
-
--- ---- '['
-
-bracket_is : (t : Option Kind) → is_bracket t ≡ true → t ≡ Some (k.Symbol s.OpenBracket)
-bracket_is (Some (k.Symbol s.OpenBracket)) h = refl
-bracket_is _ h = absurd (cc)
-
-bracket_not : {ts rest : List Tok} {p : Position} → is_bracket (kind ts) ≡ false → IsOne (k.Symbol s.OpenBracket) ts p rest → ⊥
-bracket_not h one = cc
-
-bracket_to : (p : Position) (ts : List Tok) (x : Position) (rest : List Tok) → IsPure p ts x rest → IsOne (k.Symbol s.OpenBracket) ((p, k.Symbol s.OpenBracket) ∷ ts) x rest
-bracket_to p ts x rest d = made d (λ y us. IsOne (k.Symbol s.OpenBracket) ((p, k.Symbol s.OpenBracket) ∷ ts) y us) one
-
-bracket_from : (p : Position) (ts : List Tok) (x : Position) (rest : List Tok) → IsOne (k.Symbol s.OpenBracket) ((p, k.Symbol s.OpenBracket) ∷ ts) x rest → IsPure p ts x rest
-bracket_from p ts x rest one = done
-
-module _ (r : ℕ) where
-  bracket_by : (b : Bool) → Exact 1 (spec.bracket_by (suc r) b) (λ ts. (is_bracket (kind ts) ≡ b) × Always ts) (IsOne (k.Symbol s.OpenBracket)) Any (At (suc r)) (At r)
-  unfolding parser.enter
-  bracket_by true = exact_under (exact_token_if (k.Symbol s.OpenBracket) Always (IsOne (k.Symbol s.OpenBracket)) Any (At (suc r)) (At r) (At r) (enters (k.Symbol s.OpenBracket) r refl)
-      (λ p. exact_iff (exact_pure p Always Any (At r)) (bracket_to p) (bracket_from p))) (λ ts h. (bracket_is (kind ts) h.0, tt)) (λ t g. g)
-  bracket_by false = exact_refuse 1 _ (IsOne (k.Symbol s.OpenBracket)) Any (At (suc r)) (At r) (λ ts x rest h d. bracket_not h.0 d)
-
-  bracket_exact : Exact 1 (spec.bracket (suc r)) Always (IsOne (k.Symbol s.OpenBracket)) Any (At (suc r)) (At r)
-  unfolding spec.bracket
-  bracket_exact = exact_on (λ ts. is_bracket (kind ts)) (spec.bracket_by (suc r)) Always (IsOne (k.Symbol s.OpenBracket)) Any (At (suc r)) (At r) bracket_by
+use Rattle.st_statements.specs.Grammar.Charts.{IsName, name}
+use Rattle.st_statements.proofs.ChartsExact.{name_exact}
+use Rattle.st_syntax.specs.Grammar.Declarations.{subrange_of, declaration_of, block_of, IsTypeName, elementary, declared, IsSubrange, subrange, IsSpecification, simple, array, IsArrayElement, single, repeated_default, repeated, IsInitial, initial_constant, initial_array, IsInitialized, uninitialized, initialized, IsDeclaration, declaration, IsMember, member, IsRetention, unsaid, retained, not_retained, IsInternal, variable, constant, IsVarBlock, internal, input, output}
+use Rattle.st_syntax.specs.Reader.Declarations as spec
+use Rattle.st_syntax.specs.Reader.Declarations.{is_repeated, is_retention, begins_block}
 
 -- ---- specifications
 
@@ -99,20 +61,16 @@ array_from : (p : Position) (ts : List Tok) (x : Specification) (rest : List Tok
 array_from p ts x rest (array d e) = seq one (seq d (seq one (seq one (seq e done))))
 array_from p ts x rest (simple d) = elim d [ ]
 
-array_is : (t : Option Kind) → is_array t ≡ true → t ≡ Some (k.Keyword w.Array)
-array_is (Some (k.Keyword w.Array)) h = refl
-array_is _ h = absurd (cc)
-
 simple_to : (ts : List Tok) (x : Specification) (rest : List Tok) → Then IsTypeName (λ y. IsPure (sp.Simple y)) ts x rest → IsSpecification ts x rest
 simple_to ts x rest (seq d m) = made m (λ y us. IsSpecification ts y us) (simple d)
 
-simple_from : (ts : List Tok) (x : Specification) (rest : List Tok) → is_array (kind ts) ≡ false → IsSpecification ts x rest → Then IsTypeName (λ y. IsPure (sp.Simple y)) ts x rest
+simple_from : (ts : List Tok) (x : Specification) (rest : List Tok) → is_keyword w.Array (kind ts) ≡ false → IsSpecification ts x rest → Then IsTypeName (λ y. IsPure (sp.Simple y)) ts x rest
 simple_from ts x rest h (simple d) = seq d done
 simple_from ts x rest h (array d e) = absurd (cc)
 
 module _ (r : ℕ) where
-  other_exact : (t : Option Kind) → is_other t ≡ true → Exact 1 (λ ts. and_then (parser.word ts) (λ y. parser.pure (n.Declared y))) (λ ts. (kind ts ≡ t) × Always ts) IsTypeName Any (At r) (At r)
-  other_exact t h = exact_as (exact_last (exact_word r) n.Declared) (λ ts p. tt) (λ ts x rest p d. declared_to ts x rest d)
+  other_exact : (t : Option Kind) → is_other t ≡ true → Exact 1 (λ ts. and_then (parser.identifier ts) (λ y. parser.pure (n.Declared y))) (λ ts. (kind ts ≡ t) × Always ts) IsTypeName Any (At r) (At r)
+  other_exact t h = exact_as (exact_last (exact_identifier r) n.Declared) (λ ts p. tt) (λ ts x rest p d. declared_to ts x rest d)
       (λ ts x rest p g d. declared_from ts x rest (subst (λ u. is_other u ≡ true) (sym p.0) h) d) (λ t g. g)
 
   type_name_by : (t : Option Kind) → Exact 1 (spec.type_name_by t) (λ ts. (kind ts ≡ t) × Always ts) IsTypeName Any (At r) (At r)
@@ -131,18 +89,18 @@ module _ (r : ℕ) where
   array_exact : Exact 1 (spec.array r) (IsFirst (k.Keyword w.Array)) IsSpecification Any (At (suc r)) (At (suc r))
   unfolding spec.array
   array_exact = exact_token (k.Keyword w.Array) refl {R = IsSpecification} (λ p. exact_iff
-      (exact_bind (bracket_exact r) (λ q. exact_before (k.Symbol s.CloseBracket) (exact_listed spec.subrange IsSubrange Any r (subrange_exact r) tt) (refl, tt) (exact_symbol s.CloseBracket r refl)
+      (exact_bind (exact_open_level s.OpenBracket r refl) (λ q. exact_before (k.Symbol s.CloseBracket) (exact_listed spec.subrange IsSubrange Any r (subrange_exact r) tt) (refl, tt) (exact_symbol s.CloseBracket r refl)
       (λ xs u. exact_bind (exact_keyword w.Of (suc r) refl) (λ v. exact_last (type_name_exact (suc r)) (sp.Array p xs)) (λ v mid rest y d g. tt))) (λ q mid rest y d g. tt))
       (array_to p) (array_from p))
 
-  specification_by : (b : Bool) → Exact 1 (spec.specification_by r b) (λ ts. (is_array (kind ts) ≡ b) × Always ts) IsSpecification Any (At (suc r)) (At (suc r))
+  specification_by : (b : Bool) → Exact 1 (spec.specification_by r b) (λ ts. (is_keyword w.Array (kind ts) ≡ b) × Always ts) IsSpecification Any (At (suc r)) (At (suc r))
   unfolding spec.simple
-  specification_by true = exact_under array_exact (λ ts h. array_is (kind ts) h.0) (λ t g. g)
+  specification_by true = exact_under array_exact (λ ts h. keyword_is w.Array (kind ts) h.0) (λ t g. g)
   specification_by false = exact_as (exact_last (type_name_exact (suc r)) sp.Simple) (λ ts h. tt) (λ ts x rest h d. simple_to ts x rest d) (λ ts x rest h g d. simple_from ts x rest h.0 d) (λ t g. g)
 
   pub specification_exact : Exact 1 (spec.specification r) Always IsSpecification Any (At (suc r)) (At (suc r))
   unfolding spec.specification
-  specification_exact = exact_on (λ ts. is_array (kind ts)) (spec.specification_by r) Always IsSpecification Any (At (suc r)) (At (suc r)) specification_by
+  specification_exact = exact_on (λ ts. is_keyword w.Array (kind ts)) (spec.specification_by r) Always IsSpecification Any (At (suc r)) (At (suc r)) specification_by
 
 -- ---- initial values
 
@@ -152,29 +110,29 @@ data IsValue : List Tok → Option Constant → List Tok → Type 0 where
   a_value : {ts rest : List Tok} {x : Constant} → IsConstant ts x rest → IsValue ts (Some x) rest
 
 abbrev OnlyClose : Option Kind → Type 0
-OnlyClose t = is_close t ≡ true
+OnlyClose t = is_symbol s.Close t ≡ true
 
-close_no_constant : (t : Option Kind) → is_close t ≡ true → begins_constant t ≡ true → ⊥
+close_no_constant : (t : Option Kind) → is_symbol s.Close t ≡ true → begins_constant t ≡ true → ⊥
 close_no_constant (Some (k.Symbol s.Close)) h g = cc
 close_no_constant _ h g = cc
 
 no_value_to : (ts : List Tok) (x : Option Constant) (rest : List Tok) → IsPure None ts x rest → IsValue ts x rest
 no_value_to ts x rest d = made d (λ y us. IsValue ts y us) no_value
 
-no_value_from : (ts : List Tok) (x : Option Constant) (rest : List Tok) → is_close (kind ts) ≡ true → IsValue ts x rest → IsPure None ts x rest
+no_value_from : (ts : List Tok) (x : Option Constant) (rest : List Tok) → is_symbol s.Close (kind ts) ≡ true → IsValue ts x rest → IsPure None ts x rest
 no_value_from ts x rest h no_value = done
 no_value_from ts x rest h (a_value d) = absurd (close_no_constant (kind ts) h (constant_begins d))
 
 a_value_to : (ts : List Tok) (x : Option Constant) (rest : List Tok) → Then IsConstant (λ y. IsPure (Some y)) ts x rest → IsValue ts x rest
 a_value_to ts x rest (seq d m) = made m (λ y us. IsValue ts y us) (a_value d)
 
-a_value_from : (ts : List Tok) (x : Option Constant) (rest : List Tok) → is_close (kind ts) ≡ false → OnlyClose (kind rest) → IsValue ts x rest → Then IsConstant (λ y. IsPure (Some y)) ts x rest
+a_value_from : (ts : List Tok) (x : Option Constant) (rest : List Tok) → is_symbol s.Close (kind ts) ≡ false → OnlyClose (kind rest) → IsValue ts x rest → Then IsConstant (λ y. IsPure (Some y)) ts x rest
 a_value_from ts x rest h g (a_value d) = seq d done
 a_value_from ts x rest h g no_value = absurd (let wrong = sym h ∙ g in cc)
 
 -- no '(' follows
 abbrev NoOpen : Option Kind → Type 0
-NoOpen t = is_open t ≡ false
+NoOpen t = is_symbol s.Open t ≡ false
 
 abbrev RepeatedRule : Position → Relation ArrayElement
 RepeatedRule p = Then IsNumber (λ m. Then (IsOne (k.Symbol s.Open)) (λ q. Then IsValue (λ x. Then (IsOne (k.Symbol s.Close)) (λ z. IsPure (a.Repeated p m x)))))
@@ -190,7 +148,7 @@ repeated_from : (p : Position) (ts : List Tok) (x : ArrayElement) (rest : List T
 repeated_from p ts x rest at h g repeated_default = subst (λ q. RepeatedRule q ts x rest) (sym at) (seq a_number (seq one (seq no_value (seq one done))))
 repeated_from p ts x rest at h g (repeated c) = subst (λ q. RepeatedRule q ts x rest) (sym at) (seq a_number (seq one (seq (a_value c) (seq one done))))
 repeated_from p ts x rest at h g (single (integer unsigned)) = absurd (second_open (kind rest) h g) where
-  second_open : (t : Option Kind) → is_repeated (Some (k.Number 0)) t ≡ true → is_open t ≡ false → ⊥
+  second_open : (t : Option Kind) → is_repeated (Some (k.Number 0)) t ≡ true → is_symbol s.Open t ≡ false → ⊥
   second_open (Some (k.Symbol s.Open)) u v = cc
   second_open _ u v = cc
 repeated_from p ts x rest at h g (single d) = absurd (let wrong = constant_begins d in cc)
@@ -209,20 +167,16 @@ InitialArrayRule = Then (IsOne (k.Symbol s.OpenBracket)) (λ p. Then (IsListed I
 initial_array_to : (ts : List Tok) (x : Initial) (rest : List Tok) → InitialArrayRule ts x rest → IsInitial ts x rest
 initial_array_to ts x rest (seq one (seq d (seq one m))) = made m (λ y us. IsInitial ts y us) (initial_array d)
 
-initial_array_from : (ts : List Tok) (x : Initial) (rest : List Tok) → is_bracket (kind ts) ≡ true → IsInitial ts x rest → InitialArrayRule ts x rest
+initial_array_from : (ts : List Tok) (x : Initial) (rest : List Tok) → is_symbol s.OpenBracket (kind ts) ≡ true → IsInitial ts x rest → InitialArrayRule ts x rest
 initial_array_from ts x rest h (initial_array d) = seq one (seq d (seq one done))
-initial_array_from ts x rest h (initial_constant d) = absurd (let wrong = subst (λ t. begins_constant t ≡ true) (bracket_is (kind ts) h) (constant_begins d) in cc)
+initial_array_from ts x rest h (initial_constant d) = absurd (let wrong = subst (λ t. begins_constant t ≡ true) (symbol_is s.OpenBracket (kind ts) h) (constant_begins d) in cc)
 
 initial_constant_to : (ts : List Tok) (x : Initial) (rest : List Tok) → Then IsConstant (λ y. IsPure (i.Constant y)) ts x rest → IsInitial ts x rest
 initial_constant_to ts x rest (seq d m) = made m (λ y us. IsInitial ts y us) (initial_constant d)
 
-initial_constant_from : (ts : List Tok) (x : Initial) (rest : List Tok) → is_bracket (kind ts) ≡ false → IsInitial ts x rest → Then IsConstant (λ y. IsPure (i.Constant y)) ts x rest
+initial_constant_from : (ts : List Tok) (x : Initial) (rest : List Tok) → is_symbol s.OpenBracket (kind ts) ≡ false → IsInitial ts x rest → Then IsConstant (λ y. IsPure (i.Constant y)) ts x rest
 initial_constant_from ts x rest h (initial_constant d) = seq d done
 initial_constant_from ts x rest h (initial_array d) = absurd (cc)
-
-assign_is : (t : Option Kind) → is_assign t ≡ true → t ≡ Some (k.Symbol s.Assign)
-assign_is (Some (k.Symbol s.Assign)) h = refl
-assign_is _ h = absurd (cc)
 
 initialized_to : (p : Position) (ts : List Tok) (x : Option Initial) (rest : List Tok) → Then IsInitial (λ y. Then (IsOne (k.Symbol s.Semicolon)) (λ q. IsPure (Some y))) ts x rest → IsInitialized ((p, k.Symbol s.Assign) ∷ ts) x rest
 initialized_to p ts x rest (seq d (seq one m)) = made m (λ y us. IsInitialized ((p, k.Symbol s.Assign) ∷ ts) y us) (initialized d)
@@ -233,34 +187,34 @@ initialized_from p ts x rest (initialized d) = seq d (seq one done)
 uninitialized_to : (ts : List Tok) (x : Option Initial) (rest : List Tok) → Then (IsOne (k.Symbol s.Semicolon)) (λ q. IsPure None) ts x rest → IsInitialized ts x rest
 uninitialized_to ts x rest (seq one m) = made m (λ y us. IsInitialized ts y us) uninitialized
 
-uninitialized_from : (ts : List Tok) (x : Option Initial) (rest : List Tok) → is_assign (kind ts) ≡ false → IsInitialized ts x rest → Then (IsOne (k.Symbol s.Semicolon)) (λ q. IsPure None) ts x rest
+uninitialized_from : (ts : List Tok) (x : Option Initial) (rest : List Tok) → is_symbol s.Assign (kind ts) ≡ false → IsInitialized ts x rest → Then (IsOne (k.Symbol s.Semicolon)) (λ q. IsPure None) ts x rest
 uninitialized_from ts x rest h uninitialized = seq one done
 uninitialized_from ts x rest h (initialized d) = absurd (cc)
 
 module _ (r : ℕ) where
-  value_by : (b : Bool) → Exact 0 (spec.repeated_by b) (λ ts. (is_close (kind ts) ≡ b) × Always ts) IsValue OnlyClose (At r) (At r)
+  value_by : (b : Bool) → Exact 0 (spec.repeated_by b) (λ ts. (is_symbol s.Close (kind ts) ≡ b) × Always ts) IsValue OnlyClose (At r) (At r)
   value_by true = exact_as (exact_pure None Always Any (At r)) (λ ts h. tt) (λ ts x rest h d. no_value_to ts x rest d) (λ ts x rest h g d. no_value_from ts x rest h.0 d) (λ t g. tt)
   value_by false = exact_zero (exact_as (exact_last (constant_exact r) (λ y. Some y)) (λ ts h. tt) (λ ts x rest h d. a_value_to ts x rest d) (λ ts x rest h g d. a_value_from ts x rest h.0 g d) (λ t g. tt))
 
   value_exact : Exact 0 spec.repeated_value Always IsValue OnlyClose (At r) (At r)
   unfolding spec.repeated_value
-  value_exact = exact_on (λ ts. is_close (kind ts)) spec.repeated_by Always IsValue OnlyClose (At r) (At r) value_by
+  value_exact = exact_on (λ ts. is_symbol s.Close (kind ts)) spec.repeated_by Always IsValue OnlyClose (At r) (At r) value_by
 
 module _ (r : ℕ) where
-  repeated_rule : (p : Position) → Exact 1 (λ ts. and_then (parser.number ts) (λ m us. and_then (Rattle.st_statements.specs.ChartReading.opening (suc r) us) (λ q vs. and_then (spec.repeated_value vs) (λ x ws. and_then (parser.symbol s.Close ws)
+  repeated_rule : (p : Position) → Exact 1 (λ ts. and_then (parser.number ts) (λ m us. and_then (parser.open_level s.Open (suc r) us) (λ q vs. and_then (spec.repeated_value vs) (λ x ws. and_then (parser.expect_symbol s.Close ws)
       (λ z. parser.pure (a.Repeated p m x)))))) Always (RepeatedRule p) Any (At (suc r)) (At (suc r))
-  repeated_rule p = exact_bind (exact_number (suc r)) (λ m. exact_bind (opening_exact r) (λ q. exact_before (k.Symbol s.Close) (value_exact r) refl (exact_symbol s.Close r refl) (λ x z. exact_pure (a.Repeated p m x) Always Any (At (suc r))))
+  repeated_rule p = exact_bind (exact_number (suc r)) (λ m. exact_bind (exact_open_level s.Open r refl) (λ q. exact_before (k.Symbol s.Close) (value_exact r) refl (exact_symbol s.Close r refl) (λ x z. exact_pure (a.Repeated p m x) Always Any (At (suc r))))
       (λ q mid rest y d g. tt)) (λ m mid rest y d g. tt)
 
   repeated_exact : Exact 1 (spec.repeated (suc r)) (λ ts. is_repeated (kind ts) (kind (next ts)) ≡ true) IsArrayElement NoOpen (At (suc r)) (At (suc r))
   unfolding spec.repeated
-  repeated_exact = exact_on position (λ p ts. and_then (parser.number ts) (λ m us. and_then (Rattle.st_statements.specs.ChartReading.opening (suc r) us) (λ q vs. and_then (spec.repeated_value vs) (λ x ws. and_then (parser.symbol s.Close ws)
+  repeated_exact = exact_on position (λ p ts. and_then (parser.number ts) (λ m us. and_then (parser.open_level s.Open (suc r) us) (λ q vs. and_then (spec.repeated_value vs) (λ x ws. and_then (parser.expect_symbol s.Close ws)
       (λ z. parser.pure (a.Repeated p m x))))))
       (λ ts. is_repeated (kind ts) (kind (next ts)) ≡ true) IsArrayElement NoOpen (At (suc r)) (At (suc r))
       (λ p. exact_as (repeated_rule p) (λ ts h. tt) (λ ts x rest h d. repeated_to p ts x rest (sym h.0) d) (λ ts x rest h g d. repeated_from p ts x rest (sym h.0) h.1 g d) (λ t g. tt))
 
   element_by : (b : Bool) → Exact 1 (spec.element_by (suc r) b) (λ ts. (is_repeated (kind ts) (kind (next ts)) ≡ b) × Always ts) IsArrayElement NoOpen (At (suc r)) (At (suc r))
-  unfolding spec.single
+  unfolding spec.plain_element
   element_by true = exact_under repeated_exact (λ ts h. h.0) (λ t g. g)
   element_by false = exact_as (exact_last (constant_exact (suc r)) a.Single) (λ ts h. tt) (λ ts x rest h d. single_to ts x rest d) (λ ts x rest h g d. single_from ts x rest h.0 d) (λ t g. tt)
 
@@ -269,28 +223,28 @@ module _ (r : ℕ) where
   element_exact = exact_on (λ ts. is_repeated (kind ts) (kind (next ts))) (spec.element_by (suc r)) Always IsArrayElement NoOpen (At (suc r)) (At (suc r)) element_by
 
 module _ (r : ℕ) where
-  initial_by : (b : Bool) → Exact 1 (spec.initial_by (suc r) b) (λ ts. (is_bracket (kind ts) ≡ b) × Always ts) IsInitial Any (At (suc (suc r))) (At (suc (suc r)))
+  initial_by : (b : Bool) → Exact 1 (spec.initial_by (suc r) b) (λ ts. (is_symbol s.OpenBracket (kind ts) ≡ b) × Always ts) IsInitial Any (At (suc (suc r))) (At (suc (suc r)))
   unfolding spec.initial_array spec.initial_constant
   initial_by true = exact_as
-      (exact_bind (bracket_exact (suc r)) (λ p. exact_before (k.Symbol s.CloseBracket) (exact_listed (spec.element (suc r)) IsArrayElement NoOpen (suc r) (element_exact r) refl) (refl, refl) (exact_symbol s.CloseBracket (suc r) refl)
+      (exact_bind (exact_open_level s.OpenBracket (suc r) refl) (λ p. exact_before (k.Symbol s.CloseBracket) (exact_listed (spec.element (suc r)) IsArrayElement NoOpen (suc r) (element_exact r) refl) (refl, refl) (exact_symbol s.CloseBracket (suc r) refl)
       (λ xs q. exact_pure (i.Array p xs) Always Any (At (suc (suc r))))) (λ p mid rest y d g. tt))
       (λ ts h. tt) (λ ts x rest h d. initial_array_to ts x rest d) (λ ts x rest h g d. initial_array_from ts x rest h.0 d) (λ t g. g)
   initial_by false = exact_as (exact_last (constant_exact (suc (suc r))) i.Constant) (λ ts h. tt) (λ ts x rest h d. initial_constant_to ts x rest d) (λ ts x rest h g d. initial_constant_from ts x rest h.0 d) (λ t g. g)
 
   initial_exact : Exact 1 (spec.initial (suc r)) Always IsInitial Any (At (suc (suc r))) (At (suc (suc r)))
   unfolding spec.initial
-  initial_exact = exact_on (λ ts. is_bracket (kind ts)) (spec.initial_by (suc r)) Always IsInitial Any (At (suc (suc r))) (At (suc (suc r))) initial_by
+  initial_exact = exact_on (λ ts. is_symbol s.OpenBracket (kind ts)) (spec.initial_by (suc r)) Always IsInitial Any (At (suc (suc r))) (At (suc (suc r))) initial_by
 
-  initialized_by : (b : Bool) → Exact 1 (spec.initialized_by (suc r) b) (λ ts. (is_assign (kind ts) ≡ b) × Always ts) IsInitialized Any (At (suc (suc r))) (At (suc (suc r)))
+  initialized_by : (b : Bool) → Exact 1 (spec.initialized_by (suc r) b) (λ ts. (is_symbol s.Assign (kind ts) ≡ b) × Always ts) IsInitialized Any (At (suc (suc r))) (At (suc (suc r)))
   initialized_by true = exact_under (exact_token (k.Symbol s.Assign) refl {R = IsInitialized} (λ p. exact_iff
       (exact_before (k.Symbol s.Semicolon) initial_exact tt (exact_symbol s.Semicolon (suc (suc r)) refl) (λ y q. exact_pure (Some y) Always Any (At (suc (suc r))))) (initialized_to p) (initialized_from p)))
-      (λ ts h. assign_is (kind ts) h.0) (λ t g. g)
+      (λ ts h. symbol_is s.Assign (kind ts) h.0) (λ t g. g)
   initialized_by false = exact_as (exact_bind (exact_symbol s.Semicolon (suc (suc r)) refl) (λ q. exact_pure None Always Any (At (suc (suc r)))) (λ q mid rest y d g. tt)) (λ ts h. tt)
       (λ ts x rest h d. uninitialized_to ts x rest d) (λ ts x rest h g d. uninitialized_from ts x rest h.0 d) (λ t g. g)
 
   pub initialized_exact : Exact 1 (spec.initialized (suc r)) Always IsInitialized Any (At (suc (suc r))) (At (suc (suc r)))
   unfolding spec.initialized
-  initialized_exact = exact_on (λ ts. is_assign (kind ts)) (spec.initialized_by (suc r)) Always IsInitialized Any (At (suc (suc r))) (At (suc (suc r))) initialized_by
+  initialized_exact = exact_on (λ ts. is_symbol s.Assign (kind ts)) (spec.initialized_by (suc r)) Always IsInitialized Any (At (suc (suc r))) (At (suc (suc r))) initialized_by
 
 -- ---- declarations
 
@@ -320,7 +274,7 @@ member_begins ts x rest (member e f) = refl
 
 -- CONSTANT, RETAIN or NON_RETAIN don't follow
 abbrev EndsHead : Option Kind → Type 0
-EndsHead t = (is_retention t ≡ false) × (is_constant t ≡ false)
+EndsHead t = (is_retention t ≡ false) × (is_keyword w.Constant t ≡ false)
 
 retain_to : (x : VarKind) (p : Position) (ts : List Tok) (y : VarKind) (rest : List Tok) → IsPure x ts y rest → IsRetention x ((p, k.Keyword w.Retain) ∷ ts) y rest
 retain_to x p ts y rest d = made d (λ z us. IsRetention x ((p, k.Keyword w.Retain) ∷ ts) z us) retained
@@ -344,10 +298,6 @@ unsaid_from x ts y rest h unsaid = done
 unsaid_from x ts y rest h retained = absurd (cc)
 unsaid_from x ts y rest h not_retained = absurd (cc)
 
-constant_is : (t : Option Kind) → is_constant t ≡ true → t ≡ Some (k.Keyword w.Constant)
-constant_is (Some (k.Keyword w.Constant)) h = refl
-constant_is _ h = absurd (cc)
-
 constant_to : (p : Position) (ts : List Tok) (y : VarKind) (rest : List Tok) → IsPure var_kind.Constant ts y rest → IsInternal ((p, k.Keyword w.Constant) ∷ ts) y rest
 constant_to p ts y rest d = made d (λ z us. IsInternal ((p, k.Keyword w.Constant) ∷ ts) z us) constant
 
@@ -355,7 +305,7 @@ constant_from : (p : Position) (ts : List Tok) (y : VarKind) (rest : List Tok) �
 constant_from p ts y rest g constant = done
 constant_from p ts y rest g (variable unsaid) = absurd (let wrong = g.1 in cc)
 
-variable_from : (ts : List Tok) (y : VarKind) (rest : List Tok) → is_constant (kind ts) ≡ false → IsInternal ts y rest → IsRetention var_kind.Internal ts y rest
+variable_from : (ts : List Tok) (y : VarKind) (rest : List Tok) → is_keyword w.Constant (kind ts) ≡ false → IsInternal ts y rest → IsRetention var_kind.Internal ts y rest
 variable_from ts y rest h (variable d) = d
 variable_from ts y rest h constant = absurd (cc)
 
@@ -367,18 +317,18 @@ module _ (r : ℕ) where
   pub declaration_exact : Exact 1 (spec.declaration (suc r)) Always IsDeclaration Any (At (suc (suc r))) (At (suc (suc r)))
   unfolding spec.declaration
   declaration_exact = exact_iff
-      (exact_before (k.Symbol s.Colon) (exact_listed parser.word IsName Any (suc (suc r)) (name_exact (suc (suc r))) tt) (refl, tt) (exact_symbol s.Colon (suc (suc r)) refl)
+      (exact_before (k.Symbol s.Colon) (exact_listed parser.identifier IsName Any (suc (suc r)) (name_exact (suc (suc r))) tt) (refl, tt) (exact_symbol s.Colon (suc (suc r)) refl)
       (λ ns q. exact_bind (specification_exact (suc r)) (λ x. exact_last (initialized_exact r) (declaration_of ns x)) (λ x mid rest y d g. tt)))
       declaration_to declaration_from
 
   pub member_exact : Exact 1 (spec.member (suc r)) Always IsMember Any (At (suc (suc r))) (At (suc (suc r)))
   unfolding spec.member
   member_exact = exact_iff
-      (exact_bind (exact_word (suc (suc r))) (λ m. exact_bind (exact_symbol s.Colon (suc (suc r)) refl) (λ q. exact_bind (specification_exact (suc r)) (λ x. exact_last (initialized_exact r) (declaration_of (m ∷ []) x)) (λ x mid rest y d g. tt))
+      (exact_bind (exact_identifier (suc (suc r))) (λ m. exact_bind (exact_symbol s.Colon (suc (suc r)) refl) (λ q. exact_bind (specification_exact (suc r)) (λ x. exact_last (initialized_exact r) (declaration_of (m ∷ []) x)) (λ x mid rest y d g. tt))
       (λ q mid rest y d g. tt)) (λ m mid rest y d g. tt))
       member_to member_from
 
-  retention_of : (x : VarKind) (t : Option Kind) → is_retention t ≡ true → Exact 0 (λ ts. and_then (parser.skip ts) (λ q. parser.pure x)) (λ ts. (kind ts ≡ t) × Always ts) (IsRetention x) EndsHead (At r) (At r)
+  retention_of : (x : VarKind) (t : Option Kind) → is_retention t ≡ true → Exact 0 (λ ts. and_then (parser.bump ts) (λ q. parser.pure x)) (λ ts. (kind ts ≡ t) × Always ts) (IsRetention x) EndsHead (At r) (At r)
   retention_of x (Some (k.Keyword w.Retain)) h = exact_zero (exact_under (exact_token (k.Keyword w.Retain) refl {R = IsRetention x} (λ p. exact_as (exact_pure x Always Any (At r)) (λ ts u. u)
       (λ ts y rest u d. retain_to x p ts y rest d) (λ ts y rest u g d. retain_from x p ts y rest g d) (λ t g. tt))) (λ ts p. p.0) (λ t g. g))
   retention_of x (Some (k.Keyword w.NonRetain)) h = exact_zero (exact_under (exact_token (k.Keyword w.NonRetain) refl {R = IsRetention x} (λ p. exact_as (exact_pure x Always Any (At r)) (λ ts u. u)
@@ -386,9 +336,9 @@ module _ (r : ℕ) where
   retention_of x _ h = absurd (cc)
 
   retention_by : (x : VarKind) (b : Bool) → Exact 0 (spec.retention_by x b) (λ ts. (is_retention (kind ts) ≡ b) × Always ts) (IsRetention x) EndsHead (At r) (At r)
-  retention_by x true = exact_under (exact_on kind (λ t ts. and_then (parser.skip ts) (λ q. parser.pure x)) (λ ts. (is_retention (kind ts) ≡ true) × Always ts) (IsRetention x) EndsHead (At r) (At r)
+  retention_by x true = exact_under (exact_on kind (λ t ts. and_then (parser.bump ts) (λ q. parser.pure x)) (λ ts. (is_retention (kind ts) ≡ true) × Always ts) (IsRetention x) EndsHead (At r) (At r)
       (λ t. retained_at t)) (λ ts h. h) (λ t g. g) where
-        retained_by : (t : Option Kind) (b : Bool) → is_retention t ≡ b → Exact 0 (λ ts. and_then (parser.skip ts) (λ q. parser.pure x)) (λ ts. (kind ts ≡ t) × ((is_retention (kind ts) ≡ true) × Always ts)) (IsRetention x) EndsHead (At r) (At r)
+        retained_by : (t : Option Kind) (b : Bool) → is_retention t ≡ b → Exact 0 (λ ts. and_then (parser.bump ts) (λ q. parser.pure x)) (λ ts. (kind ts ≡ t) × ((is_retention (kind ts) ≡ true) × Always ts)) (IsRetention x) EndsHead (At r) (At r)
         retained_by t true h = exact_under (retention_of x t h) (λ ts p. (p.0, tt)) (λ u g. g)
         retained_by t false h = record {
           reads = λ ts y rest p e. absurd (let wrong = sym p.1.0 ∙ (ap is_retention p.0 ∙ h) in cc);
@@ -396,7 +346,7 @@ module _ (r : ℕ) where
           read = λ ts y rest p d g q. absurd (let wrong = sym p.1.0 ∙ (ap is_retention p.0 ∙ h) in cc);
         }
 
-        retained_at : (t : Option Kind) → Exact 0 (λ ts. and_then (parser.skip ts) (λ q. parser.pure x)) (λ ts. (kind ts ≡ t) × ((is_retention (kind ts) ≡ true) × Always ts)) (IsRetention x) EndsHead (At r) (At r)
+        retained_at : (t : Option Kind) → Exact 0 (λ ts. and_then (parser.bump ts) (λ q. parser.pure x)) (λ ts. (kind ts ≡ t) × ((is_retention (kind ts) ≡ true) × Always ts)) (IsRetention x) EndsHead (At r) (At r)
         retained_at t = retained_by t (is_retention t) refl
   retention_by x false = exact_as (exact_pure x Always Any (At r)) (λ ts h. tt) (λ ts y rest h d. unsaid_to x ts y rest d) (λ ts y rest h g d. unsaid_from x ts y rest h.0 d) (λ t g. tt)
 
@@ -404,14 +354,14 @@ module _ (r : ℕ) where
   unfolding spec.retention
   retention_exact x = exact_on (λ ts. is_retention (kind ts)) (spec.retention_by x) Always (IsRetention x) EndsHead (At r) (At r) (retention_by x)
 
-  internal_by : (b : Bool) → Exact 0 (spec.internal_by b) (λ ts. (is_constant (kind ts) ≡ b) × Always ts) IsInternal EndsHead (At r) (At r)
+  internal_by : (b : Bool) → Exact 0 (spec.internal_by b) (λ ts. (is_keyword w.Constant (kind ts) ≡ b) × Always ts) IsInternal EndsHead (At r) (At r)
   internal_by true = exact_zero (exact_under (exact_token (k.Keyword w.Constant) refl {R = IsInternal} (λ p. exact_as (exact_pure var_kind.Constant Always Any (At r)) (λ ts u. u)
-      (λ ts y rest u d. constant_to p ts y rest d) (λ ts y rest u g d. constant_from p ts y rest g d) (λ t g. tt))) (λ ts h. constant_is (kind ts) h.0) (λ t g. g))
+      (λ ts y rest u d. constant_to p ts y rest d) (λ ts y rest u g d. constant_from p ts y rest g d) (λ t g. tt))) (λ ts h. keyword_is w.Constant (kind ts) h.0) (λ t g. g))
   internal_by false = exact_as (retention_exact var_kind.Internal) (λ ts h. tt) (λ ts y rest h d. variable d) (λ ts y rest h g d. variable_from ts y rest h.0 d) (λ t g. g)
 
   internal_exact : Exact 0 spec.internal Always IsInternal EndsHead (At r) (At r)
   unfolding spec.internal
-  internal_exact = exact_on (λ ts. is_constant (kind ts)) spec.internal_by Always IsInternal EndsHead (At r) (At r) internal_by
+  internal_exact = exact_on (λ ts. is_keyword w.Constant (kind ts)) spec.internal_by Always IsInternal EndsHead (At r) (At r) internal_by
 
 abbrev BlockRule : Relation VarKind → Position → Relation VarBlock
 BlockRule R p = Then R (λ x. Then (IsMany IsDeclaration) (λ ds. Then (IsOne (k.Keyword w.EndVar)) (λ q. IsPure (block_of p x ds))))

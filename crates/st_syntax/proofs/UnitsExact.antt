@@ -3,45 +3,35 @@ use Rattle.std.proofs.Common.{◌≡◌, ℕ, suc, List, [], ◌∷◌, refl, sy
 use Rattle.std.specs.Prelude.{Option, Some, Ok, Err}
 use Rattle.st_tokens.specs.declared.keyword.Keyword.TheVariants as w
 use Rattle.st_tokens.specs.declared.symbol.Symbol.TheVariants as s
-use Rattle.st_tokens.specs.declared.token.Kind.{Kind}
 use Rattle.st_tokens.specs.declared.token.Kind.TheVariants as k
 use Rattle.st_values.specs.declared.elem.Elem.{Elem}
-use Rattle.st_tree.specs.declared.tree.declaration.Declaration.{Declaration}
-use Rattle.st_tree.specs.declared.tree.declaration.DeclaredType.{DeclaredType}
 use Rattle.st_tree.specs.declared.tree.declaration.DeclaredType.TheVariants as d
-use Rattle.st_tree.specs.declared.tree.position.Position.{Position}
-use Rattle.st_tree.specs.declared.tree.unit.Body.{Body}
 use Rattle.st_tree.specs.declared.tree.unit.Body.TheVariants as b
-use Rattle.st_tree.specs.declared.tree.unit.Pou.{Pou}
-use Rattle.st_tree.specs.declared.tree.unit.TypeDeclaration.{TypeDeclaration}
-use Rattle.st_tree.specs.declared.tree.unit.Unit as unit
 use Rattle.st_tree.specs.declared.tree.unit.Unit.TheVariants as u
-use Rattle.st_expressions.specs.Lists.{IsMany}
-use Rattle.st_expressions.specs.Parsers as parser
-use Rattle.st_expressions.specs.Parsers.{Parser, and_then, Deep}
-use Rattle.st_expressions.specs.Tokens.{Tok, kind}
-use Rattle.st_expressions.proofs.Exact.{Relation, Found, Exact, Always, Any, Then, seq, IsOne, one, IsPure, done, IsWord, a_word, exact_bind, exact_as, exact_iff, exact_last, exact_under, exact_zero, exact_pure, made, exact_refuse, exact_on, IsFirst, exact_token, exact_symbol, exact_keyword, exact_word, exact_before, Ends, exact_many}
-use Rattle.st_expressions.proofs.Loops.{ok_parts}
-use Rattle.st_expressions.proofs.Room.{At}
-use Rattle.st_statements.specs.ChartReading.{is_word, begins_element}
-use Rattle.st_statements.specs.Charts.{IsElement, initial_step, plain_step, transition, action, IsChart, chart}
-use Rattle.st_statements.specs.Grammar.{IsStatements, no_statement, statements}
-use Rattle.st_statements.specs.Reading.{begins_statement}
+use Rattle.st_parser.specs.Names as names
+use Rattle.st_parser.specs.Names.{Body, Declaration, DeclaredType, Kind, Position, Pou, TypeDeclaration}
+use Rattle.st_parser.specs.Grammar.Lists.{IsMany}
+use Rattle.st_parser.specs.Grammar.Tokens.{Tok, kind}
+use Rattle.st_parser.specs.Reader.Parsers as parser
+use Rattle.st_parser.specs.Reader.Parsers.{Parser, and_then, is_keyword, is_word, Deep}
+use Rattle.st_parser.proofs.Exact.{Relation, Found, Exact, Always, Any, Then, seq, IsOne, one, IsPure, done, IsWord, a_word, exact_bind, exact_as, exact_iff, exact_last, exact_under, exact_zero, exact_pure, made, exact_refuse, exact_on, IsFirst, exact_token, keyword_is, exact_symbol, exact_keyword, exact_identifier, exact_before, Ends, exact_many}
+use Rattle.st_parser.proofs.Levels.{At}
+use Rattle.st_parser.proofs.Loops.{ok_parts}
+use Rattle.st_statements.specs.Grammar.Charts.{IsElement, initial_step, plain_step, transition, action, IsChart, chart}
+use Rattle.st_statements.specs.Grammar.Statements.{IsStatements, no_statement, statements}
+use Rattle.st_statements.specs.Reader.Charts.{begins_element}
+use Rattle.st_statements.specs.Reader.Statements.{begins_statement}
 use Rattle.st_statements.proofs.ChartsExact.{chart_exact}
 use Rattle.st_statements.proofs.Statements.{EndsBlock, statements_exact, begins_is}
-use Rattle.st_syntax.specs.DeclarationReading as declarations
-use Rattle.st_syntax.specs.DeclarationReading.{begins_block}
-use Rattle.st_syntax.specs.Declarations.{IsSpecification, simple, IsInitialized, IsMember, IsVarBlock}
-use Rattle.st_syntax.specs.UnitReading as spec
-use Rattle.st_syntax.specs.UnitReading.{is_struct, begins_unit}
-use Rattle.st_syntax.specs.Units.{type_of, function_of, pou_of, IsDeclared, derived, structure, IsTypeDeclaration, type_declaration, IsBody, plain_body, chart_body, IsPou, organization, IsUnit, types, function, function_block, program}
+use Rattle.st_syntax.specs.Grammar.Declarations.{IsSpecification, simple, IsInitialized, IsMember, IsVarBlock}
+use Rattle.st_syntax.specs.Grammar.Units.{type_of, function_of, pou_of, IsDeclared, derived, structure, IsTypeDeclaration, type_declaration, IsBody, plain_body, chart_body, IsPou, pou, IsUnit, types, function, function_block, program}
+use Rattle.st_syntax.specs.Reader.Declarations as declarations
+use Rattle.st_syntax.specs.Reader.Declarations.{begins_block}
+use Rattle.st_syntax.specs.Reader.Units as spec
+use Rattle.st_syntax.specs.Reader.Units.{begins_unit}
 use Rattle.st_syntax.proofs.DeclarationsExact.{specification_exact, initialized_exact, member_exact, member_begins, variables_exact}
 
 -- ---- types
-
-struct_is : (t : Option Kind) → is_struct t ≡ true → t ≡ Some (k.Keyword w.Struct)
-struct_is (Some (k.Keyword w.Struct)) h = refl
-struct_is _ h = absurd (cc)
 
 -- the members of a structure
 data AreMembers : List Tok → List Declaration → List Tok → Type 0 where
@@ -69,7 +59,7 @@ DerivedRule = Then IsSpecification (λ x. Then IsInitialized (λ y. IsPure (d.De
 derived_to : (ts : List Tok) (x : DeclaredType) (rest : List Tok) → DerivedRule ts x rest → IsDeclared ts x rest
 derived_to ts x rest (seq e (seq f m)) = made m (λ y us. IsDeclared ts y us) (derived e f)
 
-derived_from : (ts : List Tok) (x : DeclaredType) (rest : List Tok) → is_struct (kind ts) ≡ false → IsDeclared ts x rest → DerivedRule ts x rest
+derived_from : (ts : List Tok) (x : DeclaredType) (rest : List Tok) → is_keyword w.Struct (kind ts) ≡ false → IsDeclared ts x rest → DerivedRule ts x rest
 derived_from ts x rest h (derived e f) = seq e (seq f done)
 derived_from ts x rest h (structure e m) = absurd (cc)
 
@@ -85,13 +75,13 @@ type_from ts x rest (type_declaration e) = seq a_word (seq one (seq e done))
 type_begins : (ts : List Tok) (x : TypeDeclaration) (rest : List Tok) → IsTypeDeclaration ts x rest → is_word (kind ts) ≡ true
 type_begins ts x rest (type_declaration e) = refl
 
-abbrev TypesRule : Position → Relation unit.Unit
+abbrev TypesRule : Position → Relation names.Unit
 TypesRule p = Then (IsMany IsTypeDeclaration) (λ xs. Then (IsOne (k.Keyword w.EndType)) (λ q. IsPure (u.Types p xs)))
 
-types_to : (p : Position) (ts : List Tok) (x : unit.Unit) (rest : List Tok) → TypesRule p ts x rest → IsUnit ((p, k.Keyword w.Type) ∷ ts) x rest
+types_to : (p : Position) (ts : List Tok) (x : names.Unit) (rest : List Tok) → TypesRule p ts x rest → IsUnit ((p, k.Keyword w.Type) ∷ ts) x rest
 types_to p ts x rest (seq e (seq one m)) = made m (λ y us. IsUnit ((p, k.Keyword w.Type) ∷ ts) y us) (types e)
 
-types_from : (p : Position) (ts : List Tok) (x : unit.Unit) (rest : List Tok) → IsUnit ((p, k.Keyword w.Type) ∷ ts) x rest → TypesRule p ts x rest
+types_from : (p : Position) (ts : List Tok) (x : names.Unit) (rest : List Tok) → IsUnit ((p, k.Keyword w.Type) ∷ ts) x rest → TypesRule p ts x rest
 types_from p ts x rest (types e) = seq e (seq one done)
 
 module _ (r : ℕ) where
@@ -100,21 +90,21 @@ module _ (r : ℕ) where
   members_exact = exact_iff (exact_bind (member_exact r) (λ x. exact_last (exact_many is_word (declarations.member (suc r)) IsMember Any (At (suc (suc r))) (exact_under (member_exact r) (λ ts h. tt) (λ t g. g)) member_begins (λ t h. tt)) (λ xs. x ∷ xs)) (λ x mid rest y e g. tt))
       members_to members_from
 
-  declared_by : (c : Bool) → Exact 1 (spec.declared_by (suc r) c) (λ ts. (is_struct (kind ts) ≡ c) × Always ts) IsDeclared Any (At (suc (suc r))) (At (suc (suc r)))
+  declared_by : (c : Bool) → Exact 1 (spec.declared_by (suc r) c) (λ ts. (is_keyword w.Struct (kind ts) ≡ c) × Always ts) IsDeclared Any (At (suc (suc r))) (At (suc (suc r)))
   unfolding spec.structure spec.derived
   declared_by true = exact_under (exact_token (k.Keyword w.Struct) refl {R = IsDeclared} (λ p. exact_iff
       (exact_before (k.Keyword w.EndStruct) members_exact (refl, tt) (exact_keyword w.EndStruct (suc (suc r)) refl) (λ xs q. exact_bind (exact_symbol s.Semicolon (suc (suc r)) refl) (λ z. exact_pure (d.Structure p xs) Always Any (At (suc (suc r)))) (λ z mid rest y e g. tt)))
-      (structure_to p) (structure_from p))) (λ ts h. struct_is (kind ts) h.0) (λ t g. g)
+      (structure_to p) (structure_from p))) (λ ts h. keyword_is w.Struct (kind ts) h.0) (λ t g. g)
   declared_by false = exact_as (exact_bind (specification_exact (suc r)) (λ x. exact_last (initialized_exact r) (d.Derived x)) (λ x mid rest y e g. tt)) (λ ts h. tt)
       (λ ts x rest h e. derived_to ts x rest e) (λ ts x rest h g e. derived_from ts x rest h.0 e) (λ t g. g)
 
   declared_exact : Exact 1 (spec.declared (suc r)) Always IsDeclared Any (At (suc (suc r))) (At (suc (suc r)))
   unfolding spec.declared
-  declared_exact = exact_on (λ ts. is_struct (kind ts)) (spec.declared_by (suc r)) Always IsDeclared Any (At (suc (suc r))) (At (suc (suc r))) declared_by
+  declared_exact = exact_on (λ ts. is_keyword w.Struct (kind ts)) (spec.declared_by (suc r)) Always IsDeclared Any (At (suc (suc r))) (At (suc (suc r))) declared_by
 
   type_exact : Exact 1 (spec.type_declaration (suc r)) Always IsTypeDeclaration Any (At (suc (suc r))) (At (suc (suc r)))
   unfolding spec.type_declaration
-  type_exact = exact_iff (exact_bind (exact_word (suc (suc r))) (λ n. exact_bind (exact_symbol s.Colon (suc (suc r)) refl) (λ q. exact_last declared_exact (type_of n)) (λ q mid rest y e g. tt)) (λ n mid rest y e g. tt)) type_to type_from
+  type_exact = exact_iff (exact_bind (exact_identifier (suc (suc r))) (λ n. exact_bind (exact_symbol s.Colon (suc (suc r)) refl) (λ q. exact_last declared_exact (type_of n)) (λ q mid rest y e g. tt)) (λ n mid rest y e g. tt)) type_to type_from
 
   types_exact : Exact 1 (spec.types (suc r)) (IsFirst (k.Keyword w.Type)) IsUnit Any (At (suc (suc r))) (At (suc (suc r)))
   unfolding spec.types
@@ -147,13 +137,13 @@ elementary_exact r = record { reads = λ ts x rest t h. reads ts x rest h; deep 
   read : {ts rest : List Tok} {x : Elem} → IsElementary ts x rest → spec.elementary_by (kind ts) ts ≡ Ok (x, rest)
   read an_elem = refl
 
-abbrev FunctionRule : Position → Relation unit.Unit
+abbrev FunctionRule : Position → Relation names.Unit
 FunctionRule p = Then IsWord (λ n. Then (IsOne (k.Symbol s.Colon)) (λ q. Then IsElementary (λ e. Then (IsMany IsVarBlock) (λ vs. Then IsStatements (λ ss. Then (IsOne (k.Keyword w.EndFunction)) (λ z. IsPure (u.Function (function_of p n e vs ss))))))))
 
-function_to : (p : Position) (ts : List Tok) (x : unit.Unit) (rest : List Tok) → FunctionRule p ts x rest → IsUnit ((p, k.Keyword w.Function) ∷ ts) x rest
+function_to : (p : Position) (ts : List Tok) (x : names.Unit) (rest : List Tok) → FunctionRule p ts x rest → IsUnit ((p, k.Keyword w.Function) ∷ ts) x rest
 function_to p ts x rest (seq a_word (seq one (seq an_elem (seq e (seq f (seq one m)))))) = made m (λ y us. IsUnit ((p, k.Keyword w.Function) ∷ ts) y us) (function e f)
 
-function_from : (p : Position) (ts : List Tok) (x : unit.Unit) (rest : List Tok) → IsUnit ((p, k.Keyword w.Function) ∷ ts) x rest → FunctionRule p ts x rest
+function_from : (p : Position) (ts : List Tok) (x : names.Unit) (rest : List Tok) → IsUnit ((p, k.Keyword w.Function) ∷ ts) x rest → FunctionRule p ts x rest
 function_from p ts x rest (function e f) = seq a_word (seq one (seq an_elem (seq e (seq f (seq one done)))))
 
 -- the first token of a statement begins no declarations
@@ -169,7 +159,7 @@ statement_no_block (Some (k.Keyword w.While)) h = (refl, tt)
 statement_no_block (Some (k.Keyword w.Repeat)) h = (refl, tt)
 statement_no_block _ h = absurd (cc)
 
-function_follow : {S : _ → Relation unit.Unit} (mid rest : List Tok) (y : unit.Unit) → Then IsStatements (λ ss. Then (IsOne (k.Keyword w.EndFunction)) (λ z. S ss)) mid y rest → Ends begins_block Any (kind mid)
+function_follow : {S : _ → Relation names.Unit} (mid rest : List Tok) (y : names.Unit) → Then IsStatements (λ ss. Then (IsOne (k.Keyword w.EndFunction)) (λ z. S ss)) mid y rest → Ends begins_block Any (kind mid)
 function_follow mid rest y (seq no_statement (seq one f)) = (refl, tt)
 function_follow mid rest y (seq (statements {mid = last} {x = x} e m) f) = statement_no_block (kind mid) (begins_is mid x last e)
 
@@ -211,7 +201,7 @@ module _ (r : ℕ) where
   function_exact : Exact 1 (spec.function (suc r)) (IsFirst (k.Keyword w.Function)) IsUnit Any (At (suc (suc r))) (At (suc (suc r)))
   unfolding spec.function
   function_exact = exact_token (k.Keyword w.Function) refl {R = IsUnit} (λ p. exact_iff
-      (exact_bind (exact_word (suc (suc r))) (λ n. exact_bind (exact_symbol s.Colon (suc (suc r)) refl) (λ q. exact_bind (elementary_exact (suc (suc r))) (λ e. exact_bind (variables_exact r)
+      (exact_bind (exact_identifier (suc (suc r))) (λ n. exact_bind (exact_symbol s.Colon (suc (suc r)) refl) (λ q. exact_bind (elementary_exact (suc (suc r))) (λ e. exact_bind (variables_exact r)
       (λ vs. exact_before (k.Keyword w.EndFunction) (statements_exact (suc (suc r))) (refl, tt) (exact_keyword w.EndFunction (suc (suc r)) refl) (λ ss z. exact_pure (u.Function (function_of p n e vs ss)) Always Any (At (suc (suc r)))))
       (λ vs mid rest y f g. function_follow mid rest y f)) (λ e mid rest y f g. tt)) (λ q mid rest y f g. tt)) (λ n mid rest y f g. tt))
       (function_to p) (function_from p))
@@ -247,48 +237,48 @@ data IsWhole (x : Kind) (p : Position) : List Tok → Pou → List Tok → Type 
   whole : {q : Position} {ts rest : List Tok} {y : Pou} → IsPou p ts y ((q, x) ∷ rest) → IsWhole x p ts y rest
 
 whole_to : (x : Kind) (p : Position) (ts : List Tok) (y : Pou) (rest : List Tok) → PouRule x p ts y rest → IsWhole x p ts y rest
-whole_to x p ts y rest (seq a_word (seq e (seq f (seq one m)))) = made m (λ z us. IsWhole x p ts z us) (whole (organization e f))
+whole_to x p ts y rest (seq a_word (seq e (seq f (seq one m)))) = made m (λ z us. IsWhole x p ts z us) (whole (pou e f))
 
 whole_from : (x : Kind) (p : Position) (ts : List Tok) (y : Pou) (rest : List Tok) → IsWhole x p ts y rest → PouRule x p ts y rest
-whole_from x p ts y rest (whole (organization e f)) = seq a_word (seq e (seq f (seq one done)))
+whole_from x p ts y rest (whole (pou e f)) = seq a_word (seq e (seq f (seq one done)))
 
-block_to : (p : Position) (ts : List Tok) (x : unit.Unit) (rest : List Tok) → Then (IsWhole (k.Keyword w.EndFunctionBlock) p) (λ y. IsPure (u.FunctionBlock y)) ts x rest → IsUnit ((p, k.Keyword w.FunctionBlock) ∷ ts) x rest
+block_to : (p : Position) (ts : List Tok) (x : names.Unit) (rest : List Tok) → Then (IsWhole (k.Keyword w.EndFunctionBlock) p) (λ y. IsPure (u.FunctionBlock y)) ts x rest → IsUnit ((p, k.Keyword w.FunctionBlock) ∷ ts) x rest
 block_to p ts x rest (seq (whole e) m) = made m (λ y us. IsUnit ((p, k.Keyword w.FunctionBlock) ∷ ts) y us) (function_block e)
 
-block_from : (p : Position) (ts : List Tok) (x : unit.Unit) (rest : List Tok) → IsUnit ((p, k.Keyword w.FunctionBlock) ∷ ts) x rest → Then (IsWhole (k.Keyword w.EndFunctionBlock) p) (λ y. IsPure (u.FunctionBlock y)) ts x rest
+block_from : (p : Position) (ts : List Tok) (x : names.Unit) (rest : List Tok) → IsUnit ((p, k.Keyword w.FunctionBlock) ∷ ts) x rest → Then (IsWhole (k.Keyword w.EndFunctionBlock) p) (λ y. IsPure (u.FunctionBlock y)) ts x rest
 block_from p ts x rest (function_block e) = seq (whole e) done
 
-program_to : (p : Position) (ts : List Tok) (x : unit.Unit) (rest : List Tok) → Then (IsWhole (k.Keyword w.EndProgram) p) (λ y. IsPure (u.Program y)) ts x rest → IsUnit ((p, k.Keyword w.Program) ∷ ts) x rest
+program_to : (p : Position) (ts : List Tok) (x : names.Unit) (rest : List Tok) → Then (IsWhole (k.Keyword w.EndProgram) p) (λ y. IsPure (u.Program y)) ts x rest → IsUnit ((p, k.Keyword w.Program) ∷ ts) x rest
 program_to p ts x rest (seq (whole e) m) = made m (λ y us. IsUnit ((p, k.Keyword w.Program) ∷ ts) y us) (program e)
 
-program_from : (p : Position) (ts : List Tok) (x : unit.Unit) (rest : List Tok) → IsUnit ((p, k.Keyword w.Program) ∷ ts) x rest → Then (IsWhole (k.Keyword w.EndProgram) p) (λ y. IsPure (u.Program y)) ts x rest
+program_from : (p : Position) (ts : List Tok) (x : names.Unit) (rest : List Tok) → IsUnit ((p, k.Keyword w.Program) ∷ ts) x rest → Then (IsWhole (k.Keyword w.EndProgram) p) (λ y. IsPure (u.Program y)) ts x rest
 program_from p ts x rest (program e) = seq (whole e) done
 
-unit_begins : (ts : List Tok) (x : unit.Unit) (rest : List Tok) → IsUnit ts x rest → begins_unit (kind ts) ≡ true
+unit_begins : (ts : List Tok) (x : names.Unit) (rest : List Tok) → IsUnit ts x rest → begins_unit (kind ts) ≡ true
 unit_begins ts x rest (types e) = refl
 unit_begins ts x rest (function e f) = refl
 unit_begins ts x rest (function_block e) = refl
 unit_begins ts x rest (program e) = refl
 
 module _ (r : ℕ) where
-  block_rule : (p : Position) → Exact 1 (λ ts. and_then (parser.word ts) (λ n us. and_then (declarations.variables (suc r) us) (λ vs ws. and_then (spec.body (suc r) ws) (λ c xs. and_then (parser.keyword w.EndFunctionBlock xs) (λ z. parser.pure (pou_of p n vs c))))))
+  block_rule : (p : Position) → Exact 1 (λ ts. and_then (parser.identifier ts) (λ n us. and_then (declarations.variables (suc r) us) (λ vs ws. and_then (spec.body (suc r) ws) (λ c xs. and_then (parser.expect_keyword w.EndFunctionBlock xs) (λ z. parser.pure (pou_of p n vs c))))))
       Always (IsWhole (k.Keyword w.EndFunctionBlock) p) Any (At (suc (suc r))) (At (suc (suc r)))
-  block_rule p = exact_iff (exact_bind (exact_word (suc (suc r))) (λ n. exact_bind (variables_exact r) (λ vs. exact_before (k.Keyword w.EndFunctionBlock) (body_exact r) (refl, (refl, tt)) (exact_keyword w.EndFunctionBlock (suc (suc r)) refl)
+  block_rule p = exact_iff (exact_bind (exact_identifier (suc (suc r))) (λ n. exact_bind (variables_exact r) (λ vs. exact_before (k.Keyword w.EndFunctionBlock) (body_exact r) (refl, (refl, tt)) (exact_keyword w.EndFunctionBlock (suc (suc r)) refl)
       (λ c z. exact_pure (pou_of p n vs c) Always Any (At (suc (suc r))))) (λ vs mid rest y f g. body_follow (k.Keyword w.EndFunctionBlock) (refl, tt) mid rest y f)) (λ n mid rest y f g. tt))
       (whole_to (k.Keyword w.EndFunctionBlock) p) (whole_from (k.Keyword w.EndFunctionBlock) p)
 
-  program_rule : (p : Position) → Exact 1 (λ ts. and_then (parser.word ts) (λ n us. and_then (declarations.variables (suc r) us) (λ vs ws. and_then (spec.body (suc r) ws) (λ c xs. and_then (parser.keyword w.EndProgram xs) (λ z. parser.pure (pou_of p n vs c))))))
+  program_rule : (p : Position) → Exact 1 (λ ts. and_then (parser.identifier ts) (λ n us. and_then (declarations.variables (suc r) us) (λ vs ws. and_then (spec.body (suc r) ws) (λ c xs. and_then (parser.expect_keyword w.EndProgram xs) (λ z. parser.pure (pou_of p n vs c))))))
       Always (IsWhole (k.Keyword w.EndProgram) p) Any (At (suc (suc r))) (At (suc (suc r)))
-  program_rule p = exact_iff (exact_bind (exact_word (suc (suc r))) (λ n. exact_bind (variables_exact r) (λ vs. exact_before (k.Keyword w.EndProgram) (body_exact r) (refl, (refl, tt)) (exact_keyword w.EndProgram (suc (suc r)) refl)
+  program_rule p = exact_iff (exact_bind (exact_identifier (suc (suc r))) (λ n. exact_bind (variables_exact r) (λ vs. exact_before (k.Keyword w.EndProgram) (body_exact r) (refl, (refl, tt)) (exact_keyword w.EndProgram (suc (suc r)) refl)
       (λ c z. exact_pure (pou_of p n vs c) Always Any (At (suc (suc r))))) (λ vs mid rest y f g. body_follow (k.Keyword w.EndProgram) (refl, tt) mid rest y f)) (λ n mid rest y f g. tt))
       (whole_to (k.Keyword w.EndProgram) p) (whole_from (k.Keyword w.EndProgram) p)
 
   block_exact : Exact 1 (spec.function_block (suc r)) (IsFirst (k.Keyword w.FunctionBlock)) IsUnit Any (At (suc (suc r))) (At (suc (suc r)))
-  unfolding spec.function_block spec.organization
+  unfolding spec.function_block spec.pou
   block_exact = exact_token (k.Keyword w.FunctionBlock) refl {R = IsUnit} (λ p. exact_iff (exact_last (block_rule p) u.FunctionBlock) (block_to p) (block_from p))
 
   program_exact : Exact 1 (spec.program (suc r)) (IsFirst (k.Keyword w.Program)) IsUnit Any (At (suc (suc r))) (At (suc (suc r)))
-  unfolding spec.program spec.organization
+  unfolding spec.program spec.pou
   program_exact = exact_token (k.Keyword w.Program) refl {R = IsUnit} (λ p. exact_iff (exact_last (program_rule p) u.Program) (program_to p) (program_from p))
 
   unit_by : (t : Option Kind) → Exact 1 (spec.unit_by (suc r) t) (λ ts. (kind ts ≡ t) × Always ts) IsUnit Any (At (suc (suc r))) (At (suc (suc r)))

@@ -1,5 +1,2 @@
-pub mod DeclarationReading
-pub mod Declarations
-pub mod Texts
-pub mod UnitReading
-pub mod Units
+pub mod Grammar
+pub mod Reader

@@ -1,60 +1,26 @@
 //! Declarations of variables and types (2.3.3, 2.4.3).
-ghost use Rattle.std.specs.Prelude.{◌≡◌, ◌<◌, ◌≤◌, [], ◌∷◌, length, IfErr, IfOk, OnOk, Ok};
-ghost use Rattle.st_expressions.specs.Parsers as parser;
-ghost use Rattle.st_expressions.specs.Parsers.{Reads};
-ghost use Rattle.st_expressions.specs.Tokens.{kind, next};
-ghost use Rattle.st_syntax.specs.DeclarationReading as spec;
-ghost use Rattle.st_expressions.specs.declared.fault.ReadFault.TheVariants.{Memory};
+ghost use Rattle.std.specs.Prelude.{◌≡◌, ◌≤◌, length, Ok};
+ghost use Rattle.st_parser.specs.Grammar.Tokens.{kind, next};
+ghost use Rattle.st_parser.specs.Reader.Parsers as parser;
+ghost use Rattle.st_parser.specs.Reader.Parsers.{MayTake, Takes};
+ghost use Rattle.st_syntax.specs.Reader.Declarations as spec;
+ghost use Rattle.st_syntax.specs.Reader.Declarations.{in_brackets};
 
 use st_expressions::constant::{constant, signed_integer};
-use st_expressions::cursor::Cursor;
-use st_expressions::fault::ReadFault;
-use st_expressions::token::{enter, is_close, is_comma, keyword, number, symbol, word};
-use st_statements::chart::{alone, is_word, opening, words};
+use st_parser::{Cursor, MAX_LEVELS, ReadFault, listed, many, single, words};
 use st_tokens::{Keyword, Kind, Symbol};
-use st_tree::List;
 use st_tree::tree::{
-    ArrayElement, Constant, Declaration, Initial, Position, VarKind, Specification, Subrange,
-    TypeName, VarBlock,
+    ArrayElement, Constant, Declaration, Initial, Position, Specification, Subrange, TypeName,
+    VarBlock, VarKind,
 };
+use st_tree::{Boxed, List};
 use std::alloc::Global;
-
-/// How many levels may be open.
-pub const LEVELS: u8 = 64;
-
-/// Whether the first token is `[`.
-fn is_bracket(ts: &Cursor<'_>) -> bool
-    ensures { result ≡ spec.is_bracket (kind ts.now) }
-{
-    matches!(ts.kind(), Some(Kind::Symbol(Symbol::OpenBracket)))
-}
-
-/// Whether the first token is `:=`.
-fn is_assign(ts: &Cursor<'_>) -> bool
-    ensures { result ≡ spec.is_assign (kind ts.now) }
-{
-    matches!(ts.kind(), Some(Kind::Symbol(Symbol::Assign)))
-}
-
-/// Whether the first token is ARRAY.
-fn is_array(ts: &Cursor<'_>) -> bool
-    ensures { result ≡ spec.is_array (kind ts.now) }
-{
-    matches!(ts.kind(), Some(Kind::Keyword(Keyword::Array)))
-}
-
-/// Whether the first token is CONSTANT.
-fn is_constant(ts: &Cursor<'_>) -> bool
-    ensures { result ≡ spec.is_constant (kind ts.now) }
-{
-    matches!(ts.kind(), Some(Kind::Keyword(Keyword::Constant)))
-}
 
 /// Whether the first token is RETAIN or NON_RETAIN.
 fn is_retention(ts: &Cursor<'_>) -> bool
     ensures { result ≡ spec.is_retention (kind ts.now) }
 {
-    match ts.kind() {
+    match ts.peek() {
         Some(Kind::Keyword(Keyword::Retain | Keyword::NonRetain)) => true,
         _ => false,
     }
@@ -64,7 +30,7 @@ fn is_retention(ts: &Cursor<'_>) -> bool
 fn begins_block(ts: &Cursor<'_>) -> bool
     ensures { result ≡ spec.begins_block (kind ts.now) }
 {
-    match ts.kind() {
+    match ts.peek() {
         Some(Kind::Keyword(Keyword::Var | Keyword::VarInput | Keyword::VarOutput)) => true,
         _ => false,
     }
@@ -74,227 +40,183 @@ fn begins_block(ts: &Cursor<'_>) -> bool
 fn is_repeated(ts: &Cursor<'_>) -> bool
     ensures { result ≡ spec.is_repeated (kind ts.now) (kind (next ts.now)) }
 {
-    match ts.kind() {
-        Some(Kind::Number(_)) => matches!(ts.second(), Some(Kind::Symbol(Symbol::Open))),
+    match ts.peek() {
+        Some(Kind::Number(_)) => ts.before_symbol(Symbol::Open),
         _ => false,
     }
 }
 
-/// Takes `[`, where `room` more levels may be opened.
-#[tactic(auto, unfolding(crate::specs::DeclarationReading::bracket))]
-fn bracket(ts: &mut Cursor<'_>, room: u8) -> Result<Position, ReadFault>
-    ensures read { Reads (spec.bracket room ts.old) result ts.new }
-    ensures shorter { OnOk result (length ts.new ≤ length ts.old) }
-{
-    if is_bracket(ts) {
-        return enter(ts, room);
-    }
-    Err(ts.unexpected())
-}
-
-#[tactic(auto, unfolding(crate::specs::DeclarationReading::type_name))]
+/// `elementary type | word`
+#[tactic(auto, unfolding(crate::specs::Reader::Declarations::type_name))]
 fn type_name(alloc: Global, ts: &mut Cursor<'_>) -> Result<TypeName, ReadFault>
-    ensures read { Reads (spec.type_name ts.old) result ts.new }
-    ensures shorter { OnOk result (length ts.new < length ts.old) }
+    ensures { Takes (spec.type_name ts.old) result ts.old ts.new }
 {
-    match ts.kind() {
-        Some(Kind::Type(elem)) => Ok(TypeName::Elementary(ts.skip(), elem)),
-        _ => Ok(TypeName::Declared(word(alloc, ts)?)),
+    match ts.peek() {
+        Some(Kind::Type(elem)) => {
+            let elem = *elem;
+            Ok(TypeName::Elementary(ts.bump(), elem))
+        }
+        _ => Ok(TypeName::Declared(ts.identifier(alloc)?)),
     }
 }
 
-#[tactic(auto, unfolding(crate::specs::DeclarationReading::subrange))]
-fn subrange(ts: &mut Cursor<'_>) -> Result<Subrange, ReadFault>
-    ensures read { Reads (spec.subrange ts.old) result ts.new }
-    ensures shorter { OnOk result (length ts.new < length ts.old) }
+/// `integer '..' integer`
+#[tactic(auto, unfolding(crate::specs::Reader::Declarations::subrange))]
+fn subrange(_alloc: Global, ts: &mut Cursor<'_>) -> Result<Subrange, ReadFault>
+    ensures { Takes (spec.subrange ts.old) result ts.old ts.new }
 {
     let lower = signed_integer(ts)?;
-    symbol(ts, Symbol::Range)?;
+    ts.expect_symbol(Symbol::Range)?;
     let upper = signed_integer(ts)?;
     Ok(Subrange { lower, upper })
 }
 
-#[tactic(auto, unfolding(st_expressions::specs::Parsers::next_item))]
-fn next_subrange(ts: &mut Cursor<'_>) -> Result<Subrange, ReadFault>
-    ensures read { Reads (parser.next_item spec.subrange ts.old) result ts.new }
-    ensures shorter { OnOk result (length ts.new < length ts.old) }
-{
-    ts.skip();
-    subrange(ts)
-}
-
-#[tactic(auto, unfolding(st_expressions::specs::Parsers::leading))]
+/// `subrange { ',' subrange }`
 fn subranges(alloc: Global, ts: &mut Cursor<'_>) -> Result<List<Subrange>, ReadFault>
-    ensures read { Reads (parser.listed spec.subrange ts.old) result ts.new }
-    ensures shorter { OnOk result (length ts.new < length ts.old) }
+    ensures { Takes (parser.listed spec.subrange ts.old) result ts.old ts.new }
 {
-    let first = subrange(ts)?;
-    let mut found = List::new(alloc);
-    found.push(first)?;
-    'items: while is_comma(ts) {
-        let item = next_subrange(ts)?;
-        found.push(item)?;
-    }
-    Ok(found)
+    listed(alloc, ts, subrange)
 }
 
-#[tactic(auto, unfolding(crate::specs::DeclarationReading::array))]
+/// `ARRAY '[' subrange { ',' subrange } ']' OF type name`
+#[tactic(auto, unfolding(crate::specs::Reader::Declarations::array))]
 fn array(alloc: Global, ts: &mut Cursor<'_>) -> Result<Specification, ReadFault>
-    ensures read { Reads (spec.array 63 ts.old) result ts.new }
-    ensures shorter { OnOk result (length ts.new < length ts.old) }
+    ensures { Takes (spec.array in_brackets ts.old) result ts.old ts.new }
 {
-    let position = ts.skip();
-    bracket(ts, LEVELS)?;
+    let position = ts.bump();
+    ts.open_level(Symbol::OpenBracket, MAX_LEVELS)?;
     let subscripts = subranges(alloc, ts)?;
-    symbol(ts, Symbol::CloseBracket)?;
-    keyword(ts, Keyword::Of)?;
+    ts.expect_symbol(Symbol::CloseBracket)?;
+    ts.expect_keyword(Keyword::Of)?;
     let element = type_name(alloc, ts)?;
-    Ok(Specification::Array(position, subscripts, element))
+    Ok(Specification::Array(position, subscripts, Boxed::new(alloc, element)?))
 }
 
-#[tactic(auto, unfolding(crate::specs::DeclarationReading::simple))]
+/// `type name`
+#[tactic(auto, unfolding(crate::specs::Reader::Declarations::simple))]
 fn simple(alloc: Global, ts: &mut Cursor<'_>) -> Result<Specification, ReadFault>
-    ensures read { Reads (spec.simple ts.old) result ts.new }
-    ensures shorter { OnOk result (length ts.new < length ts.old) }
+    ensures { Takes (spec.simple ts.old) result ts.old ts.new }
 {
     Ok(Specification::Simple(type_name(alloc, ts)?))
 }
 
-/// Takes what a variable, a member or a type is.
-#[tactic(auto, unfolding(crate::specs::DeclarationReading::specification))]
+/// `type name | ARRAY '[' subrange { ',' subrange } ']' OF type name`
+#[tactic(auto, unfolding(crate::specs::Reader::Declarations::specification))]
 pub fn specification(alloc: Global, ts: &mut Cursor<'_>) -> Result<Specification, ReadFault>
-    ensures read { Reads (spec.specification 63 ts.old) result ts.new }
-    ensures shorter { OnOk result (length ts.new < length ts.old) }
+    ensures { Takes (spec.specification in_brackets ts.old) result ts.old ts.new }
 {
-    if is_array(ts) {
+    if ts.at_keyword(Keyword::Array) {
         array(alloc, ts)
     } else {
         simple(alloc, ts)
     }
 }
 
-#[tactic(auto, unfolding(crate::specs::DeclarationReading::repeated_value))]
-fn repeated_value(ts: &mut Cursor<'_>) -> Result<Option<Constant>, ReadFault>
-    ensures read { Reads (spec.repeated_value ts.old) result ts.new }
-    ensures shorter { OnOk result (length ts.new ≤ length ts.old) }
+/// `[ literal ]`
+#[tactic(auto, unfolding(crate::specs::Reader::Declarations::repeated_value))]
+fn repeated_value(alloc: Global, ts: &mut Cursor<'_>) -> Result<Option<Boxed<Constant>>, ReadFault>
+    ensures { MayTake (spec.repeated_value ts.old) result ts.old ts.new }
 {
-    if is_close(ts) {
+    if ts.at_symbol(Symbol::Close) {
         return Ok(None);
     }
-    Ok(Some(constant(ts)?))
+    let value = constant(ts)?;
+    Ok(Some(Boxed::new(alloc, value)?))
 }
 
-#[tactic(auto, unfolding(crate::specs::DeclarationReading::repeated))]
-fn repeated(ts: &mut Cursor<'_>) -> Result<ArrayElement, ReadFault>
-    ensures read { Reads (spec.repeated 63 ts.old) result ts.new }
-    ensures shorter { OnOk result (length ts.new < length ts.old) }
+/// `number '(' [ literal ] ')'`
+#[tactic(auto, unfolding(crate::specs::Reader::Declarations::repeated))]
+fn repeated(alloc: Global, ts: &mut Cursor<'_>) -> Result<ArrayElement, ReadFault>
+    ensures { Takes (spec.repeated in_brackets ts.old) result ts.old ts.new }
 {
     let position = ts.position();
-    let count = number(ts)?;
-    opening(ts, LEVELS - 1)?;
-    let value = repeated_value(ts)?;
-    symbol(ts, Symbol::Close)?;
+    let count = ts.number()?;
+    ts.open_level(Symbol::Open, MAX_LEVELS - 1)?;
+    let value = repeated_value(alloc, ts)?;
+    ts.expect_symbol(Symbol::Close)?;
     Ok(ArrayElement::Repeated(position, count, value))
 }
 
-#[tactic(auto, unfolding(crate::specs::DeclarationReading::single))]
-fn single(ts: &mut Cursor<'_>) -> Result<ArrayElement, ReadFault>
-    ensures read { Reads (spec.single ts.old) result ts.new }
-    ensures shorter { OnOk result (length ts.new < length ts.old) }
+/// `literal`
+#[tactic(auto, unfolding(crate::specs::Reader::Declarations::plain_element))]
+fn plain_element(ts: &mut Cursor<'_>) -> Result<ArrayElement, ReadFault>
+    ensures { Takes (spec.plain_element ts.old) result ts.old ts.new }
 {
     Ok(ArrayElement::Single(constant(ts)?))
 }
 
-#[tactic(auto, unfolding(crate::specs::DeclarationReading::element))]
-fn element(ts: &mut Cursor<'_>) -> Result<ArrayElement, ReadFault>
-    ensures read { Reads (spec.element 63 ts.old) result ts.new }
-    ensures shorter { OnOk result (length ts.new < length ts.old) }
+/// `literal | number '(' [ literal ] ')'`
+#[tactic(auto, unfolding(crate::specs::Reader::Declarations::element))]
+fn element(alloc: Global, ts: &mut Cursor<'_>) -> Result<ArrayElement, ReadFault>
+    ensures { Takes (spec.element in_brackets ts.old) result ts.old ts.new }
 {
     if is_repeated(ts) {
-        repeated(ts)
+        repeated(alloc, ts)
     } else {
-        single(ts)
+        plain_element(ts)
     }
 }
 
-#[tactic(auto, unfolding(st_expressions::specs::Parsers::next_item))]
-fn next_element(ts: &mut Cursor<'_>) -> Result<ArrayElement, ReadFault>
-    ensures read { Reads (parser.next_item (spec.element 63) ts.old) result ts.new }
-    ensures shorter { OnOk result (length ts.new < length ts.old) }
-{
-    ts.skip();
-    element(ts)
-}
-
-#[tactic(auto, unfolding(st_expressions::specs::Parsers::leading))]
+/// `element { ',' element }`
 fn elements(alloc: Global, ts: &mut Cursor<'_>) -> Result<List<ArrayElement>, ReadFault>
-    ensures read { Reads (parser.listed (spec.element 63) ts.old) result ts.new }
-    ensures shorter { OnOk result (length ts.new < length ts.old) }
+    ensures { Takes (parser.listed (spec.element in_brackets) ts.old) result ts.old ts.new }
 {
-    let first = element(ts)?;
-    let mut found = List::new(alloc);
-    found.push(first)?;
-    'items: while is_comma(ts) {
-        let item = next_element(ts)?;
-        found.push(item)?;
-    }
-    Ok(found)
+    listed(alloc, ts, element)
 }
 
-#[tactic(auto, unfolding(crate::specs::DeclarationReading::initial_array))]
+/// `'[' element { ',' element } ']'`
+#[tactic(auto, unfolding(crate::specs::Reader::Declarations::initial_array))]
 fn initial_array(alloc: Global, ts: &mut Cursor<'_>) -> Result<Initial, ReadFault>
-    ensures read { Reads (spec.initial_array 63 ts.old) result ts.new }
-    ensures shorter { OnOk result (length ts.new < length ts.old) }
+    ensures { Takes (spec.initial_array in_brackets ts.old) result ts.old ts.new }
 {
-    let position = bracket(ts, LEVELS)?;
+    let position = ts.open_level(Symbol::OpenBracket, MAX_LEVELS)?;
     let elements = elements(alloc, ts)?;
-    symbol(ts, Symbol::CloseBracket)?;
+    ts.expect_symbol(Symbol::CloseBracket)?;
     Ok(Initial::Array(position, elements))
 }
 
-#[tactic(auto, unfolding(crate::specs::DeclarationReading::initial_constant))]
+/// `literal`
+#[tactic(auto, unfolding(crate::specs::Reader::Declarations::initial_constant))]
 fn initial_constant(ts: &mut Cursor<'_>) -> Result<Initial, ReadFault>
-    ensures read { Reads (spec.initial_constant ts.old) result ts.new }
-    ensures shorter { OnOk result (length ts.new < length ts.old) }
+    ensures { Takes (spec.initial_constant ts.old) result ts.old ts.new }
 {
     Ok(Initial::Constant(constant(ts)?))
 }
 
-#[tactic(auto, unfolding(crate::specs::DeclarationReading::initial))]
+/// `literal | '[' element { ',' element } ']'`
+#[tactic(auto, unfolding(crate::specs::Reader::Declarations::initial))]
 fn initial(alloc: Global, ts: &mut Cursor<'_>) -> Result<Initial, ReadFault>
-    ensures read { Reads (spec.initial 63 ts.old) result ts.new }
-    ensures shorter { OnOk result (length ts.new < length ts.old) }
+    ensures { Takes (spec.initial in_brackets ts.old) result ts.old ts.new }
 {
-    if is_bracket(ts) {
+    if ts.at_symbol(Symbol::OpenBracket) {
         initial_array(alloc, ts)
     } else {
         initial_constant(ts)
     }
 }
 
-/// Takes an initial value, where there is one, and the `;` behind it.
-#[tactic(auto, unfolding(crate::specs::DeclarationReading::initialized))]
-pub fn initialized(alloc: Global, ts: &mut Cursor<'_>) -> Result<Option<Initial>, ReadFault>
-    ensures read { Reads (spec.initialized 63 ts.old) result ts.new }
-    ensures shorter { OnOk result (length ts.new < length ts.old) }
+/// `[ ':=' initial ] ';'`
+#[tactic(auto, unfolding(crate::specs::Reader::Declarations::initialized))]
+pub fn initialized(alloc: Global, ts: &mut Cursor<'_>) -> Result<Option<Boxed<Initial>>, ReadFault>
+    ensures { Takes (spec.initialized in_brackets ts.old) result ts.old ts.new }
 {
-    if is_assign(ts) {
-        ts.skip();
+    if ts.at_symbol(Symbol::Assign) {
+        ts.bump();
         let value = initial(alloc, ts)?;
-        symbol(ts, Symbol::Semicolon)?;
-        return Ok(Some(value));
+        ts.expect_symbol(Symbol::Semicolon)?;
+        return Ok(Some(Boxed::new(alloc, value)?));
     }
-    symbol(ts, Symbol::Semicolon)?;
+    ts.expect_symbol(Symbol::Semicolon)?;
     Ok(None)
 }
 
-#[tactic(auto, unfolding(crate::specs::DeclarationReading::declaration))]
+/// `word { ',' word } ':' specification [ ':=' initial ] ';'`
+#[tactic(auto, unfolding(crate::specs::Reader::Declarations::declaration))]
 fn declaration(alloc: Global, ts: &mut Cursor<'_>) -> Result<Declaration, ReadFault>
-    ensures read { Reads (spec.declaration 63 ts.old) result ts.new }
-    ensures shorter { OnOk result (length ts.new < length ts.old) }
+    ensures { Takes (spec.declaration in_brackets ts.old) result ts.old ts.new }
 {
     let names = words(alloc, ts)?;
-    symbol(ts, Symbol::Colon)?;
+    ts.expect_symbol(Symbol::Colon)?;
     let specification = specification(alloc, ts)?;
     let initial = initialized(alloc, ts)?;
     Ok(Declaration {
@@ -304,17 +226,16 @@ fn declaration(alloc: Global, ts: &mut Cursor<'_>) -> Result<Declaration, ReadFa
     })
 }
 
-/// Takes a member of a structure.
-#[tactic(auto, unfolding(crate::specs::DeclarationReading::member))]
+/// `word ':' specification [ ':=' initial ] ';'`
+#[tactic(auto, unfolding(crate::specs::Reader::Declarations::member))]
 pub fn member(alloc: Global, ts: &mut Cursor<'_>) -> Result<Declaration, ReadFault>
-    ensures read { Reads (spec.member 63 ts.old) result ts.new }
-    ensures shorter { OnOk result (length ts.new < length ts.old) }
+    ensures { Takes (spec.member in_brackets ts.old) result ts.old ts.new }
 {
-    let name = word(alloc, ts)?;
-    symbol(ts, Symbol::Colon)?;
+    let name = ts.identifier(alloc)?;
+    ts.expect_symbol(Symbol::Colon)?;
     let specification = specification(alloc, ts)?;
     let initial = initialized(alloc, ts)?;
-    let names = alone(alloc, name)?;
+    let names = single(alloc, name)?;
     Ok(Declaration {
         names,
         specification,
@@ -322,55 +243,49 @@ pub fn member(alloc: Global, ts: &mut Cursor<'_>) -> Result<Declaration, ReadFau
     })
 }
 
-/// What the variables behind VAR are for.
-#[tactic(auto, unfolding(crate::specs::DeclarationReading::internal, crate::specs::DeclarationReading::retention))]
+/// `[ CONSTANT | RETAIN | NON_RETAIN ]`
+#[tactic(auto, unfolding(crate::specs::Reader::Declarations::internal, crate::specs::Reader::Declarations::retention))]
 fn internal(ts: &mut Cursor<'_>) -> VarKind
     ensures read { spec.internal ts.old ≡ Ok (result, ts.new) }
     ensures shorter { length ts.new ≤ length ts.old }
 {
-    if is_constant(ts) {
-        ts.skip();
+    if ts.at_keyword(Keyword::Constant) {
+        ts.bump();
         return VarKind::Constant;
     }
     retention(ts, VarKind::Internal)
 }
 
-/// Passes over RETAIN or NON_RETAIN.
-#[tactic(auto, unfolding(crate::specs::DeclarationReading::retention))]
+/// `[ RETAIN | NON_RETAIN ]`, which has no effect.
+#[tactic(auto, unfolding(crate::specs::Reader::Declarations::retention))]
 fn retention(ts: &mut Cursor<'_>, var_kind: VarKind) -> VarKind
     ensures read { spec.retention var_kind ts.old ≡ Ok (result, ts.new) }
     ensures shorter { length ts.new ≤ length ts.old }
 {
     if is_retention(ts) {
-        ts.skip();
+        ts.bump();
     }
     var_kind
 }
 
+/// `{ declaration }`
 fn declarations(alloc: Global, ts: &mut Cursor<'_>) -> Result<List<Declaration>, ReadFault>
-    ensures read { Reads (spec.declarations 63 ts.old) result ts.new }
-    ensures shorter { OnOk result (length ts.new ≤ length ts.old) }
+    ensures { MayTake (spec.declarations in_brackets ts.old) result ts.old ts.new }
 {
-    let mut found = List::new(alloc);
-    'items: while is_word(ts) {
-        let item = declaration(alloc, ts)?;
-        found.push(item)?;
-    }
-    Ok(found)
+    many(alloc, ts, |ts: &Cursor<'_>| ts.at_word(), declaration)
 }
 
-/// The declarations of a block, behind its first words.
+/// `{ declaration } END_VAR`
 fn rest_of_block(
     alloc: Global,
     ts: &mut Cursor<'_>,
     position: Position,
     var_kind: VarKind,
 ) -> Result<VarBlock, ReadFault>
-    ensures read { Reads (spec.block_rest 63 position var_kind ts.old) result ts.new }
-    ensures shorter { OnOk result (length ts.new < length ts.old) }
+    ensures { Takes (spec.block_rest in_brackets position var_kind ts.old) result ts.old ts.new }
 {
     let declarations = declarations(alloc, ts)?;
-    keyword(ts, Keyword::EndVar)?;
+    ts.expect_keyword(Keyword::EndVar)?;
     Ok(VarBlock {
         position,
         kind: var_kind,
@@ -378,24 +293,24 @@ fn rest_of_block(
     })
 }
 
-#[tactic(auto, unfolding(crate::specs::DeclarationReading::var_block))]
+/// `(VAR [ CONSTANT | RETAIN | NON_RETAIN ] | (VAR_INPUT | VAR_OUTPUT) [ RETAIN | NON_RETAIN ]) { declaration } END_VAR`
+#[tactic(auto, unfolding(crate::specs::Reader::Declarations::var_block))]
 fn var_block(alloc: Global, ts: &mut Cursor<'_>) -> Result<VarBlock, ReadFault>
-    ensures read { Reads (spec.var_block 63 ts.old) result ts.new }
-    ensures shorter { OnOk result (length ts.new < length ts.old) }
+    ensures { Takes (spec.var_block in_brackets ts.old) result ts.old ts.new }
 {
-    match ts.kind() {
+    match ts.peek() {
         Some(Kind::Keyword(Keyword::Var)) => {
-            let position = ts.skip();
+            let position = ts.bump();
             let var_kind = internal(ts);
             rest_of_block(alloc, ts, position, var_kind)
         }
         Some(Kind::Keyword(Keyword::VarInput)) => {
-            let position = ts.skip();
+            let position = ts.bump();
             let var_kind = retention(ts, VarKind::Input);
             rest_of_block(alloc, ts, position, var_kind)
         }
         Some(Kind::Keyword(Keyword::VarOutput)) => {
-            let position = ts.skip();
+            let position = ts.bump();
             let var_kind = retention(ts, VarKind::Output);
             rest_of_block(alloc, ts, position, var_kind)
         }
@@ -403,15 +318,9 @@ fn var_block(alloc: Global, ts: &mut Cursor<'_>) -> Result<VarBlock, ReadFault>
     }
 }
 
-/// Takes as many blocks of declarations as there are.
+/// `{ variables }`
 pub fn variables(alloc: Global, ts: &mut Cursor<'_>) -> Result<List<VarBlock>, ReadFault>
-    ensures read { Reads (spec.variables 63 ts.old) result ts.new }
-    ensures shorter { OnOk result (length ts.new ≤ length ts.old) }
+    ensures { MayTake (spec.variables in_brackets ts.old) result ts.old ts.new }
 {
-    let mut found = List::new(alloc);
-    'items: while begins_block(ts) {
-        let item = var_block(alloc, ts)?;
-        found.push(item)?;
-    }
-    Ok(found)
+    many(alloc, ts, begins_block, var_block)
 }

@@ -1,13 +1,10 @@
 //! The units of a text.
-ghost use Rattle.std.specs.Prelude.{◌≡◌, ◌<◌, ◌≤◌, ℕ, List, length, IfErr, IfOk, MatchResult};
-ghost use Rattle.st_expressions.specs.Tokens.{numbered};
-ghost use Rattle.st_syntax.specs.Texts.{Explains, IsTextOf};
-ghost use Rattle.st_syntax.specs.UnitReading as spec;
-ghost use Rattle.st_tokens.specs.declared.scan.TheConstants.{MOST_BYTES};
-ghost use Rattle.st_tree.specs.declared.tree.unit.Unit as unit;
+ghost use Rattle.std.specs.Prelude.{◌≡◌, ◌<◌, ◌≤◌, ◌^◌, ℕ, List, length, IfErr, IfOk, MatchResult};
+ghost use Rattle.st_parser.specs.Names as names;
+ghost use Rattle.st_syntax.specs.Grammar.Texts.{Explains, IsTextOf};
 
 use crate::unit::units;
-use st_expressions::cursor::Cursor;
+use st_parser::Cursor;
 use st_tokens::{SyntaxFault, tokens};
 use st_tree::tree::Unit;
 use std::alloc::Global;
@@ -37,9 +34,9 @@ pub fn parse(alloc: Global, text: &[u8]) -> Result<Vec<Unit>, SyntaxFault>
     ensures fault { IfErr result (λ fault. Explains fault text.now) }
 
     // A text of units that isn't too long is read as these units, unless memory runs out.
-    ensures only { (us : List unit.Unit) → length text.now ≤ MOST_BYTES → IsTextOf text.now us
+    ensures only { (us : List names.Unit) → length text.now ≤ 2 ^ 20 → IsTextOf text.now us
         → MatchResult result (λ found. found.items ≡ us) (λ fault. fault ≡ SyntaxFault.Memory) }
-    ensures long { MOST_BYTES < length text.now → result ≡ Err SyntaxFault.TooLong }
+    ensures long { 2 ^ 20 < length text.now → result ≡ Err SyntaxFault.TooLong }
 {
     let tokens = tokens(alloc, text)?;
     let mut cursor = Cursor::new(tokens.as_slice());
@@ -55,5 +52,5 @@ pub fn parse(alloc: Global, text: &[u8]) -> Result<Vec<Unit>, SyntaxFault>
 
 /// No text is two lists of units.
 pub fn one_reading()
-    ensures { (text : List ℕ) (us vs : List unit.Unit) → IsTextOf text us → IsTextOf text vs → us ≡ vs }
+    ensures { (text : List ℕ) (us vs : List names.Unit) → IsTextOf text us → IsTextOf text vs → us ≡ vs }
 {}

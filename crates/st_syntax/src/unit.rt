@@ -1,152 +1,136 @@
 //! Units: types, functions, function blocks and programs (2.5).
-ghost use Rattle.std.specs.Prelude.{◌≡◌, ◌<◌, ◌≤◌, length, OnOk};
-ghost use Rattle.st_expressions.specs.Parsers as parser;
-ghost use Rattle.st_expressions.specs.Parsers.{Reads};
-ghost use Rattle.st_expressions.specs.Tokens.{kind};
-ghost use Rattle.st_syntax.specs.DeclarationReading as declarations;
-ghost use Rattle.st_syntax.specs.UnitReading as spec;
+ghost use Rattle.std.specs.Prelude.{◌≡◌};
+ghost use Rattle.st_parser.specs.Grammar.Tokens.{kind};
+ghost use Rattle.st_parser.specs.Reader.Parsers.{MayTake, Takes};
+ghost use Rattle.st_syntax.specs.Reader.Declarations.{in_brackets};
+ghost use Rattle.st_syntax.specs.Reader.Units as spec;
 
-use crate::declaration::{LEVELS, initialized, member, specification, variables};
-use st_expressions::cursor::Cursor;
-use st_expressions::fault::ReadFault;
-use st_expressions::token::{keyword, symbol, word};
-use st_statements::chart::{begins_element, chart, is_word};
+use crate::declaration::{initialized, member, specification, variables};
+use st_parser::{Cursor, MAX_LEVELS, ReadFault, many, single};
+use st_statements::chart::{begins_element, chart};
 use st_statements::statement::statements;
 use st_tokens::{Keyword, Kind, Symbol};
 use st_tree::List;
-use st_tree::tree::{
-    Body, Declaration, DeclaredType, Function, Pou, TypeDeclaration, Unit,
-};
+use st_tree::tree::{Body, Declaration, DeclaredType, Function, Pou, TypeDeclaration, Unit};
 use st_values::Elem;
 use std::alloc::Global;
-
-/// Whether the first token is STRUCT.
-fn is_struct(ts: &Cursor<'_>) -> bool
-    ensures { result ≡ spec.is_struct (kind ts.now) }
-{
-    matches!(ts.kind(), Some(Kind::Keyword(Keyword::Struct)))
-}
 
 /// Whether the first token begins a unit.
 fn begins_unit(ts: &Cursor<'_>) -> bool
     ensures { result ≡ spec.begins_unit (kind ts.now) }
 {
-    match ts.kind() {
+    match ts.peek() {
         Some(Kind::Keyword(Keyword::Type | Keyword::Function)) => true,
         Some(Kind::Keyword(Keyword::FunctionBlock | Keyword::Program)) => true,
         _ => false,
     }
 }
 
-#[tactic(auto, unfolding(crate::specs::UnitReading::derived))]
+/// `specification [ ':=' initial ] ';'`
+#[tactic(auto, unfolding(crate::specs::Reader::Units::derived))]
 fn derived(alloc: Global, ts: &mut Cursor<'_>) -> Result<DeclaredType, ReadFault>
-    ensures read { Reads (spec.derived 63 ts.old) result ts.new }
-    ensures shorter { OnOk result (length ts.new < length ts.old) }
+    ensures { Takes (spec.derived in_brackets ts.old) result ts.old ts.new }
 {
     let specification = specification(alloc, ts)?;
     let initial = initialized(alloc, ts)?;
     Ok(DeclaredType::Derived(specification, initial))
 }
 
-#[tactic(auto, unfolding(st_expressions::specs::Parsers::leading))]
+/// `member { member }`
+#[tactic(auto, unfolding(st_parser::specs::Reader::Parsers::leading))]
 fn members(alloc: Global, ts: &mut Cursor<'_>) -> Result<List<Declaration>, ReadFault>
-    ensures read { Reads (spec.members 63 ts.old) result ts.new }
-    ensures shorter { OnOk result (length ts.new < length ts.old) }
+    ensures { Takes (spec.members in_brackets ts.old) result ts.old ts.new }
 {
     let first = member(alloc, ts)?;
-    let mut found = List::new(alloc);
-    found.push(first)?;
-    'items: while is_word(ts) {
+    let mut found = single(alloc, first)?;
+    'items: while ts.at_word() {
         let item = member(alloc, ts)?;
         found.push(item)?;
     }
+    found.shrink_to_fit();
     Ok(found)
 }
 
-#[tactic(auto, unfolding(crate::specs::UnitReading::structure))]
+/// `STRUCT member { member } END_STRUCT ';'`
+#[tactic(auto, unfolding(crate::specs::Reader::Units::structure))]
 fn structure(alloc: Global, ts: &mut Cursor<'_>) -> Result<DeclaredType, ReadFault>
-    ensures read { Reads (spec.structure 63 ts.old) result ts.new }
-    ensures shorter { OnOk result (length ts.new < length ts.old) }
+    ensures { Takes (spec.structure in_brackets ts.old) result ts.old ts.new }
 {
-    let position = ts.skip();
+    let position = ts.bump();
     let members = members(alloc, ts)?;
-    keyword(ts, Keyword::EndStruct)?;
-    symbol(ts, Symbol::Semicolon)?;
+    ts.expect_keyword(Keyword::EndStruct)?;
+    ts.expect_symbol(Symbol::Semicolon)?;
     Ok(DeclaredType::Structure(position, members))
 }
 
-#[tactic(auto, unfolding(crate::specs::UnitReading::declared))]
+/// `specification [ ':=' initial ] ';' | STRUCT member { member } END_STRUCT ';'`
+#[tactic(auto, unfolding(crate::specs::Reader::Units::declared))]
 fn declared(alloc: Global, ts: &mut Cursor<'_>) -> Result<DeclaredType, ReadFault>
-    ensures read { Reads (spec.declared 63 ts.old) result ts.new }
-    ensures shorter { OnOk result (length ts.new < length ts.old) }
+    ensures { Takes (spec.declared in_brackets ts.old) result ts.old ts.new }
 {
-    if is_struct(ts) {
+    if ts.at_keyword(Keyword::Struct) {
         structure(alloc, ts)
     } else {
         derived(alloc, ts)
     }
 }
 
-#[tactic(auto, unfolding(crate::specs::UnitReading::type_declaration))]
+/// `word ':' declared`
+#[tactic(auto, unfolding(crate::specs::Reader::Units::type_declaration))]
 fn type_declaration(alloc: Global, ts: &mut Cursor<'_>) -> Result<TypeDeclaration, ReadFault>
-    ensures read { Reads (spec.type_declaration 63 ts.old) result ts.new }
-    ensures shorter { OnOk result (length ts.new < length ts.old) }
+    ensures { Takes (spec.type_declaration in_brackets ts.old) result ts.old ts.new }
 {
-    let name = word(alloc, ts)?;
-    symbol(ts, Symbol::Colon)?;
+    let name = ts.identifier(alloc)?;
+    ts.expect_symbol(Symbol::Colon)?;
     let declared = declared(alloc, ts)?;
     Ok(TypeDeclaration { name, declared })
 }
 
+/// `{ type declaration }`
 fn type_declarations(alloc: Global, ts: &mut Cursor<'_>) -> Result<List<TypeDeclaration>, ReadFault>
-    ensures read { Reads (spec.type_declarations 63 ts.old) result ts.new }
-    ensures shorter { OnOk result (length ts.new ≤ length ts.old) }
+    ensures { MayTake (spec.type_declarations in_brackets ts.old) result ts.old ts.new }
 {
-    let mut found = List::new(alloc);
-    'items: while is_word(ts) {
-        let item = type_declaration(alloc, ts)?;
-        found.push(item)?;
-    }
-    Ok(found)
+    many(alloc, ts, |ts: &Cursor<'_>| ts.at_word(), type_declaration)
 }
 
-#[tactic(auto, unfolding(crate::specs::UnitReading::types))]
+/// `TYPE { type declaration } END_TYPE`
+#[tactic(auto, unfolding(crate::specs::Reader::Units::types))]
 fn types(alloc: Global, ts: &mut Cursor<'_>) -> Result<Unit, ReadFault>
-    ensures read { Reads (spec.types 63 ts.old) result ts.new }
-    ensures shorter { OnOk result (length ts.new < length ts.old) }
+    ensures { Takes (spec.types in_brackets ts.old) result ts.old ts.new }
 {
-    let position = ts.skip();
+    let position = ts.bump();
     let declarations = type_declarations(alloc, ts)?;
-    keyword(ts, Keyword::EndType)?;
+    ts.expect_keyword(Keyword::EndType)?;
     Ok(Unit::Types(position, declarations))
 }
 
-#[tactic(auto, unfolding(crate::specs::UnitReading::elementary))]
+/// `elementary type`
+#[tactic(auto, unfolding(crate::specs::Reader::Units::elementary))]
 fn elementary(ts: &mut Cursor<'_>) -> Result<Elem, ReadFault>
-    ensures read { Reads (spec.elementary ts.old) result ts.new }
-    ensures shorter { OnOk result (length ts.new < length ts.old) }
+    ensures { Takes (spec.elementary ts.old) result ts.old ts.new }
 {
-    match ts.kind() {
+    match ts.peek() {
         Some(Kind::Type(elem)) => {
-            ts.skip();
+            let elem = *elem;
+            ts.bump();
             Ok(elem)
         }
         _ => Err(ts.unexpected()),
     }
 }
 
-#[tactic(auto, unfolding(crate::specs::UnitReading::function))]
+/// `FUNCTION word ':' elementary type { variables } { statement } END_FUNCTION`
+#[tactic(auto, unfolding(crate::specs::Reader::Units::function))]
 fn function(alloc: Global, ts: &mut Cursor<'_>) -> Result<Unit, ReadFault>
-    ensures read { Reads (spec.function 63 ts.old) result ts.new }
-    ensures shorter { OnOk result (length ts.new < length ts.old) }
+    ensures { Takes (spec.function in_brackets ts.old) result ts.old ts.new }
 {
-    let position = ts.skip();
-    let name = word(alloc, ts)?;
-    symbol(ts, Symbol::Colon)?;
+    let position = ts.bump();
+    let name = ts.identifier(alloc)?;
+    ts.expect_symbol(Symbol::Colon)?;
     let elem = elementary(ts)?;
     let variables = variables(alloc, ts)?;
-    let statements = statements(alloc, ts, LEVELS)?;
-    keyword(ts, Keyword::EndFunction)?;
+    let statements = statements(alloc, ts, MAX_LEVELS)?;
+    ts.expect_keyword(Keyword::EndFunction)?;
     Ok(Unit::Function(Function {
         position,
         name,
@@ -156,26 +140,26 @@ fn function(alloc: Global, ts: &mut Cursor<'_>) -> Result<Unit, ReadFault>
     }))
 }
 
-#[tactic(auto, unfolding(crate::specs::UnitReading::chart_body))]
+/// `chart`
+#[tactic(auto, unfolding(crate::specs::Reader::Units::chart_body))]
 fn chart_body(alloc: Global, ts: &mut Cursor<'_>) -> Result<Body, ReadFault>
-    ensures read { Reads (spec.chart_body 63 ts.old) result ts.new }
-    ensures shorter { OnOk result (length ts.new ≤ length ts.old) }
+    ensures { MayTake (spec.chart_body in_brackets ts.old) result ts.old ts.new }
 {
-    Ok(Body::Chart(chart(alloc, ts, LEVELS)?))
+    Ok(Body::Chart(chart(alloc, ts, MAX_LEVELS)?))
 }
 
-#[tactic(auto, unfolding(crate::specs::UnitReading::plain_body))]
+/// `{ statement }`
+#[tactic(auto, unfolding(crate::specs::Reader::Units::plain_body))]
 fn plain_body(alloc: Global, ts: &mut Cursor<'_>) -> Result<Body, ReadFault>
-    ensures read { Reads (spec.plain_body 63 ts.old) result ts.new }
-    ensures shorter { OnOk result (length ts.new ≤ length ts.old) }
+    ensures { MayTake (spec.plain_body in_brackets ts.old) result ts.old ts.new }
 {
-    Ok(Body::Statements(statements(alloc, ts, LEVELS)?))
+    Ok(Body::Statements(statements(alloc, ts, MAX_LEVELS)?))
 }
 
-#[tactic(auto, unfolding(crate::specs::UnitReading::body))]
+/// `{ statement } | chart`
+#[tactic(auto, unfolding(crate::specs::Reader::Units::body))]
 fn body(alloc: Global, ts: &mut Cursor<'_>) -> Result<Body, ReadFault>
-    ensures read { Reads (spec.body 63 ts.old) result ts.new }
-    ensures shorter { OnOk result (length ts.new ≤ length ts.old) }
+    ensures { MayTake (spec.body in_brackets ts.old) result ts.old ts.new }
 {
     if begins_element(ts) {
         chart_body(alloc, ts)
@@ -184,21 +168,16 @@ fn body(alloc: Global, ts: &mut Cursor<'_>) -> Result<Body, ReadFault>
     }
 }
 
-/// A function block or a program, from its first word to `last`.
-#[tactic(auto, unfolding(crate::specs::UnitReading::organization))]
-fn organization(
-    alloc: Global,
-    ts: &mut Cursor<'_>,
-    last: Keyword,
-) -> Result<Pou, ReadFault>
-    ensures read { Reads (spec.organization 63 last ts.old) result ts.new }
-    ensures shorter { OnOk result (length ts.new < length ts.old) }
+/// `word { variables } body`, between the first word of a function block or a program and `last`.
+#[tactic(auto, unfolding(crate::specs::Reader::Units::pou))]
+fn pou(alloc: Global, ts: &mut Cursor<'_>, last: Keyword) -> Result<Pou, ReadFault>
+    ensures { Takes (spec.pou in_brackets last ts.old) result ts.old ts.new }
 {
-    let position = ts.skip();
-    let name = word(alloc, ts)?;
+    let position = ts.bump();
+    let name = ts.identifier(alloc)?;
     let variables = variables(alloc, ts)?;
     let body = body(alloc, ts)?;
-    keyword(ts, last)?;
+    ts.expect_keyword(last)?;
     Ok(Pou {
         position,
         name,
@@ -207,28 +186,28 @@ fn organization(
     })
 }
 
-#[tactic(auto, unfolding(crate::specs::UnitReading::function_block))]
+/// `FUNCTION_BLOCK word { variables } body END_FUNCTION_BLOCK`
+#[tactic(auto, unfolding(crate::specs::Reader::Units::function_block))]
 fn function_block(alloc: Global, ts: &mut Cursor<'_>) -> Result<Unit, ReadFault>
-    ensures read { Reads (spec.function_block 63 ts.old) result ts.new }
-    ensures shorter { OnOk result (length ts.new < length ts.old) }
+    ensures { Takes (spec.function_block in_brackets ts.old) result ts.old ts.new }
 {
-    Ok(Unit::FunctionBlock(organization(alloc, ts, Keyword::EndFunctionBlock)?))
+    Ok(Unit::FunctionBlock(pou(alloc, ts, Keyword::EndFunctionBlock)?))
 }
 
-#[tactic(auto, unfolding(crate::specs::UnitReading::program))]
+/// `PROGRAM word { variables } body END_PROGRAM`
+#[tactic(auto, unfolding(crate::specs::Reader::Units::program))]
 fn program(alloc: Global, ts: &mut Cursor<'_>) -> Result<Unit, ReadFault>
-    ensures read { Reads (spec.program 63 ts.old) result ts.new }
-    ensures shorter { OnOk result (length ts.new < length ts.old) }
+    ensures { Takes (spec.program in_brackets ts.old) result ts.old ts.new }
 {
-    Ok(Unit::Program(organization(alloc, ts, Keyword::EndProgram)?))
+    Ok(Unit::Program(pou(alloc, ts, Keyword::EndProgram)?))
 }
 
-#[tactic(auto, unfolding(crate::specs::UnitReading::unit_of))]
+/// A unit, by its first token.
+#[tactic(auto, unfolding(crate::specs::Reader::Units::unit_of))]
 fn unit(alloc: Global, ts: &mut Cursor<'_>) -> Result<Unit, ReadFault>
-    ensures read { Reads (spec.unit_of 63 ts.old) result ts.new }
-    ensures shorter { OnOk result (length ts.new < length ts.old) }
+    ensures { Takes (spec.unit_of in_brackets ts.old) result ts.old ts.new }
 {
-    match ts.kind() {
+    match ts.peek() {
         Some(Kind::Keyword(Keyword::Type)) => types(alloc, ts),
         Some(Kind::Keyword(Keyword::Function)) => function(alloc, ts),
         Some(Kind::Keyword(Keyword::FunctionBlock)) => function_block(alloc, ts),
@@ -237,15 +216,9 @@ fn unit(alloc: Global, ts: &mut Cursor<'_>) -> Result<Unit, ReadFault>
     }
 }
 
-/// Takes as many units as there are.
+/// `{ unit }`
 pub fn units(alloc: Global, ts: &mut Cursor<'_>) -> Result<List<Unit>, ReadFault>
-    ensures read { Reads (spec.units 63 ts.old) result ts.new }
-    ensures shorter { OnOk result (length ts.new ≤ length ts.old) }
+    ensures { MayTake (spec.units in_brackets ts.old) result ts.old ts.new }
 {
-    let mut found = List::new(alloc);
-    'items: while begins_unit(ts) {
-        let item = unit(alloc, ts)?;
-        found.push(item)?;
-    }
-    Ok(found)
+    many(alloc, ts, begins_unit, unit)
 }

@@ -1,7 +1,8 @@
 use Rattle.std.proofs.Common.{◌≤◌, length}
-use Rattle.st_syntax.specs.DeclarationReading as declarations
-use Rattle.st_statements.specs.ChartReading as chart
-use Rattle.st_expressions.proofs.Loops.{Left}
+use Rattle.st_parser.specs.Reader.Parsers.{is_word}
+use Rattle.st_syntax.specs.Reader.Declarations as declarations
+use Rattle.st_syntax.specs.Reader.Declarations.{in_brackets}
+use Rattle.st_parser.proofs.Loops.{Left}
 use Rattle.st_syntax.proofs.unit.members.Given as goal
 
 abbrev pub decreases-items : goal.decreases-items
@@ -9,6 +10,6 @@ decreases-items l = length l.ts
 
 abbrev pub invariant-items : goal.invariant-items
 invariant-items l = record {
-  left : Left chart.is_word (declarations.member 63) l.initial.found l.initial.ts l.found l.ts;
+  left : Left is_word (declarations.member in_brackets) l.initial.found l.initial.ts l.found l.ts;
   shorter : length l.ts ≤ length l.initial.ts;
 }

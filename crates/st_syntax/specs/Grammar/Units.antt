@@ -4,27 +4,16 @@ use Rattle.st_tokens.specs.declared.keyword.Keyword.TheVariants as w
 use Rattle.st_tokens.specs.declared.symbol.Symbol.TheVariants as s
 use Rattle.st_tokens.specs.declared.token.Kind.TheVariants as k
 use Rattle.st_values.specs.declared.elem.Elem.{Elem}
-use Rattle.st_tree.specs.declared.tree.declaration.Declaration.{Declaration}
-use Rattle.st_tree.specs.declared.tree.declaration.DeclaredType.{DeclaredType}
 use Rattle.st_tree.specs.declared.tree.declaration.DeclaredType.TheVariants as d
-use Rattle.st_tree.specs.declared.tree.declaration.Specification.{Specification}
-use Rattle.st_tree.specs.declared.tree.declaration.VarBlock.{VarBlock}
-use Rattle.st_tree.specs.declared.tree.position.Identifier.{Identifier}
-use Rattle.st_tree.specs.declared.tree.position.Position.{Position}
-use Rattle.st_tree.specs.declared.tree.statement.Statement.{Statement}
-use Rattle.st_tree.specs.declared.tree.unit.Body.{Body}
 use Rattle.st_tree.specs.declared.tree.unit.Body.TheVariants as b
-use Rattle.st_tree.specs.declared.tree.unit.ChartElement.{ChartElement}
-use Rattle.st_tree.specs.declared.tree.unit.Function.{Function}
-use Rattle.st_tree.specs.declared.tree.unit.Pou.{Pou}
-use Rattle.st_tree.specs.declared.tree.unit.TypeDeclaration.{TypeDeclaration}
-use Rattle.st_tree.specs.declared.tree.unit.Unit as unit
 use Rattle.st_tree.specs.declared.tree.unit.Unit.TheVariants as u
-use Rattle.st_expressions.specs.Lists.{IsMany}
-use Rattle.st_expressions.specs.Tokens.{identifier, Tok}
-use Rattle.st_statements.specs.Charts.{IsChart}
-use Rattle.st_statements.specs.Grammar.{IsStatements}
-use Rattle.st_syntax.specs.Declarations.{IsSpecification, IsInitialized, IsMember, IsVarBlock}
+use Rattle.st_parser.specs.Names as names
+use Rattle.st_parser.specs.Names.{Body, ChartElement, Declaration, DeclaredType, Function, Identifier, Position, Pou, Specification, Statement, TypeDeclaration, VarBlock}
+use Rattle.st_parser.specs.Grammar.Lists.{IsMany}
+use Rattle.st_parser.specs.Grammar.Tokens.{identifier_of, Tok}
+use Rattle.st_statements.specs.Grammar.Charts.{IsChart}
+use Rattle.st_statements.specs.Grammar.Statements.{IsStatements}
+use Rattle.st_syntax.specs.Grammar.Declarations.{IsSpecification, IsInitialized, IsMember, IsVarBlock}
 
 abbrev pub type_of : Identifier → DeclaredType → TypeDeclaration
 type_of n x = record { name = n; declared = x }
@@ -45,7 +34,7 @@ pub data IsDeclared : List Tok → DeclaredType → List Tok → Type 0 where
 -- word ':' declared
 pub data IsTypeDeclaration : List Tok → TypeDeclaration → List Tok → Type 0 where
   type_declaration : {p q : Position} {n : List ℕ} {ts rest : List Tok} {x : DeclaredType} → IsDeclared ts x rest
-      → IsTypeDeclaration ((p, k.Word n) ∷ (q, k.Symbol s.Colon) ∷ ts) (type_of (identifier p n) x) rest
+      → IsTypeDeclaration ((p, k.Word n) ∷ (q, k.Symbol s.Colon) ∷ ts) (type_of (identifier_of p n) x) rest
 
 -- { statement } | chart
 pub data IsBody : List Tok → Body → List Tok → Type 0 where
@@ -54,17 +43,17 @@ pub data IsBody : List Tok → Body → List Tok → Type 0 where
 
 -- word { variables } body
 pub data IsPou : Position → List Tok → Pou → List Tok → Type 0 where
-  organization : {p q : Position} {n : List ℕ} {ts mid rest : List Tok} {vs : List VarBlock} {x : Body}
-      → IsMany IsVarBlock ts vs mid → IsBody mid x rest → IsPou p ((q, k.Word n) ∷ ts) (pou_of p (identifier q n) vs x) rest
+  pou : {p q : Position} {n : List ℕ} {ts mid rest : List Tok} {vs : List VarBlock} {x : Body}
+      → IsMany IsVarBlock ts vs mid → IsBody mid x rest → IsPou p ((q, k.Word n) ∷ ts) (pou_of p (identifier_of q n) vs x) rest
 
-pub data IsUnit : List Tok → unit.Unit → List Tok → Type 0 where
+pub data IsUnit : List Tok → names.Unit → List Tok → Type 0 where
   -- TYPE { type declaration } END_TYPE
   types : {p q : Position} {ts rest : List Tok} {xs : List TypeDeclaration} → IsMany IsTypeDeclaration ts xs ((q, k.Keyword w.EndType) ∷ rest)
       → IsUnit ((p, k.Keyword w.Type) ∷ ts) (u.Types p xs) rest
   -- FUNCTION word ':' elementary type { variables } { statement } END_FUNCTION
   function : {p q r z y : Position} {n : List ℕ} {e : Elem} {ts mid rest : List Tok} {vs : List VarBlock} {ss : List Statement}
       → IsMany IsVarBlock ts vs mid → IsStatements mid ss ((z, k.Keyword w.EndFunction) ∷ rest)
-      → IsUnit ((p, k.Keyword w.Function) ∷ (q, k.Word n) ∷ (r, k.Symbol s.Colon) ∷ (y, k.Type e) ∷ ts) (u.Function (function_of p (identifier q n) e vs ss)) rest
+      → IsUnit ((p, k.Keyword w.Function) ∷ (q, k.Word n) ∷ (r, k.Symbol s.Colon) ∷ (y, k.Type e) ∷ ts) (u.Function (function_of p (identifier_of q n) e vs ss)) rest
   -- FUNCTION_BLOCK word { variables } body END_FUNCTION_BLOCK
   function_block : {p z : Position} {ts rest : List Tok} {x : Pou} → IsPou p ts x ((z, k.Keyword w.EndFunctionBlock) ∷ rest)
       → IsUnit ((p, k.Keyword w.FunctionBlock) ∷ ts) (u.FunctionBlock x) rest
@@ -73,5 +62,5 @@ pub data IsUnit : List Tok → unit.Unit → List Tok → Type 0 where
       → IsUnit ((p, k.Keyword w.Program) ∷ ts) (u.Program x) rest
 
 -- these tokens, all of them, are these units
-abbrev pub AreUnits : List Tok → List unit.Unit → Type 0
+abbrev pub AreUnits : List Tok → List names.Unit → Type 0
 AreUnits ts us = IsMany IsUnit ts us []

@@ -4,27 +4,16 @@ use Rattle.st_tokens.specs.declared.keyword.Keyword.TheVariants as w
 use Rattle.st_tokens.specs.declared.symbol.Symbol.TheVariants as s
 use Rattle.st_tokens.specs.declared.token.Kind.TheVariants as k
 use Rattle.st_values.specs.declared.elem.Elem.{Elem}
-use Rattle.st_tree.specs.declared.tree.constant.Constant.{Constant}
-use Rattle.st_tree.specs.declared.tree.constant.SignedInteger.{SignedInteger}
-use Rattle.st_tree.specs.declared.tree.declaration.ArrayElement.{ArrayElement}
 use Rattle.st_tree.specs.declared.tree.declaration.ArrayElement.TheVariants as a
-use Rattle.st_tree.specs.declared.tree.declaration.Declaration.{Declaration}
-use Rattle.st_tree.specs.declared.tree.declaration.Initial.{Initial}
 use Rattle.st_tree.specs.declared.tree.declaration.Initial.TheVariants as i
-use Rattle.st_tree.specs.declared.tree.declaration.VarKind.{VarKind}
-use Rattle.st_tree.specs.declared.tree.declaration.VarKind.TheVariants as var_kind
-use Rattle.st_tree.specs.declared.tree.declaration.Specification.{Specification}
 use Rattle.st_tree.specs.declared.tree.declaration.Specification.TheVariants as sp
-use Rattle.st_tree.specs.declared.tree.declaration.Subrange.{Subrange}
-use Rattle.st_tree.specs.declared.tree.declaration.TypeName.{TypeName}
 use Rattle.st_tree.specs.declared.tree.declaration.TypeName.TheVariants as n
-use Rattle.st_tree.specs.declared.tree.declaration.VarBlock.{VarBlock}
-use Rattle.st_tree.specs.declared.tree.position.Identifier.{Identifier}
-use Rattle.st_tree.specs.declared.tree.position.Position.{Position}
+use Rattle.st_tree.specs.declared.tree.declaration.VarKind.TheVariants as var_kind
+use Rattle.st_parser.specs.Names.{ArrayElement, Constant, Declaration, Identifier, Initial, Position, SignedInteger, Specification, Subrange, TypeName, VarBlock, VarKind}
+use Rattle.st_parser.specs.Grammar.Lists.{IsMany, IsListed}
+use Rattle.st_parser.specs.Grammar.Tokens.{identifier_of, Tok}
 use Rattle.st_expressions.specs.Grammar.{IsConstant, IsSignedInteger}
-use Rattle.st_expressions.specs.Lists.{IsMany, IsListed}
-use Rattle.st_expressions.specs.Tokens.{identifier, Tok}
-use Rattle.st_statements.specs.Charts.{IsName}
+use Rattle.st_statements.specs.Grammar.Charts.{IsName}
 
 abbrev pub subrange_of : SignedInteger → SignedInteger → Subrange
 subrange_of x y = record { lower = x; upper = y }
@@ -38,7 +27,7 @@ block_of p x ds = record { position = p; kind = x; declarations = ds }
 -- elementary type | word
 pub data IsTypeName : List Tok → TypeName → List Tok → Type 0 where
   elementary : {p : Position} {e : Elem} {rest : List Tok} → IsTypeName ((p, k.Type e) ∷ rest) (n.Elementary p e) rest
-  declared : {p : Position} {x : List ℕ} {rest : List Tok} → IsTypeName ((p, k.Word x) ∷ rest) (n.Declared (identifier p x)) rest
+  declared : {p : Position} {x : List ℕ} {rest : List Tok} → IsTypeName ((p, k.Word x) ∷ rest) (n.Declared (identifier_of p x)) rest
 
 -- integer '..' integer
 pub data IsSubrange : List Tok → Subrange → List Tok → Type 0 where
@@ -82,7 +71,7 @@ pub data IsDeclaration : List Tok → Declaration → List Tok → Type 0 where
 pub data IsMember : List Tok → Declaration → List Tok → Type 0 where
   member : {p q : Position} {m : List ℕ} {ts mid rest : List Tok} {x : Specification} {y : Option Initial}
       → IsSpecification ts x mid → IsInitialized mid y rest
-      → IsMember ((p, k.Word m) ∷ (q, k.Symbol s.Colon) ∷ ts) (declaration_of (identifier p m ∷ []) x y) rest
+      → IsMember ((p, k.Word m) ∷ (q, k.Symbol s.Colon) ∷ ts) (declaration_of (identifier_of p m ∷ []) x y) rest
 
 -- [ RETAIN | NON_RETAIN ], which has no effect
 pub data IsRetention (x : VarKind) : List Tok → VarKind → List Tok → Type 0 where
