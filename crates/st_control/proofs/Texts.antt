@@ -2,7 +2,7 @@
 use Rattle.std.proofs.Common.{◌≡◌, ◌<◌, ◌≤◌, ◌^◌, ℕ, List, length, Ok, Err, inl, inr, refl, subst}
 use Rattle.std.proofs.lemmas.Bool.{cases_lt}
 use Rattle.st_syntax.proofs.Top.{one_text}
-use Rattle.st_syntax.specs.Texts.{IsTextOf}
+use Rattle.st_syntax.specs.Grammar.Texts.{IsTextOf}
 use Rattle.st_tokens.specs.declared.fault.SyntaxFault.{SyntaxFault}
 use Rattle.st_tree.specs.declared.leaf.Leaf.{Leaf}
 use Rattle.st_tree.specs.declared.tree.unit.Unit.{Unit as ProgramUnit}

@@ -6,7 +6,7 @@ use Rattle.st_control.specs.declared.refusal.Refusal.{Refusal}
 use Rattle.st_control.specs.declared.refusal.Refusal.TheVariants.{M, S}
 use Rattle.st_control.specs.declared.thin.fault.ThinFault.{ThinFault}
 use Rattle.st_control.specs.declared.thin.fault.ThinFault.TheVariants as thin_faults
-use Rattle.st_syntax.specs.Texts.{Explains, IsTextOf}
+use Rattle.st_syntax.specs.Grammar.Texts.{Explains, IsTextOf}
 use Rattle.st_tokens.specs.declared.fault.SyntaxFault.{SyntaxFault}
 use Rattle.st_tokens.specs.declared.fault.SyntaxFault.TheVariants as faults
 use Rattle.st_tree.specs.declared.leaf.Leaf.{Leaf}

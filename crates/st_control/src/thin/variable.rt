@@ -6,7 +6,7 @@ ghost use Rattle.st_layout.specs.Layout.{raised};
 
 use super::fault::ThinFault;
 use st_tree::tree::{Constant, Declaration, Identifier, Initial, Specification, TypeName};
-use st_tree::{Leaf, List, Role};
+use st_tree::{Boxed, Leaf, List, Role};
 use st_values::{Elem, Value};
 use std::alloc::{AllocError, Global};
 
@@ -48,13 +48,15 @@ fn type_of(specification: &Specification) -> Option<Elem>
 }
 
 /// The value that a variable of a type begins with.
-fn initial_value(elem: Elem, initial: &Option<Initial>) -> Option<Value>
+fn initial_value(elem: Elem, initial: &Option<Boxed<Initial>>) -> Option<Value>
     ensures { result ≡ initial_value elem initial.now }
 {
-    match initial {
-        None => Some(Value { elem, bits: 0 }),
-        Some(Initial::Constant(literal)) => literal_value(elem, *literal),
-        Some(Initial::Array(_, _)) => None,
+    let Some(initial) = initial else {
+        return Some(Value { elem, bits: 0 });
+    };
+    match initial.get() {
+        Initial::Constant(literal) => literal_value(elem, *literal),
+        Initial::Array(_, _) => None,
     }
 }
 

@@ -1,6 +1,6 @@
 use Rattle.std.proofs.Common.{◌≡◌, ◌∙◌, ℕ, List, ap, rules, subst, sym, Err}
 use Rattle.std.proofs.lemmas.Result.{IfOk-weaker, MatchResult-from_both, err_from_is_err_and}
-use Rattle.st_syntax.specs.Texts.{IsTextOf}
+use Rattle.st_syntax.specs.Grammar.Texts.{IsTextOf}
 use Rattle.st_control.specs.Controllers.{first_controller}
 use Rattle.st_control.specs.Texts.{refusal_of}
 use Rattle.st_control.specs.ThinPrograms.{IsThinProgram}
