@@ -502,7 +502,7 @@ module _ (r : ℕ) (i : Inside) (h : ExactInside r i) where
   unary_exact = exact_on kind (λ t ts. spec.unary_by r i t (kind (next ts)) ts) Always IsUnary (Stops 0) (At r) (At r)
       (λ t. exact_on (λ ts. kind (next ts)) (spec.unary_by r i t) (λ ts. (kind ts ≡ t) × Always ts) IsUnary (Stops 0) (At r) (At r) (λ u. unary_by t u))
 
--- ---- the ranks
+-- ---- operators
 
 to_operations : {n : ℕ} {ts rest : List Tok} {xs : List Operation} → IsMany (IsOperation n) ts xs rest → IsOperations n ts xs rest
 to_operations none = no_operation
@@ -518,20 +518,20 @@ has_precedence_is n op h = precedence_is (precedence_of op) n h
 module _ (r n : ℕ) (P : Parser Expression) (a : Exact 1 P Always (IsBinary n) (Stops n) (At r) (At r)) where
   operation_to : (p : Position) (t : Kind) (op : BinOp) → operator_of t ≡ Some op → precedence_of op ≡ suc n → (ts : List Tok) (x : Operation) (rest : List Tok)
       → Then (IsBinary n) (λ y. IsPure (operation_of p op y)) ts x rest → IsOperation n ((p, t) ∷ ts) x rest
-  operation_to p t op is rank ts x rest (seq d m) = made m (λ y us. IsOperation n ((p, t) ∷ ts) y us) (operation is rank d)
+  operation_to p t op is precedence ts x rest (seq d m) = made m (λ y us. IsOperation n ((p, t) ∷ ts) y us) (operation is precedence d)
 
   same_some : {x y : BinOp} → ◌≡◌ {A = Option BinOp} (Some x) (Some y) → x ≡ y
   same_some h = cc
 
   operation_from : (p : Position) (t : Kind) (op : BinOp) → operator_of t ≡ Some op → (ts : List Tok) (x : Operation) (rest : List Tok) → IsOperation n ((p, t) ∷ ts) x rest
       → Then (IsBinary n) (λ y. IsPure (operation_of p op y)) ts x rest
-  operation_from p t op is ts x rest (operation {op = other} {x = y} its rank d) =
+  operation_from p t op is ts x rest (operation {op = other} {x = y} its precedence d) =
       subst (λ o. Then (IsBinary n) (λ y. IsPure (operation_of p o y)) ts (operation_of p other y) rest) (same_some (sym its ∙ is)) (seq d done)
 
   behind_operator : (p : Position) (t : Kind) (op : Option BinOp) → operator_of t ≡ op → spec.has_precedence (suc n) op ≡ true
       → Exact 1 (spec.operation_by P p op) Always (λ us. IsOperation n ((p, t) ∷ us)) (Stops n) (At r) (At r)
-  behind_operator p t (Some op) is rank = exact_iff (exact_last a (operation_of p op)) (operation_to p t op is (has_precedence_is (suc n) op rank)) (operation_from p t op is)
-  behind_operator p t None is rank = absurd (cc)
+  behind_operator p t (Some op) is precedence = exact_iff (exact_last a (operation_of p op)) (operation_to p t op is (has_precedence_is (suc n) op precedence)) (operation_from p t op is)
+  behind_operator p t None is precedence = absurd (cc)
 
   -- no operator opens a level
   plain_operator : (t : Kind) (op : BinOp) → operator_of t ≡ Some op → opens t ≡ 0
@@ -556,17 +556,17 @@ module _ (r n : ℕ) (P : Parser Expression) (a : Exact 1 P Always (IsBinary n) 
   level_operator t op is = refl
 
   operator_leads : (t : Kind) (op : Option BinOp) → operator_of t ≡ op → spec.has_precedence (suc n) op ≡ true → Leads (At r) (At r) t
-  operator_leads t (Some op) is rank = subst (λ c. Leads (At r) (At (past c r)) t) (level_operator t op is) (leads t r (plain_operator t op is))
-  operator_leads t None is rank = absurd (cc)
+  operator_leads t (Some op) is precedence = subst (λ c. Leads (At r) (At (past c r)) t) (level_operator t op is) (leads t r (plain_operator t op is))
+  operator_leads t None is precedence = absurd (cc)
 
   operator_of_kind : (t : Option Kind) → Exact 1 (λ ts. and_then (parser.bump ts) (λ p. spec.operation_by P p (spec.operator_at t))) (λ ts. (kind ts ≡ t) × (spec.is_operator n (kind ts) ≡ true)) (IsOperation n) (Stops n) (At r) (At r)
   operator_of_kind (Some t) = by (spec.has_precedence (suc n) (operator_of t)) refl where
     by : (b : Bool) → spec.has_precedence (suc n) (operator_of t) ≡ b
         → Exact 1 (λ ts. and_then (parser.bump ts) (λ p. spec.operation_by P p (operator_of t))) (λ ts. (kind ts ≡ Some t) × (spec.is_operator n (kind ts) ≡ true)) (IsOperation n) (Stops n) (At r) (At r)
-    by true rank = exact_under
-        (exact_token_if t Always (IsOperation n) (Stops n) (At r) (At r) (At r) (operator_leads t (operator_of t) refl rank) (λ p. behind_operator p t (operator_of t) refl rank))
+    by true precedence = exact_under
+        (exact_token_if t Always (IsOperation n) (Stops n) (At r) (At r) (At r) (operator_leads t (operator_of t) refl precedence) (λ p. behind_operator p t (operator_of t) refl precedence))
         (λ ts p. (p.0, tt)) (λ t g. g)
-    by false rank = record {
+    by false precedence = record {
       reads = λ ts x rest p h. absurd (let wrong = subst (λ u. spec.is_operator n u ≡ true) p.0 p.1 in cc);
       deep = λ ts p h q. let wrong = subst (λ u. spec.is_operator n u ≡ true) p.0 p.1 in cc;
       read = λ ts x rest p d g q. absurd (let wrong = subst (λ u. spec.is_operator n u ≡ true) p.0 p.1 in cc);
@@ -584,8 +584,8 @@ module _ (r n : ℕ) (P : Parser Expression) (a : Exact 1 P Always (IsBinary n) 
   operator_stops : (t : Option Kind) → spec.is_operator n t ≡ true → Stops n t
   operator_stops (Some t) h = by (operator_of t) refl h where
     by : (op : Option BinOp) → operator_of t ≡ op → spec.has_precedence (suc n) op ≡ true → Stops n (Some t)
-    by (Some op) is rank = stops_at n t op is (let e = has_precedence_is (suc n) op rank in omega (arith, e))
-    by None is rank = absurd (cc)
+    by (Some op) is precedence = stops_at n t op is (let e = has_precedence_is (suc n) op precedence in omega (arith, e))
+    by None is precedence = absurd (cc)
   operator_stops None h = tt
 
   operations_exact : Exact 0 (spec.operations P n) Always (IsMany (IsOperation n)) (Ends (spec.is_operator n) (Stops n)) (At r) (At r)

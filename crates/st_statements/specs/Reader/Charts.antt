@@ -6,7 +6,7 @@ use Rattle.st_tokens.specs.declared.token.Kind.TheVariants as k
 use Rattle.st_tree.specs.declared.tree.unit.ChartElement.TheVariants as c
 use Rattle.st_parser.specs.Names.{ActionQualifier, Association, ChartElement, Duration, Identifier, Kind, Position}
 use Rattle.st_parser.specs.Grammar.Tokens.{kind, next, position}
-use Rattle.st_parser.specs.Reader.Parsers.{Parser, and_then, ◌>>=◌, ◌>>◌, pure, refuse, bump, peek, is_symbol, is_word, expect_symbol, expect_keyword, open_level, enter, identifier, number, many, leading, listed, Wrong}
+use Rattle.st_parser.specs.Reader.Parsers.{Parser, ◌>>=◌, ◌>>◌, pure, refuse, bump, peek, is_symbol, is_word, expect_symbol, expect_keyword, open_level, enter, identifier, number, many, leading, listed, Wrong}
 use Rattle.st_expressions.specs.Grammar.{duration_of}
 use Rattle.st_expressions.specs.Reader.{expression}
 use Rattle.st_statements.specs.Grammar.Charts.{qualifier_of, association_of, step_of, transition_of, action_of, is_priority}
