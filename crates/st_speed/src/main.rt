@@ -8,13 +8,13 @@ use std::alloc::Global;
 use std::io::Read;
 
 /// One byte more than a source text may have.
-const MOST_BYTES: u64 = 1_048_577;
+const MAX_READ_BYTES: u64 = 1_048_577;
 
 fn main(rt: HostRuntime) -> Done<()> {
     let words = std::env::args(&rt)?.collect::<Vec<String>>(rt.alloc())?;
     let parses = words.len() > 1;
     let mut text = Vec::new(rt.alloc());
-    rt.reader().take(MOST_BYTES).read_to_end(&mut text)?;
+    rt.reader().take(MAX_READ_BYTES).read_to_end(&mut text)?;
     match count(rt.alloc(), &text, parses) {
         Ok(count) => println!(rt; "{count}")?,
         Err(fault) => println!(rt; "{fault}")?,
