@@ -131,6 +131,7 @@ fn expressions(
         let item = inside(alloc, ts, depth_left)?;
         found.push(item)?;
     }
+    found.shrink_to_fit();
     Ok(found)
 }
 
@@ -168,6 +169,7 @@ fn parts(alloc: Global, ts: &mut Cursor<'_>, depth_left: u8) -> Result<List<Part
         let item = part(alloc, ts, depth_left)?;
         found.push(item)?;
     }
+    found.shrink_to_fit();
     Ok(found)
 }
 
@@ -252,6 +254,7 @@ fn argument_list(
         let item = argument(alloc, ts, depth_left)?;
         found.push(item)?;
     }
+    found.shrink_to_fit();
     Ok(found)
 }
 
@@ -412,6 +415,7 @@ fn operations(
         let item = operation(alloc, ts, depth_left, precedence)?;
         found.push(item)?;
     }
+    found.shrink_to_fit();
     Ok(found)
 }
 

@@ -39,6 +39,7 @@ pub fn many<
         let item = item(alloc, ts)?;
         found.push(item)?;
     }
+    found.shrink_to_fit();
     Ok(found)
 }
 
@@ -59,6 +60,7 @@ pub fn listed<T: Drop, F: Fn(Global, &mut Cursor<'_>) -> Result<T, ReadFault>>(
         let next = item(alloc, ts)?;
         found.push(next)?;
     }
+    found.shrink_to_fit();
     Ok(found)
 }
 

@@ -34,10 +34,10 @@ expressions-items-preserved t c =
     }
 
 pub expressions-returns : goal.expressions-returns
-expressions-returns t c = record {
+expressions-returns t c = rw c.shrink_to_fit.ensures (record {
   reads = listed_end ((spec.inside_of c.args.depth_left).expression) c.args.ts.now c.inside.new.ts c.in_ok-first.first c.in_ok-first.ensures.reads c.in_ok-found.found c.items.found c.items.ts c.in_ok-found.ensures.ok c.items.invariant.left (sym c.at_symbol.ensures ∙ c.items-test.false);
   shorter = omega (arith, c.in_ok-first.ensures.shorter, c.items.invariant.shorter);
-}
+})
 
 pub argument_list-returns-in_err-first : goal.argument_list-returns-in_err-first
 argument_list-returns-in_err-first t c =
@@ -65,10 +65,10 @@ argument_list-items-preserved t c =
     }
 
 pub argument_list-returns : goal.argument_list-returns
-argument_list-returns t c = record {
+argument_list-returns t c = rw c.shrink_to_fit.ensures (record {
   reads = listed_end (spec.argument (spec.inside_of c.args.depth_left)) c.args.ts.now c.argument.new.ts c.in_ok-first.first c.in_ok-first.ensures.reads c.in_ok-found.found c.items.found c.items.ts c.in_ok-found.ensures.ok c.items.invariant.left (sym c.at_symbol.ensures ∙ c.items-test.false);
   shorter = omega (arith, c.in_ok-first.ensures.shorter, c.items.invariant.shorter);
-}
+})
 
 pub parts-items-init : goal.parts-items-init
 parts-items-init t c = record { left = rw c.new-found.ensures (left_init spec.begins_part (spec.part_of c.args.depth_left (spec.inside_of c.args.depth_left)) [] c.args.ts.now); shorter = omega arith }
@@ -88,10 +88,10 @@ parts-items-preserved t c = record {
 }
 
 pub parts-returns : goal.parts-returns
-parts-returns t c = record {
+parts-returns t c = rw c.shrink_to_fit.ensures (record {
   reads = loop_end spec.begins_part (spec.part_of c.args.depth_left (spec.inside_of c.args.depth_left)) c.args.ts.now c.items.found c.items.ts c.items.invariant.left (sym c.begins_part.ensures ∙ c.items-test.false);
   shorter = c.items.invariant.shorter;
-}
+})
 
 pub operations-items-init : goal.operations-items-init
 operations-items-init t c = record { left = rw c.new-found.ensures (left_init (spec.is_operator c.args.precedence) (spec.operation (spec.binary c.args.depth_left (spec.inside_of c.args.depth_left) c.args.precedence)) [] c.args.ts.now); shorter = omega arith }
@@ -111,10 +111,10 @@ operations-items-preserved t c = record {
 }
 
 pub operations-returns : goal.operations-returns
-operations-returns t c = record {
+operations-returns t c = rw c.shrink_to_fit.ensures (record {
   reads = loop_end (spec.is_operator c.args.precedence) (spec.operation (spec.binary c.args.depth_left (spec.inside_of c.args.depth_left) c.args.precedence)) c.args.ts.now c.items.found c.items.ts c.items.invariant.left (sym c.is_operator.ensures ∙ c.items-test.false);
   shorter = c.items.invariant.shorter;
-}
+})
 
 pub inside-returns : goal.inside-returns
 inside-returns t c = rw (inside_expression c.args.depth_left c.requires) c.binary.ensures

@@ -32,7 +32,7 @@ items-preserved g c =
 
 pub returns-clause-read : goal.returns-clause-read
 returns-clause-read g c = λ p reads.
-    listed_end p c.args.ts.now c.item.new.arg3 c.in_ok-first.first (reads _ _ _ _ c.in_ok-first.ensures).reads c.in_ok-found.found c.items.found c.items.ts c.in_ok-found.ensures.ok (c.items.invariant.left p reads) (sym c.at_symbol.ensures ∙ c.items-test.false)
+    rw c.shrink_to_fit.ensures (listed_end p c.args.ts.now c.item.new.arg3 c.in_ok-first.first (reads _ _ _ _ c.in_ok-first.ensures).reads c.in_ok-found.found c.items.found c.items.ts c.in_ok-found.ensures.ok (c.items.invariant.left p reads) (sym c.at_symbol.ensures ∙ c.items-test.false))
 
 pub returns-clause-shorter : goal.returns-clause-shorter
 returns-clause-shorter g c = omega (arith, c.requires.shorter _ _ _ _ c.in_ok-first.ensures, c.items.invariant.shorter)

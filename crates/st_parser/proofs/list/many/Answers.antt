@@ -22,4 +22,4 @@ items-preserved g c =
 
 pub returns-clause-read : goal.returns-clause-read
 returns-clause-read g c = λ test p tests reads.
-    loop_end test p c.args.ts.now c.items.found c.items.ts (c.items.invariant.left test p tests reads) (sym (tests _ _ c.begins.ensures) ∙ c.items-test.false)
+    rw c.shrink_to_fit.ensures (loop_end test p c.args.ts.now c.items.found c.items.ts (c.items.invariant.left test p tests reads) (sym (tests _ _ c.begins.ensures) ∙ c.items-test.false))
