@@ -1,13 +1,13 @@
 -- The reading functions of expressions read their grammar exactly.
 use Rattle.std.proofs.Common.{◌≡◌, ℕ, zero, suc, List, [], ◌∷◌, refl, sym, ap, subst, ◌∙◌, Bool, true, false, arith}
 use Rattle.std.specs.Prelude.{Option, Some, None}
-use Rattle.st_tokens.specs.declared.keyword.Keyword.TheVariants as w
-use Rattle.st_tokens.specs.declared.symbol.Symbol.TheVariants as s
-use Rattle.st_tokens.specs.declared.token.Kind.TheVariants as k
-use Rattle.st_tree.specs.declared.tree.constant.Constant.TheVariants as c
-use Rattle.st_tree.specs.declared.tree.expression.Expression.TheVariants as e
-use Rattle.st_tree.specs.declared.tree.expression.Part.TheVariants as part
-use Rattle.st_tree.specs.declared.tree.expression.Argument.TheVariants as a
+use Rattle.st_tokens.specs.declared.keyword.Keyword.TheVariants as keywords
+use Rattle.st_tokens.specs.declared.symbol.Symbol.TheVariants as symbols
+use Rattle.st_tokens.specs.declared.token.Kind.TheVariants as token_kinds
+use Rattle.st_tree.specs.declared.tree.constant.Constant.TheVariants as constants
+use Rattle.st_tree.specs.declared.tree.expression.Expression.TheVariants as expressions
+use Rattle.st_tree.specs.declared.tree.expression.Part.TheVariants as part_kinds
+use Rattle.st_tree.specs.declared.tree.expression.Argument.TheVariants as argument_kinds
 use Rattle.st_expressions.specs.Grammar.{integer_of, duration_of, operation_of, variable_of, call_of, operator_of, precedence_of, IsNumberFirst, IsSignedInteger, unsigned, plus, minus, IsConstant, integer, typed, duration, truth, falsehood, IsBinary, unary, alone, chain, IsOperations, no_operation, operations, IsOperation, operation, IsUnary, negation, complement, primary, IsPrimary, constant, variable, call, parenthesized, IsVariable, named, IsParts, no_part, parts, IsPart, field, subscripts, IsNextExpressions, no_expression, next_expressions, IsCall, called, IsArguments, no_arguments, arguments, IsNextArguments, no_argument, next_arguments, IsArgument, positional, input, output}
 use Rattle.st_parser.specs.Grammar.Levels.{opens, closes}
 use Rattle.st_parser.specs.Grammar.Lists.{IsMany, none, more, IsNext, comma, IsListed, listed}
@@ -24,79 +24,79 @@ use Rattle.st_parser.specs.Names.{Argument, BinOp, Call, Constant, Expression, I
 -- ---- literals
 
 module _ (r : ℕ) where
-  plus_exact : Exact 1 (spec.signed false) (IsFirst (k.Symbol s.Plus)) IsSignedInteger Any (At r) (At r)
+  plus_exact : Exact 1 (spec.signed false) (IsFirst (token_kinds.Symbol symbols.Plus)) IsSignedInteger Any (At r) (At r)
   unfolding spec.signed
-  plus_exact = exact_token (k.Symbol s.Plus) refl {R = IsSignedInteger} (λ p. exact_iff (exact_last (exact_number r) (λ n. integer_of p false n)) (to p) (from p)) where
-    to : (p : Position) (ts : List Tok) (x : SignedInteger) (rest : List Tok) → Then IsNumber (λ n. IsPure (integer_of p false n)) ts x rest → IsSignedInteger ((p, k.Symbol s.Plus) ∷ ts) x rest
-    to p ts x rest (seq a_number d) = made d (λ y us. IsSignedInteger ((p, k.Symbol s.Plus) ∷ ts) y us) plus
+  plus_exact = exact_token (token_kinds.Symbol symbols.Plus) refl {R = IsSignedInteger} (λ p. exact_iff (exact_last (exact_number r) (λ n. integer_of p false n)) (to p) (from p)) where
+    to : (p : Position) (ts : List Tok) (x : SignedInteger) (rest : List Tok) → Then IsNumber (λ n. IsPure (integer_of p false n)) ts x rest → IsSignedInteger ((p, token_kinds.Symbol symbols.Plus) ∷ ts) x rest
+    to p ts x rest (seq a_number d) = made d (λ y us. IsSignedInteger ((p, token_kinds.Symbol symbols.Plus) ∷ ts) y us) plus
 
-    from : (p : Position) (ts : List Tok) (x : SignedInteger) (rest : List Tok) → IsSignedInteger ((p, k.Symbol s.Plus) ∷ ts) x rest → Then IsNumber (λ n. IsPure (integer_of p false n)) ts x rest
+    from : (p : Position) (ts : List Tok) (x : SignedInteger) (rest : List Tok) → IsSignedInteger ((p, token_kinds.Symbol symbols.Plus) ∷ ts) x rest → Then IsNumber (λ n. IsPure (integer_of p false n)) ts x rest
     from p ts x rest plus = seq a_number done
 
-  minus_exact : Exact 1 (spec.signed true) (IsFirst (k.Symbol s.Minus)) IsSignedInteger Any (At r) (At r)
+  minus_exact : Exact 1 (spec.signed true) (IsFirst (token_kinds.Symbol symbols.Minus)) IsSignedInteger Any (At r) (At r)
   unfolding spec.signed
-  minus_exact = exact_token (k.Symbol s.Minus) refl {R = IsSignedInteger} (λ p. exact_iff (exact_last (exact_number r) (λ n. integer_of p true n)) (to p) (from p)) where
-    to : (p : Position) (ts : List Tok) (x : SignedInteger) (rest : List Tok) → Then IsNumber (λ n. IsPure (integer_of p true n)) ts x rest → IsSignedInteger ((p, k.Symbol s.Minus) ∷ ts) x rest
-    to p ts x rest (seq a_number d) = made d (λ y us. IsSignedInteger ((p, k.Symbol s.Minus) ∷ ts) y us) minus
+  minus_exact = exact_token (token_kinds.Symbol symbols.Minus) refl {R = IsSignedInteger} (λ p. exact_iff (exact_last (exact_number r) (λ n. integer_of p true n)) (to p) (from p)) where
+    to : (p : Position) (ts : List Tok) (x : SignedInteger) (rest : List Tok) → Then IsNumber (λ n. IsPure (integer_of p true n)) ts x rest → IsSignedInteger ((p, token_kinds.Symbol symbols.Minus) ∷ ts) x rest
+    to p ts x rest (seq a_number d) = made d (λ y us. IsSignedInteger ((p, token_kinds.Symbol symbols.Minus) ∷ ts) y us) minus
 
-    from : (p : Position) (ts : List Tok) (x : SignedInteger) (rest : List Tok) → IsSignedInteger ((p, k.Symbol s.Minus) ∷ ts) x rest → Then IsNumber (λ n. IsPure (integer_of p true n)) ts x rest
+    from : (p : Position) (ts : List Tok) (x : SignedInteger) (rest : List Tok) → IsSignedInteger ((p, token_kinds.Symbol symbols.Minus) ∷ ts) x rest → Then IsNumber (λ n. IsPure (integer_of p true n)) ts x rest
     from p ts x rest minus = seq a_number done
 
   integer_by : (t : Option Kind) → Exact 1 (spec.integer_by t) (λ ts. (kind ts ≡ t) × Always ts) IsSignedInteger Any (At r) (At r)
-  integer_by (Some (k.Number n)) = exact_under (exact_token (k.Number n) refl {R = IsSignedInteger} (λ p. exact_iff (exact_pure (integer_of p false n) Always Any (At r)) (to p) (from p))) (λ ts p. p.0) (λ t g. g) where
-    to : (p : Position) (ts : List Tok) (x : SignedInteger) (rest : List Tok) → IsPure (integer_of p false n) ts x rest → IsSignedInteger ((p, k.Number n) ∷ ts) x rest
-    to p ts x rest d = made d (λ y us. IsSignedInteger ((p, k.Number n) ∷ ts) y us) unsigned
+  integer_by (Some (token_kinds.Number n)) = exact_under (exact_token (token_kinds.Number n) refl {R = IsSignedInteger} (λ p. exact_iff (exact_pure (integer_of p false n) Always Any (At r)) (to p) (from p))) (λ ts p. p.0) (λ t g. g) where
+    to : (p : Position) (ts : List Tok) (x : SignedInteger) (rest : List Tok) → IsPure (integer_of p false n) ts x rest → IsSignedInteger ((p, token_kinds.Number n) ∷ ts) x rest
+    to p ts x rest d = made d (λ y us. IsSignedInteger ((p, token_kinds.Number n) ∷ ts) y us) unsigned
 
-    from : (p : Position) (ts : List Tok) (x : SignedInteger) (rest : List Tok) → IsSignedInteger ((p, k.Number n) ∷ ts) x rest → IsPure (integer_of p false n) ts x rest
+    from : (p : Position) (ts : List Tok) (x : SignedInteger) (rest : List Tok) → IsSignedInteger ((p, token_kinds.Number n) ∷ ts) x rest → IsPure (integer_of p false n) ts x rest
     from p ts x rest unsigned = done
-  integer_by (Some (k.Symbol s.Plus)) = exact_under plus_exact (λ ts p. p.0) (λ t g. g)
-  integer_by (Some (k.Symbol s.Minus)) = exact_under minus_exact (λ ts p. p.0) (λ t g. g)
+  integer_by (Some (token_kinds.Symbol symbols.Plus)) = exact_under plus_exact (λ ts p. p.0) (λ t g. g)
+  integer_by (Some (token_kinds.Symbol symbols.Minus)) = exact_under minus_exact (λ ts p. p.0) (λ t g. g)
   integer_by _ = exact_refuse 1 _ IsSignedInteger Any (At r) (At r) (λ ts x rest p d. let wrong = subst (λ t. begins_integer t ≡ true) p.0 (integer_begins d) in cc)
 
   pub signed_integer_exact : Exact 1 spec.signed_integer Always IsSignedInteger Any (At r) (At r)
   unfolding spec.signed_integer
   signed_integer_exact = exact_on kind spec.integer_by Always IsSignedInteger Any (At r) (At r) integer_by
 
-  typed_to : (v : _) (p : Position) (ts : List Tok) (x : Constant) (rest : List Tok) → IsPure (c.Typed p v) ts x rest → IsConstant ((p, k.Typed v) ∷ ts) x rest
-  typed_to v p ts x rest d = made d (λ y us. IsConstant ((p, k.Typed v) ∷ ts) y us) typed
+  typed_to : (v : _) (p : Position) (ts : List Tok) (x : Constant) (rest : List Tok) → IsPure (constants.Typed p v) ts x rest → IsConstant ((p, token_kinds.Typed v) ∷ ts) x rest
+  typed_to v p ts x rest d = made d (λ y us. IsConstant ((p, token_kinds.Typed v) ∷ ts) y us) typed
 
-  typed_from : (v : _) (p : Position) (ts : List Tok) (x : Constant) (rest : List Tok) → IsConstant ((p, k.Typed v) ∷ ts) x rest → IsPure (c.Typed p v) ts x rest
+  typed_from : (v : _) (p : Position) (ts : List Tok) (x : Constant) (rest : List Tok) → IsConstant ((p, token_kinds.Typed v) ∷ ts) x rest → IsPure (constants.Typed p v) ts x rest
   typed_from v p ts x rest typed = done
   typed_from v p ts x rest (integer d) = absurd (let wrong = integer_begins d in cc)
 
-  duration_to : (v : _) (p : Position) (ts : List Tok) (x : Constant) (rest : List Tok) → IsPure (c.Duration (duration_of p v)) ts x rest → IsConstant ((p, k.Duration v) ∷ ts) x rest
-  duration_to v p ts x rest d = made d (λ y us. IsConstant ((p, k.Duration v) ∷ ts) y us) duration
+  duration_to : (v : _) (p : Position) (ts : List Tok) (x : Constant) (rest : List Tok) → IsPure (constants.Duration (duration_of p v)) ts x rest → IsConstant ((p, token_kinds.Duration v) ∷ ts) x rest
+  duration_to v p ts x rest d = made d (λ y us. IsConstant ((p, token_kinds.Duration v) ∷ ts) y us) duration
 
-  duration_from : (v : _) (p : Position) (ts : List Tok) (x : Constant) (rest : List Tok) → IsConstant ((p, k.Duration v) ∷ ts) x rest → IsPure (c.Duration (duration_of p v)) ts x rest
+  duration_from : (v : _) (p : Position) (ts : List Tok) (x : Constant) (rest : List Tok) → IsConstant ((p, token_kinds.Duration v) ∷ ts) x rest → IsPure (constants.Duration (duration_of p v)) ts x rest
   duration_from v p ts x rest duration = done
   duration_from v p ts x rest (integer d) = absurd (let wrong = integer_begins d in cc)
 
-  truth_to : (p : Position) (ts : List Tok) (x : Constant) (rest : List Tok) → IsPure (c.Bool p true) ts x rest → IsConstant ((p, k.Keyword w.True) ∷ ts) x rest
-  truth_to p ts x rest d = made d (λ y us. IsConstant ((p, k.Keyword w.True) ∷ ts) y us) truth
+  truth_to : (p : Position) (ts : List Tok) (x : Constant) (rest : List Tok) → IsPure (constants.Bool p true) ts x rest → IsConstant ((p, token_kinds.Keyword keywords.True) ∷ ts) x rest
+  truth_to p ts x rest d = made d (λ y us. IsConstant ((p, token_kinds.Keyword keywords.True) ∷ ts) y us) truth
 
-  truth_from : (p : Position) (ts : List Tok) (x : Constant) (rest : List Tok) → IsConstant ((p, k.Keyword w.True) ∷ ts) x rest → IsPure (c.Bool p true) ts x rest
+  truth_from : (p : Position) (ts : List Tok) (x : Constant) (rest : List Tok) → IsConstant ((p, token_kinds.Keyword keywords.True) ∷ ts) x rest → IsPure (constants.Bool p true) ts x rest
   truth_from p ts x rest truth = done
   truth_from p ts x rest (integer d) = absurd (let wrong = integer_begins d in cc)
 
-  falsehood_to : (p : Position) (ts : List Tok) (x : Constant) (rest : List Tok) → IsPure (c.Bool p false) ts x rest → IsConstant ((p, k.Keyword w.False) ∷ ts) x rest
-  falsehood_to p ts x rest d = made d (λ y us. IsConstant ((p, k.Keyword w.False) ∷ ts) y us) falsehood
+  falsehood_to : (p : Position) (ts : List Tok) (x : Constant) (rest : List Tok) → IsPure (constants.Bool p false) ts x rest → IsConstant ((p, token_kinds.Keyword keywords.False) ∷ ts) x rest
+  falsehood_to p ts x rest d = made d (λ y us. IsConstant ((p, token_kinds.Keyword keywords.False) ∷ ts) y us) falsehood
 
-  falsehood_from : (p : Position) (ts : List Tok) (x : Constant) (rest : List Tok) → IsConstant ((p, k.Keyword w.False) ∷ ts) x rest → IsPure (c.Bool p false) ts x rest
+  falsehood_from : (p : Position) (ts : List Tok) (x : Constant) (rest : List Tok) → IsConstant ((p, token_kinds.Keyword keywords.False) ∷ ts) x rest → IsPure (constants.Bool p false) ts x rest
   falsehood_from p ts x rest falsehood = done
   falsehood_from p ts x rest (integer d) = absurd (let wrong = integer_begins d in cc)
 
   -- a literal that has no rule of its own is a number
   abbrev is_number_first : Option Kind → Bool
-  is_number_first (Some (k.Typed v)) = false
-  is_number_first (Some (k.Duration d)) = false
-  is_number_first (Some (k.Keyword w.True)) = false
-  is_number_first (Some (k.Keyword w.False)) = false
+  is_number_first (Some (token_kinds.Typed v)) = false
+  is_number_first (Some (token_kinds.Duration d)) = false
+  is_number_first (Some (token_kinds.Keyword keywords.True)) = false
+  is_number_first (Some (token_kinds.Keyword keywords.False)) = false
   is_number_first _ = true
 
-  number_to : (ts : List Tok) (x : Constant) (rest : List Tok) → Then IsSignedInteger (λ i. IsPure (c.Integer i)) ts x rest → IsConstant ts x rest
+  number_to : (ts : List Tok) (x : Constant) (rest : List Tok) → Then IsSignedInteger (λ i. IsPure (constants.Integer i)) ts x rest → IsConstant ts x rest
   number_to ts x rest (seq d e) = made e (λ y us. IsConstant ts y us) (integer d)
 
-  number_from : (ts : List Tok) (x : Constant) (rest : List Tok) → is_number_first (kind ts) ≡ true → IsConstant ts x rest → Then IsSignedInteger (λ i. IsPure (c.Integer i)) ts x rest
+  number_from : (ts : List Tok) (x : Constant) (rest : List Tok) → is_number_first (kind ts) ≡ true → IsConstant ts x rest → Then IsSignedInteger (λ i. IsPure (constants.Integer i)) ts x rest
   number_from ts x rest h (integer d) = seq d done
   number_from ts x rest h typed = absurd (cc)
   number_from ts x rest h duration = absurd (cc)
@@ -104,15 +104,15 @@ module _ (r : ℕ) where
   number_from ts x rest h falsehood = absurd (cc)
 
   number_constant : (t : Option Kind) → is_number_first t ≡ true
-      → Exact 1 (λ ts. and_then (spec.signed_integer ts) (λ i. parser.pure (c.Integer i))) (λ ts. (kind ts ≡ t) × Always ts) IsConstant Any (At r) (At r)
-  number_constant t h = exact_as (exact_last signed_integer_exact c.Integer) (λ ts p. tt) (λ ts x rest p d. number_to ts x rest d)
+      → Exact 1 (λ ts. and_then (spec.signed_integer ts) (λ i. parser.pure (constants.Integer i))) (λ ts. (kind ts ≡ t) × Always ts) IsConstant Any (At r) (At r)
+  number_constant t h = exact_as (exact_last signed_integer_exact constants.Integer) (λ ts p. tt) (λ ts x rest p d. number_to ts x rest d)
       (λ ts x rest p g d. number_from ts x rest (subst (λ u. is_number_first u ≡ true) (sym p.0) h) d) (λ t g. g)
 
   constant_by : (t : Option Kind) → Exact 1 (spec.constant_by t) (λ ts. (kind ts ≡ t) × Always ts) IsConstant Any (At r) (At r)
-  constant_by (Some (k.Typed v)) = exact_under (exact_token (k.Typed v) refl {R = IsConstant} (λ p. exact_iff (exact_pure (c.Typed p v) Always Any (At r)) (typed_to v p) (typed_from v p))) (λ ts p. p.0) (λ t g. g)
-  constant_by (Some (k.Duration v)) = exact_under (exact_token (k.Duration v) refl {R = IsConstant} (λ p. exact_iff (exact_pure (c.Duration (duration_of p v)) Always Any (At r)) (duration_to v p) (duration_from v p))) (λ ts p. p.0) (λ t g. g)
-  constant_by (Some (k.Keyword w.True)) = exact_under (exact_token (k.Keyword w.True) refl {R = IsConstant} (λ p. exact_iff (exact_pure (c.Bool p true) Always Any (At r)) (truth_to p) (truth_from p))) (λ ts p. p.0) (λ t g. g)
-  constant_by (Some (k.Keyword w.False)) = exact_under (exact_token (k.Keyword w.False) refl {R = IsConstant} (λ p. exact_iff (exact_pure (c.Bool p false) Always Any (At r)) (falsehood_to p) (falsehood_from p))) (λ ts p. p.0) (λ t g. g)
+  constant_by (Some (token_kinds.Typed v)) = exact_under (exact_token (token_kinds.Typed v) refl {R = IsConstant} (λ p. exact_iff (exact_pure (constants.Typed p v) Always Any (At r)) (typed_to v p) (typed_from v p))) (λ ts p. p.0) (λ t g. g)
+  constant_by (Some (token_kinds.Duration v)) = exact_under (exact_token (token_kinds.Duration v) refl {R = IsConstant} (λ p. exact_iff (exact_pure (constants.Duration (duration_of p v)) Always Any (At r)) (duration_to v p) (duration_from v p))) (λ ts p. p.0) (λ t g. g)
+  constant_by (Some (token_kinds.Keyword keywords.True)) = exact_under (exact_token (token_kinds.Keyword keywords.True) refl {R = IsConstant} (λ p. exact_iff (exact_pure (constants.Bool p true) Always Any (At r)) (truth_to p) (truth_from p))) (λ ts p. p.0) (λ t g. g)
+  constant_by (Some (token_kinds.Keyword keywords.False)) = exact_under (exact_token (token_kinds.Keyword keywords.False) refl {R = IsConstant} (λ p. exact_iff (exact_pure (constants.Bool p false) Always Any (At r)) (falsehood_to p) (falsehood_from p))) (λ ts p. p.0) (λ t g. g)
   constant_by t = number_constant t refl
 
   pub constant_exact : Exact 1 spec.constant Always IsConstant Any (At r) (At r)
@@ -126,13 +126,13 @@ abbrev pub ExactInside : ℕ → Inside → Type 0
 ExactInside zero i = Unit {0}
 ExactInside (suc r) i = (Exact 1 i.expression Always (IsBinary 7) (Stops 7) (At r) (At r)) × (Exact 1 i.variable Always IsVariable (Stops 0) (At r) (At r))
 
-field_exact : (r : ℕ) → Exact 1 spec.field (IsFirst (k.Symbol s.Dot)) IsPart Any (At r) (At r)
+field_exact : (r : ℕ) → Exact 1 spec.field (IsFirst (token_kinds.Symbol symbols.Dot)) IsPart Any (At r) (At r)
 unfolding spec.field
-field_exact r = exact_token (k.Symbol s.Dot) refl {R = IsPart} (λ p. exact_iff (exact_last (exact_identifier r) part.Field) (to p) (from p)) where
-  to : (p : Position) (ts : List Tok) (x : Part) (rest : List Tok) → Then IsWord (λ n. IsPure (part.Field n)) ts x rest → IsPart ((p, k.Symbol s.Dot) ∷ ts) x rest
-  to p ts x rest (seq a_word d) = made d (λ y us. IsPart ((p, k.Symbol s.Dot) ∷ ts) y us) field
+field_exact r = exact_token (token_kinds.Symbol symbols.Dot) refl {R = IsPart} (λ p. exact_iff (exact_last (exact_identifier r) part_kinds.Field) (to p) (from p)) where
+  to : (p : Position) (ts : List Tok) (x : Part) (rest : List Tok) → Then IsWord (λ n. IsPure (part_kinds.Field n)) ts x rest → IsPart ((p, token_kinds.Symbol symbols.Dot) ∷ ts) x rest
+  to p ts x rest (seq a_word d) = made d (λ y us. IsPart ((p, token_kinds.Symbol symbols.Dot) ∷ ts) y us) field
 
-  from : (p : Position) (ts : List Tok) (x : Part) (rest : List Tok) → IsPart ((p, k.Symbol s.Dot) ∷ ts) x rest → Then IsWord (λ n. IsPure (part.Field n)) ts x rest
+  from : (p : Position) (ts : List Tok) (x : Part) (rest : List Tok) → IsPart ((p, token_kinds.Symbol symbols.Dot) ∷ ts) x rest → Then IsWord (λ n. IsPure (part_kinds.Field n)) ts x rest
   from p ts x rest field = seq a_word done
 
 to_expressions : {ts rest : List Tok} {xs : List Expression} → IsMany (IsNext (IsBinary 7)) ts xs rest → IsNextExpressions ts xs rest
@@ -144,29 +144,29 @@ from_expressions no_expression = none
 from_expressions (next_expressions d m) = more (comma d) (from_expressions m)
 
 abbrev AreSubscripts : Position → Relation Part
-AreSubscripts p = Then (IsListed (IsBinary 7)) (λ xs. Then (IsOne (k.Symbol s.CloseBracket)) (λ q. IsPure (part.Subscripts p xs)))
+AreSubscripts p = Then (IsListed (IsBinary 7)) (λ xs. Then (IsOne (token_kinds.Symbol symbols.CloseBracket)) (λ q. IsPure (part_kinds.Subscripts p xs)))
 
-subscripts_to : (p : Position) (ts : List Tok) (x : Part) (rest : List Tok) → AreSubscripts p ts x rest → IsPart ((p, k.Symbol s.OpenBracket) ∷ ts) x rest
-subscripts_to p ts x rest (seq (listed d m) (seq one e)) = made e (λ y us. IsPart ((p, k.Symbol s.OpenBracket) ∷ ts) y us) (subscripts d (to_expressions m))
+subscripts_to : (p : Position) (ts : List Tok) (x : Part) (rest : List Tok) → AreSubscripts p ts x rest → IsPart ((p, token_kinds.Symbol symbols.OpenBracket) ∷ ts) x rest
+subscripts_to p ts x rest (seq (listed d m) (seq one e)) = made e (λ y us. IsPart ((p, token_kinds.Symbol symbols.OpenBracket) ∷ ts) y us) (subscripts d (to_expressions m))
 
-subscripts_from : (p : Position) (ts : List Tok) (x : Part) (rest : List Tok) → IsPart ((p, k.Symbol s.OpenBracket) ∷ ts) x rest → AreSubscripts p ts x rest
+subscripts_from : (p : Position) (ts : List Tok) (x : Part) (rest : List Tok) → IsPart ((p, token_kinds.Symbol symbols.OpenBracket) ∷ ts) x rest → AreSubscripts p ts x rest
 subscripts_from p ts x rest (subscripts d m) = seq (listed d (from_expressions m)) (seq one done)
 
 subscripts_behind : (r : ℕ) (i : Inside) → ExactInside r i
-    → Behind 1 r (λ p ts. and_then (parser.listed i.expression ts) (λ xs us. and_then (parser.expect_symbol s.CloseBracket us) (λ q. parser.pure (part.Subscripts p xs)))) (k.Symbol s.OpenBracket) IsPart Any
+    → Behind 1 r (λ p ts. and_then (parser.listed i.expression ts) (λ xs us. and_then (parser.expect_symbol symbols.CloseBracket us) (λ q. parser.pure (part_kinds.Subscripts p xs)))) (token_kinds.Symbol symbols.OpenBracket) IsPart Any
 subscripts_behind zero i e = tt
 subscripts_behind (suc r) i e = λ p. exact_iff
-    (exact_before (k.Symbol s.CloseBracket) (exact_listed i.expression (IsBinary 7) (Stops 7) r e.0 tt) (refl, tt) (exact_symbol s.CloseBracket r refl) (λ xs q. exact_pure (part.Subscripts p xs) Always Any (At (suc r))))
+    (exact_before (token_kinds.Symbol symbols.CloseBracket) (exact_listed i.expression (IsBinary 7) (Stops 7) r e.0 tt) (refl, tt) (exact_symbol symbols.CloseBracket r refl) (λ xs q. exact_pure (part_kinds.Subscripts p xs) Always Any (At (suc r))))
     (subscripts_to p) (subscripts_from p)
 
 module _ (r : ℕ) (i : Inside) (e : ExactInside r i) where
-  subscripts_exact : Exact 1 (spec.subscripts r i) (IsFirst (k.Symbol s.OpenBracket)) IsPart Any (At r) (At r)
+  subscripts_exact : Exact 1 (spec.subscripts r i) (IsFirst (token_kinds.Symbol symbols.OpenBracket)) IsPart Any (At r) (At r)
   unfolding spec.subscripts
-  subscripts_exact = exact_enter 1 r _ (k.Symbol s.OpenBracket) refl (subscripts_behind r i e)
+  subscripts_exact = exact_enter 1 r _ (token_kinds.Symbol symbols.OpenBracket) refl (subscripts_behind r i e)
 
   part_by : (t : Option Kind) → Exact 1 (spec.part_by r i t) (λ ts. (kind ts ≡ t) × (begins_part (kind ts) ≡ true)) IsPart Any (At r) (At r)
-  part_by (Some (k.Symbol s.Dot)) = exact_under (field_exact r) (λ ts p. p.0) (λ t g. g)
-  part_by (Some (k.Symbol s.OpenBracket)) = exact_under subscripts_exact (λ ts p. p.0) (λ t g. g)
+  part_by (Some (token_kinds.Symbol symbols.Dot)) = exact_under (field_exact r) (λ ts p. p.0) (λ t g. g)
+  part_by (Some (token_kinds.Symbol symbols.OpenBracket)) = exact_under subscripts_exact (λ ts p. p.0) (λ t g. g)
   part_by _ = exact_under subscripts_exact (λ ts p. let wrong = subst (λ t. begins_part t ≡ true) p.0 p.1 in absurd (cc)) (λ t g. g)
 
   part_exact : Exact 1 (spec.part_of r i) (λ ts. begins_part (kind ts) ≡ true) IsPart Any (At r) (At r)
@@ -197,83 +197,83 @@ variable_exact r i e = exact_as
 
 -- what may follow an argument
 abbrev pub Closes : Option Kind → Type 0
-Closes (Some (k.Symbol s.Comma)) = Unit {0}
-Closes (Some (k.Symbol s.Close)) = Unit {0}
+Closes (Some (token_kinds.Symbol symbols.Comma)) = Unit {0}
+Closes (Some (token_kinds.Symbol symbols.Close)) = Unit {0}
 Closes _ = ⊥
 
 closes_stops : (n : ℕ) (t : Option Kind) → Closes t → Stops n t
-closes_stops n (Some (k.Symbol s.Comma)) g = tt
-closes_stops n (Some (k.Symbol s.Close)) g = tt
+closes_stops n (Some (token_kinds.Symbol symbols.Comma)) g = tt
+closes_stops n (Some (token_kinds.Symbol symbols.Close)) g = tt
 closes_stops n _ g = absurd g
 
 -- an expression before a closing token doesn't begin with a word and such a token
-no_name : (u : Kind) → Ending u → (Closes (Some u) → ⊥) → (ts : List Tok) (n : List ℕ) (x : Expression) (rest : List Tok) → kind ts ≡ Some (k.Word n) → kind (next ts) ≡ Some u
+no_name : (u : Kind) → Ending u → (Closes (Some u) → ⊥) → (ts : List Tok) (n : List ℕ) (x : Expression) (rest : List Tok) → kind ts ≡ Some (token_kinds.Word n) → kind (next ts) ≡ Some u
     → Closes (kind rest) → IsBinary 7 ts x rest → ⊥
 no_name u ending never [] n x rest first second g d = cc
 no_name u ending never (t ∷ []) n x rest first second g d = cc
 no_name u ending never (t ∷ v ∷ ts) n x rest first second g d =
-    let word : t.1 ≡ k.Word n = cc in
+    let word : t.1 ≡ token_kinds.Word n = cc in
     let ends : v.1 ≡ u = cc in
-    let d' : IsBinary 7 ((t.0, k.Word n) ∷ (v.0, u) ∷ ts) x rest = subst (λ y. IsBinary 7 ((t.0, y) ∷ (v.0, u) ∷ ts) x rest) word (subst (λ y. IsBinary 7 (t ∷ (v.0, y) ∷ ts) x rest) ends d) in
+    let d' : IsBinary 7 ((t.0, token_kinds.Word n) ∷ (v.0, u) ∷ ts) x rest = subst (λ y. IsBinary 7 ((t.0, y) ∷ (v.0, u) ∷ ts) x rest) word (subst (λ y. IsBinary 7 (t ∷ (v.0, y) ∷ ts) x rest) ends d) in
     never (subst Closes (binary_word ending d') g)
 
 module _ (r : ℕ) (i : Inside) (e : ExactInside (suc r) i) where
   abbrev IsInput : Relation Argument
-  IsInput = Then IsWord (λ n. Then (IsOne (k.Symbol s.Assign)) (λ q. Then (IsBinary 7) (λ x. IsPure (a.Input n x))))
+  IsInput = Then IsWord (λ n. Then (IsOne (token_kinds.Symbol symbols.Assign)) (λ q. Then (IsBinary 7) (λ x. IsPure (argument_kinds.Input n x))))
 
   input_to : (ts : List Tok) (x : Argument) (rest : List Tok) → IsInput ts x rest → IsArgument ts x rest
   input_to ts x rest (seq a_word (seq one (seq d p))) = made p (λ y us. IsArgument ts y us) (input d)
 
-  input_from : (n : List ℕ) (ts : List Tok) (x : Argument) (rest : List Tok) → kind ts ≡ Some (k.Word n) → kind (next ts) ≡ Some (k.Symbol s.Assign) → Closes (kind rest) → IsArgument ts x rest → IsInput ts x rest
-  input_from n ts x rest first second g (positional {x = y} d) = absurd (no_name (k.Symbol s.Assign) (tt, refl) (λ u. u) ts n y rest first second g d)
+  input_from : (n : List ℕ) (ts : List Tok) (x : Argument) (rest : List Tok) → kind ts ≡ Some (token_kinds.Word n) → kind (next ts) ≡ Some (token_kinds.Symbol symbols.Assign) → Closes (kind rest) → IsArgument ts x rest → IsInput ts x rest
+  input_from n ts x rest first second g (positional {x = y} d) = absurd (no_name (token_kinds.Symbol symbols.Assign) (tt, refl) (λ u. u) ts n y rest first second g d)
   input_from n ts x rest first second g (input d) = seq a_word (seq one (seq d done))
   input_from n ts x rest first second g (output d) = absurd (cc)
 
-  input_exact : (n : List ℕ) → Exact 1 (spec.input i) (λ ts. (kind (next ts) ≡ Some (k.Symbol s.Assign)) × ((kind ts ≡ Some (k.Word n)) × Always ts)) IsArgument Closes (At r) (At r)
+  input_exact : (n : List ℕ) → Exact 1 (spec.input i) (λ ts. (kind (next ts) ≡ Some (token_kinds.Symbol symbols.Assign)) × ((kind ts ≡ Some (token_kinds.Word n)) × Always ts)) IsArgument Closes (At r) (At r)
   unfolding spec.input
   input_exact n = exact_as
-      (exact_bind (exact_identifier r) (λ m. exact_bind (exact_symbol s.Assign r refl) (λ q. exact_last e.0 (λ x. a.Input m x)) (λ q mid rest y d g. tt)) (λ m mid rest y d g. tt))
+      (exact_bind (exact_identifier r) (λ m. exact_bind (exact_symbol symbols.Assign r refl) (λ q. exact_last e.0 (λ x. argument_kinds.Input m x)) (λ q mid rest y d g. tt)) (λ m mid rest y d g. tt))
       (λ ts p. tt) (λ ts x rest p d. input_to ts x rest d) (λ ts x rest p g d. input_from n ts x rest p.1.0 p.0 g d) (λ t g. closes_stops 7 t g)
 
   abbrev IsOutput : Relation Argument
-  IsOutput = Then IsWord (λ n. Then (IsOne (k.Symbol s.Output)) (λ q. Then IsVariable (λ x. IsPure (a.Output n x))))
+  IsOutput = Then IsWord (λ n. Then (IsOne (token_kinds.Symbol symbols.Output)) (λ q. Then IsVariable (λ x. IsPure (argument_kinds.Output n x))))
 
   output_to : (ts : List Tok) (x : Argument) (rest : List Tok) → IsOutput ts x rest → IsArgument ts x rest
   output_to ts x rest (seq a_word (seq one (seq d p))) = made p (λ y us. IsArgument ts y us) (output d)
 
-  output_from : (n : List ℕ) (ts : List Tok) (x : Argument) (rest : List Tok) → kind ts ≡ Some (k.Word n) → kind (next ts) ≡ Some (k.Symbol s.Output) → Closes (kind rest) → IsArgument ts x rest → IsOutput ts x rest
-  output_from n ts x rest first second g (positional {x = y} d) = absurd (no_name (k.Symbol s.Output) (tt, refl) (λ u. u) ts n y rest first second g d)
+  output_from : (n : List ℕ) (ts : List Tok) (x : Argument) (rest : List Tok) → kind ts ≡ Some (token_kinds.Word n) → kind (next ts) ≡ Some (token_kinds.Symbol symbols.Output) → Closes (kind rest) → IsArgument ts x rest → IsOutput ts x rest
+  output_from n ts x rest first second g (positional {x = y} d) = absurd (no_name (token_kinds.Symbol symbols.Output) (tt, refl) (λ u. u) ts n y rest first second g d)
   output_from n ts x rest first second g (output d) = seq a_word (seq one (seq d done))
   output_from n ts x rest first second g (input d) = absurd (cc)
 
-  output_exact : (n : List ℕ) → Exact 1 (spec.output i) (λ ts. (kind (next ts) ≡ Some (k.Symbol s.Output)) × ((kind ts ≡ Some (k.Word n)) × Always ts)) IsArgument Closes (At r) (At r)
+  output_exact : (n : List ℕ) → Exact 1 (spec.output i) (λ ts. (kind (next ts) ≡ Some (token_kinds.Symbol symbols.Output)) × ((kind ts ≡ Some (token_kinds.Word n)) × Always ts)) IsArgument Closes (At r) (At r)
   unfolding spec.output
   output_exact n = exact_as
-      (exact_bind (exact_identifier r) (λ m. exact_bind (exact_symbol s.Output r refl) (λ q. exact_last e.1 (λ x. a.Output m x)) (λ q mid rest y d g. tt)) (λ m mid rest y d g. tt))
+      (exact_bind (exact_identifier r) (λ m. exact_bind (exact_symbol symbols.Output r refl) (λ q. exact_last e.1 (λ x. argument_kinds.Output m x)) (λ q mid rest y d g. tt)) (λ m mid rest y d g. tt))
       (λ ts p. tt) (λ ts x rest p d. output_to ts x rest d) (λ ts x rest p g d. output_from n ts x rest p.1.0 p.0 g d) (λ t g. closes_stops 0 t g)
 
   -- the first two tokens don't name a parameter
   abbrev is_plain : Option Kind → Option Kind → Bool
-  is_plain (Some (k.Word n)) (Some (k.Symbol s.Assign)) = false
-  is_plain (Some (k.Word n)) (Some (k.Symbol s.Output)) = false
+  is_plain (Some (token_kinds.Word n)) (Some (token_kinds.Symbol symbols.Assign)) = false
+  is_plain (Some (token_kinds.Word n)) (Some (token_kinds.Symbol symbols.Output)) = false
   is_plain _ _ = true
 
-  positional_from : (ts : List Tok) (x : Argument) (rest : List Tok) → is_plain (kind ts) (kind (next ts)) ≡ true → IsArgument ts x rest → Then (IsBinary 7) (λ y. IsPure (a.Positional y)) ts x rest
+  positional_from : (ts : List Tok) (x : Argument) (rest : List Tok) → is_plain (kind ts) (kind (next ts)) ≡ true → IsArgument ts x rest → Then (IsBinary 7) (λ y. IsPure (argument_kinds.Positional y)) ts x rest
   positional_from ts x rest h (positional d) = seq d done
   positional_from ts x rest h (input d) = absurd (cc)
   positional_from ts x rest h (output d) = absurd (cc)
 
-  positional_to : (ts : List Tok) (x : Argument) (rest : List Tok) → Then (IsBinary 7) (λ y. IsPure (a.Positional y)) ts x rest → IsArgument ts x rest
+  positional_to : (ts : List Tok) (x : Argument) (rest : List Tok) → Then (IsBinary 7) (λ y. IsPure (argument_kinds.Positional y)) ts x rest → IsArgument ts x rest
   positional_to ts x rest (seq d p) = made p (λ y us. IsArgument ts y us) (positional d)
 
   positional_exact : (t u : Option Kind) → is_plain t u ≡ true → Exact 1 (spec.positional i) (λ ts. (kind (next ts) ≡ u) × ((kind ts ≡ t) × Always ts)) IsArgument Closes (At r) (At r)
   unfolding spec.positional
-  positional_exact t u h = exact_as (exact_last e.0 a.Positional) (λ ts p. tt) (λ ts x rest p d. positional_to ts x rest d)
+  positional_exact t u h = exact_as (exact_last e.0 argument_kinds.Positional) (λ ts p. tt) (λ ts x rest p d. positional_to ts x rest d)
       (λ ts x rest p g d. positional_from ts x rest (subst (λ y. is_plain (kind ts) y ≡ true) (sym p.0) (subst (λ y. is_plain y u ≡ true) (sym p.1.0) h)) d) (λ t g. closes_stops 7 t g)
 
   argument_by : (t u : Option Kind) → Exact 1 (spec.argument_by i t u) (λ ts. (kind (next ts) ≡ u) × ((kind ts ≡ t) × Always ts)) IsArgument Closes (At r) (At r)
-  argument_by (Some (k.Word n)) (Some (k.Symbol s.Assign)) = input_exact n
-  argument_by (Some (k.Word n)) (Some (k.Symbol s.Output)) = output_exact n
+  argument_by (Some (token_kinds.Word n)) (Some (token_kinds.Symbol symbols.Assign)) = input_exact n
+  argument_by (Some (token_kinds.Word n)) (Some (token_kinds.Symbol symbols.Output)) = output_exact n
   argument_by t u = positional_exact t u refl
 
   argument_exact : Exact 1 (spec.argument i) Always IsArgument Closes (At r) (At r)
@@ -292,47 +292,47 @@ from_arguments (next_arguments d m) = more (comma d) (from_arguments m)
 module _ (r : ℕ) (i : Inside) (e : ExactInside (suc r) i) (p : Position) where
   -- behind the '('
   abbrev IsRest : Relation (List Argument)
-  IsRest ts xs rest = IsArguments ((p, k.Symbol s.Open) ∷ ts) xs rest
+  IsRest ts xs rest = IsArguments ((p, token_kinds.Symbol symbols.Open) ∷ ts) xs rest
 
-  empty_to : (q : Position) (ts : List Tok) (x : List Argument) (rest : List Tok) → IsPure [] ts x rest → IsRest ((q, k.Symbol s.Close) ∷ ts) x rest
-  empty_to q ts x rest d = made d (λ y us. IsRest ((q, k.Symbol s.Close) ∷ ts) y us) no_arguments
+  empty_to : (q : Position) (ts : List Tok) (x : List Argument) (rest : List Tok) → IsPure [] ts x rest → IsRest ((q, token_kinds.Symbol symbols.Close) ∷ ts) x rest
+  empty_to q ts x rest d = made d (λ y us. IsRest ((q, token_kinds.Symbol symbols.Close) ∷ ts) y us) no_arguments
 
-  empty_from : (q : Position) (ts : List Tok) (x : List Argument) (rest : List Tok) → IsRest ((q, k.Symbol s.Close) ∷ ts) x rest → IsPure [] ts x rest
+  empty_from : (q : Position) (ts : List Tok) (x : List Argument) (rest : List Tok) → IsRest ((q, token_kinds.Symbol symbols.Close) ∷ ts) x rest → IsPure [] ts x rest
   empty_from q ts x rest no_arguments = done
   empty_from q ts x rest (arguments d m) = absurd (let wrong = argument_begins d in cc)
 
   abbrev AreArguments : Relation (List Argument)
-  AreArguments = Then (IsListed IsArgument) (λ xs. Then (IsOne (k.Symbol s.Close)) (λ q. IsPure xs))
+  AreArguments = Then (IsListed IsArgument) (λ xs. Then (IsOne (token_kinds.Symbol symbols.Close)) (λ q. IsPure xs))
 
   full_to : (ts : List Tok) (x : List Argument) (rest : List Tok) → AreArguments ts x rest → IsRest ts x rest
   full_to ts x rest (seq (listed d m) (seq one c)) = made c (λ y us. IsRest ts y us) (arguments d (to_arguments m))
 
-  full_from : (ts : List Tok) (x : List Argument) (rest : List Tok) → parser.is_symbol s.Close (kind ts) ≡ false → IsRest ts x rest → AreArguments ts x rest
+  full_from : (ts : List Tok) (x : List Argument) (rest : List Tok) → parser.is_symbol symbols.Close (kind ts) ≡ false → IsRest ts x rest → AreArguments ts x rest
   full_from ts x rest h no_arguments = absurd (cc)
   full_from ts x rest h (arguments d m) = seq (listed d (from_arguments m)) (seq one done)
 
-  arguments_by : (b : Bool) → Exact 1 (spec.arguments_by i b) (λ ts. (parser.is_symbol s.Close (kind ts) ≡ b) × Always ts) IsRest Any (At r) (At (suc r))
-  arguments_by true = exact_under (exact_token (k.Symbol s.Close) refl {R = IsRest} (λ q. exact_iff (exact_pure [] Always Any (At (suc r))) (empty_to q) (empty_from q))) (λ ts h. symbol_is s.Close (kind ts) h.0) (λ t g. g)
+  arguments_by : (b : Bool) → Exact 1 (spec.arguments_by i b) (λ ts. (parser.is_symbol symbols.Close (kind ts) ≡ b) × Always ts) IsRest Any (At r) (At (suc r))
+  arguments_by true = exact_under (exact_token (token_kinds.Symbol symbols.Close) refl {R = IsRest} (λ q. exact_iff (exact_pure [] Always Any (At (suc r))) (empty_to q) (empty_from q))) (λ ts h. symbol_is symbols.Close (kind ts) h.0) (λ t g. g)
   arguments_by false = exact_as
-      (exact_before (k.Symbol s.Close) (exact_listed (spec.argument i) IsArgument Closes r (argument_exact r i e) tt) (refl, tt) (exact_symbol s.Close r refl) (λ xs q. exact_pure xs Always Any (At (suc r))))
+      (exact_before (token_kinds.Symbol symbols.Close) (exact_listed (spec.argument i) IsArgument Closes r (argument_exact r i e) tt) (refl, tt) (exact_symbol symbols.Close r refl) (λ xs q. exact_pure xs Always Any (At (suc r))))
       (λ ts h. tt) (λ ts x rest h d. full_to ts x rest d) (λ ts x rest h g d. full_from ts x rest h.0 d) (λ t g. g)
 
   arguments_exact : Exact 1 (spec.arguments i) Always IsRest Any (At r) (At (suc r))
   unfolding spec.arguments
-  arguments_exact = exact_on (λ ts. parser.is_symbol s.Close (kind ts)) (spec.arguments_by i) Always IsRest Any (At r) (At (suc r)) arguments_by
+  arguments_exact = exact_on (λ ts. parser.is_symbol symbols.Close (kind ts)) (spec.arguments_by i) Always IsRest Any (At r) (At (suc r)) arguments_by
 
 -- '(' arguments ')', and what is made of it
 abbrev Called : Identifier → Relation Call
 Called n = Then IsArguments (λ xs. IsPure (call_of n xs))
 
-called_to : (n : Identifier) (p : Position) (ts : List Tok) (x : Call) (rest : List Tok) → Then (λ us. IsArguments ((p, k.Symbol s.Open) ∷ us)) (λ xs. IsPure (call_of n xs)) ts x rest → Called n ((p, k.Symbol s.Open) ∷ ts) x rest
+called_to : (n : Identifier) (p : Position) (ts : List Tok) (x : Call) (rest : List Tok) → Then (λ us. IsArguments ((p, token_kinds.Symbol symbols.Open) ∷ us)) (λ xs. IsPure (call_of n xs)) ts x rest → Called n ((p, token_kinds.Symbol symbols.Open) ∷ ts) x rest
 called_to n p ts x rest (seq d m) = seq d m
 
-called_from : (n : Identifier) (p : Position) (ts : List Tok) (x : Call) (rest : List Tok) → Called n ((p, k.Symbol s.Open) ∷ ts) x rest → Then (λ us. IsArguments ((p, k.Symbol s.Open) ∷ us)) (λ xs. IsPure (call_of n xs)) ts x rest
+called_from : (n : Identifier) (p : Position) (ts : List Tok) (x : Call) (rest : List Tok) → Called n ((p, token_kinds.Symbol symbols.Open) ∷ ts) x rest → Then (λ us. IsArguments ((p, token_kinds.Symbol symbols.Open) ∷ us)) (λ xs. IsPure (call_of n xs)) ts x rest
 called_from n p ts x rest (seq d m) = seq d m
 
 called_behind : (r : ℕ) (i : Inside) → ExactInside r i → (n : Identifier)
-    → Behind 1 r (λ p ts. and_then (spec.arguments i ts) (λ xs. parser.pure (call_of n xs))) (k.Symbol s.Open) (Called n) Any
+    → Behind 1 r (λ p ts. and_then (spec.arguments i ts) (λ xs. parser.pure (call_of n xs))) (token_kinds.Symbol symbols.Open) (Called n) Any
 called_behind zero i e n = tt
 called_behind (suc r) i e n = λ p. exact_iff (exact_last (arguments_exact r i e p) (call_of n)) (called_to n p) (called_from n p)
 
@@ -346,136 +346,136 @@ word_carries : (t : Option Kind) (ts : List Tok) (n : Identifier) (mid : List To
 word_carries t ts n mid h a_word = h
 
 -- where a word and '(' come first
-pub call_exact : (r : ℕ) (i : Inside) → ExactInside r i → Exact 1 (spec.call r i) (λ ts. kind (next ts) ≡ Some (k.Symbol s.Open)) IsCall Any (At r) (At r)
+pub call_exact : (r : ℕ) (i : Inside) → ExactInside r i → Exact 1 (spec.call r i) (λ ts. kind (next ts) ≡ Some (token_kinds.Symbol symbols.Open)) IsCall Any (At r) (At r)
 unfolding spec.call
 call_exact r i e = exact_iff
-    (exact_bind_if (exact_under (exact_identifier r) (λ ts p. tt) (λ t g. g)) (λ n. exact_enter 1 r _ (k.Symbol s.Open) refl (called_behind r i e n)) (word_carries (Some (k.Symbol s.Open))) (λ n mid rest y d g. tt))
+    (exact_bind_if (exact_under (exact_identifier r) (λ ts p. tt) (λ t g. g)) (λ n. exact_enter 1 r _ (token_kinds.Symbol symbols.Open) refl (called_behind r i e n)) (word_carries (Some (token_kinds.Symbol symbols.Open))) (λ n mid rest y d g. tt))
     call_to call_from
 
 -- ---- operands
 
-parenthesized_to : (p : Position) (ts : List Tok) (x : Expression) (rest : List Tok) → Then (IsBinary 7) (λ y. Then (IsOne (k.Symbol s.Close)) (λ q. IsPure (e.Parenthesized p y))) ts x rest
-    → IsPrimary ((p, k.Symbol s.Open) ∷ ts) x rest
-parenthesized_to p ts x rest (seq d (seq one m)) = made m (λ y us. IsPrimary ((p, k.Symbol s.Open) ∷ ts) y us) (parenthesized d)
+parenthesized_to : (p : Position) (ts : List Tok) (x : Expression) (rest : List Tok) → Then (IsBinary 7) (λ y. Then (IsOne (token_kinds.Symbol symbols.Close)) (λ q. IsPure (expressions.Parenthesized p y))) ts x rest
+    → IsPrimary ((p, token_kinds.Symbol symbols.Open) ∷ ts) x rest
+parenthesized_to p ts x rest (seq d (seq one m)) = made m (λ y us. IsPrimary ((p, token_kinds.Symbol symbols.Open) ∷ ts) y us) (parenthesized d)
 
-parenthesized_from : (p : Position) (ts : List Tok) (x : Expression) (rest : List Tok) → IsPrimary ((p, k.Symbol s.Open) ∷ ts) x rest
-    → Then (IsBinary 7) (λ y. Then (IsOne (k.Symbol s.Close)) (λ q. IsPure (e.Parenthesized p y))) ts x rest
+parenthesized_from : (p : Position) (ts : List Tok) (x : Expression) (rest : List Tok) → IsPrimary ((p, token_kinds.Symbol symbols.Open) ∷ ts) x rest
+    → Then (IsBinary 7) (λ y. Then (IsOne (token_kinds.Symbol symbols.Close)) (λ q. IsPure (expressions.Parenthesized p y))) ts x rest
 parenthesized_from p ts x rest (parenthesized d) = seq d (seq one done)
 parenthesized_from p ts x rest (variable d) = elim d [ ]
 parenthesized_from p ts x rest (call d) = elim d [ ]
 parenthesized_from p ts x rest (constant d) = absurd (let wrong = constant_begins d in cc)
 
 parenthesized_behind : (r : ℕ) (i : Inside) → ExactInside r i
-    → Behind 1 r (λ p ts. and_then (i.expression ts) (λ x us. and_then (parser.expect_symbol s.Close us) (λ q. parser.pure (e.Parenthesized p x)))) (k.Symbol s.Open) IsPrimary Any
+    → Behind 1 r (λ p ts. and_then (i.expression ts) (λ x us. and_then (parser.expect_symbol symbols.Close us) (λ q. parser.pure (expressions.Parenthesized p x)))) (token_kinds.Symbol symbols.Open) IsPrimary Any
 parenthesized_behind zero i h = tt
 parenthesized_behind (suc r) i h = λ p. exact_iff
-    (exact_before (k.Symbol s.Close) h.0 tt (exact_symbol s.Close r refl) (λ x q. exact_pure (e.Parenthesized p x) Always Any (At (suc r)))) (parenthesized_to p) (parenthesized_from p)
+    (exact_before (token_kinds.Symbol symbols.Close) h.0 tt (exact_symbol symbols.Close r refl) (λ x q. exact_pure (expressions.Parenthesized p x) Always Any (At (suc r)))) (parenthesized_to p) (parenthesized_from p)
 
-call_as : (ts : List Tok) (x : Expression) (rest : List Tok) → Then IsCall (λ y. IsPure (e.Call y)) ts x rest → IsPrimary ts x rest
+call_as : (ts : List Tok) (x : Expression) (rest : List Tok) → Then IsCall (λ y. IsPure (expressions.Call y)) ts x rest → IsPrimary ts x rest
 call_as ts x rest (seq d m) = made m (λ y us. IsPrimary ts y us) (call d)
 
-call_back : (n : List ℕ) (ts : List Tok) (x : Expression) (rest : List Tok) → parser.is_symbol s.Open (kind (next ts)) ≡ true → kind ts ≡ Some (k.Word n) → Stops 0 (kind rest) → IsPrimary ts x rest
-    → Then IsCall (λ y. IsPure (e.Call y)) ts x rest
+call_back : (n : List ℕ) (ts : List Tok) (x : Expression) (rest : List Tok) → parser.is_symbol symbols.Open (kind (next ts)) ≡ true → kind ts ≡ Some (token_kinds.Word n) → Stops 0 (kind rest) → IsPrimary ts x rest
+    → Then IsCall (λ y. IsPure (expressions.Call y)) ts x rest
 call_back n ts x rest second first g (call d) = seq d done
 call_back n ts x rest second first g (constant d) = absurd (let wrong = subst (λ t. begins_constant t ≡ true) first (constant_begins d) in cc)
-call_back n ts x rest second first g (variable (named {ts = us} no_part)) = absurd (subst (Stops 0) (symbol_is s.Open (kind us) second) g)
+call_back n ts x rest second first g (variable (named {ts = us} no_part)) = absurd (subst (Stops 0) (symbol_is symbols.Open (kind us) second) g)
 call_back n ts x rest second first g (variable (named (parts field m))) = absurd (cc)
 call_back n ts x rest second first g (variable (named (parts (subscripts d k) m))) = absurd (cc)
 call_back n ts x rest second first g (parenthesized d) = absurd (cc)
 
-variable_as : (ts : List Tok) (x : Expression) (rest : List Tok) → Then IsVariable (λ y. IsPure (e.Variable y)) ts x rest → IsPrimary ts x rest
+variable_as : (ts : List Tok) (x : Expression) (rest : List Tok) → Then IsVariable (λ y. IsPure (expressions.Variable y)) ts x rest → IsPrimary ts x rest
 variable_as ts x rest (seq d m) = made m (λ y us. IsPrimary ts y us) (variable d)
 
-variable_back : (n : List ℕ) (ts : List Tok) (x : Expression) (rest : List Tok) → parser.is_symbol s.Open (kind (next ts)) ≡ false → kind ts ≡ Some (k.Word n) → IsPrimary ts x rest
-    → Then IsVariable (λ y. IsPure (e.Variable y)) ts x rest
+variable_back : (n : List ℕ) (ts : List Tok) (x : Expression) (rest : List Tok) → parser.is_symbol symbols.Open (kind (next ts)) ≡ false → kind ts ≡ Some (token_kinds.Word n) → IsPrimary ts x rest
+    → Then IsVariable (λ y. IsPure (expressions.Variable y)) ts x rest
 variable_back n ts x rest second first (variable d) = seq d done
 variable_back n ts x rest second first (constant d) = absurd (let wrong = subst (λ t. begins_constant t ≡ true) first (constant_begins d) in cc)
 variable_back n ts x rest second first (call (called no_arguments)) = absurd (cc)
 variable_back n ts x rest second first (call (called (arguments d m))) = absurd (cc)
 variable_back n ts x rest second first (parenthesized d) = absurd (cc)
 
-constant_as : (ts : List Tok) (x : Expression) (rest : List Tok) → Then IsConstant (λ y. IsPure (e.Constant y)) ts x rest → IsPrimary ts x rest
+constant_as : (ts : List Tok) (x : Expression) (rest : List Tok) → Then IsConstant (λ y. IsPure (expressions.Constant y)) ts x rest → IsPrimary ts x rest
 constant_as ts x rest (seq d m) = made m (λ y us. IsPrimary ts y us) (constant d)
 
 -- no word, and no bracket
 abbrev is_literal_first : Option Kind → Bool
-is_literal_first (Some (k.Word n)) = false
-is_literal_first (Some (k.Symbol s.Open)) = false
+is_literal_first (Some (token_kinds.Word n)) = false
+is_literal_first (Some (token_kinds.Symbol symbols.Open)) = false
 is_literal_first _ = true
 
-constant_back : (ts : List Tok) (x : Expression) (rest : List Tok) → is_literal_first (kind ts) ≡ true → IsPrimary ts x rest → Then IsConstant (λ y. IsPure (e.Constant y)) ts x rest
+constant_back : (ts : List Tok) (x : Expression) (rest : List Tok) → is_literal_first (kind ts) ≡ true → IsPrimary ts x rest → Then IsConstant (λ y. IsPure (expressions.Constant y)) ts x rest
 constant_back ts x rest h (constant d) = seq d done
 constant_back ts x rest h (variable (named d)) = absurd (cc)
 constant_back ts x rest h (call (called d)) = absurd (cc)
 constant_back ts x rest h (parenthesized d) = absurd (cc)
 
 is_number_is : (ts : List Tok) → spec.is_number (kind ts) ≡ false → IsNumberFirst (kind ts) → ⊥
-is_number_is ((p, k.Number n) ∷ ts) h d = cc
+is_number_is ((p, token_kinds.Number n) ∷ ts) h d = cc
 is_number_is [] h d = d
 is_number_is ((p, _) ∷ ts) h d = d
 
 number_is : (ts : List Tok) → spec.is_number (kind ts) ≡ true → IsNumberFirst (kind ts)
-number_is ((p, k.Number n) ∷ ts) h = tt
+number_is ((p, token_kinds.Number n) ∷ ts) h = tt
 number_is [] h = absurd (cc)
 number_is ((p, _) ∷ ts) h = absurd (cc)
 
 module _ (r : ℕ) (i : Inside) (h : ExactInside r i) where
-  parenthesized_exact : Exact 1 (spec.parenthesized r i) (IsFirst (k.Symbol s.Open)) IsPrimary Any (At r) (At r)
+  parenthesized_exact : Exact 1 (spec.parenthesized r i) (IsFirst (token_kinds.Symbol symbols.Open)) IsPrimary Any (At r) (At r)
   unfolding spec.parenthesized
-  parenthesized_exact = exact_enter 1 r _ (k.Symbol s.Open) refl (parenthesized_behind r i h)
+  parenthesized_exact = exact_enter 1 r _ (token_kinds.Symbol symbols.Open) refl (parenthesized_behind r i h)
 
-  named_by : (n : List ℕ) (b : Bool) → Exact 1 (spec.named_by r i b) (λ ts. (parser.is_symbol s.Open (kind (next ts)) ≡ b) × (kind ts ≡ Some (k.Word n))) IsPrimary (Stops 0) (At r) (At r)
-  named_by n true = exact_as (exact_last (call_exact r i h) e.Call) (λ ts p. symbol_is s.Open (kind (next ts)) p.0) (λ ts x rest p d. call_as ts x rest d)
+  named_by : (n : List ℕ) (b : Bool) → Exact 1 (spec.named_by r i b) (λ ts. (parser.is_symbol symbols.Open (kind (next ts)) ≡ b) × (kind ts ≡ Some (token_kinds.Word n))) IsPrimary (Stops 0) (At r) (At r)
+  named_by n true = exact_as (exact_last (call_exact r i h) expressions.Call) (λ ts p. symbol_is symbols.Open (kind (next ts)) p.0) (λ ts x rest p d. call_as ts x rest d)
       (λ ts x rest p g d. call_back n ts x rest p.0 p.1 g d) (λ t g. tt)
-  named_by n false = exact_as (exact_last (variable_exact r i h) e.Variable) (λ ts p. tt) (λ ts x rest p d. variable_as ts x rest d)
+  named_by n false = exact_as (exact_last (variable_exact r i h) expressions.Variable) (λ ts p. tt) (λ ts x rest p d. variable_as ts x rest d)
       (λ ts x rest p g d. variable_back n ts x rest p.0 p.1 d) (λ t g. g)
 
-  named_exact : (n : List ℕ) → Exact 1 (spec.named r i) (IsFirst (k.Word n)) IsPrimary (Stops 0) (At r) (At r)
+  named_exact : (n : List ℕ) → Exact 1 (spec.named r i) (IsFirst (token_kinds.Word n)) IsPrimary (Stops 0) (At r) (At r)
   unfolding spec.named
-  named_exact n = exact_on (λ ts. parser.is_symbol s.Open (kind (next ts))) (spec.named_by r i) (IsFirst (k.Word n)) IsPrimary (Stops 0) (At r) (At r) (named_by n)
+  named_exact n = exact_on (λ ts. parser.is_symbol symbols.Open (kind (next ts))) (spec.named_by r i) (IsFirst (token_kinds.Word n)) IsPrimary (Stops 0) (At r) (At r) (named_by n)
 
-  literal_exact : (t : Option Kind) → is_literal_first t ≡ true → Exact 1 (λ ts. and_then (spec.constant ts) (λ x. parser.pure (e.Constant x))) (λ ts. (kind ts ≡ t) × Always ts) IsPrimary (Stops 0) (At r) (At r)
-  literal_exact t l = exact_as (exact_last (constant_exact r) e.Constant) (λ ts p. tt) (λ ts x rest p d. constant_as ts x rest d)
+  literal_exact : (t : Option Kind) → is_literal_first t ≡ true → Exact 1 (λ ts. and_then (spec.constant ts) (λ x. parser.pure (expressions.Constant x))) (λ ts. (kind ts ≡ t) × Always ts) IsPrimary (Stops 0) (At r) (At r)
+  literal_exact t l = exact_as (exact_last (constant_exact r) expressions.Constant) (λ ts p. tt) (λ ts x rest p d. constant_as ts x rest d)
       (λ ts x rest p g d. constant_back ts x rest (subst (λ u. is_literal_first u ≡ true) (sym p.0) l) d) (λ t g. tt)
 
   primary_by : (t : Option Kind) → Exact 1 (spec.primary_by r i t) (λ ts. (kind ts ≡ t) × Always ts) IsPrimary (Stops 0) (At r) (At r)
-  primary_by (Some (k.Word n)) = exact_under (named_exact n) (λ ts p. p.0) (λ t g. g)
-  primary_by (Some (k.Symbol s.Open)) = exact_under parenthesized_exact (λ ts p. p.0) (λ t g. tt)
+  primary_by (Some (token_kinds.Word n)) = exact_under (named_exact n) (λ ts p. p.0) (λ t g. g)
+  primary_by (Some (token_kinds.Symbol symbols.Open)) = exact_under parenthesized_exact (λ ts p. p.0) (λ t g. tt)
   primary_by t = literal_exact t refl
 
   primary_exact : Exact 1 (spec.primary r i) Always IsPrimary (Stops 0) (At r) (At r)
   unfolding spec.primary
   primary_exact = exact_on kind (spec.primary_by r i) Always IsPrimary (Stops 0) (At r) (At r) primary_by
 
-  complement_to : (p : Position) (ts : List Tok) (x : Expression) (rest : List Tok) → Then IsPrimary (λ y. IsPure (e.Not p y)) ts x rest → IsUnary ((p, k.Keyword w.Not) ∷ ts) x rest
-  complement_to p ts x rest (seq d m) = made m (λ y us. IsUnary ((p, k.Keyword w.Not) ∷ ts) y us) (complement d)
+  complement_to : (p : Position) (ts : List Tok) (x : Expression) (rest : List Tok) → Then IsPrimary (λ y. IsPure (expressions.Not p y)) ts x rest → IsUnary ((p, token_kinds.Keyword keywords.Not) ∷ ts) x rest
+  complement_to p ts x rest (seq d m) = made m (λ y us. IsUnary ((p, token_kinds.Keyword keywords.Not) ∷ ts) y us) (complement d)
 
-  complement_from : (p : Position) (ts : List Tok) (x : Expression) (rest : List Tok) → IsUnary ((p, k.Keyword w.Not) ∷ ts) x rest → Then IsPrimary (λ y. IsPure (e.Not p y)) ts x rest
+  complement_from : (p : Position) (ts : List Tok) (x : Expression) (rest : List Tok) → IsUnary ((p, token_kinds.Keyword keywords.Not) ∷ ts) x rest → Then IsPrimary (λ y. IsPure (expressions.Not p y)) ts x rest
   complement_from p ts x rest (complement d) = seq d done
   complement_from p ts x rest (primary d) = absurd (let wrong = primary_begins d in cc)
 
-  complement_exact : Exact 1 (spec.complement r i) (IsFirst (k.Keyword w.Not)) IsUnary (Stops 0) (At r) (At r)
+  complement_exact : Exact 1 (spec.complement r i) (IsFirst (token_kinds.Keyword keywords.Not)) IsUnary (Stops 0) (At r) (At r)
   unfolding spec.complement
-  complement_exact = exact_token (k.Keyword w.Not) refl {R = IsUnary} (λ p. exact_iff (exact_last primary_exact (e.Not p)) (complement_to p) (complement_from p))
+  complement_exact = exact_token (token_kinds.Keyword keywords.Not) refl {R = IsUnary} (λ p. exact_iff (exact_last primary_exact (expressions.Not p)) (complement_to p) (complement_from p))
 
-  negation_to : (p : Position) (ts : List Tok) (x : Expression) (rest : List Tok) → spec.is_number (kind ts) ≡ false → Then IsPrimary (λ y. IsPure (e.Negate p y)) ts x rest → IsUnary ((p, k.Symbol s.Minus) ∷ ts) x rest
-  negation_to p ts x rest apart (seq d m) = made m (λ y us. IsUnary ((p, k.Symbol s.Minus) ∷ ts) y us) (negation (is_number_is ts apart) d)
+  negation_to : (p : Position) (ts : List Tok) (x : Expression) (rest : List Tok) → spec.is_number (kind ts) ≡ false → Then IsPrimary (λ y. IsPure (expressions.Negate p y)) ts x rest → IsUnary ((p, token_kinds.Symbol symbols.Minus) ∷ ts) x rest
+  negation_to p ts x rest apart (seq d m) = made m (λ y us. IsUnary ((p, token_kinds.Symbol symbols.Minus) ∷ ts) y us) (negation (is_number_is ts apart) d)
 
-  negation_from : (p : Position) (ts : List Tok) (x : Expression) (rest : List Tok) → spec.is_number (kind ts) ≡ false → IsUnary ((p, k.Symbol s.Minus) ∷ ts) x rest → Then IsPrimary (λ y. IsPure (e.Negate p y)) ts x rest
+  negation_from : (p : Position) (ts : List Tok) (x : Expression) (rest : List Tok) → spec.is_number (kind ts) ≡ false → IsUnary ((p, token_kinds.Symbol symbols.Minus) ∷ ts) x rest → Then IsPrimary (λ y. IsPure (expressions.Negate p y)) ts x rest
   negation_from p ts x rest apart (negation n d) = seq d done
   negation_from p ts x rest apart (primary (constant (integer minus))) = absurd (cc)
   negation_from p ts x rest apart (primary (variable d)) = elim d [ ]
   negation_from p ts x rest apart (primary (call d)) = elim d [ ]
 
-  negation_exact : Exact 1 (spec.negation r i) (λ ts. IsFirst (k.Symbol s.Minus) ts × (spec.is_number (kind (next ts)) ≡ false)) IsUnary (Stops 0) (At r) (At r)
+  negation_exact : Exact 1 (spec.negation r i) (λ ts. IsFirst (token_kinds.Symbol symbols.Minus) ts × (spec.is_number (kind (next ts)) ≡ false)) IsUnary (Stops 0) (At r) (At r)
   unfolding spec.negation
-  negation_exact = exact_token_if (k.Symbol s.Minus) (λ ts. spec.is_number (kind (next ts)) ≡ false) IsUnary (Stops 0) (At r) (At r) (At r) (leads (k.Symbol s.Minus) r refl)
-      (λ p. exact_as (exact_last primary_exact (e.Negate p)) (λ ts a. tt) (λ ts x rest a d. negation_to p ts x rest a d) (λ ts x rest a g d. negation_from p ts x rest a d) (λ t g. g))
+  negation_exact = exact_token_if (token_kinds.Symbol symbols.Minus) (λ ts. spec.is_number (kind (next ts)) ≡ false) IsUnary (Stops 0) (At r) (At r) (At r) (leads (token_kinds.Symbol symbols.Minus) r refl)
+      (λ p. exact_as (exact_last primary_exact (expressions.Negate p)) (λ ts a. tt) (λ ts x rest a d. negation_to p ts x rest a d) (λ ts x rest a g d. negation_from p ts x rest a d) (λ t g. g))
 
   -- neither NOT nor a '-' before what is no number
   abbrev is_primary_first : Option Kind → Option Kind → Bool
-  is_primary_first (Some (k.Keyword w.Not)) u = false
-  is_primary_first (Some (k.Symbol s.Minus)) u = spec.is_number u
+  is_primary_first (Some (token_kinds.Keyword keywords.Not)) u = false
+  is_primary_first (Some (token_kinds.Symbol symbols.Minus)) u = spec.is_number u
   is_primary_first _ u = true
 
   primary_back : (ts : List Tok) (x : Expression) (rest : List Tok) → is_primary_first (kind ts) (kind (next ts)) ≡ true → IsUnary ts x rest → IsPrimary ts x rest
@@ -488,13 +488,13 @@ module _ (r : ℕ) (i : Inside) (h : ExactInside r i) where
       (λ ts x rest p g d. primary_back ts x rest (subst (λ y. is_primary_first (kind ts) y ≡ true) (sym p.0) (subst (λ y. is_primary_first y u ≡ true) (sym p.1.0) a)) d) (λ t g. g)
 
   minus_by : (u : Option Kind) (b : Bool) → spec.is_number u ≡ b
-      → Exact 1 (spec.minus_by r i b) (λ ts. (kind (next ts) ≡ u) × ((kind ts ≡ Some (k.Symbol s.Minus)) × Always ts)) IsUnary (Stops 0) (At r) (At r)
-  minus_by u true a = plain_exact (Some (k.Symbol s.Minus)) u a
+      → Exact 1 (spec.minus_by r i b) (λ ts. (kind (next ts) ≡ u) × ((kind ts ≡ Some (token_kinds.Symbol symbols.Minus)) × Always ts)) IsUnary (Stops 0) (At r) (At r)
+  minus_by u true a = plain_exact (Some (token_kinds.Symbol symbols.Minus)) u a
   minus_by u false a = exact_under negation_exact (λ ts p. (p.1.0, ap spec.is_number p.0 ∙ a)) (λ t g. g)
 
   unary_by : (t u : Option Kind) → Exact 1 (spec.unary_by r i t u) (λ ts. (kind (next ts) ≡ u) × ((kind ts ≡ t) × Always ts)) IsUnary (Stops 0) (At r) (At r)
-  unary_by (Some (k.Keyword w.Not)) u = exact_under complement_exact (λ ts p. p.1.0) (λ t g. g)
-  unary_by (Some (k.Symbol s.Minus)) u = minus_by u (spec.is_number u) refl
+  unary_by (Some (token_kinds.Keyword keywords.Not)) u = exact_under complement_exact (λ ts p. p.1.0) (λ t g. g)
+  unary_by (Some (token_kinds.Symbol symbols.Minus)) u = minus_by u (spec.is_number u) refl
   unary_by t u = plain_exact t u refl
 
   unary_exact : Exact 1 (spec.unary r i) Always IsUnary (Stops 0) (At r) (At r)
@@ -535,24 +535,24 @@ module _ (r n : ℕ) (P : Parser Expression) (a : Exact 1 P Always (IsBinary n) 
 
   -- no operator opens a level
   plain_operator : (t : Kind) (op : BinOp) → operator_of t ≡ Some op → opens t ≡ 0
-  plain_operator (k.Symbol s.Open) op is = absurd (cc)
-  plain_operator (k.Symbol s.OpenBracket) op is = absurd (cc)
-  plain_operator (k.Keyword w.If) op is = absurd (cc)
-  plain_operator (k.Keyword w.Case) op is = absurd (cc)
-  plain_operator (k.Keyword w.For) op is = absurd (cc)
-  plain_operator (k.Keyword w.While) op is = absurd (cc)
-  plain_operator (k.Keyword w.Repeat) op is = absurd (cc)
+  plain_operator (token_kinds.Symbol symbols.Open) op is = absurd (cc)
+  plain_operator (token_kinds.Symbol symbols.OpenBracket) op is = absurd (cc)
+  plain_operator (token_kinds.Keyword keywords.If) op is = absurd (cc)
+  plain_operator (token_kinds.Keyword keywords.Case) op is = absurd (cc)
+  plain_operator (token_kinds.Keyword keywords.For) op is = absurd (cc)
+  plain_operator (token_kinds.Keyword keywords.While) op is = absurd (cc)
+  plain_operator (token_kinds.Keyword keywords.Repeat) op is = absurd (cc)
   plain_operator t op is = refl
 
   -- nor closes one
   level_operator : (t : Kind) (op : BinOp) → operator_of t ≡ Some op → closes t ≡ 0
-  level_operator (k.Symbol s.Close) op is = absurd (cc)
-  level_operator (k.Symbol s.CloseBracket) op is = absurd (cc)
-  level_operator (k.Keyword w.EndIf) op is = absurd (cc)
-  level_operator (k.Keyword w.EndCase) op is = absurd (cc)
-  level_operator (k.Keyword w.EndFor) op is = absurd (cc)
-  level_operator (k.Keyword w.EndWhile) op is = absurd (cc)
-  level_operator (k.Keyword w.EndRepeat) op is = absurd (cc)
+  level_operator (token_kinds.Symbol symbols.Close) op is = absurd (cc)
+  level_operator (token_kinds.Symbol symbols.CloseBracket) op is = absurd (cc)
+  level_operator (token_kinds.Keyword keywords.EndIf) op is = absurd (cc)
+  level_operator (token_kinds.Keyword keywords.EndCase) op is = absurd (cc)
+  level_operator (token_kinds.Keyword keywords.EndFor) op is = absurd (cc)
+  level_operator (token_kinds.Keyword keywords.EndWhile) op is = absurd (cc)
+  level_operator (token_kinds.Keyword keywords.EndRepeat) op is = absurd (cc)
   level_operator t op is = refl
 
   operator_leads : (t : Kind) (op : Option BinOp) → operator_of t ≡ op → spec.has_precedence (suc n) op ≡ true → Leads (At r) (At r) t
@@ -607,7 +607,7 @@ module _ (r n : ℕ) (P : Parser Expression) (a : Exact 1 P Always (IsBinary n) 
   unfolding spec.chain
   level_from p ts x rest here (alone d) = seq d (seq none done)
   level_from p ts x rest here (chain {x = y} {l = l} {ls = ls} d m) =
-      subst (λ q. IsLevel p ts (e.Chain q y (l ∷ ls)) rest) here (seq d (seq (from_operations m) done))
+      subst (λ q. IsLevel p ts (expressions.Chain q y (l ∷ ls)) rest) here (seq d (seq (from_operations m) done))
 
   level_follow : (p : Position) (x : Expression) (mid rest : List Tok) (y : Expression) → Then (IsMany (IsOperation n)) (λ ls. IsPure (spec.chain p x ls)) mid y rest → Ends (spec.is_operator n) (Stops n) (kind rest) → Stops n (kind mid)
   level_follow p x mid rest y (seq none c) g = made c (λ z us. Ends (spec.is_operator n) (Stops n) (kind us) → Stops n (kind mid)) (λ f. f.1) g

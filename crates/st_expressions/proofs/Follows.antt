@@ -3,9 +3,9 @@ use Rattle.std.proofs.Common.{◌≡◌, ℕ, suc, ◌<◌, List, ◌∷◌, ref
 use lib.Dec.{eqb→eq, T}
 use Rattle.std.proofs.Math.Dec.{eqb_refl}
 use Rattle.std.specs.Prelude.{Option, Some, None, ◌==◌}
-use Rattle.st_tokens.specs.declared.keyword.Keyword.TheVariants as w
-use Rattle.st_tokens.specs.declared.symbol.Symbol.TheVariants as s
-use Rattle.st_tokens.specs.declared.token.Kind.TheVariants as k
+use Rattle.st_tokens.specs.declared.keyword.Keyword.TheVariants as keywords
+use Rattle.st_tokens.specs.declared.symbol.Symbol.TheVariants as symbols
+use Rattle.st_tokens.specs.declared.token.Kind.TheVariants as token_kinds
 use Rattle.st_expressions.specs.Grammar.{IsSignedInteger, unsigned, plus, minus, IsConstant, integer, typed, duration, truth, falsehood, IsBinary, unary, alone, chain, IsOperations, operations, IsOperation, operation, IsUnary, negation, complement, primary, IsPrimary, constant, variable, call, parenthesized, named, no_part, parts, IsPart, field, subscripts, called, no_arguments, arguments, IsArgument, positional, input, output, operator_of, precedence_of}
 use Rattle.st_expressions.specs.Reader.{begins_part, is_operator, has_precedence, operator_at}
 use Rattle.st_parser.specs.Grammar.Tokens.{Tok, kind}
@@ -18,9 +18,9 @@ Above n None = Unit {0}
 
 -- an expression of precedence n can't go on here
 abbrev pub Stops : ℕ → Option Kind → Type 0
-Stops n (Some (k.Symbol s.Dot)) = ⊥
-Stops n (Some (k.Symbol s.OpenBracket)) = ⊥
-Stops n (Some (k.Symbol s.Open)) = ⊥
+Stops n (Some (token_kinds.Symbol symbols.Dot)) = ⊥
+Stops n (Some (token_kinds.Symbol symbols.OpenBracket)) = ⊥
+Stops n (Some (token_kinds.Symbol symbols.Open)) = ⊥
 Stops n t = Above n (operator_at t)
 
 above_less : (n : ℕ) (op : Option BinOp) → Above (suc n) op → Above n op
@@ -28,9 +28,9 @@ above_less n (Some op) h = omega arith
 above_less n None h = tt
 
 pub stops_less : (n : ℕ) (t : Option Kind) → Stops (suc n) t → Stops n t
-stops_less n (Some (k.Symbol s.Dot)) h = h
-stops_less n (Some (k.Symbol s.OpenBracket)) h = h
-stops_less n (Some (k.Symbol s.Open)) h = h
+stops_less n (Some (token_kinds.Symbol symbols.Dot)) h = h
+stops_less n (Some (token_kinds.Symbol symbols.OpenBracket)) h = h
+stops_less n (Some (token_kinds.Symbol symbols.Open)) h = h
 stops_less n t h = above_less n (operator_at t) h
 
 above_is : (n : ℕ) (t : Kind) (op : BinOp) → operator_of t ≡ Some op → n < precedence_of op → Above n (operator_of t)
@@ -38,14 +38,14 @@ above_is n t op is above = subst (λ x. Above n x) (sym is) above
 
 -- an operator of precedence n+1 may follow an expression of precedence n
 pub stops_at : (n : ℕ) (t : Kind) (op : BinOp) → operator_of t ≡ Some op → n < precedence_of op → Stops n (Some t)
-stops_at n (k.Symbol s.Dot) op is above = absurd (cc)
-stops_at n (k.Symbol s.OpenBracket) op is above = absurd (cc)
-stops_at n (k.Symbol s.Open) op is above = absurd (cc)
+stops_at n (token_kinds.Symbol symbols.Dot) op is above = absurd (cc)
+stops_at n (token_kinds.Symbol symbols.OpenBracket) op is above = absurd (cc)
+stops_at n (token_kinds.Symbol symbols.Open) op is above = absurd (cc)
 stops_at n t op is above = above_is n t op is above
 
 pub stops_part : (n : ℕ) (t : Option Kind) → Stops n t → begins_part t ≡ false
-stops_part n (Some (k.Symbol s.Dot)) h = absurd h
-stops_part n (Some (k.Symbol s.OpenBracket)) h = absurd h
+stops_part n (Some (token_kinds.Symbol symbols.Dot)) h = absurd h
+stops_part n (Some (token_kinds.Symbol symbols.OpenBracket)) h = absurd h
 stops_part n _ h = refl
 
 other_precedence : (a b : ℕ) → (a ≡ b → ⊥) → (a == b) ≡ false
@@ -68,18 +68,18 @@ above_none n (Some op) h = other_precedence (precedence_of op) (suc n) (λ e. om
 above_none n None h = refl
 
 pub stops_operator : (n : ℕ) (t : Option Kind) → Stops (suc n) t → is_operator n t ≡ false
-stops_operator n (Some (k.Symbol s.Dot)) h = absurd h
-stops_operator n (Some (k.Symbol s.OpenBracket)) h = absurd h
-stops_operator n (Some (k.Symbol s.Open)) h = absurd h
+stops_operator n (Some (token_kinds.Symbol symbols.Dot)) h = absurd h
+stops_operator n (Some (token_kinds.Symbol symbols.OpenBracket)) h = absurd h
+stops_operator n (Some (token_kinds.Symbol symbols.Open)) h = absurd h
 stops_operator n t h = above_none n (operator_at t) h
 
 -- ---- first tokens
 
 -- an integer begins so
 abbrev pub begins_integer : Option Kind → Bool
-begins_integer (Some (k.Number n)) = true
-begins_integer (Some (k.Symbol s.Plus)) = true
-begins_integer (Some (k.Symbol s.Minus)) = true
+begins_integer (Some (token_kinds.Number n)) = true
+begins_integer (Some (token_kinds.Symbol symbols.Plus)) = true
+begins_integer (Some (token_kinds.Symbol symbols.Minus)) = true
 begins_integer _ = false
 
 pub integer_begins : {ts rest : List Tok} {x : SignedInteger} → IsSignedInteger ts x rest → begins_integer (kind ts) ≡ true
@@ -89,17 +89,17 @@ integer_begins minus = refl
 
 -- a literal begins so
 abbrev pub begins_constant : Option Kind → Bool
-begins_constant (Some (k.Typed v)) = true
-begins_constant (Some (k.Duration d)) = true
-begins_constant (Some (k.Keyword w.True)) = true
-begins_constant (Some (k.Keyword w.False)) = true
+begins_constant (Some (token_kinds.Typed v)) = true
+begins_constant (Some (token_kinds.Duration d)) = true
+begins_constant (Some (token_kinds.Keyword keywords.True)) = true
+begins_constant (Some (token_kinds.Keyword keywords.False)) = true
 begins_constant t = begins_integer t
 
 from_integer : (t : Option Kind) → begins_integer t ≡ true → begins_constant t ≡ true
-from_integer (Some (k.Typed v)) h = refl
-from_integer (Some (k.Duration d)) h = refl
-from_integer (Some (k.Keyword w.True)) h = refl
-from_integer (Some (k.Keyword w.False)) h = refl
+from_integer (Some (token_kinds.Typed v)) h = refl
+from_integer (Some (token_kinds.Duration d)) h = refl
+from_integer (Some (token_kinds.Keyword keywords.True)) h = refl
+from_integer (Some (token_kinds.Keyword keywords.False)) h = refl
 from_integer _ h = h
 
 pub constant_begins : {ts rest : List Tok} {x : Constant} → IsConstant ts x rest → begins_constant (kind ts) ≡ true
@@ -111,13 +111,13 @@ constant_begins falsehood = refl
 
 -- a primary expression begins so
 abbrev pub begins_primary : Option Kind → Bool
-begins_primary (Some (k.Word n)) = true
-begins_primary (Some (k.Symbol s.Open)) = true
+begins_primary (Some (token_kinds.Word n)) = true
+begins_primary (Some (token_kinds.Symbol symbols.Open)) = true
 begins_primary t = begins_constant t
 
 from_constant : (t : Option Kind) → begins_constant t ≡ true → begins_primary t ≡ true
-from_constant (Some (k.Word n)) h = refl
-from_constant (Some (k.Symbol s.Open)) h = refl
+from_constant (Some (token_kinds.Word n)) h = refl
+from_constant (Some (token_kinds.Symbol symbols.Open)) h = refl
 from_constant _ h = h
 
 pub primary_begins : {ts rest : List Tok} {x : Expression} → IsPrimary ts x rest → begins_primary (kind ts) ≡ true
@@ -128,11 +128,11 @@ primary_begins (parenthesized d) = refl
 
 -- an expression begins so
 abbrev pub begins_expression : Option Kind → Bool
-begins_expression (Some (k.Keyword w.Not)) = true
+begins_expression (Some (token_kinds.Keyword keywords.Not)) = true
 begins_expression t = begins_primary t
 
 from_primary : (t : Option Kind) → begins_primary t ≡ true → begins_expression t ≡ true
-from_primary (Some (k.Keyword w.Not)) h = refl
+from_primary (Some (token_kinds.Keyword keywords.Not)) h = refl
 from_primary _ h = h
 
 pub binary_begins : {n : ℕ} {ts rest : List Tok} {x : Expression} → IsBinary n ts x rest → begins_expression (kind ts) ≡ true
@@ -167,7 +167,7 @@ operation_not : {n : ℕ} {t : Kind} {ts rest : List Tok} {l : Operation} {ls : 
 operation_not {t = t} first nothing (operations (operation {t = u} {op = op} is precedence d) m) =
     let same : u ≡ t = cc (first) in let e = ap operator_of same in absurd (cc (e, is, nothing))
 
-primary_word : {p q : Position} {n : List ℕ} {t : Kind} {us rest : List Tok} {x : Expression} → Stops 7 (Some t) → IsPrimary ((p, k.Word n) ∷ (q, t) ∷ us) x rest → kind rest ≡ Some t
+primary_word : {p q : Position} {n : List ℕ} {t : Kind} {us rest : List Tok} {x : Expression} → Stops 7 (Some t) → IsPrimary ((p, token_kinds.Word n) ∷ (q, t) ∷ us) x rest → kind rest ≡ Some t
 primary_word stops (constant (integer d)) = absurd (let e = integer_begins d in cc)
 primary_word stops (variable (named no_part)) = refl
 primary_word stops (variable (named (parts field m))) = absurd stops
@@ -175,11 +175,11 @@ primary_word stops (variable (named (parts (subscripts d e) m))) = absurd stops
 primary_word stops (call (called no_arguments)) = absurd stops
 primary_word stops (call (called (arguments d m))) = absurd stops
 
-unary_word : {p q : Position} {n : List ℕ} {t : Kind} {us rest : List Tok} {x : Expression} → Stops 7 (Some t) → IsUnary ((p, k.Word n) ∷ (q, t) ∷ us) x rest → kind rest ≡ Some t
+unary_word : {p q : Position} {n : List ℕ} {t : Kind} {us rest : List Tok} {x : Expression} → Stops 7 (Some t) → IsUnary ((p, token_kinds.Word n) ∷ (q, t) ∷ us) x rest → kind rest ≡ Some t
 unary_word stops (primary d) = primary_word stops d
 
 -- where such a token comes behind a word, an expression ends before it
-pub binary_word : {r : ℕ} {p q : Position} {n : List ℕ} {t : Kind} {us rest : List Tok} {x : Expression} → Ending t → IsBinary r ((p, k.Word n) ∷ (q, t) ∷ us) x rest → kind rest ≡ Some t
+pub binary_word : {r : ℕ} {p q : Position} {n : List ℕ} {t : Kind} {us rest : List Tok} {x : Expression} → Ending t → IsBinary r ((p, token_kinds.Word n) ∷ (q, t) ∷ us) x rest → kind rest ≡ Some t
 binary_word e (unary d) = unary_word e.0 d
 binary_word e (alone d) = binary_word e d
 binary_word e (chain d m) = absurd (operation_not (binary_word e d) e.1 m)

@@ -1,7 +1,7 @@
 -- The steps of the reading functions that recurse.
 use Rattle.std.proofs.Common.{◌≡◌, ℕ, zero, suc, ◌-◌, ◌<◌, List, [], ◌∷◌, refl, sub-one, arith}
 use Rattle.std.specs.Prelude.{Ok, Err}
-use Rattle.st_tree.specs.declared.tree.expression.Expression.TheVariants as e
+use Rattle.st_tree.specs.declared.tree.expression.Expression.TheVariants as expressions
 use Rattle.st_parser.specs.Grammar.Tokens.{Tok, position}
 use Rattle.st_parser.specs.Reader.Parsers.{Refuses}
 use Rattle.st_expressions.specs.Reader.{Inside, inside_of, binary, operations, chain, variable}
@@ -13,7 +13,7 @@ unfolding chain
 chain_none p x [] none = refl
 chain_none p x (l ∷ ls) none = absurd (cc)
 
-pub chain_some : (p : Position) (x : Expression) (ls : List Operation) → (ls ≡ [] → ⊥) → e.Chain p x ls ≡ chain p x ls
+pub chain_some : (p : Position) (x : Expression) (ls : List Operation) → (ls ≡ [] → ⊥) → expressions.Chain p x ls ≡ chain p x ls
 unfolding chain
 chain_some p x [] some = absurd (some refl)
 chain_some p x (l ∷ ls) some = refl

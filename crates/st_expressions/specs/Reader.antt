@@ -1,12 +1,12 @@
 -- The reading of expressions as functions: what each function that reads them answers.
 use Rattle.std.specs.Prelude.{ℕ, zero, suc, Bool, true, false, ◌==◌, List, [], ◌∷◌, Option, Some, None}
-use Rattle.st_tokens.specs.declared.keyword.Keyword.TheVariants as w
-use Rattle.st_tokens.specs.declared.symbol.Symbol.TheVariants as s
-use Rattle.st_tokens.specs.declared.token.Kind.TheVariants as k
-use Rattle.st_tree.specs.declared.tree.constant.Constant.TheVariants as c
-use Rattle.st_tree.specs.declared.tree.expression.Expression.TheVariants as e
-use Rattle.st_tree.specs.declared.tree.expression.Part.TheVariants as part
-use Rattle.st_tree.specs.declared.tree.expression.Argument.TheVariants as a
+use Rattle.st_tokens.specs.declared.keyword.Keyword.TheVariants as keywords
+use Rattle.st_tokens.specs.declared.symbol.Symbol.TheVariants as symbols
+use Rattle.st_tokens.specs.declared.token.Kind.TheVariants as token_kinds
+use Rattle.st_tree.specs.declared.tree.constant.Constant.TheVariants as constants
+use Rattle.st_tree.specs.declared.tree.expression.Expression.TheVariants as expressions
+use Rattle.st_tree.specs.declared.tree.expression.Part.TheVariants as part_kinds
+use Rattle.st_tree.specs.declared.tree.expression.Argument.TheVariants as argument_kinds
 use Rattle.st_parser.specs.Reader.Parsers.{Parser, ◌>>=◌, ◌>>◌, pure, refuse, bump, peek, peek_second, here, expect_symbol, is_symbol, enter, identifier, number, many, listed}
 use Rattle.st_expressions.specs.Grammar.{integer_of, duration_of, operation_of, variable_of, call_of, operator_of, precedence_of}
 use Rattle.st_parser.specs.Names.{Argument, BinOp, Call, Constant, Expression, Kind, Operation, Part, Position, SignedInteger, Variable}
@@ -21,20 +21,20 @@ signed negative = do
   pure (integer_of p negative n)
 
 abbrev pub integer_by : Option Kind → Parser SignedInteger
-integer_by (Some (k.Number n)) = do p ← bump; pure (integer_of p false n)
-integer_by (Some (k.Symbol s.Plus)) = signed false
-integer_by (Some (k.Symbol s.Minus)) = signed true
+integer_by (Some (token_kinds.Number n)) = do p ← bump; pure (integer_of p false n)
+integer_by (Some (token_kinds.Symbol symbols.Plus)) = signed false
+integer_by (Some (token_kinds.Symbol symbols.Minus)) = signed true
 integer_by _ = refuse
 
 unfoldable pub signed_integer : Parser SignedInteger
 signed_integer = peek >>= integer_by
 
 abbrev pub constant_by : Option Kind → Parser Constant
-constant_by (Some (k.Typed v)) = do p ← bump; pure (c.Typed p v)
-constant_by (Some (k.Duration d)) = do p ← bump; pure (c.Duration (duration_of p d))
-constant_by (Some (k.Keyword w.True)) = do p ← bump; pure (c.Bool p true)
-constant_by (Some (k.Keyword w.False)) = do p ← bump; pure (c.Bool p false)
-constant_by _ = do i ← signed_integer; pure (c.Integer i)
+constant_by (Some (token_kinds.Typed v)) = do p ← bump; pure (constants.Typed p v)
+constant_by (Some (token_kinds.Duration d)) = do p ← bump; pure (constants.Duration (duration_of p d))
+constant_by (Some (token_kinds.Keyword keywords.True)) = do p ← bump; pure (constants.Bool p true)
+constant_by (Some (token_kinds.Keyword keywords.False)) = do p ← bump; pure (constants.Bool p false)
+constant_by _ = do i ← signed_integer; pure (constants.Integer i)
 
 unfoldable pub constant : Parser Constant
 constant = peek >>= constant_by
@@ -49,22 +49,22 @@ unfoldable pub field : Parser Part
 field = do
   bump
   name ← identifier
-  pure (part.Field name)
+  pure (part_kinds.Field name)
 
 unfoldable pub subscripts : ℕ → Inside → Parser Part
 subscripts depth_left inside = do
   p ← enter depth_left
   xs ← listed inside.expression
-  expect_symbol s.CloseBracket
-  pure (part.Subscripts p xs)
+  expect_symbol symbols.CloseBracket
+  pure (part_kinds.Subscripts p xs)
 
 abbrev pub begins_part : Option Kind → Bool
-begins_part (Some (k.Symbol s.Dot)) = true
-begins_part (Some (k.Symbol s.OpenBracket)) = true
+begins_part (Some (token_kinds.Symbol symbols.Dot)) = true
+begins_part (Some (token_kinds.Symbol symbols.OpenBracket)) = true
 begins_part _ = false
 
 abbrev pub part_by : ℕ → Inside → Option Kind → Parser Part
-part_by depth_left inside (Some (k.Symbol s.Dot)) = field
+part_by depth_left inside (Some (token_kinds.Symbol symbols.Dot)) = field
 part_by depth_left inside _ = subscripts depth_left inside
 
 unfoldable pub part_of : ℕ → Inside → Parser Part
@@ -82,26 +82,26 @@ variable depth_left inside = do
 unfoldable pub input : Inside → Parser Argument
 input inside = do
   name ← identifier
-  expect_symbol s.Assign
+  expect_symbol symbols.Assign
   x ← inside.expression
-  pure (a.Input name x)
+  pure (argument_kinds.Input name x)
 
 unfoldable pub output : Inside → Parser Argument
 output inside = do
   name ← identifier
-  expect_symbol s.Output
+  expect_symbol symbols.Output
   x ← inside.variable
-  pure (a.Output name x)
+  pure (argument_kinds.Output name x)
 
 unfoldable pub positional : Inside → Parser Argument
 positional inside = do
   x ← inside.expression
-  pure (a.Positional x)
+  pure (argument_kinds.Positional x)
 
 -- how an argument begins: with a word, and with what behind it
 abbrev pub argument_by : Inside → Option Kind → Option Kind → Parser Argument
-argument_by inside (Some (k.Word n)) (Some (k.Symbol s.Assign)) = input inside
-argument_by inside (Some (k.Word n)) (Some (k.Symbol s.Output)) = output inside
+argument_by inside (Some (token_kinds.Word n)) (Some (token_kinds.Symbol symbols.Assign)) = input inside
+argument_by inside (Some (token_kinds.Word n)) (Some (token_kinds.Symbol symbols.Output)) = output inside
 argument_by inside _ _ = positional inside
 
 unfoldable pub argument : Inside → Parser Argument
@@ -112,13 +112,13 @@ argument inside = do
 
 abbrev pub arguments_by : Inside → Bool → Parser (List Argument)
 arguments_by inside true = do bump; pure []
-arguments_by inside false = do xs ← listed (argument inside); expect_symbol s.Close; pure xs
+arguments_by inside false = do xs ← listed (argument inside); expect_symbol symbols.Close; pure xs
 
 -- behind the '(' of a call
 unfoldable pub arguments : Inside → Parser (List Argument)
 arguments inside = do
   t ← peek
-  arguments_by inside (is_symbol s.Close t)
+  arguments_by inside (is_symbol symbols.Close t)
 
 unfoldable pub call : ℕ → Inside → Parser Call
 call depth_left inside = do
@@ -133,50 +133,50 @@ unfoldable pub parenthesized : ℕ → Inside → Parser Expression
 parenthesized depth_left inside = do
   p ← enter depth_left
   x ← inside.expression
-  expect_symbol s.Close
-  pure (e.Parenthesized p x)
+  expect_symbol symbols.Close
+  pure (expressions.Parenthesized p x)
 
 abbrev pub named_by : ℕ → Inside → Bool → Parser Expression
-named_by depth_left inside true = do x ← call depth_left inside; pure (e.Call x)
-named_by depth_left inside false = do x ← variable depth_left inside; pure (e.Variable x)
+named_by depth_left inside true = do x ← call depth_left inside; pure (expressions.Call x)
+named_by depth_left inside false = do x ← variable depth_left inside; pure (expressions.Variable x)
 
 -- what begins with a word
 unfoldable pub named : ℕ → Inside → Parser Expression
 named depth_left inside = do
   t ← peek_second
-  named_by depth_left inside (is_symbol s.Open t)
+  named_by depth_left inside (is_symbol symbols.Open t)
 
 abbrev pub primary_by : ℕ → Inside → Option Kind → Parser Expression
-primary_by depth_left inside (Some (k.Word n)) = named depth_left inside
-primary_by depth_left inside (Some (k.Symbol s.Open)) = parenthesized depth_left inside
-primary_by depth_left inside _ = do x ← constant; pure (e.Constant x)
+primary_by depth_left inside (Some (token_kinds.Word n)) = named depth_left inside
+primary_by depth_left inside (Some (token_kinds.Symbol symbols.Open)) = parenthesized depth_left inside
+primary_by depth_left inside _ = do x ← constant; pure (expressions.Constant x)
 
 unfoldable pub primary : ℕ → Inside → Parser Expression
 primary depth_left inside = peek >>= primary_by depth_left inside
 
 abbrev pub is_number : Option Kind → Bool
-is_number (Some (k.Number n)) = true
+is_number (Some (token_kinds.Number n)) = true
 is_number _ = false
 
 unfoldable pub negation : ℕ → Inside → Parser Expression
 negation depth_left inside = do
   p ← bump
   x ← primary depth_left inside
-  pure (e.Negate p x)
+  pure (expressions.Negate p x)
 
 unfoldable pub complement : ℕ → Inside → Parser Expression
 complement depth_left inside = do
   p ← bump
   x ← primary depth_left inside
-  pure (e.Not p x)
+  pure (expressions.Not p x)
 
 abbrev pub minus_by : ℕ → Inside → Bool → Parser Expression
 minus_by depth_left inside true = primary depth_left inside
 minus_by depth_left inside false = negation depth_left inside
 
 abbrev pub unary_by : ℕ → Inside → Option Kind → Option Kind → Parser Expression
-unary_by depth_left inside (Some (k.Keyword w.Not)) u = complement depth_left inside
-unary_by depth_left inside (Some (k.Symbol s.Minus)) u = minus_by depth_left inside (is_number u)
+unary_by depth_left inside (Some (token_kinds.Keyword keywords.Not)) u = complement depth_left inside
+unary_by depth_left inside (Some (token_kinds.Symbol symbols.Minus)) u = minus_by depth_left inside (is_number u)
 unary_by depth_left inside _ u = primary depth_left inside
 
 unfoldable pub unary : ℕ → Inside → Parser Expression
@@ -214,7 +214,7 @@ operations operand r = many (is_operator r) (operation operand)
 
 unfoldable pub chain : Position → Expression → List Operation → Expression
 chain p x [] = x
-chain p x (l ∷ ls) = e.Chain p x (l ∷ ls)
+chain p x (l ∷ ls) = expressions.Chain p x (l ∷ ls)
 
 unfoldable pub binary : ℕ → Inside → ℕ → Parser Expression
 binary depth_left inside zero = unary depth_left inside

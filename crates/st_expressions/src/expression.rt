@@ -7,7 +7,6 @@ ghost use Rattle.st_parser.specs.Grammar.Tokens.{kind, next, Tok};
 ghost use Rattle.st_parser.specs.Names as names;
 ghost use Rattle.st_parser.specs.Reader.Parsers as parser;
 ghost use Rattle.st_parser.specs.Reader.Parsers.{MayTake, Takes};
-ghost use Rattle.st_parser.specs.declared.fault.ReadFault.TheVariants.{Memory};
 
 use crate::constant::constant;
 use st_parser::{Cursor, ReadFault, single};
@@ -427,7 +426,7 @@ fn chain(
     operations: List<Operation>,
 ) -> Result<Expression, ReadFault>
     ensures ok { IfOk result (λ chain. chain ≡ spec.chain position first operations) }
-    ensures err { IfErr result (λ fault. fault ≡ Memory) }
+    ensures err { IfErr result (λ fault. fault ≡ ReadFault.Memory) }
 {
     if operations.is_empty() {
         return Ok(first);

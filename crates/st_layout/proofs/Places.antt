@@ -4,25 +4,25 @@ use Rattle.std.proofs.lemmas.List.{take_all, take-take}
 use Rattle.std.proofs.lemmas.List.Sums.{sum_by-take-le, sum_by_more}
 use Rattle.st_values.specs.Types.{width_of}
 use Rattle.st_values.specs.declared.elem.Elem.{Elem}
-use Rattle.st_values.specs.declared.elem.Elem.TheVariants as E
+use Rattle.st_values.specs.declared.elem.Elem.TheVariants as elems
 use Rattle.st_tree.specs.declared.leaf.Leaf.{Leaf}
 use Rattle.st_layout.specs.Layout.{leaf_at, no_leaf, offset_of, total_width}
 
 pub width_le_8 : (elem : Elem) → width_of elem ≤ 8
-width_le_8 E.Bool = omega arith
-width_le_8 E.Sint = omega arith
-width_le_8 E.Int = omega arith
-width_le_8 E.Dint = omega arith
-width_le_8 E.Lint = omega arith
-width_le_8 E.Usint = omega arith
-width_le_8 E.Uint = omega arith
-width_le_8 E.Udint = omega arith
-width_le_8 E.Ulint = omega arith
-width_le_8 E.Byte = omega arith
-width_le_8 E.Word = omega arith
-width_le_8 E.Dword = omega arith
-width_le_8 E.Lword = omega arith
-width_le_8 E.Time = omega arith
+width_le_8 elems.Bool = omega arith
+width_le_8 elems.Sint = omega arith
+width_le_8 elems.Int = omega arith
+width_le_8 elems.Dint = omega arith
+width_le_8 elems.Lint = omega arith
+width_le_8 elems.Usint = omega arith
+width_le_8 elems.Uint = omega arith
+width_le_8 elems.Udint = omega arith
+width_le_8 elems.Ulint = omega arith
+width_le_8 elems.Byte = omega arith
+width_le_8 elems.Word = omega arith
+width_le_8 elems.Dword = omega arith
+width_le_8 elems.Lword = omega arith
+width_le_8 elems.Time = omega arith
 
 -- each leaf begins where the one before ends
 pub offset_more : (leaves : List Leaf) (i : ℕ) → i < length leaves → offset_of leaves (i + 1) ≡ offset_of leaves i + width_of (leaf_at leaves i).elem

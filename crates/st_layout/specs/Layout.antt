@@ -5,7 +5,7 @@ use Rattle.std.specs.List.{All, AllPairs, position, sum_by}
 use Rattle.std.specs.Str.{bytes_eq}
 use Rattle.st_values.specs.Types.{width_of}
 use Rattle.st_values.specs.Values.{IsValue}
-use Rattle.st_values.specs.declared.elem.Elem.TheVariants as E
+use Rattle.st_values.specs.declared.elem.Elem.TheVariants as elems
 use Rattle.st_tree.specs.declared.leaf.Leaf.{Leaf}
 use Rattle.st_tree.specs.declared.leaf.Role.{Role}
 use Rattle.st_tree.specs.declared.leaf.Role.TheVariants.{Plain, ProcessInput, Hidden}
@@ -13,11 +13,11 @@ use Rattle.st_values.specs.declared.value.Value.{Value}
 
 -- what stands past the end of a list of values
 abbrev pub no_value : Value
-no_value = record { elem = E.Bool; bits = pos 0 }
+no_value = record { elem = elems.Bool; bits = pos 0 }
 
 -- what stands past the end of a list of leaves
 abbrev pub no_leaf : Leaf
-no_leaf = record { path = []; shown = []; spine = []; elem = E.Bool; initial = no_value; role = Hidden }
+no_leaf = record { path = []; shown = []; spine = []; elem = elems.Bool; initial = no_value; role = Hidden }
 
 -- the leaf of this number
 abbrev pub leaf_at : List Leaf → ℕ → Leaf

@@ -4,9 +4,9 @@ use denote.Enum.Bare.{same_true}
 use Rattle.std.specs.Prelude.{Option, Some, Ok, Err}
 use Rattle.st_tokens.specs.contracts.keyword.Keyword as keyword
 use Rattle.st_tokens.specs.contracts.symbol.Symbol as symbol
-use Rattle.st_tokens.specs.declared.keyword.Keyword.TheVariants as w
-use Rattle.st_tokens.specs.declared.symbol.Symbol.TheVariants as s
-use Rattle.st_tokens.specs.declared.token.Kind.TheVariants as k
+use Rattle.st_tokens.specs.declared.keyword.Keyword.TheVariants as keywords
+use Rattle.st_tokens.specs.declared.symbol.Symbol.TheVariants as symbols
+use Rattle.st_tokens.specs.declared.token.Kind.TheVariants as token_kinds
 use Rattle.st_parser.specs.Names.{Identifier, Keyword, Kind, Position, Symbol}
 use Rattle.st_parser.specs.Grammar.Levels.{opens, closes}
 use Rattle.st_parser.specs.Grammar.Lists.{IsMany, none, more, IsNext, comma, IsListed, listed}
@@ -55,10 +55,10 @@ pub data IsPure {A : Type 0} (a : A) : List Tok → A → List Tok → Type 0 wh
   done : {ts : List Tok} → IsPure a ts a ts
 
 pub data IsWord : List Tok → Identifier → List Tok → Type 0 where
-  a_word : {p : Position} {n : List ℕ} {rest : List Tok} → IsWord ((p, k.Word n) ∷ rest) (identifier_of p n) rest
+  a_word : {p : Position} {n : List ℕ} {rest : List Tok} → IsWord ((p, token_kinds.Word n) ∷ rest) (identifier_of p n) rest
 
 pub data IsNumber : List Tok → ℕ → List Tok → Type 0 where
-  a_number : {p : Position} {n : ℕ} {rest : List Tok} → IsNumber ((p, k.Number n) ∷ rest) n rest
+  a_number : {p : Position} {n : ℕ} {rest : List Tok} → IsNumber ((p, token_kinds.Number n) ∷ rest) n rest
 
 -- ---- sequences
 
@@ -255,65 +255,65 @@ module _ (x : Kind) (test : Option Kind → Bool) (r : ℕ) (plain : opens x ≡
     read = λ ts p rest u d g q. expect_read d;
   }
 
-pub symbol_is : (x : Symbol) (t : Option Kind) → parser.is_symbol x t ≡ true → t ≡ Some (k.Symbol x)
-symbol_is x (Some (k.Symbol y)) h = ap (λ z. Some (k.Symbol z)) (sym (same_true symbol.the_type (search rules) x y h))
+pub symbol_is : (x : Symbol) (t : Option Kind) → parser.is_symbol x t ≡ true → t ≡ Some (token_kinds.Symbol x)
+symbol_is x (Some (token_kinds.Symbol y)) h = ap (λ z. Some (token_kinds.Symbol z)) (sym (same_true symbol.the_type (search rules) x y h))
 symbol_is x _ h = absurd (cc)
 
-pub keyword_is : (x : Keyword) (t : Option Kind) → parser.is_keyword x t ≡ true → t ≡ Some (k.Keyword x)
-keyword_is x (Some (k.Keyword y)) h = ap (λ z. Some (k.Keyword z)) (sym (same_true keyword.the_type (search rules) x y h))
+pub keyword_is : (x : Keyword) (t : Option Kind) → parser.is_keyword x t ≡ true → t ≡ Some (token_kinds.Keyword x)
+keyword_is x (Some (token_kinds.Keyword y)) h = ap (λ z. Some (token_kinds.Keyword z)) (sym (same_true keyword.the_type (search rules) x y h))
 keyword_is x _ h = absurd (cc)
 
 pub symbol_self : (x : Symbol) → same_symbol x x ≡ true
-symbol_self s.Open = refl
+symbol_self symbols.Open = refl
 symbol_self _ = refl
 
 pub keyword_self : (x : Keyword) → same_keyword x x ≡ true
-keyword_self w.If = refl
+keyword_self keywords.If = refl
 keyword_self _ = refl
 
-pub exact_symbol : (x : Symbol) (r : ℕ) → opens (k.Symbol x) ≡ 0 → Exact 1 (parser.expect_symbol x) Always (IsOne (k.Symbol x)) Any (At r) (At (past (closes (k.Symbol x)) r))
-exact_symbol x r plain = exact_expect (k.Symbol x) (parser.is_symbol x) r plain (symbol_is x) (symbol_self x)
+pub exact_symbol : (x : Symbol) (r : ℕ) → opens (token_kinds.Symbol x) ≡ 0 → Exact 1 (parser.expect_symbol x) Always (IsOne (token_kinds.Symbol x)) Any (At r) (At (past (closes (token_kinds.Symbol x)) r))
+exact_symbol x r plain = exact_expect (token_kinds.Symbol x) (parser.is_symbol x) r plain (symbol_is x) (symbol_self x)
 
-pub exact_keyword : (x : Keyword) (r : ℕ) → opens (k.Keyword x) ≡ 0 → Exact 1 (parser.expect_keyword x) Always (IsOne (k.Keyword x)) Any (At r) (At (past (closes (k.Keyword x)) r))
-exact_keyword x r plain = exact_expect (k.Keyword x) (parser.is_keyword x) r plain (keyword_is x) (keyword_self x)
+pub exact_keyword : (x : Keyword) (r : ℕ) → opens (token_kinds.Keyword x) ≡ 0 → Exact 1 (parser.expect_keyword x) Always (IsOne (token_kinds.Keyword x)) Any (At r) (At (past (closes (token_kinds.Keyword x)) r))
+exact_keyword x r plain = exact_expect (token_kinds.Keyword x) (parser.is_keyword x) r plain (keyword_is x) (keyword_self x)
 
 one_parts : {x : Kind} {ts rest : List Tok} {p : Position} → IsOne x ts p rest → (position ts ≡ p) × (next ts ≡ rest)
 one_parts one = (refl, refl)
 
 -- a symbol that opens a level
-module _ (x : Symbol) (r : ℕ) (opening : opens (k.Symbol x) ≡ 1) where
-  open_to : (p : Position) (ts : List Tok) (y : Position) (rest : List Tok) → IsPure p ts y rest → IsOne (k.Symbol x) ((p, k.Symbol x) ∷ ts) y rest
-  open_to p ts y rest d = made d (λ z us. IsOne (k.Symbol x) ((p, k.Symbol x) ∷ ts) z us) one
+module _ (x : Symbol) (r : ℕ) (opening : opens (token_kinds.Symbol x) ≡ 1) where
+  open_to : (p : Position) (ts : List Tok) (y : Position) (rest : List Tok) → IsPure p ts y rest → IsOne (token_kinds.Symbol x) ((p, token_kinds.Symbol x) ∷ ts) y rest
+  open_to p ts y rest d = made d (λ z us. IsOne (token_kinds.Symbol x) ((p, token_kinds.Symbol x) ∷ ts) z us) one
 
-  open_from : (p : Position) (ts : List Tok) (y : Position) (rest : List Tok) → IsOne (k.Symbol x) ((p, k.Symbol x) ∷ ts) y rest → IsPure p ts y rest
+  open_from : (p : Position) (ts : List Tok) (y : Position) (rest : List Tok) → IsOne (token_kinds.Symbol x) ((p, token_kinds.Symbol x) ∷ ts) y rest → IsPure p ts y rest
   open_from p ts y rest d = let e = one_parts d in subst (λ z. IsPure p ts z rest) e.0 (subst (λ us. IsPure p ts p us) e.1 done)
 
-  open_not : {ts rest : List Tok} {p : Position} → parser.is_symbol x (kind ts) ≡ false → IsOne (k.Symbol x) ts p rest → ⊥
+  open_not : {ts rest : List Tok} {p : Position} → parser.is_symbol x (kind ts) ≡ false → IsOne (token_kinds.Symbol x) ts p rest → ⊥
   open_not h one = let self = symbol_self x in cc
 
-  open_by : (b : Bool) → Exact 1 (λ ts. if b then parser.enter (suc r) ts else Err parser.Wrong) (λ ts. (parser.is_symbol x (kind ts) ≡ b) × Always ts) (IsOne (k.Symbol x)) Any (At (suc r)) (At r)
+  open_by : (b : Bool) → Exact 1 (λ ts. if b then parser.enter (suc r) ts else Err parser.Wrong) (λ ts. (parser.is_symbol x (kind ts) ≡ b) × Always ts) (IsOne (token_kinds.Symbol x)) Any (At (suc r)) (At r)
   unfolding parser.enter
-  open_by true = exact_under (exact_token_if (k.Symbol x) Always (IsOne (k.Symbol x)) Any (At (suc r)) (At r) (At r) (enters (k.Symbol x) r opening)
+  open_by true = exact_under (exact_token_if (token_kinds.Symbol x) Always (IsOne (token_kinds.Symbol x)) Any (At (suc r)) (At r) (At r) (enters (token_kinds.Symbol x) r opening)
       (λ p. exact_iff (exact_pure p Always Any (At r)) (open_to p) (open_from p))) (λ ts h. (symbol_is x (kind ts) h.0, tt)) (λ t g. g)
-  open_by false = exact_refuse 1 _ (IsOne (k.Symbol x)) Any (At (suc r)) (At r) (λ ts y rest h d. open_not h.0 d)
+  open_by false = exact_refuse 1 _ (IsOne (token_kinds.Symbol x)) Any (At (suc r)) (At r) (λ ts y rest h d. open_not h.0 d)
 
-  pub exact_open_level : Exact 1 (parser.open_level x (suc r)) Always (IsOne (k.Symbol x)) Any (At (suc r)) (At r)
+  pub exact_open_level : Exact 1 (parser.open_level x (suc r)) Always (IsOne (token_kinds.Symbol x)) Any (At (suc r)) (At r)
   unfolding parser.open_level
-  exact_open_level = exact_on (λ ts. parser.is_symbol x (kind ts)) (λ b ts. if b then parser.enter (suc r) ts else Err parser.Wrong) Always (IsOne (k.Symbol x)) Any (At (suc r)) (At r) open_by
+  exact_open_level = exact_on (λ ts. parser.is_symbol x (kind ts)) (λ b ts. if b then parser.enter (suc r) ts else Err parser.Wrong) Always (IsOne (token_kinds.Symbol x)) Any (At (suc r)) (At r) open_by
 
 pub exact_identifier : (r : ℕ) → Exact 1 parser.identifier Always IsWord Any (At r) (At r)
 unfolding parser.identifier
 exact_identifier r = record { reads = λ ts x rest u h. reads ts x rest h; deep = λ ts u h q. deep ts h; read = λ ts x rest u d g q. read d } where
   reads : (ts : List Tok) (x : Identifier) (rest : List Tok) → parser.identifier_by (kind ts) ts ≡ Ok (x, rest) → Found 1 IsWord (At r) (At r) ts x rest
-  reads ((p, k.Word n) ∷ ts) x rest h = let e = ok_parts h in
-      subst (λ z. Found 1 IsWord (At r) (At r) ((p, k.Word n) ∷ ts) z rest) e.0
-      (subst (λ us. Found 1 IsWord (At r) (At r) ((p, k.Word n) ∷ ts) (identifier_of p n) us) e.1
+  reads ((p, token_kinds.Word n) ∷ ts) x rest h = let e = ok_parts h in
+      subst (λ z. Found 1 IsWord (At r) (At r) ((p, token_kinds.Word n) ∷ ts) z rest) e.0
+      (subst (λ us. Found 1 IsWord (At r) (At r) ((p, token_kinds.Word n) ∷ ts) (identifier_of p n) us) e.1
       (record { is = a_word; takes = omega arith; after = λ q. q; before = λ q. q }))
   reads [] x rest h = absurd (cc)
   reads ((p, _) ∷ ts) x rest h = absurd (cc)
 
   deep : (ts : List Tok) → parser.identifier_by (kind ts) ts ≡ Err Deep → ⊥
-  deep ((p, k.Word n) ∷ ts) h = cc
+  deep ((p, token_kinds.Word n) ∷ ts) h = cc
   deep [] h = cc
   deep ((p, _) ∷ ts) h = cc
 
@@ -324,15 +324,15 @@ pub exact_number : (r : ℕ) → Exact 1 parser.number Always IsNumber Any (At r
 unfolding parser.number
 exact_number r = record { reads = λ ts x rest u h. reads ts x rest h; deep = λ ts u h q. deep ts h; read = λ ts x rest u d g q. read d } where
   reads : (ts : List Tok) (x : ℕ) (rest : List Tok) → parser.number_by (kind ts) ts ≡ Ok (x, rest) → Found 1 IsNumber (At r) (At r) ts x rest
-  reads ((p, k.Number n) ∷ ts) x rest h = let e = ok_parts h in
-      subst (λ z. Found 1 IsNumber (At r) (At r) ((p, k.Number n) ∷ ts) z rest) e.0
-      (subst (λ us. Found 1 IsNumber (At r) (At r) ((p, k.Number n) ∷ ts) n us) e.1
+  reads ((p, token_kinds.Number n) ∷ ts) x rest h = let e = ok_parts h in
+      subst (λ z. Found 1 IsNumber (At r) (At r) ((p, token_kinds.Number n) ∷ ts) z rest) e.0
+      (subst (λ us. Found 1 IsNumber (At r) (At r) ((p, token_kinds.Number n) ∷ ts) n us) e.1
       (record { is = a_number; takes = omega arith; after = λ q. q; before = λ q. q }))
   reads [] x rest h = absurd (cc)
   reads ((p, _) ∷ ts) x rest h = absurd (cc)
 
   deep : (ts : List Tok) → parser.number_by (kind ts) ts ≡ Err Deep → ⊥
-  deep ((p, k.Number n) ∷ ts) h = cc
+  deep ((p, token_kinds.Number n) ∷ ts) h = cc
   deep [] h = cc
   deep ((p, _) ∷ ts) h = cc
 
@@ -410,20 +410,20 @@ module _ {A : Type 0} (test : Option Kind → Bool) (item : Parser A) (R : Relat
     read = λ ts xs rest u d e q. from_read d (suc (length ts)) (omega arith) e q;
   }
 
-module _ {A : Type 0} (item : Parser A) (R : Relation A) (F : Option Kind → Type 0) (r : ℕ) (a : Exact 1 item Always R F (At r) (At r)) (comma_fits : F (Some (k.Symbol s.Comma))) where
-  next_begins : (ts : List Tok) (x : A) (rest : List Tok) → IsNext R ts x rest → is_symbol s.Comma (kind ts) ≡ true
+module _ {A : Type 0} (item : Parser A) (R : Relation A) (F : Option Kind → Type 0) (r : ℕ) (a : Exact 1 item Always R F (At r) (At r)) (comma_fits : F (Some (token_kinds.Symbol symbols.Comma))) where
+  next_begins : (ts : List Tok) (x : A) (rest : List Tok) → IsNext R ts x rest → is_symbol symbols.Comma (kind ts) ≡ true
   next_begins ts x rest (comma d) = refl
 
-  without_comma : (p : Position) (ts : List Tok) (x : A) (rest : List Tok) → IsNext R ((p, k.Symbol s.Comma) ∷ ts) x rest → R ts x rest
+  without_comma : (p : Position) (ts : List Tok) (x : A) (rest : List Tok) → IsNext R ((p, token_kinds.Symbol symbols.Comma) ∷ ts) x rest → R ts x rest
   without_comma p ts x rest (comma d) = d
 
-  exact_next : Exact 1 (parser.next_item item) (λ ts. is_symbol s.Comma (kind ts) ≡ true) (IsNext R) F (At r) (At r)
+  exact_next : Exact 1 (parser.next_item item) (λ ts. is_symbol symbols.Comma (kind ts) ≡ true) (IsNext R) F (At r) (At r)
   unfolding parser.next_item
-  exact_next = exact_as (exact_token (k.Symbol s.Comma) refl {R = IsNext R} (λ p. exact_iff a (λ ts x rest d. comma d) (without_comma p)))
-      (λ ts t. symbol_is s.Comma (kind ts) t) (λ ts x rest t d. d) (λ ts x rest t g d. d) (λ t g. g)
+  exact_next = exact_as (exact_token (token_kinds.Symbol symbols.Comma) refl {R = IsNext R} (λ p. exact_iff a (λ ts x rest d. comma d) (without_comma p)))
+      (λ ts t. symbol_is symbols.Comma (kind ts) t) (λ ts x rest t d. d) (λ ts x rest t g d. d) (λ t g. g)
 
-  exact_nexts : Exact 0 (many (is_symbol s.Comma) (parser.next_item item)) Always (IsMany (IsNext R)) (Ends (is_symbol s.Comma) F) (At r) (At r)
-  exact_nexts = exact_many (is_symbol s.Comma) (parser.next_item item) (IsNext R) F (At r) exact_next next_begins (λ t h. subst F (sym (symbol_is s.Comma t h)) comma_fits)
+  exact_nexts : Exact 0 (many (is_symbol symbols.Comma) (parser.next_item item)) Always (IsMany (IsNext R)) (Ends (is_symbol symbols.Comma) F) (At r) (At r)
+  exact_nexts = exact_many (is_symbol symbols.Comma) (parser.next_item item) (IsNext R) F (At r) exact_next next_begins (λ t h. subst F (sym (symbol_is symbols.Comma t h)) comma_fits)
 
   to_listed : (ts : List Tok) (xs : List A) (rest : List Tok) → Then R (λ x. Then (IsMany (IsNext R)) (λ ys. IsPure (x ∷ ys))) ts xs rest → IsListed R ts xs rest
   to_listed ts xs rest (seq d (seq m p)) = made p (λ ys us. IsListed R ts ys us) (listed d m)
@@ -431,13 +431,13 @@ module _ {A : Type 0} (item : Parser A) (R : Relation A) (F : Option Kind → Ty
   from_listed : (ts : List Tok) (xs : List A) (rest : List Tok) → IsListed R ts xs rest → Then R (λ x. Then (IsMany (IsNext R)) (λ ys. IsPure (x ∷ ys))) ts xs rest
   from_listed ts xs rest (listed d m) = seq d (seq m done)
 
-  first_follow : (x : A) (mid rest : List Tok) (xs : List A) → Then (IsMany (IsNext R)) (λ ys. IsPure (x ∷ ys)) mid xs rest → Ends (is_symbol s.Comma) F (kind rest) → F (kind mid)
-  first_follow x mid rest xs (seq none p) e = made p (λ ys us. Ends (is_symbol s.Comma) F (kind us) → F (kind mid)) (λ g. g.1) e
+  first_follow : (x : A) (mid rest : List Tok) (xs : List A) → Then (IsMany (IsNext R)) (λ ys. IsPure (x ∷ ys)) mid xs rest → Ends (is_symbol symbols.Comma) F (kind rest) → F (kind mid)
+  first_follow x mid rest xs (seq none p) e = made p (λ ys us. Ends (is_symbol symbols.Comma) F (kind us) → F (kind mid)) (λ g. g.1) e
   first_follow x mid rest xs (seq (more (comma d) m) p) e = comma_fits
 
   -- item { ',' item }
-  pub exact_listed : Exact 1 (parser.listed item) Always (IsListed R) (Ends (is_symbol s.Comma) F) (At r) (At r)
+  pub exact_listed : Exact 1 (parser.listed item) Always (IsListed R) (Ends (is_symbol symbols.Comma) F) (At r) (At r)
   unfolding parser.listed parser.leading
-  exact_listed = exact_iff (exact_bind a (λ x. exact_bind exact_nexts (λ xs. exact_pure (x ∷ xs) Always (Ends (is_symbol s.Comma) F) (At r)) same_end) first_follow) to_listed from_listed where
-    same_end : {x : A} (xs : List A) (mid rest : List Tok) (ys : List A) → IsPure (x ∷ xs) mid ys rest → Ends (is_symbol s.Comma) F (kind rest) → Ends (is_symbol s.Comma) F (kind mid)
-    same_end xs mid rest ys p e = made p (λ zs us. Ends (is_symbol s.Comma) F (kind us) → Ends (is_symbol s.Comma) F (kind mid)) (λ g. g) e
+  exact_listed = exact_iff (exact_bind a (λ x. exact_bind exact_nexts (λ xs. exact_pure (x ∷ xs) Always (Ends (is_symbol symbols.Comma) F) (At r)) same_end) first_follow) to_listed from_listed where
+    same_end : {x : A} (xs : List A) (mid rest : List Tok) (ys : List A) → IsPure (x ∷ xs) mid ys rest → Ends (is_symbol symbols.Comma) F (kind rest) → Ends (is_symbol symbols.Comma) F (kind mid)
+    same_end xs mid rest ys p e = made p (λ zs us. Ends (is_symbol symbols.Comma) F (kind us) → Ends (is_symbol symbols.Comma) F (kind mid)) (λ g. g) e

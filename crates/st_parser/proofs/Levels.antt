@@ -1,8 +1,8 @@
 -- The open levels, by recursion on the tokens.
 use Rattle.std.proofs.Common.{◌≡◌, ℕ, zero, suc, ◌+◌, ◌≤◌, List, [], ◌∷◌, ◌++◌, refl, ap, subst, arith}
-use Rattle.st_tokens.specs.declared.keyword.Keyword.TheVariants as w
-use Rattle.st_tokens.specs.declared.symbol.Symbol.TheVariants as s
-use Rattle.st_tokens.specs.declared.token.Kind.TheVariants as k
+use Rattle.st_tokens.specs.declared.keyword.Keyword.TheVariants as keywords
+use Rattle.st_tokens.specs.declared.symbol.Symbol.TheVariants as symbols
+use Rattle.st_tokens.specs.declared.token.Kind.TheVariants as token_kinds
 use Rattle.st_parser.specs.Names.{Kind, Position}
 use Rattle.st_parser.specs.Grammar.Levels.{opens, closes, opened, closed, IsWithin}
 use Rattle.st_parser.specs.Grammar.Tokens.{Tok}
@@ -30,20 +30,20 @@ pub data Step : ℕ → ℕ → Type 0 where
   level : Step 0 0
 
 pub step_of : (t : Kind) → Step (opens t) (closes t)
-step_of (k.Symbol s.Open) = up
-step_of (k.Symbol s.OpenBracket) = up
-step_of (k.Keyword w.If) = up
-step_of (k.Keyword w.Case) = up
-step_of (k.Keyword w.For) = up
-step_of (k.Keyword w.While) = up
-step_of (k.Keyword w.Repeat) = up
-step_of (k.Symbol s.Close) = down
-step_of (k.Symbol s.CloseBracket) = down
-step_of (k.Keyword w.EndIf) = down
-step_of (k.Keyword w.EndCase) = down
-step_of (k.Keyword w.EndFor) = down
-step_of (k.Keyword w.EndWhile) = down
-step_of (k.Keyword w.EndRepeat) = down
+step_of (token_kinds.Symbol symbols.Open) = up
+step_of (token_kinds.Symbol symbols.OpenBracket) = up
+step_of (token_kinds.Keyword keywords.If) = up
+step_of (token_kinds.Keyword keywords.Case) = up
+step_of (token_kinds.Keyword keywords.For) = up
+step_of (token_kinds.Keyword keywords.While) = up
+step_of (token_kinds.Keyword keywords.Repeat) = up
+step_of (token_kinds.Symbol symbols.Close) = down
+step_of (token_kinds.Symbol symbols.CloseBracket) = down
+step_of (token_kinds.Keyword keywords.EndIf) = down
+step_of (token_kinds.Keyword keywords.EndCase) = down
+step_of (token_kinds.Keyword keywords.EndFor) = down
+step_of (token_kinds.Keyword keywords.EndWhile) = down
+step_of (token_kinds.Keyword keywords.EndRepeat) = down
 step_of _ = level
 
 tail : {o c : ℕ} → Step o c → (r : ℕ) (ts : List Tok) (P : ℕ → Type 0) → ((n : ℕ) → IsWithin n ts → P n)

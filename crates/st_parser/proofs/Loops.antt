@@ -1,10 +1,10 @@
 -- Loops that read items as long as the first token passes a test.
 use Rattle.std.proofs.Common.{◌≡◌, ℕ, zero, suc, ◌<◌, List, [], ◌∷◌, ◌++◌, length, refl, sym, ap, ◌∙◌, Bool, true, false, arith, append_assoc, append-nil}
 use Rattle.std.specs.Borrow.{Bor}
-use Rattle.st_tokens.specs.declared.symbol.Symbol.TheVariants as s
+use Rattle.st_tokens.specs.declared.symbol.Symbol.TheVariants as symbols
 use Rattle.std.specs.Prelude.{Option, Ok, Err}
 use Rattle.st_parser.specs.Names.{Kind, ReadFault}
-use Rattle.st_parser.specs.declared.fault.ReadFault.TheVariants as fault
+use Rattle.st_parser.specs.declared.fault.ReadFault.TheVariants as read_faults
 use Rattle.st_parser.specs.Grammar.Tokens.{Tok, kind}
 use Rattle.st_parser.specs.Reader.Parsers.{Refuses, Refusal, Wrong, Deep, Outcome, Parser, and_then, many_from, many, leading, listed, is_symbol, next_item}
 use Rattle.st_parser.specs.Reader.Functions.{Behind, ReadsAs, TestsAs}
@@ -84,9 +84,9 @@ module _ {A : Type 0} (test : Option Kind → Bool) (item : Parser A) (found_bef
 
 -- a refusal that is passed on
 pub refuses_too : {A B : Type 0} (o : Outcome A) (p : Outcome B) (f : ReadFault) → ((r : Refusal) → o ≡ Err r → p ≡ Err r) → Refuses o f → Refuses p f
-refuses_too o p fault.Memory g h = tt
-refuses_too o p (fault.NotInGrammar line) g h = g Wrong h
-refuses_too o p (fault.TooDeep line) g h = g Deep h
+refuses_too o p read_faults.Memory g h = tt
+refuses_too o p (read_faults.NotInGrammar line) g h = g Wrong h
+refuses_too o p (read_faults.TooDeep line) g h = g Deep h
 
 module _ {A : Type 0} (test : Option Kind → Bool) (item : Parser A) (start : List Tok) where
   pub loop_end : (found : List A) (ts : List Tok) → Left test item [] start found ts → test (kind ts) ≡ false → many test item start ≡ Ok (found, ts)
@@ -134,18 +134,18 @@ module _ {A : Type 0} (item : Parser A) (start : List Tok) where
   listed_first f h = refuses_too _ _ f (λ r e. rw e refl) h
 
   pub listed_end : (mid : List Tok) (x : A) → item start ≡ Ok (x, mid) → (one found : List A) (ts : List Tok) → one ≡ [] ++ x ∷ []
-      → Left (is_symbol s.Comma) (next_item item) one mid found ts → is_symbol s.Comma (kind ts) ≡ false → listed item start ≡ Ok (found, ts)
+      → Left (is_symbol symbols.Comma) (next_item item) one mid found ts → is_symbol symbols.Comma (kind ts) ≡ false → listed item start ≡ Ok (found, ts)
   unfolding listed
-  listed_end mid x first = leading_end item (is_symbol s.Comma) (next_item item) start mid x first
+  listed_end mid x first = leading_end item (is_symbol symbols.Comma) (next_item item) start mid x first
 
   pub listed_err : (mid : List Tok) (x : A) → item start ≡ Ok (x, mid) → (one found : List A) (ts : List Tok) (f : ReadFault) → one ≡ [] ++ x ∷ []
-      → Left (is_symbol s.Comma) (next_item item) one mid found ts → is_symbol s.Comma (kind ts) ≡ true → Refuses (next_item item ts) f → Refuses (listed item start) f
+      → Left (is_symbol symbols.Comma) (next_item item) one mid found ts → is_symbol symbols.Comma (kind ts) ≡ true → Refuses (next_item item ts) f → Refuses (listed item start) f
   unfolding listed
-  listed_err mid x first = leading_err item (is_symbol s.Comma) (next_item item) start mid x first
+  listed_err mid x first = leading_err item (is_symbol symbols.Comma) (next_item item) start mid x first
 
 -- for each parser that a passed function reads, what is found with what is left is all of its list
 abbrev pub EachLeft : {A : Type 0} → (Bor (List Tok) → Bool → Type 0) → Behind A → List Tok → List A → List Tok → Type 0
 EachLeft {A} tests post start found ts = (test : Option Kind → Bool) (p : Parser A) → TestsAs test tests → ReadsAs p post → Left test p [] start found ts
 
 abbrev pub EachNextLeft : {A : Type 0} → Behind A → List A → List Tok → List A → List Tok → Type 0
-EachNextLeft {A} post found_before start found ts = (p : Parser A) → ReadsAs p post → Left (is_symbol s.Comma) (next_item p) found_before start found ts
+EachNextLeft {A} post found_before start found ts = (p : Parser A) → ReadsAs p post → Left (is_symbol symbols.Comma) (next_item p) found_before start found ts

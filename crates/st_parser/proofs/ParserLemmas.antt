@@ -2,7 +2,7 @@
 use Rattle.std.proofs.Common.{◌≡◌, ℕ, zero, suc, ◌<◌, true, List, [], ◌∷◌, length, refl, sym, ap, subst, ◌∙◌, arith}
 use Rattle.std.specs.Prelude.{Result, Ok, Err, IfOk, IfErr}
 use Rattle.st_parser.specs.Names.{Position, ReadFault, Symbol}
-use Rattle.st_parser.specs.declared.fault.ReadFault.TheVariants.{Memory}
+use Rattle.st_parser.specs.declared.fault.ReadFault.TheVariants as read_faults
 use Rattle.st_parser.specs.Grammar.Tokens.{Tok, kind, position, next}
 use Rattle.st_parser.proofs.Loops.{ok_parts}
 use Rattle.st_parser.specs.Reader.Parsers.{Reads, Outcome, Deep, Parser, Takes, MayTake, is_symbol, enter, open_level, next_item}
@@ -19,7 +19,7 @@ enter_some (suc r) ts some = refl
 
 -- what is refused only for want of memory
 pub reads_made : {A : Type 0} (o : Outcome A) (y : A) (new : List Tok) (r : Result A ReadFault) → o ≡ Ok (y, new)
-    → IfOk r (λ x. x ≡ y) → IfErr r (λ f. f ≡ Memory) → Reads o r new
+    → IfOk r (λ x. x ≡ y) → IfErr r (λ f. f ≡ read_faults.Memory) → Reads o r new
 reads_made o y new (Ok x) read same memory = read ∙ ap (λ z. Ok (z, new)) (sym same)
 reads_made o y new (Err f) read same memory = rw memory tt
 
@@ -42,6 +42,6 @@ next_at item ts us e = rw e refl
 
 -- the same, where one token or more was taken
 pub takes_made : {A : Type 0} (o : Outcome A) (y : A) (old new : List Tok) (r : Result A ReadFault) → o ≡ Ok (y, new) → length new < length old
-    → IfOk r (λ x. x ≡ y) → IfErr r (λ f. f ≡ Memory) → Takes o r old new
+    → IfOk r (λ x. x ≡ y) → IfErr r (λ f. f ≡ read_faults.Memory) → Takes o r old new
 takes_made o y old new (Ok x) read less same memory = record { reads = reads_made o y new (Ok x) read same memory; shorter = less }
 takes_made o y old new (Err f) read less same memory = record { reads = reads_made o y new (Err f) read same memory; shorter = tt }

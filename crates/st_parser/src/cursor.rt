@@ -1,7 +1,6 @@
 //! The tokens of a text that are still to be read.
 ghost use Rattle.std.specs.Prelude.{◌≡◌, ◌<◌, ◌-◌, length, option_copied, IsSome};
 ghost use Rattle.st_parser.specs.Grammar.Tokens.{numbered, kind, line, position, next};
-ghost use Rattle.st_parser.specs.declared.fault.ReadFault.TheVariants.{NotInGrammar};
 
 use crate::fault::ReadFault;
 use st_tokens::{Kind, Token};
@@ -84,7 +83,7 @@ impl<'a> Cursor<'a> {
 
     /// The fault that the grammar doesn't have the first token here, or that there is none.
     pub fn unexpected(&self) -> ReadFault
-        ensures { result ≡ NotInGrammar (line self.now) }
+        ensures { result ≡ ReadFault.NotInGrammar (line self.now) }
     {
         ReadFault::NotInGrammar { line: self.line() }
     }

@@ -4,7 +4,6 @@ ghost use Rattle.st_parser.specs.Names as names;
 ghost use Rattle.st_parser.specs.Reader.Functions.{IsReader, IsTest, ReadsAs, TestsAs};
 ghost use Rattle.st_parser.specs.Reader.Parsers as spec;
 ghost use Rattle.st_parser.specs.Reader.Parsers.{Parser, Reads, Takes};
-ghost use Rattle.st_parser.specs.declared.fault.ReadFault.TheVariants.{Memory};
 
 use crate::cursor::Cursor;
 use crate::fault::ReadFault;
@@ -16,7 +15,7 @@ use std::alloc::Global;
 /// A list of one item.
 pub fn single<T: Drop>(alloc: Global, item: T) -> Result<List<T>, ReadFault>
     ensures ok { IfOk result (λ list. list ≡ item ∷ []) }
-    ensures err { IfErr result (λ fault. fault ≡ Memory) }
+    ensures err { IfErr result (λ fault. fault ≡ ReadFault.Memory) }
 {
     let mut list = List::new(alloc);
     list.push(item)?;

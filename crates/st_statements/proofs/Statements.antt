@@ -1,11 +1,11 @@
 -- The reading functions of statements read their grammar exactly.
 use Rattle.std.proofs.Common.{◌≡◌, ℕ, zero, suc, List, [], ◌∷◌, refl, sym, subst, Bool, true, false}
 use Rattle.std.specs.Prelude.{Option, Some, None}
-use Rattle.st_tokens.specs.declared.keyword.Keyword.TheVariants as w
-use Rattle.st_tokens.specs.declared.symbol.Symbol.TheVariants as s
-use Rattle.st_tokens.specs.declared.token.Kind.TheVariants as k
-use Rattle.st_tree.specs.declared.tree.statement.Label.TheVariants as l
-use Rattle.st_tree.specs.declared.tree.statement.Statement.TheVariants as t
+use Rattle.st_tokens.specs.declared.keyword.Keyword.TheVariants as keywords
+use Rattle.st_tokens.specs.declared.symbol.Symbol.TheVariants as symbols
+use Rattle.st_tokens.specs.declared.token.Kind.TheVariants as token_kinds
+use Rattle.st_tree.specs.declared.tree.statement.Label.TheVariants as labels
+use Rattle.st_tree.specs.declared.tree.statement.Statement.TheVariants as statement_kinds
 use Rattle.st_parser.specs.Names.{CaseElement, ConditionalPart, Constant, Expression, Keyword, Kind, Label, Position, Statement}
 use Rattle.st_parser.specs.Grammar.Levels.{opens, closes}
 use Rattle.st_parser.specs.Grammar.Lists.{IsMany, none, more, IsListed, listed}
@@ -27,12 +27,12 @@ use Rattle.st_statements.specs.Reader.Statements.{Deeper, range_of, begins_label
 
 -- a label doesn't go on
 abbrev NoRange : Option Kind → Type 0
-NoRange t = is_symbol s.Range t ≡ false
+NoRange t = is_symbol symbols.Range t ≡ false
 
 -- behind the first literal of a label
 data IsTail (x : Constant) : List Tok → Label → List Tok → Type 0 where
-  single : {ts : List Tok} → IsTail x ts (l.Value x) ts
-  ranged : {p : Position} {ts rest : List Tok} {y : Constant} → IsConstant ts y rest → IsTail x ((p, k.Symbol s.Range) ∷ ts) (l.Range x y) rest
+  single : {ts : List Tok} → IsTail x ts (labels.Value x) ts
+  ranged : {p : Position} {ts rest : List Tok} {y : Constant} → IsConstant ts y rest → IsTail x ((p, token_kinds.Symbol symbols.Range) ∷ ts) (labels.Range x y) rest
 
 label_of : {x : Constant} {ts mid : List Tok} {y : Label} {rest : List Tok} → IsConstant ts x mid → IsTail x mid y rest → IsLabel ts y rest
 label_of d single = value d
@@ -45,118 +45,118 @@ label_from : (ts : List Tok) (y : Label) (rest : List Tok) → IsLabel ts y rest
 label_from ts y rest (value d) = seq d single
 label_from ts y rest (range d e) = seq d (ranged e)
 
-ranged_to : (x : Constant) (p : Position) (ts : List Tok) (y : Label) (rest : List Tok) → Then IsConstant (λ z. IsPure (l.Range x z)) ts y rest → IsTail x ((p, k.Symbol s.Range) ∷ ts) y rest
-ranged_to x p ts y rest (seq d m) = made m (λ z us. IsTail x ((p, k.Symbol s.Range) ∷ ts) z us) (ranged d)
+ranged_to : (x : Constant) (p : Position) (ts : List Tok) (y : Label) (rest : List Tok) → Then IsConstant (λ z. IsPure (labels.Range x z)) ts y rest → IsTail x ((p, token_kinds.Symbol symbols.Range) ∷ ts) y rest
+ranged_to x p ts y rest (seq d m) = made m (λ z us. IsTail x ((p, token_kinds.Symbol symbols.Range) ∷ ts) z us) (ranged d)
 
-ranged_from : (x : Constant) (p : Position) (ts : List Tok) (y : Label) (rest : List Tok) → NoRange (kind rest) → IsTail x ((p, k.Symbol s.Range) ∷ ts) y rest → Then IsConstant (λ z. IsPure (l.Range x z)) ts y rest
+ranged_from : (x : Constant) (p : Position) (ts : List Tok) (y : Label) (rest : List Tok) → NoRange (kind rest) → IsTail x ((p, token_kinds.Symbol symbols.Range) ∷ ts) y rest → Then IsConstant (λ z. IsPure (labels.Range x z)) ts y rest
 ranged_from x p ts y rest g (ranged d) = seq d done
 ranged_from x p ts y rest g single = absurd (cc)
 
-single_to : (x : Constant) (ts : List Tok) (y : Label) (rest : List Tok) → IsPure (l.Value x) ts y rest → IsTail x ts y rest
+single_to : (x : Constant) (ts : List Tok) (y : Label) (rest : List Tok) → IsPure (labels.Value x) ts y rest → IsTail x ts y rest
 single_to x ts y rest d = made d (λ z us. IsTail x ts z us) single
 
-single_from : (x : Constant) (ts : List Tok) (y : Label) (rest : List Tok) → is_symbol s.Range (kind ts) ≡ false → IsTail x ts y rest → IsPure (l.Value x) ts y rest
+single_from : (x : Constant) (ts : List Tok) (y : Label) (rest : List Tok) → is_symbol symbols.Range (kind ts) ≡ false → IsTail x ts y rest → IsPure (labels.Value x) ts y rest
 single_from x ts y rest h single = done
 single_from x ts y rest h (ranged d) = absurd (cc)
 
 module _ (r : ℕ) where
-  tail_by : (x : Constant) (b : Bool) → Exact 0 (spec.label_by x b) (λ ts. (is_symbol s.Range (kind ts) ≡ b) × Always ts) (IsTail x) NoRange (At r) (At r)
-  tail_by x true = exact_zero (exact_under (exact_token (k.Symbol s.Range) refl {R = IsTail x} (λ p. exact_as (exact_last (constant_exact r) (l.Range x)) (λ ts u. u)
-      (λ ts y rest u d. ranged_to x p ts y rest d) (λ ts y rest u g d. ranged_from x p ts y rest g d) (λ t g. tt))) (λ ts h. symbol_is s.Range (kind ts) h.0) (λ t g. g))
-  tail_by x false = exact_as (exact_pure (l.Value x) Always Any (At r)) (λ ts h. tt) (λ ts y rest h d. single_to x ts y rest d) (λ ts y rest h g d. single_from x ts y rest h.0 d) (λ t g. tt)
+  tail_by : (x : Constant) (b : Bool) → Exact 0 (spec.label_by x b) (λ ts. (is_symbol symbols.Range (kind ts) ≡ b) × Always ts) (IsTail x) NoRange (At r) (At r)
+  tail_by x true = exact_zero (exact_under (exact_token (token_kinds.Symbol symbols.Range) refl {R = IsTail x} (λ p. exact_as (exact_last (constant_exact r) (labels.Range x)) (λ ts u. u)
+      (λ ts y rest u d. ranged_to x p ts y rest d) (λ ts y rest u g d. ranged_from x p ts y rest g d) (λ t g. tt))) (λ ts h. symbol_is symbols.Range (kind ts) h.0) (λ t g. g))
+  tail_by x false = exact_as (exact_pure (labels.Value x) Always Any (At r)) (λ ts h. tt) (λ ts y rest h d. single_to x ts y rest d) (λ ts y rest h g d. single_from x ts y rest h.0 d) (λ t g. tt)
 
   pub label_exact : Exact 1 spec.label Always IsLabel NoRange (At r) (At r)
   unfolding spec.label
-  label_exact = exact_iff (exact_bind (constant_exact r) (λ x. exact_on (λ ts. is_symbol s.Range (kind ts)) (spec.label_by x) Always (IsTail x) NoRange (At r) (At r) (tail_by x)) (λ x mid rest y d g. tt)) label_to label_from
+  label_exact = exact_iff (exact_bind (constant_exact r) (λ x. exact_on (λ ts. is_symbol symbols.Range (kind ts)) (spec.label_by x) Always (IsTail x) NoRange (At r) (At r) (tail_by x)) (λ x mid rest y d g. tt)) label_to label_from
 
 -- ---- statements without statements in them
 
-named_not : {p : Position} {n : List ℕ} {ts rest : List Tok} {v : _} → is_symbol s.Open (kind ts) ≡ true → (kind rest ≡ Some (k.Symbol s.Assign)) → IsVariable ((p, k.Word n) ∷ ts) v rest → ⊥
-named_not h e (is_named {ts = us} no_part) = let a = symbol_is s.Open (kind us) h in cc
+named_not : {p : Position} {n : List ℕ} {ts rest : List Tok} {v : _} → is_symbol symbols.Open (kind ts) ≡ true → (kind rest ≡ Some (token_kinds.Symbol symbols.Assign)) → IsVariable ((p, token_kinds.Word n) ∷ ts) v rest → ⊥
+named_not h e (is_named {ts = us} no_part) = let a = symbol_is symbols.Open (kind us) h in cc
 named_not h e (is_named (parts field m)) = cc
 named_not h e (is_named (parts (subscripts d o) m)) = cc
 
-call_not : {p : Position} {n : List ℕ} {ts rest : List Tok} {c : _} → is_symbol s.Open (kind ts) ≡ false → IsCall ((p, k.Word n) ∷ ts) c rest → ⊥
+call_not : {p : Position} {n : List ℕ} {ts rest : List Tok} {c : _} → is_symbol symbols.Open (kind ts) ≡ false → IsCall ((p, token_kinds.Word n) ∷ ts) c rest → ⊥
 call_not h (called no_arguments) = cc
 call_not h (called (arguments d m)) = cc
 
 abbrev IsInvocation : Relation Statement
-IsInvocation = Then IsCall (λ c. Then (IsOne (k.Symbol s.Semicolon)) (λ q. IsPure (t.Call c)))
+IsInvocation = Then IsCall (λ c. Then (IsOne (token_kinds.Symbol symbols.Semicolon)) (λ q. IsPure (statement_kinds.Call c)))
 
 invocation_to : (ts : List Tok) (x : Statement) (rest : List Tok) → IsInvocation ts x rest → IsStatement ts x rest
 invocation_to ts x rest (seq d (seq one m)) = made m (λ y us. IsStatement ts y us) (invocation d)
 
-invocation_from : (n : List ℕ) (p : Position) (us : List Tok) → (x : Statement) (rest : List Tok) → is_symbol s.Open (kind us) ≡ true → IsStatement ((p, k.Word n) ∷ us) x rest → IsInvocation ((p, k.Word n) ∷ us) x rest
+invocation_from : (n : List ℕ) (p : Position) (us : List Tok) → (x : Statement) (rest : List Tok) → is_symbol symbols.Open (kind us) ≡ true → IsStatement ((p, token_kinds.Word n) ∷ us) x rest → IsInvocation ((p, token_kinds.Word n) ∷ us) x rest
 invocation_from n p us x rest h (invocation d) = seq d (seq one done)
 invocation_from n p us x rest h (assignment d e) = absurd (named_not h refl d)
 
 abbrev IsAssignment : Relation Statement
-IsAssignment = Then IsVariable (λ v. Then (IsOne (k.Symbol s.Assign)) (λ q. Then (IsBinary 7) (λ x. Then (IsOne (k.Symbol s.Semicolon)) (λ z. IsPure (t.Assignment v x)))))
+IsAssignment = Then IsVariable (λ v. Then (IsOne (token_kinds.Symbol symbols.Assign)) (λ q. Then (IsBinary 7) (λ x. Then (IsOne (token_kinds.Symbol symbols.Semicolon)) (λ z. IsPure (statement_kinds.Assignment v x)))))
 
 assignment_to : (ts : List Tok) (x : Statement) (rest : List Tok) → IsAssignment ts x rest → IsStatement ts x rest
 assignment_to ts x rest (seq d (seq one (seq e (seq one m)))) = made m (λ y us. IsStatement ts y us) (assignment d e)
 
-assignment_from : (n : List ℕ) (p : Position) (us : List Tok) → (x : Statement) (rest : List Tok) → is_symbol s.Open (kind us) ≡ false → IsStatement ((p, k.Word n) ∷ us) x rest → IsAssignment ((p, k.Word n) ∷ us) x rest
+assignment_from : (n : List ℕ) (p : Position) (us : List Tok) → (x : Statement) (rest : List Tok) → is_symbol symbols.Open (kind us) ≡ false → IsStatement ((p, token_kinds.Word n) ∷ us) x rest → IsAssignment ((p, token_kinds.Word n) ∷ us) x rest
 assignment_from n p us x rest h (assignment d e) = seq d (seq one (seq e (seq one done)))
 assignment_from n p us x rest h (invocation d) = absurd (call_not h d)
 
-empty_to : (p : Position) (ts : List Tok) (x : Statement) (rest : List Tok) → IsPure (t.Empty p) ts x rest → IsStatement ((p, k.Symbol s.Semicolon) ∷ ts) x rest
-empty_to p ts x rest d = made d (λ y us. IsStatement ((p, k.Symbol s.Semicolon) ∷ ts) y us) empty
+empty_to : (p : Position) (ts : List Tok) (x : Statement) (rest : List Tok) → IsPure (statement_kinds.Empty p) ts x rest → IsStatement ((p, token_kinds.Symbol symbols.Semicolon) ∷ ts) x rest
+empty_to p ts x rest d = made d (λ y us. IsStatement ((p, token_kinds.Symbol symbols.Semicolon) ∷ ts) y us) empty
 
-empty_from : (p : Position) (ts : List Tok) (x : Statement) (rest : List Tok) → IsStatement ((p, k.Symbol s.Semicolon) ∷ ts) x rest → IsPure (t.Empty p) ts x rest
+empty_from : (p : Position) (ts : List Tok) (x : Statement) (rest : List Tok) → IsStatement ((p, token_kinds.Symbol symbols.Semicolon) ∷ ts) x rest → IsPure (statement_kinds.Empty p) ts x rest
 empty_from p ts x rest empty = done
 empty_from p ts x rest (assignment d e) = elim d [ ]
 empty_from p ts x rest (invocation d) = elim d [ ]
 
 abbrev IsEnd : Statement → Relation Statement
-IsEnd x = Then (IsOne (k.Symbol s.Semicolon)) (λ z. IsPure x)
+IsEnd x = Then (IsOne (token_kinds.Symbol symbols.Semicolon)) (λ z. IsPure x)
 
-return_statement_to : (p : Position) (ts : List Tok) (x : Statement) (rest : List Tok) → IsEnd (t.Return p) ts x rest → IsStatement ((p, k.Keyword w.Return) ∷ ts) x rest
-return_statement_to p ts x rest (seq one m) = made m (λ y us. IsStatement ((p, k.Keyword w.Return) ∷ ts) y us) return_statement
+return_statement_to : (p : Position) (ts : List Tok) (x : Statement) (rest : List Tok) → IsEnd (statement_kinds.Return p) ts x rest → IsStatement ((p, token_kinds.Keyword keywords.Return) ∷ ts) x rest
+return_statement_to p ts x rest (seq one m) = made m (λ y us. IsStatement ((p, token_kinds.Keyword keywords.Return) ∷ ts) y us) return_statement
 
-return_statement_from : (p : Position) (ts : List Tok) (x : Statement) (rest : List Tok) → IsStatement ((p, k.Keyword w.Return) ∷ ts) x rest → IsEnd (t.Return p) ts x rest
+return_statement_from : (p : Position) (ts : List Tok) (x : Statement) (rest : List Tok) → IsStatement ((p, token_kinds.Keyword keywords.Return) ∷ ts) x rest → IsEnd (statement_kinds.Return p) ts x rest
 return_statement_from p ts x rest return_statement = seq one done
 return_statement_from p ts x rest (assignment d e) = elim d [ ]
 return_statement_from p ts x rest (invocation d) = elim d [ ]
 
-exit_statement_to : (p : Position) (ts : List Tok) (x : Statement) (rest : List Tok) → IsEnd (t.Exit p) ts x rest → IsStatement ((p, k.Keyword w.Exit) ∷ ts) x rest
-exit_statement_to p ts x rest (seq one m) = made m (λ y us. IsStatement ((p, k.Keyword w.Exit) ∷ ts) y us) exit_statement
+exit_statement_to : (p : Position) (ts : List Tok) (x : Statement) (rest : List Tok) → IsEnd (statement_kinds.Exit p) ts x rest → IsStatement ((p, token_kinds.Keyword keywords.Exit) ∷ ts) x rest
+exit_statement_to p ts x rest (seq one m) = made m (λ y us. IsStatement ((p, token_kinds.Keyword keywords.Exit) ∷ ts) y us) exit_statement
 
-exit_statement_from : (p : Position) (ts : List Tok) (x : Statement) (rest : List Tok) → IsStatement ((p, k.Keyword w.Exit) ∷ ts) x rest → IsEnd (t.Exit p) ts x rest
+exit_statement_from : (p : Position) (ts : List Tok) (x : Statement) (rest : List Tok) → IsStatement ((p, token_kinds.Keyword keywords.Exit) ∷ ts) x rest → IsEnd (statement_kinds.Exit p) ts x rest
 exit_statement_from p ts x rest exit_statement = seq one done
 exit_statement_from p ts x rest (assignment d e) = elim d [ ]
 exit_statement_from p ts x rest (invocation d) = elim d [ ]
 
 module _ (r : ℕ) where
-  empty_exact : Exact 1 spec.empty (IsFirst (k.Symbol s.Semicolon)) IsStatement Any (At r) (At r)
+  empty_exact : Exact 1 spec.empty (IsFirst (token_kinds.Symbol symbols.Semicolon)) IsStatement Any (At r) (At r)
   unfolding spec.empty
-  empty_exact = exact_token (k.Symbol s.Semicolon) refl {R = IsStatement} (λ p. exact_iff (exact_pure (t.Empty p) Always Any (At r)) (empty_to p) (empty_from p))
+  empty_exact = exact_token (token_kinds.Symbol symbols.Semicolon) refl {R = IsStatement} (λ p. exact_iff (exact_pure (statement_kinds.Empty p) Always Any (At r)) (empty_to p) (empty_from p))
 
   -- ';', and what it ends
-  end_exact : (x : Statement) → Exact 1 (λ ts. and_then (parser.expect_symbol s.Semicolon ts) (λ z. parser.pure x)) Always (IsEnd x) Any (At r) (At r)
-  end_exact x = exact_bind (exact_symbol s.Semicolon r refl) (λ z. exact_pure x Always Any (At r)) (λ z mid rest y d g. tt)
+  end_exact : (x : Statement) → Exact 1 (λ ts. and_then (parser.expect_symbol symbols.Semicolon ts) (λ z. parser.pure x)) Always (IsEnd x) Any (At r) (At r)
+  end_exact x = exact_bind (exact_symbol symbols.Semicolon r refl) (λ z. exact_pure x Always Any (At r)) (λ z mid rest y d g. tt)
 
-  return_statement_exact : Exact 1 spec.return_statement (IsFirst (k.Keyword w.Return)) IsStatement Any (At r) (At r)
+  return_statement_exact : Exact 1 spec.return_statement (IsFirst (token_kinds.Keyword keywords.Return)) IsStatement Any (At r) (At r)
   unfolding spec.return_statement
-  return_statement_exact = exact_token (k.Keyword w.Return) refl {R = IsStatement} (λ p. exact_iff (end_exact (t.Return p)) (return_statement_to p) (return_statement_from p))
+  return_statement_exact = exact_token (token_kinds.Keyword keywords.Return) refl {R = IsStatement} (λ p. exact_iff (end_exact (statement_kinds.Return p)) (return_statement_to p) (return_statement_from p))
 
-  exit_statement_exact : Exact 1 spec.exit_statement (IsFirst (k.Keyword w.Exit)) IsStatement Any (At r) (At r)
+  exit_statement_exact : Exact 1 spec.exit_statement (IsFirst (token_kinds.Keyword keywords.Exit)) IsStatement Any (At r) (At r)
   unfolding spec.exit_statement
-  exit_statement_exact = exact_token (k.Keyword w.Exit) refl {R = IsStatement} (λ p. exact_iff (end_exact (t.Exit p)) (exit_statement_to p) (exit_statement_from p))
+  exit_statement_exact = exact_token (token_kinds.Keyword keywords.Exit) refl {R = IsStatement} (λ p. exact_iff (end_exact (statement_kinds.Exit p)) (exit_statement_to p) (exit_statement_from p))
 
-  named_by : (n : List ℕ) (b : Bool) → Exact 1 (spec.named_by r b) (λ ts. (is_symbol s.Open (kind (next ts)) ≡ b) × IsFirst (k.Word n) ts) IsStatement Any (At r) (At r)
+  named_by : (n : List ℕ) (b : Bool) → Exact 1 (spec.named_by r b) (λ ts. (is_symbol symbols.Open (kind (next ts)) ≡ b) × IsFirst (token_kinds.Word n) ts) IsStatement Any (At r) (At r)
   unfolding spec.invocation spec.assignment
-  named_by n true = exact_as (exact_before (k.Symbol s.Semicolon) (call_exact r (inside_of r) (inside_exact r)) tt (exact_symbol s.Semicolon r refl) (λ c q. exact_pure (t.Call c) Always Any (At r)))
-      (λ ts p. symbol_is s.Open (kind (next ts)) p.0) (λ ts x rest p d. invocation_to ts x rest d)
-      (λ ts x rest p g d. at_first (k.Word n) (λ us. (x : Statement) (rest : List Tok) → is_symbol s.Open (kind (next us)) ≡ true → IsStatement us x rest → IsInvocation us x rest) (invocation_from n) ts p.1 x rest p.0 d) (λ t g. g)
-  named_by n false = exact_as (exact_before (k.Symbol s.Assign) (variable_exact r (inside_of r) (inside_exact r)) tt (exact_symbol s.Assign r refl)
-      (λ v q. exact_before (k.Symbol s.Semicolon) (expression_exact r) tt (exact_symbol s.Semicolon r refl) (λ x z. exact_pure (t.Assignment v x) Always Any (At r))))
+  named_by n true = exact_as (exact_before (token_kinds.Symbol symbols.Semicolon) (call_exact r (inside_of r) (inside_exact r)) tt (exact_symbol symbols.Semicolon r refl) (λ c q. exact_pure (statement_kinds.Call c) Always Any (At r)))
+      (λ ts p. symbol_is symbols.Open (kind (next ts)) p.0) (λ ts x rest p d. invocation_to ts x rest d)
+      (λ ts x rest p g d. at_first (token_kinds.Word n) (λ us. (x : Statement) (rest : List Tok) → is_symbol symbols.Open (kind (next us)) ≡ true → IsStatement us x rest → IsInvocation us x rest) (invocation_from n) ts p.1 x rest p.0 d) (λ t g. g)
+  named_by n false = exact_as (exact_before (token_kinds.Symbol symbols.Assign) (variable_exact r (inside_of r) (inside_exact r)) tt (exact_symbol symbols.Assign r refl)
+      (λ v q. exact_before (token_kinds.Symbol symbols.Semicolon) (expression_exact r) tt (exact_symbol symbols.Semicolon r refl) (λ x z. exact_pure (statement_kinds.Assignment v x) Always Any (At r))))
       (λ ts p. tt) (λ ts x rest p d. assignment_to ts x rest d)
-      (λ ts x rest p g d. at_first (k.Word n) (λ us. (x : Statement) (rest : List Tok) → is_symbol s.Open (kind (next us)) ≡ false → IsStatement us x rest → IsAssignment us x rest) (assignment_from n) ts p.1 x rest p.0 d) (λ t g. g)
+      (λ ts x rest p g d. at_first (token_kinds.Word n) (λ us. (x : Statement) (rest : List Tok) → is_symbol symbols.Open (kind (next us)) ≡ false → IsStatement us x rest → IsAssignment us x rest) (assignment_from n) ts p.1 x rest p.0 d) (λ t g. g)
 
-  named_exact : (n : List ℕ) → Exact 1 (spec.named r) (IsFirst (k.Word n)) IsStatement Any (At r) (At r)
+  named_exact : (n : List ℕ) → Exact 1 (spec.named r) (IsFirst (token_kinds.Word n)) IsStatement Any (At r) (At r)
   unfolding spec.named
-  named_exact n = exact_on (λ ts. is_symbol s.Open (kind (next ts))) (spec.named_by r) (IsFirst (k.Word n)) IsStatement Any (At r) (At r) (named_by n)
+  named_exact n = exact_on (λ ts. is_symbol symbols.Open (kind (next ts))) (spec.named_by r) (IsFirst (token_kinds.Word n)) IsStatement Any (At r) (At r) (named_by n)
 
 -- ---- parts of statements
 
@@ -170,12 +170,12 @@ ExactDeeper zero d = Unit {0}
 ExactDeeper (suc r) d = (Exact 1 d.expression Always (IsBinary 7) (Stops 7) (At r) (At r)) × (Exact 0 d.statements Always IsStatements EndsBlock (At r) (At r))
 
 data IsElsif : List Tok → ConditionalPart → List Tok → Type 0 where
-  elsif : {p : Position} {ts rest : List Tok} {x : ConditionalPart} → IsConditional ts x rest → IsElsif ((p, k.Keyword w.Elsif) ∷ ts) x rest
+  elsif : {p : Position} {ts rest : List Tok} {x : ConditionalPart} → IsConditional ts x rest → IsElsif ((p, token_kinds.Keyword keywords.Elsif) ∷ ts) x rest
 
-elsif_begins : (ts : List Tok) (x : ConditionalPart) (rest : List Tok) → IsElsif ts x rest → is_keyword w.Elsif (kind ts) ≡ true
+elsif_begins : (ts : List Tok) (x : ConditionalPart) (rest : List Tok) → IsElsif ts x rest → is_keyword keywords.Elsif (kind ts) ≡ true
 elsif_begins ts x rest (elsif d) = refl
 
-elsif_from : (p : Position) (ts : List Tok) (x : ConditionalPart) (rest : List Tok) → IsElsif ((p, k.Keyword w.Elsif) ∷ ts) x rest → IsConditional ts x rest
+elsif_from : (p : Position) (ts : List Tok) (x : ConditionalPart) (rest : List Tok) → IsElsif ((p, token_kinds.Keyword keywords.Elsif) ∷ ts) x rest → IsConditional ts x rest
 elsif_from p ts x rest (elsif d) = d
 
 to_elsifs : {ts rest : List Tok} {xs : List ConditionalPart} → IsMany IsElsif ts xs rest → IsElsifs ts xs rest
@@ -218,13 +218,13 @@ cases_from : (ts : List Tok) (x : List CaseElement) (rest : List Tok) → AreCas
 cases_from ts x rest (all_cases d m) = seq d (seq (from_cases m) done)
 
 label_test : (t : Option Kind) → begins_constant t ≡ true → begins_label t ≡ true
-label_test (Some (k.Typed v)) h = refl
-label_test (Some (k.Duration d)) h = refl
-label_test (Some (k.Keyword w.True)) h = refl
-label_test (Some (k.Keyword w.False)) h = refl
-label_test (Some (k.Number n)) h = refl
-label_test (Some (k.Symbol s.Plus)) h = refl
-label_test (Some (k.Symbol s.Minus)) h = refl
+label_test (Some (token_kinds.Typed v)) h = refl
+label_test (Some (token_kinds.Duration d)) h = refl
+label_test (Some (token_kinds.Keyword keywords.True)) h = refl
+label_test (Some (token_kinds.Keyword keywords.False)) h = refl
+label_test (Some (token_kinds.Number n)) h = refl
+label_test (Some (token_kinds.Symbol symbols.Plus)) h = refl
+label_test (Some (token_kinds.Symbol symbols.Minus)) h = refl
 label_test _ h = absurd (cc)
 
 case_begins : (ts : List Tok) (x : CaseElement) (rest : List Tok) → IsCase ts x rest → begins_label (kind ts) ≡ true
@@ -232,17 +232,17 @@ case_begins ts x rest (case (listed (value d) m) e) = label_test (kind ts) (cons
 case_begins ts x rest (case (listed (range d f) m) e) = label_test (kind ts) (constant_begins d)
 
 label_ends : (t : Option Kind) → begins_label t ≡ true → EndsBlock t
-label_ends (Some (k.Typed v)) h = (refl, tt)
-label_ends (Some (k.Duration d)) h = (refl, tt)
-label_ends (Some (k.Keyword w.True)) h = (refl, tt)
-label_ends (Some (k.Keyword w.False)) h = (refl, tt)
-label_ends (Some (k.Number n)) h = (refl, tt)
-label_ends (Some (k.Symbol s.Plus)) h = (refl, tt)
-label_ends (Some (k.Symbol s.Minus)) h = (refl, tt)
+label_ends (Some (token_kinds.Typed v)) h = (refl, tt)
+label_ends (Some (token_kinds.Duration d)) h = (refl, tt)
+label_ends (Some (token_kinds.Keyword keywords.True)) h = (refl, tt)
+label_ends (Some (token_kinds.Keyword keywords.False)) h = (refl, tt)
+label_ends (Some (token_kinds.Number n)) h = (refl, tt)
+label_ends (Some (token_kinds.Symbol symbols.Plus)) h = (refl, tt)
+label_ends (Some (token_kinds.Symbol symbols.Minus)) h = (refl, tt)
 label_ends _ h = absurd (cc)
 
 abbrev ConditionalRule : Relation ConditionalPart
-ConditionalRule = Then (IsBinary 7) (λ x. Then (IsOne (k.Keyword w.Then)) (λ q. Then IsStatements (λ ss. IsPure (part_of x ss))))
+ConditionalRule = Then (IsBinary 7) (λ x. Then (IsOne (token_kinds.Keyword keywords.Then)) (λ q. Then IsStatements (λ ss. IsPure (part_of x ss))))
 
 conditional_to : (ts : List Tok) (x : ConditionalPart) (rest : List Tok) → ConditionalRule ts x rest → IsConditional ts x rest
 conditional_to ts x rest (seq d (seq one (seq e m))) = made m (λ y us. IsConditional ts y us) (conditional d e)
@@ -251,7 +251,7 @@ conditional_from : (ts : List Tok) (x : ConditionalPart) (rest : List Tok) → I
 conditional_from ts x rest (conditional d e) = seq d (seq one (seq e done))
 
 abbrev CaseRule : Relation CaseElement
-CaseRule = Then (IsListed IsLabel) (λ ls. Then (IsOne (k.Symbol s.Colon)) (λ q. Then IsStatements (λ ss. IsPure (case_of ls ss))))
+CaseRule = Then (IsListed IsLabel) (λ ls. Then (IsOne (token_kinds.Symbol symbols.Colon)) (λ q. Then IsStatements (λ ss. IsPure (case_of ls ss))))
 
 case_to : (ts : List Tok) (x : CaseElement) (rest : List Tok) → CaseRule ts x rest → IsCase ts x rest
 case_to ts x rest (seq d (seq one (seq e m))) = made m (λ y us. IsCase ts y us) (case d e)
@@ -261,79 +261,79 @@ case_from ts x rest (case d e) = seq d (seq one (seq e done))
 
 -- ELSE may not follow, nor a statement
 abbrev EndsElse : Option Kind → Type 0
-EndsElse t = (is_keyword w.Else t ≡ false) × EndsBlock t
+EndsElse t = (is_keyword keywords.Else t ≡ false) × EndsBlock t
 
-else_from : (p : Position) (ts : List Tok) (x : List Statement) (rest : List Tok) → EndsElse (kind rest) → IsElse ((p, k.Keyword w.Else) ∷ ts) x rest → IsStatements ts x rest
+else_from : (p : Position) (ts : List Tok) (x : List Statement) (rest : List Tok) → EndsElse (kind rest) → IsElse ((p, token_kinds.Keyword keywords.Else) ∷ ts) x rest → IsStatements ts x rest
 else_from p ts x rest g (otherwise d) = d
 else_from p ts x rest g no_else = absurd (let wrong = g.0 in cc)
 
 no_else_to : (ts : List Tok) (x : List Statement) (rest : List Tok) → IsPure [] ts x rest → IsElse ts x rest
 no_else_to ts x rest d = made d (λ y us. IsElse ts y us) no_else
 
-no_else_from : (ts : List Tok) (x : List Statement) (rest : List Tok) → is_keyword w.Else (kind ts) ≡ false → IsElse ts x rest → IsPure [] ts x rest
+no_else_from : (ts : List Tok) (x : List Statement) (rest : List Tok) → is_keyword keywords.Else (kind ts) ≡ false → IsElse ts x rest → IsPure [] ts x rest
 no_else_from ts x rest h no_else = done
 no_else_from ts x rest h (otherwise d) = absurd (cc)
 
 -- BY may not follow
 abbrev EndsBy : Option Kind → Type 0
-EndsBy t = (is_keyword w.By t ≡ false) × Stops 7 t
+EndsBy t = (is_keyword keywords.By t ≡ false) × Stops 7 t
 
-by_to : (p : Position) (ts : List Tok) (x : Option Expression) (rest : List Tok) → Then (IsBinary 7) (λ y. IsPure (Some y)) ts x rest → IsBy ((p, k.Keyword w.By) ∷ ts) x rest
-by_to p ts x rest (seq d m) = made m (λ y us. IsBy ((p, k.Keyword w.By) ∷ ts) y us) (by_step d)
+by_to : (p : Position) (ts : List Tok) (x : Option Expression) (rest : List Tok) → Then (IsBinary 7) (λ y. IsPure (Some y)) ts x rest → IsBy ((p, token_kinds.Keyword keywords.By) ∷ ts) x rest
+by_to p ts x rest (seq d m) = made m (λ y us. IsBy ((p, token_kinds.Keyword keywords.By) ∷ ts) y us) (by_step d)
 
-by_from : (p : Position) (ts : List Tok) (x : Option Expression) (rest : List Tok) → EndsBy (kind rest) → IsBy ((p, k.Keyword w.By) ∷ ts) x rest → Then (IsBinary 7) (λ y. IsPure (Some y)) ts x rest
+by_from : (p : Position) (ts : List Tok) (x : Option Expression) (rest : List Tok) → EndsBy (kind rest) → IsBy ((p, token_kinds.Keyword keywords.By) ∷ ts) x rest → Then (IsBinary 7) (λ y. IsPure (Some y)) ts x rest
 by_from p ts x rest g (by_step d) = seq d done
 by_from p ts x rest g no_by = absurd (let wrong = g.0 in cc)
 
 no_by_to : (ts : List Tok) (x : Option Expression) (rest : List Tok) → IsPure None ts x rest → IsBy ts x rest
 no_by_to ts x rest d = made d (λ y us. IsBy ts y us) no_by
 
-no_by_from : (ts : List Tok) (x : Option Expression) (rest : List Tok) → is_keyword w.By (kind ts) ≡ false → IsBy ts x rest → IsPure None ts x rest
+no_by_from : (ts : List Tok) (x : Option Expression) (rest : List Tok) → is_keyword keywords.By (kind ts) ≡ false → IsBy ts x rest → IsPure None ts x rest
 no_by_from ts x rest h no_by = done
 no_by_from ts x rest h (by_step d) = absurd (cc)
 
 module _ (r : ℕ) (d : Deeper) (e : ExactDeeper (suc r) d) where
   conditional_exact : Exact 1 (spec.conditional d) Always IsConditional EndsBlock (At r) (At r)
   unfolding spec.conditional
-  conditional_exact = exact_iff (exact_before (k.Keyword w.Then) e.0 tt (exact_keyword w.Then r refl) (λ x q. exact_last e.1 (part_of x))) conditional_to conditional_from
+  conditional_exact = exact_iff (exact_before (token_kinds.Keyword keywords.Then) e.0 tt (exact_keyword keywords.Then r refl) (λ x q. exact_last e.1 (part_of x))) conditional_to conditional_from
 
-  elsif_exact : Exact 1 (spec.elsif d) (λ ts. is_keyword w.Elsif (kind ts) ≡ true) IsElsif EndsBlock (At r) (At r)
+  elsif_exact : Exact 1 (spec.elsif d) (λ ts. is_keyword keywords.Elsif (kind ts) ≡ true) IsElsif EndsBlock (At r) (At r)
   unfolding spec.elsif
-  elsif_exact = exact_under (exact_token (k.Keyword w.Elsif) refl {R = IsElsif} (λ p. exact_iff conditional_exact (λ ts x rest c. elsif c) (elsif_from p))) (λ ts h. keyword_is w.Elsif (kind ts) h) (λ t g. g)
+  elsif_exact = exact_under (exact_token (token_kinds.Keyword keywords.Elsif) refl {R = IsElsif} (λ p. exact_iff conditional_exact (λ ts x rest c. elsif c) (elsif_from p))) (λ ts h. keyword_is keywords.Elsif (kind ts) h) (λ t g. g)
 
-  elsif_fits : (t : Option Kind) → is_keyword w.Elsif t ≡ true → EndsBlock t
-  elsif_fits t h = subst EndsBlock (sym (keyword_is w.Elsif t h)) (refl, tt)
+  elsif_fits : (t : Option Kind) → is_keyword keywords.Elsif t ≡ true → EndsBlock t
+  elsif_fits t h = subst EndsBlock (sym (keyword_is keywords.Elsif t h)) (refl, tt)
 
-  conditionals_follow : (x : ConditionalPart) (mid rest : List Tok) (y : List ConditionalPart) → Then (IsMany IsElsif) (λ xs. IsPure (x ∷ xs)) mid y rest → Ends (is_keyword w.Elsif) EndsBlock (kind rest) → EndsBlock (kind mid)
-  conditionals_follow x mid rest y (seq none c) g = made c (λ z us. Ends (is_keyword w.Elsif) EndsBlock (kind us) → EndsBlock (kind mid)) (λ f. f.1) g
+  conditionals_follow : (x : ConditionalPart) (mid rest : List Tok) (y : List ConditionalPart) → Then (IsMany IsElsif) (λ xs. IsPure (x ∷ xs)) mid y rest → Ends (is_keyword keywords.Elsif) EndsBlock (kind rest) → EndsBlock (kind mid)
+  conditionals_follow x mid rest y (seq none c) g = made c (λ z us. Ends (is_keyword keywords.Elsif) EndsBlock (kind us) → EndsBlock (kind mid)) (λ f. f.1) g
   conditionals_follow x mid rest y (seq (more (elsif i) m) c) g = (refl, tt)
 
-  conditionals_exact : Exact 1 (spec.conditionals d) Always AreConditionals (Ends (is_keyword w.Elsif) EndsBlock) (At r) (At r)
+  conditionals_exact : Exact 1 (spec.conditionals d) Always AreConditionals (Ends (is_keyword keywords.Elsif) EndsBlock) (At r) (At r)
   unfolding parser.leading
-  conditionals_exact = exact_iff (exact_bind conditional_exact (λ x. exact_last (exact_many (is_keyword w.Elsif) (spec.elsif d) IsElsif EndsBlock (At r) elsif_exact elsif_begins elsif_fits) (λ xs. x ∷ xs)) conditionals_follow)
+  conditionals_exact = exact_iff (exact_bind conditional_exact (λ x. exact_last (exact_many (is_keyword keywords.Elsif) (spec.elsif d) IsElsif EndsBlock (At r) elsif_exact elsif_begins elsif_fits) (λ xs. x ∷ xs)) conditionals_follow)
       conditionals_to conditionals_from
 
-  otherwise_by : (b : Bool) → Exact 0 (spec.otherwise_by d b) (λ ts. (is_keyword w.Else (kind ts) ≡ b) × Always ts) IsElse EndsElse (At r) (At r)
-  otherwise_by true = exact_zero (exact_under (exact_token (k.Keyword w.Else) refl {R = IsElse} (λ p. exact_as e.1 (λ ts u. u) (λ ts x rest u i. otherwise i) (λ ts x rest u g i. else_from p ts x rest g i) (λ t g. g.1)))
-      (λ ts h. keyword_is w.Else (kind ts) h.0) (λ t g. g))
+  otherwise_by : (b : Bool) → Exact 0 (spec.otherwise_by d b) (λ ts. (is_keyword keywords.Else (kind ts) ≡ b) × Always ts) IsElse EndsElse (At r) (At r)
+  otherwise_by true = exact_zero (exact_under (exact_token (token_kinds.Keyword keywords.Else) refl {R = IsElse} (λ p. exact_as e.1 (λ ts u. u) (λ ts x rest u i. otherwise i) (λ ts x rest u g i. else_from p ts x rest g i) (λ t g. g.1)))
+      (λ ts h. keyword_is keywords.Else (kind ts) h.0) (λ t g. g))
   otherwise_by false = exact_as (exact_pure [] Always Any (At r)) (λ ts h. tt) (λ ts x rest h i. no_else_to ts x rest i) (λ ts x rest h g i. no_else_from ts x rest h.0 i) (λ t g. tt)
 
   otherwise_exact : Exact 0 (spec.otherwise d) Always IsElse EndsElse (At r) (At r)
   unfolding spec.otherwise
-  otherwise_exact = exact_on (λ ts. is_keyword w.Else (kind ts)) (spec.otherwise_by d) Always IsElse EndsElse (At r) (At r) otherwise_by
+  otherwise_exact = exact_on (λ ts. is_keyword keywords.Else (kind ts)) (spec.otherwise_by d) Always IsElse EndsElse (At r) (At r) otherwise_by
 
-  step_by : (b : Bool) → Exact 0 (spec.step_by d b) (λ ts. (is_keyword w.By (kind ts) ≡ b) × Always ts) IsBy EndsBy (At r) (At r)
-  step_by true = exact_zero (exact_under (exact_token (k.Keyword w.By) refl {R = IsBy} (λ p. exact_as (exact_last e.0 (λ x. Some x)) (λ ts u. u) (λ ts x rest u i. by_to p ts x rest i) (λ ts x rest u g i. by_from p ts x rest g i) (λ t g. g.1)))
-      (λ ts h. keyword_is w.By (kind ts) h.0) (λ t g. g))
+  step_by : (b : Bool) → Exact 0 (spec.step_by d b) (λ ts. (is_keyword keywords.By (kind ts) ≡ b) × Always ts) IsBy EndsBy (At r) (At r)
+  step_by true = exact_zero (exact_under (exact_token (token_kinds.Keyword keywords.By) refl {R = IsBy} (λ p. exact_as (exact_last e.0 (λ x. Some x)) (λ ts u. u) (λ ts x rest u i. by_to p ts x rest i) (λ ts x rest u g i. by_from p ts x rest g i) (λ t g. g.1)))
+      (λ ts h. keyword_is keywords.By (kind ts) h.0) (λ t g. g))
   step_by false = exact_as (exact_pure None Always Any (At r)) (λ ts h. tt) (λ ts x rest h i. no_by_to ts x rest i) (λ ts x rest h g i. no_by_from ts x rest h.0 i) (λ t g. tt)
 
   step_exact : Exact 0 (spec.step d) Always IsBy EndsBy (At r) (At r)
   unfolding spec.step
-  step_exact = exact_on (λ ts. is_keyword w.By (kind ts)) (spec.step_by d) Always IsBy EndsBy (At r) (At r) step_by
+  step_exact = exact_on (λ ts. is_keyword keywords.By (kind ts)) (spec.step_by d) Always IsBy EndsBy (At r) (At r) step_by
 
   case_exact : Exact 1 (spec.case d) Always IsCase EndsBlock (At r) (At r)
   unfolding spec.case
-  case_exact = exact_iff (exact_before (k.Symbol s.Colon) (exact_listed spec.label IsLabel NoRange r (label_exact r) refl) (refl, refl) (exact_symbol s.Colon r refl) (λ ls q. exact_last e.1 (case_of ls))) case_to case_from
+  case_exact = exact_iff (exact_before (token_kinds.Symbol symbols.Colon) (exact_listed spec.label IsLabel NoRange r (label_exact r) refl) (refl, refl) (exact_symbol symbols.Colon r refl) (λ ls q. exact_last e.1 (case_of ls))) case_to case_from
 
   cases_follow : (x : CaseElement) (mid rest : List Tok) (y : List CaseElement) → Then (IsMany IsCase) (λ xs. IsPure (x ∷ xs)) mid y rest → Ends begins_label EndsBlock (kind rest) → EndsBlock (kind mid)
   cases_follow x mid rest y (seq none c) g = made c (λ z us. Ends begins_label EndsBlock (kind us) → EndsBlock (kind mid)) (λ f. f.1) g
@@ -348,36 +348,36 @@ module _ (r : ℕ) (d : Deeper) (e : ExactDeeper (suc r) d) where
 
 -- a word that closes a level, and ';'
 abbrev Closing : Kind → Statement → Relation Statement
-Closing x y = Then (IsOne x) (λ q. Then (IsOne (k.Symbol s.Semicolon)) (λ z. IsPure y))
+Closing x y = Then (IsOne x) (λ q. Then (IsOne (token_kinds.Symbol symbols.Semicolon)) (λ z. IsPure y))
 
 abbrev IfRule : Position → Relation Statement
-IfRule p = Then AreConditionals (λ xs. Then IsElse (λ ys. Closing (k.Keyword w.EndIf) (t.If (if_of p xs ys))))
+IfRule p = Then AreConditionals (λ xs. Then IsElse (λ ys. Closing (token_kinds.Keyword keywords.EndIf) (statement_kinds.If (if_of p xs ys))))
 
-if_statement_to : (p : Position) (ts : List Tok) (x : Statement) (rest : List Tok) → IfRule p ts x rest → IsStatement ((p, k.Keyword w.If) ∷ ts) x rest
-if_statement_to p ts x rest (seq (conditionals a m) (seq b (seq one (seq one c)))) = made c (λ y us. IsStatement ((p, k.Keyword w.If) ∷ ts) y us) (if_statement a m b)
+if_statement_to : (p : Position) (ts : List Tok) (x : Statement) (rest : List Tok) → IfRule p ts x rest → IsStatement ((p, token_kinds.Keyword keywords.If) ∷ ts) x rest
+if_statement_to p ts x rest (seq (conditionals a m) (seq b (seq one (seq one c)))) = made c (λ y us. IsStatement ((p, token_kinds.Keyword keywords.If) ∷ ts) y us) (if_statement a m b)
 
-if_statement_from : (p : Position) (ts : List Tok) (x : Statement) (rest : List Tok) → IsStatement ((p, k.Keyword w.If) ∷ ts) x rest → IfRule p ts x rest
+if_statement_from : (p : Position) (ts : List Tok) (x : Statement) (rest : List Tok) → IsStatement ((p, token_kinds.Keyword keywords.If) ∷ ts) x rest → IfRule p ts x rest
 if_statement_from p ts x rest (if_statement a m b) = seq (conditionals a m) (seq b (seq one (seq one done)))
 if_statement_from p ts x rest (assignment d e) = elim d [ ]
 if_statement_from p ts x rest (invocation d) = elim d [ ]
 
 abbrev CaseStatementRule : Position → Relation Statement
-CaseStatementRule p = Then (IsBinary 7) (λ a. Then (IsOne (k.Keyword w.Of)) (λ q. Then AreCases (λ cs. Then IsElse (λ ys. Closing (k.Keyword w.EndCase) (t.Case (case_statement_of p a cs ys))))))
+CaseStatementRule p = Then (IsBinary 7) (λ a. Then (IsOne (token_kinds.Keyword keywords.Of)) (λ q. Then AreCases (λ cs. Then IsElse (λ ys. Closing (token_kinds.Keyword keywords.EndCase) (statement_kinds.Case (case_statement_of p a cs ys))))))
 
-case_statement_to : (p : Position) (ts : List Tok) (x : Statement) (rest : List Tok) → CaseStatementRule p ts x rest → IsStatement ((p, k.Keyword w.Case) ∷ ts) x rest
-case_statement_to p ts x rest (seq a (seq one (seq (all_cases b m) (seq o (seq one (seq one c)))))) = made c (λ y us. IsStatement ((p, k.Keyword w.Case) ∷ ts) y us) (case_statement a b m o)
+case_statement_to : (p : Position) (ts : List Tok) (x : Statement) (rest : List Tok) → CaseStatementRule p ts x rest → IsStatement ((p, token_kinds.Keyword keywords.Case) ∷ ts) x rest
+case_statement_to p ts x rest (seq a (seq one (seq (all_cases b m) (seq o (seq one (seq one c)))))) = made c (λ y us. IsStatement ((p, token_kinds.Keyword keywords.Case) ∷ ts) y us) (case_statement a b m o)
 
-case_statement_from : (p : Position) (ts : List Tok) (x : Statement) (rest : List Tok) → IsStatement ((p, k.Keyword w.Case) ∷ ts) x rest → CaseStatementRule p ts x rest
+case_statement_from : (p : Position) (ts : List Tok) (x : Statement) (rest : List Tok) → IsStatement ((p, token_kinds.Keyword keywords.Case) ∷ ts) x rest → CaseStatementRule p ts x rest
 case_statement_from p ts x rest (case_statement a b m o) = seq a (seq one (seq (all_cases b m) (seq o (seq one (seq one done)))))
 case_statement_from p ts x rest (assignment d e) = elim d [ ]
 case_statement_from p ts x rest (invocation d) = elim d [ ]
 
 -- the values that a variable of FOR takes
 data IsForRange : List Tok → ForRange → List Tok → Type 0 where
-  bounds : {p : Position} {ts mid then rest : List Tok} {a b : Expression} {c : Option Expression} → IsBinary 7 ts a ((p, k.Keyword w.To) ∷ mid) → IsBinary 7 mid b then → IsBy then c rest → IsForRange ts (range_of a b c) rest
+  bounds : {p : Position} {ts mid then rest : List Tok} {a b : Expression} {c : Option Expression} → IsBinary 7 ts a ((p, token_kinds.Keyword keywords.To) ∷ mid) → IsBinary 7 mid b then → IsBy then c rest → IsForRange ts (range_of a b c) rest
 
 abbrev RangeRule : Relation ForRange
-RangeRule = Then (IsBinary 7) (λ a. Then (IsOne (k.Keyword w.To)) (λ u. Then (IsBinary 7) (λ b. Then IsBy (λ c. IsPure (range_of a b c)))))
+RangeRule = Then (IsBinary 7) (λ a. Then (IsOne (token_kinds.Keyword keywords.To)) (λ u. Then (IsBinary 7) (λ b. Then IsBy (λ c. IsPure (range_of a b c)))))
 
 bounds_to : (ts : List Tok) (x : ForRange) (rest : List Tok) → RangeRule ts x rest → IsForRange ts x rest
 bounds_to ts x rest (seq a (seq one (seq b (seq c m)))) = made m (λ y us. IsForRange ts y us) (bounds a b c)
@@ -391,106 +391,106 @@ by_follow mid rest y (seq no_by c) g = made c (λ z us. EndsBy (kind us) → Sto
 
 bounds_exact : (r : ℕ) (d : Deeper) → ExactDeeper (suc r) d → Exact 1 (spec.for_bounds d) Always IsForRange EndsBy (At r) (At r)
 unfolding spec.for_bounds
-bounds_exact r d e = exact_iff (exact_before (k.Keyword w.To) e.0 tt (exact_keyword w.To r refl) (λ a u. exact_bind e.0 (λ b. exact_last (step_exact r d e) (range_of a b)) (λ b mid rest y c g. by_follow {f = range_of a b} mid rest y c g)))
+bounds_exact r d e = exact_iff (exact_before (token_kinds.Keyword keywords.To) e.0 tt (exact_keyword keywords.To r refl) (λ a u. exact_bind e.0 (λ b. exact_last (step_exact r d e) (range_of a b)) (λ b mid rest y c g. by_follow {f = range_of a b} mid rest y c g)))
     bounds_to bounds_from
 
 abbrev ForRule : Position → Relation Statement
-ForRule p = Then IsWord (λ n. Then (IsOne (k.Symbol s.Assign)) (λ q. Then IsForRange (λ x. Then (IsOne (k.Keyword w.Do)) (λ v. Then IsStatements (λ ss. Closing (k.Keyword w.EndFor) (t.For (for_of p n x.first x.last x.step ss)))))))
+ForRule p = Then IsWord (λ n. Then (IsOne (token_kinds.Symbol symbols.Assign)) (λ q. Then IsForRange (λ x. Then (IsOne (token_kinds.Keyword keywords.Do)) (λ v. Then IsStatements (λ ss. Closing (token_kinds.Keyword keywords.EndFor) (statement_kinds.For (for_of p n x.first x.last x.step ss)))))))
 
-for_statement_to : (p : Position) (ts : List Tok) (x : Statement) (rest : List Tok) → ForRule p ts x rest → IsStatement ((p, k.Keyword w.For) ∷ ts) x rest
-for_statement_to p ts x rest (seq a_word (seq one (seq (bounds a b c) (seq one (seq m (seq one (seq one e))))))) = made e (λ y us. IsStatement ((p, k.Keyword w.For) ∷ ts) y us) (for_statement a b c m)
+for_statement_to : (p : Position) (ts : List Tok) (x : Statement) (rest : List Tok) → ForRule p ts x rest → IsStatement ((p, token_kinds.Keyword keywords.For) ∷ ts) x rest
+for_statement_to p ts x rest (seq a_word (seq one (seq (bounds a b c) (seq one (seq m (seq one (seq one e))))))) = made e (λ y us. IsStatement ((p, token_kinds.Keyword keywords.For) ∷ ts) y us) (for_statement a b c m)
 
-for_statement_from : (p : Position) (ts : List Tok) (x : Statement) (rest : List Tok) → IsStatement ((p, k.Keyword w.For) ∷ ts) x rest → ForRule p ts x rest
+for_statement_from : (p : Position) (ts : List Tok) (x : Statement) (rest : List Tok) → IsStatement ((p, token_kinds.Keyword keywords.For) ∷ ts) x rest → ForRule p ts x rest
 for_statement_from p ts x rest (for_statement a b c m) = seq a_word (seq one (seq (bounds a b c) (seq one (seq m (seq one (seq one done))))))
 for_statement_from p ts x rest (assignment d e) = elim d [ ]
 for_statement_from p ts x rest (invocation d) = elim d [ ]
 
 abbrev WhileRule : Position → Relation Statement
-WhileRule p = Then (IsBinary 7) (λ a. Then (IsOne (k.Keyword w.Do)) (λ q. Then IsStatements (λ ss. Closing (k.Keyword w.EndWhile) (t.While (while_of p a ss)))))
+WhileRule p = Then (IsBinary 7) (λ a. Then (IsOne (token_kinds.Keyword keywords.Do)) (λ q. Then IsStatements (λ ss. Closing (token_kinds.Keyword keywords.EndWhile) (statement_kinds.While (while_of p a ss)))))
 
-while_to : (p : Position) (ts : List Tok) (x : Statement) (rest : List Tok) → WhileRule p ts x rest → IsStatement ((p, k.Keyword w.While) ∷ ts) x rest
-while_to p ts x rest (seq a (seq one (seq m (seq one (seq one c))))) = made c (λ y us. IsStatement ((p, k.Keyword w.While) ∷ ts) y us) (while_statement a m)
+while_to : (p : Position) (ts : List Tok) (x : Statement) (rest : List Tok) → WhileRule p ts x rest → IsStatement ((p, token_kinds.Keyword keywords.While) ∷ ts) x rest
+while_to p ts x rest (seq a (seq one (seq m (seq one (seq one c))))) = made c (λ y us. IsStatement ((p, token_kinds.Keyword keywords.While) ∷ ts) y us) (while_statement a m)
 
-while_from : (p : Position) (ts : List Tok) (x : Statement) (rest : List Tok) → IsStatement ((p, k.Keyword w.While) ∷ ts) x rest → WhileRule p ts x rest
+while_from : (p : Position) (ts : List Tok) (x : Statement) (rest : List Tok) → IsStatement ((p, token_kinds.Keyword keywords.While) ∷ ts) x rest → WhileRule p ts x rest
 while_from p ts x rest (while_statement a m) = seq a (seq one (seq m (seq one (seq one done))))
 while_from p ts x rest (assignment d e) = elim d [ ]
 while_from p ts x rest (invocation d) = elim d [ ]
 
 abbrev RepeatRule : Position → Relation Statement
-RepeatRule p = Then IsStatements (λ ss. Then (IsOne (k.Keyword w.Until)) (λ q. Then (IsBinary 7) (λ a. Closing (k.Keyword w.EndRepeat) (t.Repeat (repeat_of p ss a)))))
+RepeatRule p = Then IsStatements (λ ss. Then (IsOne (token_kinds.Keyword keywords.Until)) (λ q. Then (IsBinary 7) (λ a. Closing (token_kinds.Keyword keywords.EndRepeat) (statement_kinds.Repeat (repeat_of p ss a)))))
 
-repeat_to : (p : Position) (ts : List Tok) (x : Statement) (rest : List Tok) → RepeatRule p ts x rest → IsStatement ((p, k.Keyword w.Repeat) ∷ ts) x rest
-repeat_to p ts x rest (seq m (seq one (seq a (seq one (seq one c))))) = made c (λ y us. IsStatement ((p, k.Keyword w.Repeat) ∷ ts) y us) (repeat_statement m a)
+repeat_to : (p : Position) (ts : List Tok) (x : Statement) (rest : List Tok) → RepeatRule p ts x rest → IsStatement ((p, token_kinds.Keyword keywords.Repeat) ∷ ts) x rest
+repeat_to p ts x rest (seq m (seq one (seq a (seq one (seq one c))))) = made c (λ y us. IsStatement ((p, token_kinds.Keyword keywords.Repeat) ∷ ts) y us) (repeat_statement m a)
 
-repeat_from : (p : Position) (ts : List Tok) (x : Statement) (rest : List Tok) → IsStatement ((p, k.Keyword w.Repeat) ∷ ts) x rest → RepeatRule p ts x rest
+repeat_from : (p : Position) (ts : List Tok) (x : Statement) (rest : List Tok) → IsStatement ((p, token_kinds.Keyword keywords.Repeat) ∷ ts) x rest → RepeatRule p ts x rest
 repeat_from p ts x rest (repeat_statement m a) = seq m (seq one (seq a (seq one (seq one done))))
 repeat_from p ts x rest (assignment d e) = elim d [ ]
 repeat_from p ts x rest (invocation d) = elim d [ ]
 
-if_statement_follow : (p : Position) (xs : List ConditionalPart) (mid rest : List Tok) (y : Statement) → Then IsElse (λ ys. Closing (k.Keyword w.EndIf) (t.If (if_of p xs ys))) mid y rest → Any (kind rest) → Ends (is_keyword w.Elsif) EndsBlock (kind mid)
+if_statement_follow : (p : Position) (xs : List ConditionalPart) (mid rest : List Tok) (y : Statement) → Then IsElse (λ ys. Closing (token_kinds.Keyword keywords.EndIf) (statement_kinds.If (if_of p xs ys))) mid y rest → Any (kind rest) → Ends (is_keyword keywords.Elsif) EndsBlock (kind mid)
 if_statement_follow p xs mid rest y (seq (otherwise d) c) g = (refl, (refl, tt))
 if_statement_follow p xs mid rest y (seq no_else (seq one c)) g = (refl, (refl, tt))
 
-case_statement_follow : (p : Position) (a : Expression) (xs : List CaseElement) (mid rest : List Tok) (y : Statement) → Then IsElse (λ ys. Closing (k.Keyword w.EndCase) (t.Case (case_statement_of p a xs ys))) mid y rest → Any (kind rest) → Ends begins_label EndsBlock (kind mid)
+case_statement_follow : (p : Position) (a : Expression) (xs : List CaseElement) (mid rest : List Tok) (y : Statement) → Then IsElse (λ ys. Closing (token_kinds.Keyword keywords.EndCase) (statement_kinds.Case (case_statement_of p a xs ys))) mid y rest → Any (kind rest) → Ends begins_label EndsBlock (kind mid)
 case_statement_follow p a xs mid rest y (seq (otherwise d) c) g = (refl, (refl, tt))
 case_statement_follow p a xs mid rest y (seq no_else (seq one c)) g = (refl, (refl, tt))
 
 -- a word that closes a level, and ';'
-closing : (x : Keyword) (r : ℕ) → opens (k.Keyword x) ≡ 0 → (y : Statement)
-    → Exact 1 (λ ts. and_then (parser.expect_keyword x ts) (λ q us. and_then (parser.expect_symbol s.Semicolon us) (λ z. parser.pure y))) Always (Closing (k.Keyword x) y) Any (At r) (At (past (closes (k.Keyword x)) r))
+closing : (x : Keyword) (r : ℕ) → opens (token_kinds.Keyword x) ≡ 0 → (y : Statement)
+    → Exact 1 (λ ts. and_then (parser.expect_keyword x ts) (λ q us. and_then (parser.expect_symbol symbols.Semicolon us) (λ z. parser.pure y))) Always (Closing (token_kinds.Keyword x) y) Any (At r) (At (past (closes (token_kinds.Keyword x)) r))
 closing x r plain y = exact_bind (exact_keyword x r plain)
-    (λ q. exact_bind (exact_symbol s.Semicolon (past (closes (k.Keyword x)) r) refl) (λ z. exact_pure y Always Any (At (past (closes (k.Keyword x)) r))) (λ z mid rest e d g. tt)) (λ q mid rest e d g. tt)
+    (λ q. exact_bind (exact_symbol symbols.Semicolon (past (closes (token_kinds.Keyword x)) r) refl) (λ z. exact_pure y Always Any (At (past (closes (token_kinds.Keyword x)) r))) (λ z mid rest e d g. tt)) (λ q mid rest e d g. tt)
 
 -- what the reading functions do behind the word that opens a level
 module _ (d : Deeper) where
   abbrev after_if : Position → Parser Statement
-  after_if p = λ ts. and_then (spec.conditionals d ts) (λ xs us. and_then (spec.otherwise d us) (λ ys vs. and_then (parser.expect_keyword w.EndIf vs) (λ q ws. and_then (parser.expect_symbol s.Semicolon ws) (λ z. parser.pure (t.If (if_of p xs ys))))))
+  after_if p = λ ts. and_then (spec.conditionals d ts) (λ xs us. and_then (spec.otherwise d us) (λ ys vs. and_then (parser.expect_keyword keywords.EndIf vs) (λ q ws. and_then (parser.expect_symbol symbols.Semicolon ws) (λ z. parser.pure (statement_kinds.If (if_of p xs ys))))))
 
   abbrev after_case : Position → Parser Statement
-  after_case p = λ ts. and_then (d.expression ts) (λ a us. and_then (parser.expect_keyword w.Of us) (λ u vs. and_then (spec.cases d vs) (λ cs ws. and_then (spec.otherwise d ws)
-      (λ ys xs. and_then (parser.expect_keyword w.EndCase xs) (λ q zs. and_then (parser.expect_symbol s.Semicolon zs) (λ z. parser.pure (t.Case (case_statement_of p a cs ys))))))))
+  after_case p = λ ts. and_then (d.expression ts) (λ a us. and_then (parser.expect_keyword keywords.Of us) (λ u vs. and_then (spec.cases d vs) (λ cs ws. and_then (spec.otherwise d ws)
+      (λ ys xs. and_then (parser.expect_keyword keywords.EndCase xs) (λ q zs. and_then (parser.expect_symbol symbols.Semicolon zs) (λ z. parser.pure (statement_kinds.Case (case_statement_of p a cs ys))))))))
 
   abbrev after_for : Position → Parser Statement
-  after_for p = λ ts. and_then (parser.identifier ts) (λ n us. and_then (parser.expect_symbol s.Assign us) (λ q vs. and_then (spec.for_bounds d vs) (λ x ws. and_then (parser.expect_keyword w.Do ws) (λ v ks. and_then (d.statements ks) (λ ss bs. and_then (parser.expect_keyword w.EndFor bs)
-      (λ y cs. and_then (parser.expect_symbol s.Semicolon cs) (λ z. parser.pure (t.For (for_of p n x.first x.last x.step ss)))))))))
+  after_for p = λ ts. and_then (parser.identifier ts) (λ n us. and_then (parser.expect_symbol symbols.Assign us) (λ q vs. and_then (spec.for_bounds d vs) (λ x ws. and_then (parser.expect_keyword keywords.Do ws) (λ v ks. and_then (d.statements ks) (λ ss bs. and_then (parser.expect_keyword keywords.EndFor bs)
+      (λ y cs. and_then (parser.expect_symbol symbols.Semicolon cs) (λ z. parser.pure (statement_kinds.For (for_of p n x.first x.last x.step ss)))))))))
 
   abbrev after_while : Position → Parser Statement
-  after_while p = λ ts. and_then (d.expression ts) (λ a us. and_then (parser.expect_keyword w.Do us) (λ u vs. and_then (d.statements vs) (λ ss ws. and_then (parser.expect_keyword w.EndWhile ws) (λ q xs. and_then (parser.expect_symbol s.Semicolon xs) (λ z. parser.pure (t.While (while_of p a ss)))))))
+  after_while p = λ ts. and_then (d.expression ts) (λ a us. and_then (parser.expect_keyword keywords.Do us) (λ u vs. and_then (d.statements vs) (λ ss ws. and_then (parser.expect_keyword keywords.EndWhile ws) (λ q xs. and_then (parser.expect_symbol symbols.Semicolon xs) (λ z. parser.pure (statement_kinds.While (while_of p a ss)))))))
 
   abbrev after_repeat : Position → Parser Statement
-  after_repeat p = λ ts. and_then (d.statements ts) (λ ss us. and_then (parser.expect_keyword w.Until us) (λ u vs. and_then (d.expression vs) (λ a ws. and_then (parser.expect_keyword w.EndRepeat ws) (λ q xs. and_then (parser.expect_symbol s.Semicolon xs) (λ z. parser.pure (t.Repeat (repeat_of p ss a)))))))
+  after_repeat p = λ ts. and_then (d.statements ts) (λ ss us. and_then (parser.expect_keyword keywords.Until us) (λ u vs. and_then (d.expression vs) (λ a ws. and_then (parser.expect_keyword keywords.EndRepeat ws) (λ q xs. and_then (parser.expect_symbol symbols.Semicolon xs) (λ z. parser.pure (statement_kinds.Repeat (repeat_of p ss a)))))))
 
-  if_behind : (r : ℕ) → ExactDeeper r d → Behind 1 r after_if (k.Keyword w.If) IsStatement Any
+  if_behind : (r : ℕ) → ExactDeeper r d → Behind 1 r after_if (token_kinds.Keyword keywords.If) IsStatement Any
   if_behind zero e = tt
   if_behind (suc r) e = λ p. exact_iff
-      (exact_bind (conditionals_exact r d e) (λ xs. exact_bind (otherwise_exact r d e) (λ ys. closing w.EndIf r refl (t.If (if_of p xs ys))) (λ ys mid rest y c g. before_token EndsElse (refl, (refl, tt)) c)) (if_statement_follow p))
+      (exact_bind (conditionals_exact r d e) (λ xs. exact_bind (otherwise_exact r d e) (λ ys. closing keywords.EndIf r refl (statement_kinds.If (if_of p xs ys))) (λ ys mid rest y c g. before_token EndsElse (refl, (refl, tt)) c)) (if_statement_follow p))
       (if_statement_to p) (if_statement_from p)
 
-  case_behind : (r : ℕ) → ExactDeeper r d → Behind 1 r after_case (k.Keyword w.Case) IsStatement Any
+  case_behind : (r : ℕ) → ExactDeeper r d → Behind 1 r after_case (token_kinds.Keyword keywords.Case) IsStatement Any
   case_behind zero e = tt
   case_behind (suc r) e = λ p. exact_iff
-      (exact_before (k.Keyword w.Of) e.0 tt (exact_keyword w.Of r refl) (λ a q. exact_bind (cases_exact r d e)
-      (λ cs. exact_bind (otherwise_exact r d e) (λ ys. closing w.EndCase r refl (t.Case (case_statement_of p a cs ys))) (λ ys mid rest y c g. before_token EndsElse (refl, (refl, tt)) c)) (case_statement_follow p a)))
+      (exact_before (token_kinds.Keyword keywords.Of) e.0 tt (exact_keyword keywords.Of r refl) (λ a q. exact_bind (cases_exact r d e)
+      (λ cs. exact_bind (otherwise_exact r d e) (λ ys. closing keywords.EndCase r refl (statement_kinds.Case (case_statement_of p a cs ys))) (λ ys mid rest y c g. before_token EndsElse (refl, (refl, tt)) c)) (case_statement_follow p a)))
       (case_statement_to p) (case_statement_from p)
 
-  for_behind : (r : ℕ) → ExactDeeper r d → Behind 1 r after_for (k.Keyword w.For) IsStatement Any
+  for_behind : (r : ℕ) → ExactDeeper r d → Behind 1 r after_for (token_kinds.Keyword keywords.For) IsStatement Any
   for_behind zero e = tt
   for_behind (suc r) e = λ p. exact_iff
-      (exact_bind (exact_identifier r) (λ n. exact_bind (exact_symbol s.Assign r refl) (λ q. exact_before (k.Keyword w.Do) (bounds_exact r d e) (refl, tt) (exact_keyword w.Do r refl) (λ x v.
-      exact_bind e.1 (λ ss. closing w.EndFor r refl (t.For (for_of p n x.first x.last x.step ss))) (λ ss mid rest y c g. before_token EndsBlock (refl, tt) c)))
+      (exact_bind (exact_identifier r) (λ n. exact_bind (exact_symbol symbols.Assign r refl) (λ q. exact_before (token_kinds.Keyword keywords.Do) (bounds_exact r d e) (refl, tt) (exact_keyword keywords.Do r refl) (λ x v.
+      exact_bind e.1 (λ ss. closing keywords.EndFor r refl (statement_kinds.For (for_of p n x.first x.last x.step ss))) (λ ss mid rest y c g. before_token EndsBlock (refl, tt) c)))
       (λ q mid rest y c g. tt)) (λ n mid rest y c g. tt))
       (for_statement_to p) (for_statement_from p)
 
-  while_behind : (r : ℕ) → ExactDeeper r d → Behind 1 r after_while (k.Keyword w.While) IsStatement Any
+  while_behind : (r : ℕ) → ExactDeeper r d → Behind 1 r after_while (token_kinds.Keyword keywords.While) IsStatement Any
   while_behind zero e = tt
   while_behind (suc r) e = λ p. exact_iff
-      (exact_before (k.Keyword w.Do) e.0 tt (exact_keyword w.Do r refl) (λ a q. exact_bind e.1 (λ ss. closing w.EndWhile r refl (t.While (while_of p a ss))) (λ ss mid rest y c g. before_token EndsBlock (refl, tt) c)))
+      (exact_before (token_kinds.Keyword keywords.Do) e.0 tt (exact_keyword keywords.Do r refl) (λ a q. exact_bind e.1 (λ ss. closing keywords.EndWhile r refl (statement_kinds.While (while_of p a ss))) (λ ss mid rest y c g. before_token EndsBlock (refl, tt) c)))
       (while_to p) (while_from p)
 
-  repeat_behind : (r : ℕ) → ExactDeeper r d → Behind 0 r after_repeat (k.Keyword w.Repeat) IsStatement Any
+  repeat_behind : (r : ℕ) → ExactDeeper r d → Behind 0 r after_repeat (token_kinds.Keyword keywords.Repeat) IsStatement Any
   repeat_behind zero e = tt
   repeat_behind (suc r) e = λ p. exact_iff
-      (exact_before (k.Keyword w.Until) e.1 (refl, tt) (exact_keyword w.Until r refl) (λ ss q. exact_bind e.0 (λ a. closing w.EndRepeat r refl (t.Repeat (repeat_of p ss a))) (λ a mid rest y c g. before_token (Stops 7) tt c)))
+      (exact_before (token_kinds.Keyword keywords.Until) e.1 (refl, tt) (exact_keyword keywords.Until r refl) (λ ss q. exact_bind e.0 (λ a. closing keywords.EndRepeat r refl (statement_kinds.Repeat (repeat_of p ss a))) (λ a mid rest y c g. before_token (Stops 7) tt c)))
       (repeat_to p) (repeat_from p)
 
 -- ---- statements
@@ -519,36 +519,36 @@ from_statements no_statement = none
 from_statements (statements d m) = more d (from_statements m)
 
 module _ (r : ℕ) (d : Deeper) (e : ExactDeeper r d) where
-  if_statement_exact : Exact 1 (spec.if_statement r d) (IsFirst (k.Keyword w.If)) IsStatement Any (At r) (At r)
+  if_statement_exact : Exact 1 (spec.if_statement r d) (IsFirst (token_kinds.Keyword keywords.If)) IsStatement Any (At r) (At r)
   unfolding spec.if_statement
-  if_statement_exact = exact_enter 1 r (after_if d) (k.Keyword w.If) refl (if_behind d r e)
+  if_statement_exact = exact_enter 1 r (after_if d) (token_kinds.Keyword keywords.If) refl (if_behind d r e)
 
-  case_statement_exact : Exact 1 (spec.case_statement r d) (IsFirst (k.Keyword w.Case)) IsStatement Any (At r) (At r)
+  case_statement_exact : Exact 1 (spec.case_statement r d) (IsFirst (token_kinds.Keyword keywords.Case)) IsStatement Any (At r) (At r)
   unfolding spec.case_statement
-  case_statement_exact = exact_enter 1 r (after_case d) (k.Keyword w.Case) refl (case_behind d r e)
+  case_statement_exact = exact_enter 1 r (after_case d) (token_kinds.Keyword keywords.Case) refl (case_behind d r e)
 
-  for_statement_exact : Exact 1 (spec.for_statement r d) (IsFirst (k.Keyword w.For)) IsStatement Any (At r) (At r)
+  for_statement_exact : Exact 1 (spec.for_statement r d) (IsFirst (token_kinds.Keyword keywords.For)) IsStatement Any (At r) (At r)
   unfolding spec.for_statement
-  for_statement_exact = exact_enter 1 r (after_for d) (k.Keyword w.For) refl (for_behind d r e)
+  for_statement_exact = exact_enter 1 r (after_for d) (token_kinds.Keyword keywords.For) refl (for_behind d r e)
 
-  while_exact : Exact 1 (spec.while_statement r d) (IsFirst (k.Keyword w.While)) IsStatement Any (At r) (At r)
+  while_exact : Exact 1 (spec.while_statement r d) (IsFirst (token_kinds.Keyword keywords.While)) IsStatement Any (At r) (At r)
   unfolding spec.while_statement
-  while_exact = exact_enter 1 r (after_while d) (k.Keyword w.While) refl (while_behind d r e)
+  while_exact = exact_enter 1 r (after_while d) (token_kinds.Keyword keywords.While) refl (while_behind d r e)
 
-  repeat_exact : Exact 1 (spec.repeat_statement r d) (IsFirst (k.Keyword w.Repeat)) IsStatement Any (At r) (At r)
+  repeat_exact : Exact 1 (spec.repeat_statement r d) (IsFirst (token_kinds.Keyword keywords.Repeat)) IsStatement Any (At r) (At r)
   unfolding spec.repeat_statement
-  repeat_exact = exact_enter 0 r (after_repeat d) (k.Keyword w.Repeat) refl (repeat_behind d r e)
+  repeat_exact = exact_enter 0 r (after_repeat d) (token_kinds.Keyword keywords.Repeat) refl (repeat_behind d r e)
 
   statement_by : (t : Option Kind) → Exact 1 (spec.statement_by r d t) (λ ts. (kind ts ≡ t) × Always ts) IsStatement Any (At r) (At r)
-  statement_by (Some (k.Word n)) = exact_under (named_exact r n) (λ ts p. p.0) (λ t g. g)
-  statement_by (Some (k.Symbol s.Semicolon)) = exact_under (empty_exact r) (λ ts p. p.0) (λ t g. g)
-  statement_by (Some (k.Keyword w.Return)) = exact_under (return_statement_exact r) (λ ts p. p.0) (λ t g. g)
-  statement_by (Some (k.Keyword w.Exit)) = exact_under (exit_statement_exact r) (λ ts p. p.0) (λ t g. g)
-  statement_by (Some (k.Keyword w.If)) = exact_under if_statement_exact (λ ts p. p.0) (λ t g. g)
-  statement_by (Some (k.Keyword w.Case)) = exact_under case_statement_exact (λ ts p. p.0) (λ t g. g)
-  statement_by (Some (k.Keyword w.For)) = exact_under for_statement_exact (λ ts p. p.0) (λ t g. g)
-  statement_by (Some (k.Keyword w.While)) = exact_under while_exact (λ ts p. p.0) (λ t g. g)
-  statement_by (Some (k.Keyword w.Repeat)) = exact_under repeat_exact (λ ts p. p.0) (λ t g. g)
+  statement_by (Some (token_kinds.Word n)) = exact_under (named_exact r n) (λ ts p. p.0) (λ t g. g)
+  statement_by (Some (token_kinds.Symbol symbols.Semicolon)) = exact_under (empty_exact r) (λ ts p. p.0) (λ t g. g)
+  statement_by (Some (token_kinds.Keyword keywords.Return)) = exact_under (return_statement_exact r) (λ ts p. p.0) (λ t g. g)
+  statement_by (Some (token_kinds.Keyword keywords.Exit)) = exact_under (exit_statement_exact r) (λ ts p. p.0) (λ t g. g)
+  statement_by (Some (token_kinds.Keyword keywords.If)) = exact_under if_statement_exact (λ ts p. p.0) (λ t g. g)
+  statement_by (Some (token_kinds.Keyword keywords.Case)) = exact_under case_statement_exact (λ ts p. p.0) (λ t g. g)
+  statement_by (Some (token_kinds.Keyword keywords.For)) = exact_under for_statement_exact (λ ts p. p.0) (λ t g. g)
+  statement_by (Some (token_kinds.Keyword keywords.While)) = exact_under while_exact (λ ts p. p.0) (λ t g. g)
+  statement_by (Some (token_kinds.Keyword keywords.Repeat)) = exact_under repeat_exact (λ ts p. p.0) (λ t g. g)
   statement_by _ = exact_refuse 1 _ IsStatement Any (At r) (At r) (λ ts x rest p i. let wrong = subst (λ t. begins_statement t ≡ true) p.0 (statement_begins i) in cc)
 
   statement_exact : Exact 1 (spec.statement r d) Always IsStatement Any (At r) (At r)

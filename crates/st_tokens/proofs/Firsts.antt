@@ -3,7 +3,7 @@ use Rattle.std.proofs.Common.{◌≡◌, ℕ, List, [], ◌∷◌, ◌++◌, ref
 use Rattle.std.specs.Prelude.{Option, Some, None, ◌||◌, is_some, ℤ, codes}
 use Rattle.std.specs.Char.{is_ascii_digit}
 use Rattle.st_values.specs.declared.elem.Elem.{Elem}
-use Rattle.st_values.specs.declared.elem.Elem.TheVariants.{Time}
+use Rattle.st_values.specs.declared.elem.Elem.TheVariants as elems
 use Rattle.st_values.specs.Durations.{signed_interval_read}
 use Rattle.st_values.specs.Numbers.{capped, capped_signed, number_read}
 use Rattle.st_values.specs.Readings.{literal_read}
@@ -11,7 +11,7 @@ use Rattle.st_values.specs.Types.{class_of, name_of}
 use Rattle.st_tokens.specs.declared.keyword.Keyword.{Keyword}
 use Rattle.st_tokens.specs.declared.symbol.Symbol.{Symbol}
 use Rattle.st_tokens.specs.declared.token.Kind.{Kind}
-use Rattle.st_tokens.specs.declared.token.Kind.TheVariants as K
+use Rattle.st_tokens.specs.declared.token.Kind.TheVariants as token_kinds
 use Rattle.st_tokens.specs.Characters.{begins_word}
 use Rattle.st_tokens.specs.Forms.{HasForm, word, keyword, type_name, number, typed, duration, symbol, IsDurationWord, time_of, value}
 use Rattle.st_tokens.specs.Scanning.{is_clean, single, word_kind, kind_by}
@@ -25,8 +25,8 @@ use Rattle.st_tokens.proofs.Cases.{not_both}
 
 -- how a token of this kind may begin
 abbrev pub IsOpener : Kind → ℕ → Type 0
-IsOpener (K.Number n) b = is_ascii_digit b ≡ true
-IsOpener (K.Symbol x) b = Opens b
+IsOpener (token_kinds.Number n) b = is_ascii_digit b ≡ true
+IsOpener (token_kinds.Symbol x) b = Opens b
 IsOpener _ b = begins_word b ≡ true
 
 -- a prefix with a byte that may begin its kind
@@ -69,13 +69,13 @@ begins_token b = is_ascii_digit b || (begins_word b || is_some (single b))
 
 -- how a kind may begin, a token may
 opener_token : (kind : Kind) (b : ℕ) → IsOpener kind b → begins_token b ≡ true
-opener_token (K.Number n) b h = rw h refl
-opener_token (K.Symbol x) b h = let d = h.no_digit in let w = h.no_word in let s = h.single in rw (d, w, s) refl
-opener_token (K.Word w) b h = rw (begins_no_digit b h, h) refl
-opener_token (K.Keyword x) b h = rw (begins_no_digit b h, h) refl
-opener_token (K.Type elem) b h = rw (begins_no_digit b h, h) refl
-opener_token (K.Typed v) b h = rw (begins_no_digit b h, h) refl
-opener_token (K.Duration ms) b h = rw (begins_no_digit b h, h) refl
+opener_token (token_kinds.Number n) b h = rw h refl
+opener_token (token_kinds.Symbol x) b h = let d = h.no_digit in let w = h.no_word in let s = h.single in rw (d, w, s) refl
+opener_token (token_kinds.Word w) b h = rw (begins_no_digit b h, h) refl
+opener_token (token_kinds.Keyword x) b h = rw (begins_no_digit b h, h) refl
+opener_token (token_kinds.Type elem) b h = rw (begins_no_digit b h, h) refl
+opener_token (token_kinds.Typed v) b h = rw (begins_no_digit b h, h) refl
+opener_token (token_kinds.Duration ms) b h = rw (begins_no_digit b h, h) refl
 
 -- each form has a first byte, with which tokens begin
 pub form_first : (prefix : List ℕ) (kind : Kind) → HasForm prefix kind → (b : ℕ) × (bs : List ℕ) × (prefix ≡ b ∷ bs) × (begins_token b ≡ true)
@@ -96,7 +96,7 @@ no_digit_word b d w = not_both d (begins_no_digit b w)
 
 -- after a digit only a number has a form
 pub only_number : (b : ℕ) (prefix : List ℕ) (kind : Kind) → HasForm prefix kind → IsOpener kind b → is_ascii_digit b ≡ true
-    → (n : ℕ) × (number_read prefix ≡ Some n) × (kind ≡ K.Number (capped n))
+    → (n : ℕ) × (number_read prefix ≡ Some n) × (kind ≡ token_kinds.Number (capped n))
 only_number b prefix kind (word h n) o d = no_digit_word b d o
 only_number b prefix kind (keyword h) o d = no_digit_word b d o
 only_number b prefix kind (type_name h) o d = no_digit_word b d o
@@ -107,7 +107,7 @@ only_number b prefix kind (symbol x) o d = not_both d o.no_digit
 
 -- after what is no digit and begins no word only a symbol has a form
 pub only_symbol : (b : ℕ) (prefix : List ℕ) (kind : Kind) → HasForm prefix kind → IsOpener kind b → is_ascii_digit b ≡ false → begins_word b ≡ false
-    → (x : Symbol) × (prefix ≡ symbol_text x) × (kind ≡ K.Symbol x)
+    → (x : Symbol) × (prefix ≡ symbol_text x) × (kind ≡ token_kinds.Symbol x)
 only_symbol b prefix kind (word h n) o d w = not_both o w
 only_symbol b prefix kind (keyword h) o d w = not_both o w
 only_symbol b prefix kind (type_name h) o d w = not_both o w
@@ -130,9 +130,9 @@ pub record Literal (prefix : List ℕ) (kind : Kind) : Type 0 where
   pub number : ℤ
   pub splits : prefix ≡ name ++ 35 ∷ literal
   pub named : IsSame name (name_of elem)
-  pub no_time : elem ≡ Time → ⊥
+  pub no_time : elem ≡ elems.Time → ⊥
   pub reads : literal_read (class_of elem) true literal ≡ Some number
-  pub kind_is : kind ≡ K.Typed (value elem (capped_signed number))
+  pub kind_is : kind ≡ token_kinds.Typed (value elem (capped_signed number))
 
 -- a duration
 pub record Lasting (prefix : List ℕ) (kind : Kind) : Type 0 where
@@ -142,7 +142,7 @@ pub record Lasting (prefix : List ℕ) (kind : Kind) : Type 0 where
   pub splits : prefix ≡ name ++ 35 ∷ literal
   pub named : IsDurationWord name
   pub reads : signed_interval_read literal ≡ Some number
-  pub kind_is : kind ≡ K.Duration (time_of number)
+  pub kind_is : kind ≡ token_kinds.Duration (time_of number)
 
 -- the kind of a word, from what the tables say
 kind_of : (w : List ℕ) (k : Option Keyword) (e : Option Elem) → keyword_of w ≡ k → elem_of w ≡ e → word_kind w ≡ kind_by w k e

@@ -4,7 +4,7 @@ use Rattle.std.specs.Prelude.{Option, Some, None, option_map, option_and_then, c
 use Rattle.std.specs.Char.{is_ascii_digit}
 use Rattle.st_values.specs.declared.elem.Class.TheVariants.{Duration}
 use Rattle.st_values.specs.declared.elem.Elem.{Elem}
-use Rattle.st_values.specs.declared.elem.Elem.TheVariants as E
+use Rattle.st_values.specs.declared.elem.Elem.TheVariants as elems
 use Rattle.st_values.specs.Durations.{signed_interval_read}
 use Rattle.st_values.specs.Numbers.{capped, capped_signed}
 use Rattle.st_values.specs.Readings.{literal_read}
@@ -13,7 +13,7 @@ use Rattle.st_values.specs.Words.{after, begins_with, is_word}
 use Rattle.st_tokens.specs.declared.keyword.Keyword.{Keyword}
 use Rattle.st_tokens.specs.declared.symbol.Symbol.{Symbol}
 use Rattle.st_tokens.specs.declared.token.Kind.{Kind}
-use Rattle.st_tokens.specs.declared.token.Kind.TheVariants as K
+use Rattle.st_tokens.specs.declared.token.Kind.TheVariants as token_kinds
 use Rattle.st_tokens.specs.Characters.{begins_word, AreWordBytes, BeginsWord}
 use Rattle.st_tokens.specs.Forms.{HasForm, word, keyword, type_name, number, typed, duration, symbol, IsDurationWord, time_of, value}
 use Rattle.st_tokens.specs.Scanning.{run, after_run, is_clean, single, double, number_at, signed_interval_at, number_found, literal_at, typed_at, typed_found, duration_at, duration_found, is_duration_word, prefixed_at, word_at, word_kind, kind_by, symbol_or, symbol_at, token_at}
@@ -50,9 +50,9 @@ number_token : (b : ℕ) (bs rest : List ℕ) (kind : Kind) → is_ascii_digit b
 number_token b bs rest kind d h =
     let m = mapped number_found (number_at (b ∷ bs)) (kind, rest) h in
     let f = number_is_found (b ∷ bs) m.0.1 m.0.0 m.1 in
-    let kind_is : K.Number (capped f.value) ≡ kind = sym (ap (λ (n : ℕ). K.Number n) f.same) ∙ ap (λ (p : Kind × List ℕ). p.0) m.2 in
+    let kind_is : token_kinds.Number (capped f.value) ≡ kind = sym (ap (λ (n : ℕ). token_kinds.Number n) f.same) ∙ ap (λ (p : Kind × List ℕ). p.0) m.2 in
     let rest_is : m.0.1 ≡ rest = ap (λ (p : Kind × List ℕ). p.1) m.2 in
-    subst (λ k. TokenFound (b ∷ bs) k rest) kind_is (subst (λ zs. TokenFound (b ∷ bs) (K.Number (capped f.value)) zs) rest_is (
+    subst (λ k. TokenFound (b ∷ bs) k rest) kind_is (subst (λ zs. TokenFound (b ∷ bs) (token_kinds.Number (capped f.value)) zs) rest_is (
       f.prefix,
       record {
         longest = record {
@@ -180,9 +180,9 @@ duration_word w h = by_test (is_word (codes "T") w)
     (λ t. inr (is_same (codes "TIME") w (rw t at h)))
 
 -- no type but TIME has such a name
-not_typed : (w : List ℕ) (elem : Elem) → IsDurationWord w → IsSame w (name_of elem) → elem ≡ E.Time
+not_typed : (w : List ℕ) (elem : Elem) → IsDurationWord w → IsSame w (name_of elem) → elem ≡ elems.Time
 not_typed w elem (inl d) h = let none = short_no_elem w d in let some = elem_found w elem h in absurd (cc)
-not_typed w elem (inr d) h = let time = elem_found w E.Time d in let some = elem_found w elem h in cc
+not_typed w elem (inr d) h = let time = elem_found w elems.Time d in let some = elem_found w elem h in cc
 
 -- a duration that is read is a token
 duration_token : (b : ℕ) (bs rest : List ℕ) (kind : Kind) → begins_word b ≡ true → begins_with (codes "#") (after_run (b ∷ bs)) ≡ true
@@ -192,10 +192,10 @@ duration_token b bs rest kind w t d h =
     let m = mapped duration_found (signed_interval_at (tail_of (b ∷ bs))) (kind, rest) h in
     let f = signed_interval_found (tail_of (b ∷ bs)) m.0.1 m.0.0 m.1 in
     let is = duration_word (run (b ∷ bs)) d in
-    let kind_is : K.Duration (time_of f.value) ≡ kind =
-    ap (λ (n : ℤ). K.Duration n) (sym (time_of-capped f.value) ∙ ap time_of (sym f.same)) ∙ ap (λ (p : Kind × List ℕ). p.0) m.2 in
+    let kind_is : token_kinds.Duration (time_of f.value) ≡ kind =
+    ap (λ (n : ℤ). token_kinds.Duration n) (sym (time_of-capped f.value) ∙ ap time_of (sym f.same)) ∙ ap (λ (p : Kind × List ℕ). p.0) m.2 in
     let rest_is : m.0.1 ≡ rest = ap (λ (p : Kind × List ℕ). p.1) m.2 in
-    subst (λ k. TokenFound (b ∷ bs) k rest) kind_is (subst (λ zs. TokenFound (b ∷ bs) (K.Duration (time_of f.value)) zs) rest_is (
+    subst (λ k. TokenFound (b ∷ bs) k rest) kind_is (subst (λ zs. TokenFound (b ∷ bs) (token_kinds.Duration (time_of f.value)) zs) rest_is (
       run (b ∷ bs) ++ 35 ∷ f.prefix,
       record {
         longest = record {
@@ -216,10 +216,10 @@ typed_token : (b : ℕ) (bs rest : List ℕ) (kind : Kind) (elem : Elem) → beg
 typed_token b bs rest kind elem w t d i h =
     let m = mapped (typed_found elem) (literal_at (class_of elem) (tail_of (b ∷ bs))) (kind, rest) h in
     let f = literal_found (class_of elem) (tail_of (b ∷ bs)) m.0.1 m.0.0 m.1 in
-    let kind_is : K.Typed (value elem (capped_signed f.value)) ≡ kind =
-    ap (λ (n : ℤ). K.Typed (value elem n)) (sym f.same) ∙ ap (λ (p : Kind × List ℕ). p.0) m.2 in
+    let kind_is : token_kinds.Typed (value elem (capped_signed f.value)) ≡ kind =
+    ap (λ (n : ℤ). token_kinds.Typed (value elem n)) (sym f.same) ∙ ap (λ (p : Kind × List ℕ). p.0) m.2 in
     let rest_is : m.0.1 ≡ rest = ap (λ (p : Kind × List ℕ). p.1) m.2 in
-    subst (λ k. TokenFound (b ∷ bs) k rest) kind_is (subst (λ zs. TokenFound (b ∷ bs) (K.Typed (value elem (capped_signed f.value))) zs) rest_is (
+    subst (λ k. TokenFound (b ∷ bs) k rest) kind_is (subst (λ zs. TokenFound (b ∷ bs) (token_kinds.Typed (value elem (capped_signed f.value))) zs) rest_is (
       run (b ∷ bs) ++ 35 ∷ f.prefix,
       record {
         longest = record {
@@ -237,7 +237,7 @@ typed_token b bs rest kind elem w t d i h =
       no_duration : IsDurationWord (run (b ∷ bs)) → ⊥
       no_duration k = not_both (duration_test (run (b ∷ bs)) k) d
 
-      no_time : elem ≡ E.Time → ⊥
+      no_time : elem ≡ elems.Time → ⊥
       no_time e = no_duration (inr (subst (λ x. IsSame (run (b ∷ bs)) (name_of x)) e named))
 
       reads : (other : List ℕ) (k : Kind) (p : Literal other k) → p.name ≡ run (b ∷ bs) → literal_read (class_of elem) true p.literal ≡ Some p.number
@@ -292,7 +292,7 @@ single_size b bs back x none e = at (symbol_cases x) where
 
 -- a symbol that is the longest is a token
 symbol_token : (b : ℕ) (bs rest : List ℕ) (x : Symbol) → is_ascii_digit b ≡ false → begins_word b ≡ false → b ∷ bs ≡ symbol_text x ++ rest
-    → ((back : List ℕ) (y : Symbol) → b ∷ bs ≡ symbol_text y ++ back → length (symbol_text y) ≤ length (symbol_text x)) → TokenFound (b ∷ bs) (K.Symbol x) rest
+    → ((back : List ℕ) (y : Symbol) → b ∷ bs ≡ symbol_text y ++ back → length (symbol_text y) ≤ length (symbol_text x)) → TokenFound (b ∷ bs) (token_kinds.Symbol x) rest
 symbol_token b bs rest x d w e longest = (
   symbol_text x,
   record {
@@ -311,7 +311,7 @@ single_token : (b : ℕ) (bs rest : List ℕ) (kind : Kind) (o : Option Symbol) 
     → single b ≡ o → symbol_or o bs None ≡ Some (kind, rest) → TokenFound (b ∷ bs) kind rest
 single_token b bs rest kind None d w none e h = absurd (cc)
 single_token b bs rest kind (Some x) d w none e h = let p = some_parts h in let t = single_is b x e in
-    subst (λ k. TokenFound (b ∷ bs) k rest) p.0 (subst (λ zs. TokenFound (b ∷ bs) (K.Symbol x) zs) p.1
+    subst (λ k. TokenFound (b ∷ bs) k rest) p.0 (subst (λ zs. TokenFound (b ∷ bs) (token_kinds.Symbol x) zs) p.1
     (symbol_token b bs bs x d w (sym (ap (λ (zs : List ℕ). zs ++ bs) t))
     (λ back y f. let le = single_size b bs back y none f in let l = ap length t in omega arith)))
 
@@ -321,7 +321,7 @@ double_token : (b c : ℕ) (bs rest : List ℕ) (kind : Kind) (o : Option Symbol
 double_token b c bs rest kind None d w e h = single_token b (c ∷ bs) rest kind (single b) d w
     (λ a back y f g. let same : c ≡ a = cc in let g' = subst (λ z. double b z ≡ Some y) (sym same) g in cc) refl h
 double_token b c bs rest kind (Some x) d w e h = let p = some_parts h in let t = double_is b c x e in
-    subst (λ k. TokenFound (b ∷ c ∷ bs) k rest) p.0 (subst (λ zs. TokenFound (b ∷ c ∷ bs) (K.Symbol x) zs) p.1
+    subst (λ k. TokenFound (b ∷ c ∷ bs) k rest) p.0 (subst (λ zs. TokenFound (b ∷ c ∷ bs) (token_kinds.Symbol x) zs) p.1
     (symbol_token b (c ∷ bs) bs x d w (sym (ap (λ (zs : List ℕ). zs ++ bs) t))
     (λ back y f. let le = symbol_size b (c ∷ bs) back y f in let l = ap length t in omega arith)))
 
@@ -356,7 +356,7 @@ number_is_only b bs prefix rest kind h alive d =
     let n = only_number b prefix kind h.longest.form (opens_text b bs prefix rest kind h.longest.splits h.longest.form) d in
     let allowed = subst (λ k. IsRefused k rest → ⊥) n.2 h.allowed in
     let found = number_only (b ∷ bs) prefix rest n.0 h.longest.splits n.1 (record { ends = allowed; no_hash = alive }) in
-    ap (option_map number_found) found ∙ pair_some (K.Number (capped n.0)) kind rest (sym n.2)
+    ap (option_map number_found) found ∙ pair_some (token_kinds.Number (capped n.0)) kind rest (sym n.2)
 
 -- a word that is the longest form doesn't go on
 word_ends : (b : ℕ) (bs prefix rest : List ℕ) (kind : Kind) → IsToken (b ∷ bs) prefix rest kind → IsWord prefix → BeginsWord rest → ⊥
@@ -381,21 +381,21 @@ plain_only b bs prefix rest kind h alive p =
     rw (t, c) (pair_some (word_kind (run (b ∷ bs))) kind (after_run (b ∷ bs)) kind_is ∙ ap (λ (zs : List ℕ). let r : Option (Kind × List ℕ) = Some (kind, zs) in r) u.1)
 
 -- only TIME is written as a duration
-no_duration_class : (elem : Elem) → (elem ≡ E.Time → ⊥) → class_of elem ≡ Duration → ⊥
-no_duration_class E.Time n h = n refl
-no_duration_class E.Bool n h = cc
-no_duration_class E.Sint n h = cc
-no_duration_class E.Int n h = cc
-no_duration_class E.Dint n h = cc
-no_duration_class E.Lint n h = cc
-no_duration_class E.Usint n h = cc
-no_duration_class E.Uint n h = cc
-no_duration_class E.Udint n h = cc
-no_duration_class E.Ulint n h = cc
-no_duration_class E.Byte n h = cc
-no_duration_class E.Word n h = cc
-no_duration_class E.Dword n h = cc
-no_duration_class E.Lword n h = cc
+no_duration_class : (elem : Elem) → (elem ≡ elems.Time → ⊥) → class_of elem ≡ Duration → ⊥
+no_duration_class elems.Time n h = n refl
+no_duration_class elems.Bool n h = cc
+no_duration_class elems.Sint n h = cc
+no_duration_class elems.Int n h = cc
+no_duration_class elems.Dint n h = cc
+no_duration_class elems.Lint n h = cc
+no_duration_class elems.Usint n h = cc
+no_duration_class elems.Uint n h = cc
+no_duration_class elems.Udint n h = cc
+no_duration_class elems.Ulint n h = cc
+no_duration_class elems.Byte n h = cc
+no_duration_class elems.Word n h = cc
+no_duration_class elems.Dword n h = cc
+no_duration_class elems.Lword n h = cc
 
 -- a token that is a typed literal is read
 literal_is_only : (b : ℕ) (bs prefix rest : List ℕ) (kind : Kind) → IsToken (b ∷ bs) prefix rest kind → ((back : List ℕ) → rest ≡ 35 ∷ back → ⊥) → (p : Literal prefix kind)
@@ -413,7 +413,7 @@ literal_is_only b bs prefix rest kind h alive p =
     let found = literal_only (class_of p.elem) (tail_of (b ∷ bs)) p.literal rest p.number (no_duration_class p.elem p.no_time) k.tail_is p.reads (record { ends = allowed; no_hash = alive }) in
     let i = elem_found (run (b ∷ bs)) p.elem named in
     rw (t, d) (ap (λ (o : Option Elem). option_and_then (λ elem. option_map (typed_found elem) (literal_at (class_of elem) (tail_of (b ∷ bs)))) o) i
-    ∙ ap (option_map (typed_found p.elem)) found ∙ pair_some (K.Typed (value p.elem (capped_signed p.number))) kind rest (sym p.kind_is))
+    ∙ ap (option_map (typed_found p.elem)) found ∙ pair_some (token_kinds.Typed (value p.elem (capped_signed p.number))) kind rest (sym p.kind_is))
 
 -- a token that is a duration is read
 lasting_is_only : (b : ℕ) (bs prefix rest : List ℕ) (kind : Kind) → IsToken (b ∷ bs) prefix rest kind → ((back : List ℕ) → rest ≡ 35 ∷ back → ⊥) → (p : Lasting prefix kind)
@@ -428,7 +428,7 @@ lasting_is_only b bs prefix rest kind h alive p =
     let allowed = subst (λ j. IsRefused j rest → ⊥) p.kind_is h.allowed in
     let found = signed_interval_only (tail_of (b ∷ bs)) p.literal rest p.number k.tail_is p.reads (record { ends = allowed; no_hash = alive }) in
     rw (t, d) (ap (option_map duration_found) found
-    ∙ pair_some (K.Duration (time_of (capped_signed p.number))) kind rest (ap (λ (n : ℤ). K.Duration n) (time_of-capped p.number) ∙ sym p.kind_is))
+    ∙ pair_some (token_kinds.Duration (time_of (capped_signed p.number))) kind rest (ap (λ (n : ℤ). token_kinds.Duration n) (time_of-capped p.number) ∙ sym p.kind_is))
 
 -- a token that begins with a letter or `_` is read
 word_is_only : (b : ℕ) (bs prefix rest : List ℕ) (kind : Kind) → IsToken (b ∷ bs) prefix rest kind → ((back : List ℕ) → rest ≡ 35 ∷ back → ⊥) → begins_word b ≡ true
@@ -440,12 +440,12 @@ word_is_only b bs prefix rest kind h alive w = at (only_word b prefix kind h.lon
   at (inr (inr p)) = lasting_is_only b bs prefix rest kind h alive p
 
 -- a symbol of two bytes is read
-double_only : (x : Symbol) (b c : ℕ) (rest : List ℕ) → double b c ≡ Some x → symbol_at (b ∷ c ∷ rest) ≡ Some (K.Symbol x, rest)
+double_only : (x : Symbol) (b c : ℕ) (rest : List ℕ) → double b c ≡ Some x → symbol_at (b ∷ c ∷ rest) ≡ Some (token_kinds.Symbol x, rest)
 unfolding symbol_at
 double_only x b c rest h = ap (λ (o : Option Symbol). symbol_or o rest (symbol_or (single b) (c ∷ rest) None)) h
 
 -- a symbol of one byte is read, where none of two stands
-single_only : (x : Symbol) (b : ℕ) (rest : List ℕ) → single b ≡ Some x → ((c : ℕ) (back : List ℕ) → rest ≡ c ∷ back → double b c ≡ None) → symbol_at (b ∷ rest) ≡ Some (K.Symbol x, rest)
+single_only : (x : Symbol) (b : ℕ) (rest : List ℕ) → single b ≡ Some x → ((c : ℕ) (back : List ℕ) → rest ≡ c ∷ back → double b c ≡ None) → symbol_at (b ∷ rest) ≡ Some (token_kinds.Symbol x, rest)
 unfolding symbol_at
 single_only x b [] h none = ap (λ (o : Option Symbol). symbol_or o [] None) h
 single_only x b (c ∷ rest) h none = ap (λ (o : Option Symbol). symbol_or o rest (symbol_or (single b) (c ∷ rest) None)) (none c rest refl)
@@ -463,16 +463,16 @@ symbol_is_only b bs prefix rest kind h d w = at (only_symbol b prefix kind h.lon
   no_double x s e c back g (Some y) i =
       let t = double_is s.byte c y i in
       let text = text_is x e (s.byte ∷ []) s.text ∙ ap (λ (zs : List ℕ). s.byte ∷ zs) g in
-      let le = h.longest.longest (symbol_text y) back (K.Symbol y) (text ∙ sym (ap (λ (zs : List ℕ). zs ++ back) t)) (symbol y) in
+      let le = h.longest.longest (symbol_text y) back (token_kinds.Symbol y) (text ∙ sym (ap (λ (zs : List ℕ). zs ++ back) t)) (symbol y) in
       let l = ap length t in let m = ap length (e ∙ s.text) in absurd (omega arith)
 
-  by_case : (x : Symbol) → prefix ≡ symbol_text x → IsDouble x ⊎ IsSingle x → symbol_at (b ∷ bs) ≡ Some (K.Symbol x, rest)
-  by_case x e (inl s) = subst (λ zs. symbol_at zs ≡ Some (K.Symbol x, rest)) (sym (text_is x e (s.first ∷ s.second ∷ []) s.text)) (double_only x s.first s.second rest s.found)
-  by_case x e (inr s) = subst (λ zs. symbol_at zs ≡ Some (K.Symbol x, rest)) (sym (text_is x e (s.byte ∷ []) s.text))
+  by_case : (x : Symbol) → prefix ≡ symbol_text x → IsDouble x ⊎ IsSingle x → symbol_at (b ∷ bs) ≡ Some (token_kinds.Symbol x, rest)
+  by_case x e (inl s) = subst (λ zs. symbol_at zs ≡ Some (token_kinds.Symbol x, rest)) (sym (text_is x e (s.first ∷ s.second ∷ []) s.text)) (double_only x s.first s.second rest s.found)
+  by_case x e (inr s) = subst (λ zs. symbol_at zs ≡ Some (token_kinds.Symbol x, rest)) (sym (text_is x e (s.byte ∷ []) s.text))
       (single_only x s.byte rest s.found (λ c back g. no_double x s e c back g (double s.byte c) refl))
 
-  at : (x : Symbol) × (prefix ≡ symbol_text x) × (kind ≡ K.Symbol x) → symbol_at (b ∷ bs) ≡ Some (kind, rest)
-  at o = by_case o.0 o.1 (symbol_cases o.0) ∙ pair_some (K.Symbol o.0) kind rest (sym o.2)
+  at : (x : Symbol) × (prefix ≡ symbol_text x) × (kind ≡ token_kinds.Symbol x) → symbol_at (b ∷ bs) ≡ Some (kind, rest)
+  at o = by_case o.0 o.1 (symbol_cases o.0) ∙ pair_some (token_kinds.Symbol o.0) kind rest (sym o.2)
 
 -- a token at the start of a text is what is read, where no `#` follows
 pub only : (text prefix rest : List ℕ) (kind : Kind) → IsToken text prefix rest kind → ((back : List ℕ) → rest ≡ 35 ∷ back → ⊥) → token_at text ≡ Some (kind, rest)

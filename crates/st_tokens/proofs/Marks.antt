@@ -3,7 +3,7 @@ use Rattle.std.proofs.Common.{◌≡◌, ℕ, [], ◌∷◌, refl, sym, ap, ◌�
 use Rattle.std.specs.Prelude.{Option, Some, None, ◌==◌, ◌&&◌, is_some}
 use Rattle.std.specs.Char.{is_ascii_digit}
 use Rattle.st_tokens.specs.declared.symbol.Symbol.{Symbol}
-use Rattle.st_tokens.specs.declared.symbol.Symbol.TheVariants as S
+use Rattle.st_tokens.specs.declared.symbol.Symbol.TheVariants as symbols
 use Rattle.st_tokens.specs.Characters.{begins_word}
 use Rattle.st_tokens.specs.Scanning.{double, single}
 use Rattle.st_tokens.specs.Symbols.{symbol_text}
@@ -44,29 +44,29 @@ made_double x b c h k l = record { first = b; second = c; text = h; found = k; o
 
 -- each symbol is in one of the tables
 pub symbol_cases : (x : Symbol) → IsDouble x ⊎ IsSingle x
-symbol_cases S.Assign = inl (made_double S.Assign 58 61 refl refl (opened 58 refl refl refl))
-symbol_cases S.Output = inl (made_double S.Output 61 62 refl refl (opened 61 refl refl refl))
-symbol_cases S.LessEqual = inl (made_double S.LessEqual 60 61 refl refl (opened 60 refl refl refl))
-symbol_cases S.GreaterEqual = inl (made_double S.GreaterEqual 62 61 refl refl (opened 62 refl refl refl))
-symbol_cases S.NotEqual = inl (made_double S.NotEqual 60 62 refl refl (opened 60 refl refl refl))
-symbol_cases S.Range = inl (made_double S.Range 46 46 refl refl (opened 46 refl refl refl))
-symbol_cases S.Open = inr (made_single S.Open 40 refl refl (opened 40 refl refl refl))
-symbol_cases S.Close = inr (made_single S.Close 41 refl refl (opened 41 refl refl refl))
-symbol_cases S.OpenBracket = inr (made_single S.OpenBracket 91 refl refl (opened 91 refl refl refl))
-symbol_cases S.CloseBracket = inr (made_single S.CloseBracket 93 refl refl (opened 93 refl refl refl))
-symbol_cases S.Comma = inr (made_single S.Comma 44 refl refl (opened 44 refl refl refl))
-symbol_cases S.Semicolon = inr (made_single S.Semicolon 59 refl refl (opened 59 refl refl refl))
-symbol_cases S.Colon = inr (made_single S.Colon 58 refl refl (opened 58 refl refl refl))
-symbol_cases S.Dot = inr (made_single S.Dot 46 refl refl (opened 46 refl refl refl))
-symbol_cases S.Plus = inr (made_single S.Plus 43 refl refl (opened 43 refl refl refl))
-symbol_cases S.Minus = inr (made_single S.Minus 45 refl refl (opened 45 refl refl refl))
-symbol_cases S.Times = inr (made_single S.Times 42 refl refl (opened 42 refl refl refl))
-symbol_cases S.Divide = inr (made_single S.Divide 47 refl refl (opened 47 refl refl refl))
-symbol_cases S.Equal = inr (made_single S.Equal 61 refl refl (opened 61 refl refl refl))
-symbol_cases S.Less = inr (made_single S.Less 60 refl refl (opened 60 refl refl refl))
-symbol_cases S.Greater = inr (made_single S.Greater 62 refl refl (opened 62 refl refl refl))
-symbol_cases S.Ampersand = inr (made_single S.Ampersand 38 refl refl (opened 38 refl refl refl))
-symbol_cases S.Percent = inr (made_single S.Percent 37 refl refl (opened 37 refl refl refl))
+symbol_cases symbols.Assign = inl (made_double symbols.Assign 58 61 refl refl (opened 58 refl refl refl))
+symbol_cases symbols.Output = inl (made_double symbols.Output 61 62 refl refl (opened 61 refl refl refl))
+symbol_cases symbols.LessEqual = inl (made_double symbols.LessEqual 60 61 refl refl (opened 60 refl refl refl))
+symbol_cases symbols.GreaterEqual = inl (made_double symbols.GreaterEqual 62 61 refl refl (opened 62 refl refl refl))
+symbol_cases symbols.NotEqual = inl (made_double symbols.NotEqual 60 62 refl refl (opened 60 refl refl refl))
+symbol_cases symbols.Range = inl (made_double symbols.Range 46 46 refl refl (opened 46 refl refl refl))
+symbol_cases symbols.Open = inr (made_single symbols.Open 40 refl refl (opened 40 refl refl refl))
+symbol_cases symbols.Close = inr (made_single symbols.Close 41 refl refl (opened 41 refl refl refl))
+symbol_cases symbols.OpenBracket = inr (made_single symbols.OpenBracket 91 refl refl (opened 91 refl refl refl))
+symbol_cases symbols.CloseBracket = inr (made_single symbols.CloseBracket 93 refl refl (opened 93 refl refl refl))
+symbol_cases symbols.Comma = inr (made_single symbols.Comma 44 refl refl (opened 44 refl refl refl))
+symbol_cases symbols.Semicolon = inr (made_single symbols.Semicolon 59 refl refl (opened 59 refl refl refl))
+symbol_cases symbols.Colon = inr (made_single symbols.Colon 58 refl refl (opened 58 refl refl refl))
+symbol_cases symbols.Dot = inr (made_single symbols.Dot 46 refl refl (opened 46 refl refl refl))
+symbol_cases symbols.Plus = inr (made_single symbols.Plus 43 refl refl (opened 43 refl refl refl))
+symbol_cases symbols.Minus = inr (made_single symbols.Minus 45 refl refl (opened 45 refl refl refl))
+symbol_cases symbols.Times = inr (made_single symbols.Times 42 refl refl (opened 42 refl refl refl))
+symbol_cases symbols.Divide = inr (made_single symbols.Divide 47 refl refl (opened 47 refl refl refl))
+symbol_cases symbols.Equal = inr (made_single symbols.Equal 61 refl refl (opened 61 refl refl refl))
+symbol_cases symbols.Less = inr (made_single symbols.Less 60 refl refl (opened 60 refl refl refl))
+symbol_cases symbols.Greater = inr (made_single symbols.Greater 62 refl refl (opened 62 refl refl refl))
+symbol_cases symbols.Ampersand = inr (made_single symbols.Ampersand 38 refl refl (opened 38 refl refl refl))
+symbol_cases symbols.Percent = inr (made_single symbols.Percent 37 refl refl (opened 37 refl refl refl))
 
 -- one more rule of a table of one byte
 single_rule : (b m : ℕ) (x y : Symbol) (other : Option Symbol) → symbol_text x ≡ m ∷ [] → (other ≡ Some y → symbol_text y ≡ b ∷ [])
@@ -79,11 +79,11 @@ single_rule b m x y other e go h = by_test (b == m)
 -- what the table of one byte says is written so
 pub single_is : (b : ℕ) (y : Symbol) → single b ≡ Some y → symbol_text y ≡ b ∷ []
 single_is b y h =
-    single_rule b 40 S.Open y _ refl (single_rule b 41 S.Close y _ refl (single_rule b 91 S.OpenBracket y _ refl (single_rule b 93 S.CloseBracket y _ refl
-    (single_rule b 44 S.Comma y _ refl (single_rule b 59 S.Semicolon y _ refl (single_rule b 58 S.Colon y _ refl (single_rule b 46 S.Dot y _ refl
-    (single_rule b 43 S.Plus y _ refl (single_rule b 45 S.Minus y _ refl (single_rule b 42 S.Times y _ refl (single_rule b 47 S.Divide y _ refl
-    (single_rule b 61 S.Equal y _ refl (single_rule b 60 S.Less y _ refl (single_rule b 62 S.Greater y _ refl (single_rule b 38 S.Ampersand y _ refl
-    (single_rule b 37 S.Percent y _ refl (λ g. absurd (cc)))))))))))))))))) h
+    single_rule b 40 symbols.Open y _ refl (single_rule b 41 symbols.Close y _ refl (single_rule b 91 symbols.OpenBracket y _ refl (single_rule b 93 symbols.CloseBracket y _ refl
+    (single_rule b 44 symbols.Comma y _ refl (single_rule b 59 symbols.Semicolon y _ refl (single_rule b 58 symbols.Colon y _ refl (single_rule b 46 symbols.Dot y _ refl
+    (single_rule b 43 symbols.Plus y _ refl (single_rule b 45 symbols.Minus y _ refl (single_rule b 42 symbols.Times y _ refl (single_rule b 47 symbols.Divide y _ refl
+    (single_rule b 61 symbols.Equal y _ refl (single_rule b 60 symbols.Less y _ refl (single_rule b 62 symbols.Greater y _ refl (single_rule b 38 symbols.Ampersand y _ refl
+    (single_rule b 37 symbols.Percent y _ refl (λ g. absurd (cc)))))))))))))))))) h
 
 -- the same of two bytes
 double_rule : (b c m n : ℕ) (x y : Symbol) (other : Option Symbol) → symbol_text x ≡ m ∷ n ∷ [] → c ≡ n → (other ≡ Some y → symbol_text y ≡ b ∷ c ∷ [])
@@ -97,11 +97,11 @@ double_rule b c m n x y other e same_second go h = by_test (b == m)
 pub double_is : (b c : ℕ) (y : Symbol) → double b c ≡ Some y → symbol_text y ≡ b ∷ c ∷ []
 double_is b c y h = by_test (c == 61)
     (λ t. let e = is_equal c 61 t in
-    double_rule b c 58 61 S.Assign y _ refl e (double_rule b c 60 61 S.LessEqual y _ refl e (double_rule b c 62 61 S.GreaterEqual y _ refl e (λ g. absurd (cc)))) (rw t at h))
+    double_rule b c 58 61 symbols.Assign y _ refl e (double_rule b c 60 61 symbols.LessEqual y _ refl e (double_rule b c 62 61 symbols.GreaterEqual y _ refl e (λ g. absurd (cc)))) (rw t at h))
     (λ t. by_test (c == 62)
     (λ u. let e = is_equal c 62 u in
-    double_rule b c 60 62 S.NotEqual y _ refl e (double_rule b c 61 62 S.Output y _ refl e (λ g. absurd (cc))) (rw (t, u) at h))
+    double_rule b c 60 62 symbols.NotEqual y _ refl e (double_rule b c 61 62 symbols.Output y _ refl e (λ g. absurd (cc))) (rw (t, u) at h))
     (λ u. by_test (b == 46 && c == 46)
-    (λ v. let p = both (b == 46) (c == 46) v in let h' : ◌≡◌ {A = Option Symbol} (Some S.Range) (Some y) = rw (t, u, v) at h in let same : S.Range ≡ y = cc in
+    (λ v. let p = both (b == 46) (c == 46) v in let h' : ◌≡◌ {A = Option Symbol} (Some symbols.Range) (Some y) = rw (t, u, v) at h in let same : symbols.Range ≡ y = cc in
     subst (λ z. symbol_text z ≡ b ∷ c ∷ []) same (rw (is_equal b 46 p.0, is_equal c 46 p.1) refl))
     (λ v. let h' : ◌≡◌ {A = Option Symbol} None (Some y) = rw (t, u, v) at h in absurd (cc))))

@@ -9,11 +9,11 @@ use Rattle.std.proofs.lemmas.Slice.Eq.{bytes_eq-Decides}
 use Rattle.std.proofs.Common.{inl, inr}
 use Rattle.st_values.specs.declared.elem.Elem.{Elem}
 use Rattle.st_values.specs.declared.elem.TheConstants.Elem.{ALL}
-use Rattle.st_values.specs.declared.elem.Elem.TheVariants as E
+use Rattle.st_values.specs.declared.elem.Elem.TheVariants as elems
 use Rattle.st_values.specs.Words.{is_word}
 use Rattle.st_values.specs.Types.{name_of}
 use Rattle.st_tokens.specs.declared.keyword.Keyword.{Keyword}
-use Rattle.st_tokens.specs.declared.keyword.Keyword.TheVariants as K
+use Rattle.st_tokens.specs.declared.keyword.Keyword.TheVariants as keywords
 use Rattle.st_tokens.specs.declared.keyword.TheConstants.{KEYWORDS}
 use Rattle.st_tokens.specs.Characters.{begins_word, is_word_byte, AreWordBytes}
 use Rattle.st_tokens.specs.Scanning.{is_clean_after, is_clean}
@@ -57,13 +57,13 @@ is_name (b ∷ bs) = begins_word b && (list_all is_word_byte bs && is_clean (b �
 -- the table has each reserved word, which is a clean word
 pub keyword_facts : (x : Keyword) → (keyword_of (spelling_of x) ≡ Some x) × (is_name (map to_ascii_lowercase (spelling_of x)) ≡ true)
 unfolding keyword_of
-keyword_facts K.Action = (refl, refl)
+keyword_facts keywords.Action = (refl, refl)
 keyword_facts _ = (refl, refl)
 
 -- the table has each type, whose name is a clean word that no reserved word is
 pub elem_facts : (x : Elem) → (elem_of (name_of x) ≡ Some x) × (keyword_of (name_of x) ≡ None) × (is_name (map to_ascii_lowercase (name_of x)) ≡ true)
 unfolding keyword_of elem_of
-elem_facts E.Bool = (refl, refl, refl)
+elem_facts elems.Bool = (refl, refl, refl)
 elem_facts _ = (refl, refl, refl)
 
 -- what is found passes

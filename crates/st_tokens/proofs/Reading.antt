@@ -5,7 +5,7 @@ use Rattle.st_values.specs.Words.{begins_with}
 use Rattle.std.specs.Global.{Vec}
 use Rattle.std.specs.Prelude.{nat_eq, Result, Ok, Err, IfOk, IfErr, MatchResult, Some, None, ◌==◌, ◌&&◌, codes}
 use Rattle.st_tokens.specs.declared.fault.SyntaxFault.{SyntaxFault}
-use Rattle.st_tokens.specs.declared.fault.SyntaxFault.TheVariants as F
+use Rattle.st_tokens.specs.declared.fault.SyntaxFault.TheVariants as syntax_faults
 use Rattle.st_tokens.specs.declared.token.Kind.{Kind}
 use Rattle.st_tokens.specs.declared.token.Token.{Token}
 use Rattle.st_tokens.specs.Characters.{is_blank, line_end, line_ends}
@@ -279,10 +279,10 @@ blank_room line ends size size' bound e h le room = omega arith
 
 -- a result that is the text's tokens or explains the fault is this list, or want of memory
 pub only_result : (text : List ℕ) (ts : List Token) (result : Result (Vec Token) SyntaxFault) → IfOk result (λ v. HasTokens 1 text v.items)
-    → IfErr result (λ fault. Explains fault text) → length text ≤ 2 ^ 20 → HasTokens 1 text ts → MatchResult result (λ v. v.items ≡ ts) (λ fault. fault ≡ F.Memory)
+    → IfErr result (λ fault. Explains fault text) → length text ≤ 2 ^ 20 → HasTokens 1 text ts → MatchResult result (λ v. v.items ≡ ts) (λ fault. fault ≡ syntax_faults.Memory)
 only_result text ts (Ok v) found fault short h = one_list found h
-only_result text ts (Err F.Memory) found fault short h = refl
-only_result text ts (Err (F.NoToken line)) found fault short h = absurd (fault ts h)
-only_result text ts (Err F.TooLong) found fault short h = absurd (omega arith)
-only_result text ts (Err (F.NotInGrammar line)) found fault short h = absurd fault
-only_result text ts (Err (F.TooDeep line)) found fault short h = absurd fault
+only_result text ts (Err syntax_faults.Memory) found fault short h = refl
+only_result text ts (Err (syntax_faults.NoToken line)) found fault short h = absurd (fault ts h)
+only_result text ts (Err syntax_faults.TooLong) found fault short h = absurd (omega arith)
+only_result text ts (Err (syntax_faults.NotInGrammar line)) found fault short h = absurd fault
+only_result text ts (Err (syntax_faults.TooDeep line)) found fault short h = absurd fault

@@ -12,9 +12,9 @@ use Rattle.st_values.specs.Words.{after, begins_with, is_word}
 use Rattle.st_values.specs.Types.{class_of}
 use Rattle.st_tokens.specs.declared.keyword.Keyword.{Keyword}
 use Rattle.st_tokens.specs.declared.symbol.Symbol.{Symbol}
-use Rattle.st_tokens.specs.declared.symbol.Symbol.TheVariants as S
+use Rattle.st_tokens.specs.declared.symbol.Symbol.TheVariants as symbols
 use Rattle.st_tokens.specs.declared.token.Kind.{Kind}
-use Rattle.st_tokens.specs.declared.token.Kind.TheVariants as K
+use Rattle.st_tokens.specs.declared.token.Kind.TheVariants as token_kinds
 use Rattle.st_tokens.specs.Characters.{begins_word, is_word_byte, line_end}
 use Rattle.st_tokens.specs.Forms.{value, time_of}
 use Rattle.st_tokens.specs.Words.{keyword_of, elem_of}
@@ -87,7 +87,7 @@ literal_at BitString text = signed_at text
 literal_at Duration text = None
 
 abbrev pub typed_found : Elem → ℤ × List ℕ → Kind × List ℕ
-typed_found elem found = (K.Typed (value elem found.0), found.1)
+typed_found elem found = (token_kinds.Typed (value elem found.0), found.1)
 
 -- a typed literal, after its type and `#`
 unfoldable pub typed_at : List ℕ → List ℕ → Option (Kind × List ℕ)
@@ -125,7 +125,7 @@ signed_interval_at text =
     else option_map positive_found (interval_at text)
 
 abbrev pub duration_found : ℤ × List ℕ → Kind × List ℕ
-duration_found found = (K.Duration (time_of found.0), found.1)
+duration_found found = (token_kinds.Duration (time_of found.0), found.1)
 
 -- a duration, after its `#`
 unfoldable pub duration_at : List ℕ → Option (Kind × List ℕ)
@@ -138,9 +138,9 @@ prefixed_at w text = if is_duration_word w then duration_at text else typed_at w
 -- ---- words
 
 abbrev pub kind_by : List ℕ → Option Keyword → Option Elem → Kind
-kind_by w (Some keyword) elem = K.Keyword keyword
-kind_by w None (Some elem) = K.Type elem
-kind_by w None None = K.Word w
+kind_by w (Some keyword) elem = token_kinds.Keyword keyword
+kind_by w None (Some elem) = token_kinds.Type elem
+kind_by w None None = token_kinds.Word w
 
 unfoldable pub word_kind : List ℕ → Kind
 word_kind w = kind_by w (keyword_of w) (elem_of w)
@@ -157,36 +157,36 @@ word_at text =
 -- a symbol of two bytes
 abbrev pub double : ℕ → ℕ → Option Symbol
 double b c =
-    if c == 61 then (if b == 58 then Some S.Assign else if b == 60 then Some S.LessEqual else if b == 62 then Some S.GreaterEqual else None)
-    else if c == 62 then (if b == 60 then Some S.NotEqual else if b == 61 then Some S.Output else None)
-    else if b == 46 && c == 46 then Some S.Range
+    if c == 61 then (if b == 58 then Some symbols.Assign else if b == 60 then Some symbols.LessEqual else if b == 62 then Some symbols.GreaterEqual else None)
+    else if c == 62 then (if b == 60 then Some symbols.NotEqual else if b == 61 then Some symbols.Output else None)
+    else if b == 46 && c == 46 then Some symbols.Range
     else None
 
 -- a symbol of one byte
 abbrev pub single : ℕ → Option Symbol
 single b =
-    if b == 40 then Some S.Open
-    else if b == 41 then Some S.Close
-    else if b == 91 then Some S.OpenBracket
-    else if b == 93 then Some S.CloseBracket
-    else if b == 44 then Some S.Comma
-    else if b == 59 then Some S.Semicolon
-    else if b == 58 then Some S.Colon
-    else if b == 46 then Some S.Dot
-    else if b == 43 then Some S.Plus
-    else if b == 45 then Some S.Minus
-    else if b == 42 then Some S.Times
-    else if b == 47 then Some S.Divide
-    else if b == 61 then Some S.Equal
-    else if b == 60 then Some S.Less
-    else if b == 62 then Some S.Greater
-    else if b == 38 then Some S.Ampersand
-    else if b == 37 then Some S.Percent
+    if b == 40 then Some symbols.Open
+    else if b == 41 then Some symbols.Close
+    else if b == 91 then Some symbols.OpenBracket
+    else if b == 93 then Some symbols.CloseBracket
+    else if b == 44 then Some symbols.Comma
+    else if b == 59 then Some symbols.Semicolon
+    else if b == 58 then Some symbols.Colon
+    else if b == 46 then Some symbols.Dot
+    else if b == 43 then Some symbols.Plus
+    else if b == 45 then Some symbols.Minus
+    else if b == 42 then Some symbols.Times
+    else if b == 47 then Some symbols.Divide
+    else if b == 61 then Some symbols.Equal
+    else if b == 60 then Some symbols.Less
+    else if b == 62 then Some symbols.Greater
+    else if b == 38 then Some symbols.Ampersand
+    else if b == 37 then Some symbols.Percent
     else None
 
 abbrev pub symbol_or : Option Symbol → List ℕ → Option (Kind × List ℕ) → Option (Kind × List ℕ)
 symbol_or None rest other = other
-symbol_or (Some x) rest other = Some (K.Symbol x, rest)
+symbol_or (Some x) rest other = Some (token_kinds.Symbol x, rest)
 
 -- the symbol of two bytes, else that of one
 unfoldable pub symbol_at : List ℕ → Option (Kind × List ℕ)
@@ -195,7 +195,7 @@ symbol_at (b ∷ []) = symbol_or (single b) [] None
 symbol_at (b ∷ c ∷ bs) = symbol_or (double b c) bs (symbol_or (single b) (c ∷ bs) None)
 
 abbrev pub number_found : ℕ × List ℕ → Kind × List ℕ
-number_found found = (K.Number found.0, found.1)
+number_found found = (token_kinds.Number found.0, found.1)
 
 -- the token at the start, and what stands after it
 unfoldable pub token_at : List ℕ → Option (Kind × List ℕ)

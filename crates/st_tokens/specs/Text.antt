@@ -1,10 +1,10 @@
 -- A text and its tokens (IEC 61131-3:2003, 2.1).
 use Rattle.std.specs.Prelude.{◌≡◌, ℕ, ◌+◌, ◌^◌, ◌<◌, ◌≤◌, ◌⊎◌, true, List, [], ◌∷◌, ◌++◌, length, codes}
-use Rattle.st_values.specs.declared.elem.Elem.TheVariants.{Time}
+use Rattle.st_values.specs.declared.elem.Elem.TheVariants as elems
 use Rattle.st_tokens.specs.declared.fault.SyntaxFault.{SyntaxFault}
-use Rattle.st_tokens.specs.declared.fault.SyntaxFault.TheVariants as F
+use Rattle.st_tokens.specs.declared.fault.SyntaxFault.TheVariants as syntax_faults
 use Rattle.st_tokens.specs.declared.token.Kind.{Kind}
-use Rattle.st_tokens.specs.declared.token.Kind.TheVariants as K
+use Rattle.st_tokens.specs.declared.token.Kind.TheVariants as token_kinds
 use Rattle.st_tokens.specs.declared.token.Token.{Token}
 use Rattle.st_tokens.specs.Characters.{BeginsWord, is_blank, line_end, line_ends}
 use Rattle.st_tokens.specs.Words.{IsSame, IsUnclean}
@@ -23,11 +23,11 @@ BeginsHash rest = (back : List ℕ) × (rest ≡ codes "#" ++ back)
 -- there is no token, though this prefix has a form: a word has two `_` in a row or one at the end, what begins as a
 -- duration is none, or a letter, a digit or `_` follows a literal
 abbrev pub IsRefused : Kind → List ℕ → Type 0
-IsRefused (K.Word w) rest = IsUnclean w ⊎ (IsSame w (codes "T") × BeginsHash rest)
-IsRefused (K.Type elem) rest = (elem ≡ Time) × BeginsHash rest
-IsRefused (K.Number n) rest = BeginsWord rest
-IsRefused (K.Typed v) rest = BeginsWord rest
-IsRefused (K.Duration ms) rest = BeginsWord rest
+IsRefused (token_kinds.Word w) rest = IsUnclean w ⊎ (IsSame w (codes "T") × BeginsHash rest)
+IsRefused (token_kinds.Type elem) rest = (elem ≡ elems.Time) × BeginsHash rest
+IsRefused (token_kinds.Number n) rest = BeginsWord rest
+IsRefused (token_kinds.Typed v) rest = BeginsWord rest
+IsRefused (token_kinds.Duration ms) rest = BeginsWord rest
 IsRefused _ rest = ⊥
 
 -- `(*` comes first
@@ -64,8 +64,8 @@ pub data HasTokens : ℕ → List ℕ → List Token → Type 0 where
 
 -- what a fault says of a text
 abbrev pub Explains : SyntaxFault → List ℕ → Type 0
-Explains F.Memory text = Unit {0}
-Explains (F.NoToken line) text = (ts : List Token) → HasTokens 1 text ts → ⊥
-Explains F.TooLong text = 2 ^ 20 < length text
-Explains (F.NotInGrammar line) text = ⊥
-Explains (F.TooDeep line) text = ⊥
+Explains syntax_faults.Memory text = Unit {0}
+Explains (syntax_faults.NoToken line) text = (ts : List Token) → HasTokens 1 text ts → ⊥
+Explains syntax_faults.TooLong text = 2 ^ 20 < length text
+Explains (syntax_faults.NotInGrammar line) text = ⊥
+Explains (syntax_faults.TooDeep line) text = ⊥

@@ -9,7 +9,7 @@ use Rattle.std.specs.Str.Parse.{AllDigits, IsNumeral}
 use Rattle.st_values.specs.declared.elem.Class.{Class}
 use Rattle.st_values.specs.declared.elem.Class.TheVariants.{Boolean, Integer, BitString, Duration}
 use Rattle.st_values.specs.declared.elem.Elem.{Elem}
-use Rattle.st_values.specs.declared.elem.Elem.TheVariants as E
+use Rattle.st_values.specs.declared.elem.Elem.TheVariants as elems
 use Rattle.st_values.specs.declared.value.Value.{Value}
 use Rattle.st_values.specs.Numbers.{number_read}
 use Rattle.st_values.specs.Readings.{after_type, is_typed, literal_read, number_in, reads, signed_read}
@@ -76,20 +76,20 @@ no_word : (c d : ℕ) (cs ds : List ℕ) → c < 65 → 65 ≤ d → d < 91 → 
 no_word c d cs ds first low high = other_word c d (take (length ds) cs) ds first low high
 
 untyped : (elem : Elem) (c : ℕ) (cs : List ℕ) → c < 65 → is_typed elem (c ∷ cs) ≡ false
-untyped E.Bool c cs first = rw (no_word c 66 cs (codes "OOL") first (lit≤ tt) (lit< tt)) refl
-untyped E.Sint c cs first = rw (no_word c 83 cs (codes "INT") first (lit≤ tt) (lit< tt)) refl
-untyped E.Int c cs first = rw (no_word c 73 cs (codes "NT") first (lit≤ tt) (lit< tt)) refl
-untyped E.Dint c cs first = rw (no_word c 68 cs (codes "INT") first (lit≤ tt) (lit< tt)) refl
-untyped E.Lint c cs first = rw (no_word c 76 cs (codes "INT") first (lit≤ tt) (lit< tt)) refl
-untyped E.Usint c cs first = rw (no_word c 85 cs (codes "SINT") first (lit≤ tt) (lit< tt)) refl
-untyped E.Uint c cs first = rw (no_word c 85 cs (codes "INT") first (lit≤ tt) (lit< tt)) refl
-untyped E.Udint c cs first = rw (no_word c 85 cs (codes "DINT") first (lit≤ tt) (lit< tt)) refl
-untyped E.Ulint c cs first = rw (no_word c 85 cs (codes "LINT") first (lit≤ tt) (lit< tt)) refl
-untyped E.Byte c cs first = rw (no_word c 66 cs (codes "YTE") first (lit≤ tt) (lit< tt)) refl
-untyped E.Word c cs first = rw (no_word c 87 cs (codes "ORD") first (lit≤ tt) (lit< tt)) refl
-untyped E.Dword c cs first = rw (no_word c 68 cs (codes "WORD") first (lit≤ tt) (lit< tt)) refl
-untyped E.Lword c cs first = rw (no_word c 76 cs (codes "WORD") first (lit≤ tt) (lit< tt)) refl
-untyped E.Time c cs first = rw (no_word c 84 cs (codes "IME") first (lit≤ tt) (lit< tt)) refl
+untyped elems.Bool c cs first = rw (no_word c 66 cs (codes "OOL") first (lit≤ tt) (lit< tt)) refl
+untyped elems.Sint c cs first = rw (no_word c 83 cs (codes "INT") first (lit≤ tt) (lit< tt)) refl
+untyped elems.Int c cs first = rw (no_word c 73 cs (codes "NT") first (lit≤ tt) (lit< tt)) refl
+untyped elems.Dint c cs first = rw (no_word c 68 cs (codes "INT") first (lit≤ tt) (lit< tt)) refl
+untyped elems.Lint c cs first = rw (no_word c 76 cs (codes "INT") first (lit≤ tt) (lit< tt)) refl
+untyped elems.Usint c cs first = rw (no_word c 85 cs (codes "SINT") first (lit≤ tt) (lit< tt)) refl
+untyped elems.Uint c cs first = rw (no_word c 85 cs (codes "INT") first (lit≤ tt) (lit< tt)) refl
+untyped elems.Udint c cs first = rw (no_word c 85 cs (codes "DINT") first (lit≤ tt) (lit< tt)) refl
+untyped elems.Ulint c cs first = rw (no_word c 85 cs (codes "LINT") first (lit≤ tt) (lit< tt)) refl
+untyped elems.Byte c cs first = rw (no_word c 66 cs (codes "YTE") first (lit≤ tt) (lit< tt)) refl
+untyped elems.Word c cs first = rw (no_word c 87 cs (codes "ORD") first (lit≤ tt) (lit< tt)) refl
+untyped elems.Dword c cs first = rw (no_word c 68 cs (codes "WORD") first (lit≤ tt) (lit< tt)) refl
+untyped elems.Lword c cs first = rw (no_word c 76 cs (codes "WORD") first (lit≤ tt) (lit< tt)) refl
+untyped elems.Time c cs first = rw (no_word c 84 cs (codes "IME") first (lit≤ tt) (lit< tt)) refl
 
 -- and is read as it stands
 plain : (elem : Elem) (class : Class) (text : List ℕ) (number : ℤ) → class_of elem ≡ class
@@ -118,22 +118,22 @@ in_range-small elem (negsuc n) within =
     let most = limit_of-signed elem parts.0 in
     omega arith
 
-boolean_is : (elem : Elem) → class_of elem ≡ Boolean → elem ≡ E.Bool
-boolean_is E.Bool is = refl
+boolean_is : (elem : Elem) → class_of elem ≡ Boolean → elem ≡ elems.Bool
+boolean_is elems.Bool is = refl
 boolean_is _ is = cc
 
 bits_have_no_sign : (elem : Elem) → class_of elem ≡ BitString → is_signed elem ≡ false
-bits_have_no_sign E.Byte is = refl
-bits_have_no_sign E.Word is = refl
-bits_have_no_sign E.Dword is = refl
-bits_have_no_sign E.Lword is = refl
+bits_have_no_sign elems.Byte is = refl
+bits_have_no_sign elems.Word is = refl
+bits_have_no_sign elems.Dword is = refl
+bits_have_no_sign elems.Lword is = refl
 bits_have_no_sign _ is = cc
 
-duration_is : (elem : Elem) → class_of elem ≡ Duration → elem ≡ E.Time
-duration_is E.Time is = refl
+duration_is : (elem : Elem) → class_of elem ≡ Duration → elem ≡ elems.Time
+duration_is elems.Time is = refl
 duration_is _ is = cc
 
-truth_back : (number : ℤ) → in_range E.Bool number ≡ true → reads E.Bool (text_in Boolean number) ≡ Some (record { elem = E.Bool; bits = number })
+truth_back : (number : ℤ) → in_range elems.Bool number ≡ true → reads elems.Bool (text_in Boolean number) ≡ Some (record { elem = elems.Bool; bits = number })
 unfolding reads
 truth_back (pos zero) within = refl
 truth_back (pos (suc zero)) within = refl
@@ -145,10 +145,10 @@ bits_back elem (pos n) is within =
     plain elem BitString (codes "16#" ++ digits 16 true n) (pos n) is (λ t. refl) (omega arith) (lit< tt) (signed_read-bits n (in_range-small elem (pos n) within)) within
 bits_back elem (negsuc n) is within = let no_sign = bits_have_no_sign elem is in let sign = (both (is_signed elem) (nat_lt n (limit_of elem)) within).0 in cc
 
-time_back : (number : ℤ) → in_range E.Time number ≡ true → reads E.Time (text_in Duration number) ≡ Some (record { elem = E.Time; bits = number })
+time_back : (number : ℤ) → in_range elems.Time number ≡ true → reads elems.Time (text_in Duration number) ≡ Some (record { elem = elems.Time; bits = number })
 unfolding reads
 time_back number within =
-    rw (duration_read-text number (in_range-small E.Time number within)) (value_of-some E.Time number within)
+    rw (duration_read-text number (in_range-small elems.Time number within)) (value_of-some elems.Time number within)
 
 class_back : (elem : Elem) (class : Class) (number : ℤ) → class_of elem ≡ class → in_range elem number ≡ true → reads elem (text_in class number) ≡ Some (record { elem = elem; bits = number })
 class_back elem Boolean number is within = rw (boolean_is elem is) (truth_back number (rw (boolean_is elem is) at within))

@@ -11,7 +11,7 @@ use Rattle.st_values.specs.Words.{is_word}
 use Rattle.st_values.specs.Types.{is_signed, limit_of}
 use Rattle.st_values.specs.Values.{in_range}
 use Rattle.st_values.specs.declared.elem.Elem.{Elem}
-use Rattle.st_values.specs.declared.elem.Elem.TheVariants as E
+use Rattle.st_values.specs.declared.elem.Elem.TheVariants as elems
 use Rattle.st_values.proofs.Cases.{below, both, is_not_below, not_true}
 
 capped_signed-negative : (n : ℕ) → capped_signed (negative n) ≡ negative (capped n)
@@ -36,27 +36,27 @@ pub truth-or : (text : List ℕ) (other : Option ℤ) → option_map capped_sign
 truth-or text other = if-or (is_word (codes "TRUE") text) (is_word (codes "FALSE") text) other
 
 pub limit_of-most : (elem : Elem) → limit_of elem ≤ 2 ^ 64
-limit_of-most E.Bool = omega arith
-limit_of-most E.Sint = omega arith
-limit_of-most E.Int = omega arith
-limit_of-most E.Dint = omega arith
-limit_of-most E.Lint = omega arith
-limit_of-most E.Usint = omega arith
-limit_of-most E.Uint = omega arith
-limit_of-most E.Udint = omega arith
-limit_of-most E.Ulint = omega arith
-limit_of-most E.Byte = omega arith
-limit_of-most E.Word = omega arith
-limit_of-most E.Dword = omega arith
-limit_of-most E.Lword = omega arith
-limit_of-most E.Time = omega arith
+limit_of-most elems.Bool = omega arith
+limit_of-most elems.Sint = omega arith
+limit_of-most elems.Int = omega arith
+limit_of-most elems.Dint = omega arith
+limit_of-most elems.Lint = omega arith
+limit_of-most elems.Usint = omega arith
+limit_of-most elems.Uint = omega arith
+limit_of-most elems.Udint = omega arith
+limit_of-most elems.Ulint = omega arith
+limit_of-most elems.Byte = omega arith
+limit_of-most elems.Word = omega arith
+limit_of-most elems.Dword = omega arith
+limit_of-most elems.Lword = omega arith
+limit_of-most elems.Time = omega arith
 
 pub limit_of-signed : (elem : Elem) → is_signed elem ≡ true → limit_of elem ≤ 2 ^ 63
-limit_of-signed E.Sint h = omega arith
-limit_of-signed E.Int h = omega arith
-limit_of-signed E.Dint h = omega arith
-limit_of-signed E.Lint h = omega arith
-limit_of-signed E.Time h = omega arith
+limit_of-signed elems.Sint h = omega arith
+limit_of-signed elems.Int h = omega arith
+limit_of-signed elems.Dint h = omega arith
+limit_of-signed elems.Lint h = omega arith
+limit_of-signed elems.Time h = omega arith
 limit_of-signed _ h = cc
 
 below-capped : (n most : ℕ) → most ≤ too_much → nat_lt (capped n) most ≡ nat_lt n most

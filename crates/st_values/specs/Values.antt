@@ -4,7 +4,7 @@ use Rattle.std.specs.Ordering.{int_eq}
 use Rattle.std.specs.Prelude.{◌^◌, Bool, ◌&&◌, if◌then◌else◌, ℤ, pos, negsuc, ◌-ℤ◌, nat_lt, IsTrue}
 use Rattle.st_values.specs.Types.{bits_of, is_signed, limit_of}
 use Rattle.st_values.specs.declared.elem.Elem.{Elem}
-use Rattle.st_values.specs.declared.elem.Elem.TheVariants as E
+use Rattle.st_values.specs.declared.elem.Elem.TheVariants as elems
 use Rattle.st_values.specs.declared.value.Value.{Value}
 
 -- whether a number lies in the range of a type; `negsuc n` is the number -(n + 1)
@@ -31,5 +31,5 @@ wrapped_number elem number =
 
 -- what a number is as a value of a type; of BOOL, whether it isn't 0
 abbrev pub wrapped : Elem → ℤ → Value
-wrapped E.Bool number = record { elem = E.Bool; bits = if int_eq number (pos 0) then pos 0 else pos 1 }
+wrapped elems.Bool number = record { elem = elems.Bool; bits = if int_eq number (pos 0) then pos 0 else pos 1 }
 wrapped elem number = record { elem = elem; bits = wrapped_number elem number }

@@ -3,7 +3,7 @@ use Rattle.std.specs.Prelude.{◌≡◌, ◌≤◌, ◌⊎◌, IsSome, ℕ, Bool
 use Rattle.std.specs.Str.Parse.{IsNumeral, digits_value, without_leading_plus}
 use Rattle.clap.specs.Words.{App, HasKind, Kinds, Row, Rule, Text, fault_of, first_of, kind_of, new_app, new_rule, subcommand_of, takes, with_rule, with_subcommand}
 use Rattle.clap.specs.declared.error.Error.{Error}
-use Rattle.clap.specs.declared.error.kind.ErrorKind.TheVariants as ErrorKind
+use Rattle.clap.specs.declared.error.kind.ErrorKind.TheVariants as error_kinds
 use Rattle.st_words.specs.declared.words.Verb.{Verb}
 use Rattle.st_words.specs.declared.words.Verb.TheVariants.{Run}
 use Rattle.st_words.specs.declared.words.Order.{Order}
@@ -78,7 +78,7 @@ AreInOrder words = (is_taken words ≡ true) × HasLimit (limit_of (chosen_by wo
 
 -- memory ran out, or the command line finds this fault in the words, or it finds none and the error is that of K
 abbrev pub IsFaultOf : List Text → Error → Type 0
-IsFaultOf words error = HasKind (faults_of words) error ⊎ ((faults_of words ≡ []) × (kind_of error ≡ ErrorKind.ValueValidation))
+IsFaultOf words error = HasKind (faults_of words) error ⊎ ((faults_of words ≡ []) × (kind_of error ≡ error_kinds.ValueValidation))
 
 -- the subcommand is that of a verb, it has FILE and N, and its K is in range
 abbrev pub IsRunnable : Option (Text × List Row) → Type 0

@@ -1,31 +1,31 @@
 -- How many levels are open.
 use Rattle.std.specs.Prelude.{◌≡◌, ℕ, ◌+◌, ◌≤◌, List, [], ◌∷◌, ◌++◌}
-use Rattle.st_tokens.specs.declared.keyword.Keyword.TheVariants as w
-use Rattle.st_tokens.specs.declared.symbol.Symbol.TheVariants as s
+use Rattle.st_tokens.specs.declared.keyword.Keyword.TheVariants as keywords
+use Rattle.st_tokens.specs.declared.symbol.Symbol.TheVariants as symbols
 use Rattle.st_parser.specs.Names.{Kind}
-use Rattle.st_tokens.specs.declared.token.Kind.TheVariants as k
+use Rattle.st_tokens.specs.declared.token.Kind.TheVariants as token_kinds
 use Rattle.st_parser.specs.Grammar.Tokens.{Tok}
 
 -- 1 for a token that opens a level
 abbrev pub opens : Kind → ℕ
-opens (k.Symbol s.Open) = 1
-opens (k.Symbol s.OpenBracket) = 1
-opens (k.Keyword w.If) = 1
-opens (k.Keyword w.Case) = 1
-opens (k.Keyword w.For) = 1
-opens (k.Keyword w.While) = 1
-opens (k.Keyword w.Repeat) = 1
+opens (token_kinds.Symbol symbols.Open) = 1
+opens (token_kinds.Symbol symbols.OpenBracket) = 1
+opens (token_kinds.Keyword keywords.If) = 1
+opens (token_kinds.Keyword keywords.Case) = 1
+opens (token_kinds.Keyword keywords.For) = 1
+opens (token_kinds.Keyword keywords.While) = 1
+opens (token_kinds.Keyword keywords.Repeat) = 1
 opens _ = 0
 
 -- 1 for a token that closes one
 abbrev pub closes : Kind → ℕ
-closes (k.Symbol s.Close) = 1
-closes (k.Symbol s.CloseBracket) = 1
-closes (k.Keyword w.EndIf) = 1
-closes (k.Keyword w.EndCase) = 1
-closes (k.Keyword w.EndFor) = 1
-closes (k.Keyword w.EndWhile) = 1
-closes (k.Keyword w.EndRepeat) = 1
+closes (token_kinds.Symbol symbols.Close) = 1
+closes (token_kinds.Symbol symbols.CloseBracket) = 1
+closes (token_kinds.Keyword keywords.EndIf) = 1
+closes (token_kinds.Keyword keywords.EndCase) = 1
+closes (token_kinds.Keyword keywords.EndFor) = 1
+closes (token_kinds.Keyword keywords.EndWhile) = 1
+closes (token_kinds.Keyword keywords.EndRepeat) = 1
 closes _ = 0
 
 abbrev pub opened : List Tok → ℕ

@@ -1,7 +1,7 @@
 -- Repetitions in the grammar: { x } and x { ',' x }.
 use Rattle.std.specs.Prelude.{List, [], ◌∷◌}
-use Rattle.st_tokens.specs.declared.symbol.Symbol.TheVariants as s
-use Rattle.st_tokens.specs.declared.token.Kind.TheVariants as k
+use Rattle.st_tokens.specs.declared.symbol.Symbol.TheVariants as symbols
+use Rattle.st_tokens.specs.declared.token.Kind.TheVariants as token_kinds
 use Rattle.st_parser.specs.Names.{Position}
 use Rattle.st_parser.specs.Grammar.Tokens.{Tok}
 
@@ -12,7 +12,7 @@ pub data IsMany {A : Type 0} (R : List Tok → A → List Tok → Type 0) : List
 
 -- ',' x
 pub data IsNext {A : Type 0} (R : List Tok → A → List Tok → Type 0) : List Tok → A → List Tok → Type 0 where
-  comma : {p : Position} {ts rest : List Tok} {x : A} → R ts x rest → IsNext R ((p, k.Symbol s.Comma) ∷ ts) x rest
+  comma : {p : Position} {ts rest : List Tok} {x : A} → R ts x rest → IsNext R ((p, token_kinds.Symbol symbols.Comma) ∷ ts) x rest
 
 -- x { ',' x }
 pub data IsListed {A : Type 0} (R : List Tok → A → List Tok → Type 0) : List Tok → List A → List Tok → Type 0 where

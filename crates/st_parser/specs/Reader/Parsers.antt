@@ -1,9 +1,9 @@
 -- Parsers: what is read from the first of some tokens on, or why nothing is.
 use Rattle.std.specs.Prelude.{◌≡◌, ◌<◌, ◌≤◌, ℕ, zero, suc, Bool, true, false, if◌then◌else◌, List, [], ◌∷◌, length, Option, Some, Result, Ok, Err, OnOk}
-use Rattle.st_tokens.specs.declared.symbol.Symbol.TheVariants as s
-use Rattle.st_tokens.specs.declared.token.Kind.TheVariants as k
+use Rattle.st_tokens.specs.declared.symbol.Symbol.TheVariants as symbols
+use Rattle.st_tokens.specs.declared.token.Kind.TheVariants as token_kinds
 use Rattle.st_parser.specs.Names.{Identifier, Keyword, Kind, Position, ReadFault, Symbol}
-use Rattle.st_parser.specs.declared.fault.ReadFault.TheVariants as fault
+use Rattle.st_parser.specs.declared.fault.ReadFault.TheVariants as read_faults
 use Rattle.st_parser.specs.Grammar.Tokens.{identifier_of, Tok, kind, position, next, same_symbol, same_keyword}
 
 -- not in the grammar, or too deep
@@ -55,15 +55,15 @@ here = λ ts. Ok (position ts, ts)
 -- ---- single tokens
 
 abbrev pub is_symbol : Symbol → Option Kind → Bool
-is_symbol x (Some (k.Symbol y)) = same_symbol x y
+is_symbol x (Some (token_kinds.Symbol y)) = same_symbol x y
 is_symbol x _ = false
 
 abbrev pub is_keyword : Keyword → Option Kind → Bool
-is_keyword x (Some (k.Keyword y)) = same_keyword x y
+is_keyword x (Some (token_kinds.Keyword y)) = same_keyword x y
 is_keyword x _ = false
 
 abbrev pub is_word : Option Kind → Bool
-is_word (Some (k.Word w)) = true
+is_word (Some (token_kinds.Word w)) = true
 is_word _ = false
 
 -- takes a token that passes the test
@@ -86,7 +86,7 @@ unfoldable pub open_level : Symbol → ℕ → Parser Position
 open_level x depth_left = λ ts. if is_symbol x (kind ts) then enter depth_left ts else Err Wrong
 
 abbrev pub identifier_by : Option Kind → Parser Identifier
-identifier_by (Some (k.Word w)) = λ ts. Ok (identifier_of (position ts) w, next ts)
+identifier_by (Some (token_kinds.Word w)) = λ ts. Ok (identifier_of (position ts) w, next ts)
 identifier_by _ = refuse
 
 -- a word
@@ -94,7 +94,7 @@ unfoldable pub identifier : Parser Identifier
 identifier = λ ts. identifier_by (kind ts) ts
 
 abbrev pub number_by : Option Kind → Parser ℕ
-number_by (Some (k.Number n)) = λ ts. Ok (n, next ts)
+number_by (Some (token_kinds.Number n)) = λ ts. Ok (n, next ts)
 number_by _ = refuse
 
 -- a number
@@ -124,15 +124,15 @@ leading first test item = do
 
 -- item { ',' item }
 unfoldable pub listed : {A : Type 0} → Parser A → Parser (List A)
-listed item = leading item (is_symbol s.Comma) (next_item item)
+listed item = leading item (is_symbol symbols.Comma) (next_item item)
 
 -- ---- what a function that reads ensures
 
 -- memory may always run out
 abbrev pub Refuses : {A : Type 0} → Outcome A → ReadFault → Type 0
-Refuses o fault.Memory = Unit {0}
-Refuses o (fault.NotInGrammar line) = o ≡ Err Wrong
-Refuses o (fault.TooDeep line) = o ≡ Err Deep
+Refuses o read_faults.Memory = Unit {0}
+Refuses o (read_faults.NotInGrammar line) = o ≡ Err Wrong
+Refuses o (read_faults.TooDeep line) = o ≡ Err Deep
 
 -- the outcome, with these tokens behind it, unless memory runs out
 abbrev pub Reads : {A : Type 0} → Outcome A → Result A ReadFault → List Tok → Type 0

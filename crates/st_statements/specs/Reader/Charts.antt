@@ -1,9 +1,9 @@
 -- The reading of charts as functions: what each function that reads them answers.
 use Rattle.std.specs.Prelude.{ℕ, Bool, true, false, if◌then◌else◌, List, [], ◌∷◌, Option, Some, None, Ok, Err}
-use Rattle.st_tokens.specs.declared.keyword.Keyword.TheVariants as w
-use Rattle.st_tokens.specs.declared.symbol.Symbol.TheVariants as s
-use Rattle.st_tokens.specs.declared.token.Kind.TheVariants as k
-use Rattle.st_tree.specs.declared.tree.unit.ChartElement.TheVariants as c
+use Rattle.st_tokens.specs.declared.keyword.Keyword.TheVariants as keywords
+use Rattle.st_tokens.specs.declared.symbol.Symbol.TheVariants as symbols
+use Rattle.st_tokens.specs.declared.token.Kind.TheVariants as token_kinds
+use Rattle.st_tree.specs.declared.tree.unit.ChartElement.TheVariants as chart_elements
 use Rattle.st_parser.specs.Names.{ActionQualifier, Association, ChartElement, Duration, Identifier, Kind, Position}
 use Rattle.st_parser.specs.Grammar.Tokens.{kind, next, position}
 use Rattle.st_parser.specs.Reader.Parsers.{Parser, ◌>>=◌, ◌>>◌, pure, refuse, bump, peek, is_symbol, is_word, expect_symbol, expect_keyword, open_level, enter, identifier, number, many, leading, listed, Wrong}
@@ -13,7 +13,7 @@ use Rattle.st_statements.specs.Grammar.Charts.{qualifier_of, association_of, ste
 use Rattle.st_statements.specs.Reader.Statements.{statements}
 
 abbrev pub duration_by : Option Kind → Parser Duration
-duration_by (Some (k.Duration d)) = λ ts. Ok (duration_of (position ts) d, next ts)
+duration_by (Some (token_kinds.Duration d)) = λ ts. Ok (duration_of (position ts) d, next ts)
 duration_by _ = refuse
 
 unfoldable pub duration : Parser Duration
@@ -26,7 +26,7 @@ time_by false = pure None
 unfoldable pub time : Parser (Option Duration)
 time = do
   t ← peek
-  time_by (is_symbol s.Comma t)
+  time_by (is_symbol symbols.Comma t)
 
 unfoldable pub qualifier : Parser ActionQualifier
 qualifier = do
@@ -41,15 +41,15 @@ qualified_by false = do q ← qualifier; pure (Some q)
 unfoldable pub qualified : Parser (Option ActionQualifier)
 qualified = do
   t ← peek
-  qualified_by (is_symbol s.Close t)
+  qualified_by (is_symbol symbols.Close t)
 
 unfoldable pub association : ℕ → Parser Association
 association depth_left = do
   n ← identifier
-  open_level s.Open depth_left
+  open_level symbols.Open depth_left
   q ← qualified
-  expect_symbol s.Close
-  expect_symbol s.Semicolon
+  expect_symbol symbols.Close
+  expect_symbol symbols.Semicolon
   pure (association_of n q)
 
 abbrev pub associations : ℕ → Parser (List Association)
@@ -59,10 +59,10 @@ unfoldable pub step : ℕ → Bool → Parser ChartElement
 step depth_left initial = do
   p ← bump
   n ← identifier
-  expect_symbol s.Colon
+  expect_symbol symbols.Colon
   xs ← associations depth_left
-  expect_keyword w.EndStep
-  pure (c.Step (step_of p initial n xs))
+  expect_keyword keywords.EndStep
+  pure (chart_elements.Step (step_of p initial n xs))
 
 abbrev pub optional_by : Bool → Parser (Option Identifier)
 optional_by true = do n ← identifier; pure (Some n)
@@ -74,7 +74,7 @@ optional_name = do
   optional_by (is_word t)
 
 abbrev pub priority_word_by : Option Kind → Parser Position
-priority_word_by (Some (k.Word n)) = λ ts. if is_priority n then bump ts else Err Wrong
+priority_word_by (Some (token_kinds.Word n)) = λ ts. if is_priority n then bump ts else Err Wrong
 priority_word_by _ = refuse
 
 -- PRIORITY
@@ -85,63 +85,63 @@ abbrev pub priority_by : ℕ → Bool → Parser (Option ℕ)
 priority_by depth_left true = do
   enter depth_left
   priority_word
-  expect_symbol s.Assign
+  expect_symbol symbols.Assign
   n ← number
-  expect_symbol s.Close
+  expect_symbol symbols.Close
   pure (Some n)
 priority_by depth_left false = pure None
 
 unfoldable pub priority : ℕ → Parser (Option ℕ)
 priority depth_left = do
   t ← peek
-  priority_by depth_left (is_symbol s.Open t)
+  priority_by depth_left (is_symbol symbols.Open t)
 
 abbrev pub names_by : ℕ → Bool → Parser (List Identifier)
-names_by depth_left true = do enter depth_left; xs ← listed identifier; expect_symbol s.Close; pure xs
+names_by depth_left true = do enter depth_left; xs ← listed identifier; expect_symbol symbols.Close; pure xs
 names_by depth_left false = do n ← identifier; pure (n ∷ [])
 
 unfoldable pub names : ℕ → Parser (List Identifier)
 names depth_left = do
   t ← peek
-  names_by depth_left (is_symbol s.Open t)
+  names_by depth_left (is_symbol symbols.Open t)
 
 unfoldable pub transition : ℕ → Parser ChartElement
 transition depth_left = do
   p ← bump
   n ← optional_name
   m ← priority depth_left
-  expect_keyword w.From
+  expect_keyword keywords.From
   xs ← names depth_left
-  expect_keyword w.To
+  expect_keyword keywords.To
   ys ← names depth_left
-  expect_symbol s.Assign
+  expect_symbol symbols.Assign
   x ← expression depth_left
-  expect_symbol s.Semicolon
-  expect_keyword w.EndTransition
-  pure (c.Transition (transition_of p n m xs ys x))
+  expect_symbol symbols.Semicolon
+  expect_keyword keywords.EndTransition
+  pure (chart_elements.Transition (transition_of p n m xs ys x))
 
 unfoldable pub action : ℕ → Parser ChartElement
 action depth_left = do
   p ← bump
   n ← identifier
-  expect_symbol s.Colon
+  expect_symbol symbols.Colon
   ss ← statements depth_left
-  expect_keyword w.EndAction
-  pure (c.Action (action_of p n ss))
+  expect_keyword keywords.EndAction
+  pure (chart_elements.Action (action_of p n ss))
 
 -- the first token begins an element of a chart
 abbrev pub begins_element : Option Kind → Bool
-begins_element (Some (k.Keyword w.InitialStep)) = true
-begins_element (Some (k.Keyword w.Step)) = true
-begins_element (Some (k.Keyword w.Transition)) = true
-begins_element (Some (k.Keyword w.Action)) = true
+begins_element (Some (token_kinds.Keyword keywords.InitialStep)) = true
+begins_element (Some (token_kinds.Keyword keywords.Step)) = true
+begins_element (Some (token_kinds.Keyword keywords.Transition)) = true
+begins_element (Some (token_kinds.Keyword keywords.Action)) = true
 begins_element _ = false
 
 abbrev pub element_by : ℕ → Option Kind → Parser ChartElement
-element_by depth_left (Some (k.Keyword w.InitialStep)) = step depth_left true
-element_by depth_left (Some (k.Keyword w.Step)) = step depth_left false
-element_by depth_left (Some (k.Keyword w.Transition)) = transition depth_left
-element_by depth_left (Some (k.Keyword w.Action)) = action depth_left
+element_by depth_left (Some (token_kinds.Keyword keywords.InitialStep)) = step depth_left true
+element_by depth_left (Some (token_kinds.Keyword keywords.Step)) = step depth_left false
+element_by depth_left (Some (token_kinds.Keyword keywords.Transition)) = transition depth_left
+element_by depth_left (Some (token_kinds.Keyword keywords.Action)) = action depth_left
 element_by depth_left _ = refuse
 
 unfoldable pub element : ℕ → Parser ChartElement

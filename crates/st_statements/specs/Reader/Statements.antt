@@ -1,10 +1,10 @@
 -- The reading of statements as functions: what each function that reads them answers.
 use Rattle.std.specs.Prelude.{ℕ, zero, suc, Bool, true, false, List, [], Option, Some, None}
-use Rattle.st_tokens.specs.declared.keyword.Keyword.TheVariants as w
-use Rattle.st_tokens.specs.declared.symbol.Symbol.TheVariants as s
-use Rattle.st_tokens.specs.declared.token.Kind.TheVariants as k
-use Rattle.st_tree.specs.declared.tree.statement.Label.TheVariants as l
-use Rattle.st_tree.specs.declared.tree.statement.Statement.TheVariants as t
+use Rattle.st_tokens.specs.declared.keyword.Keyword.TheVariants as keywords
+use Rattle.st_tokens.specs.declared.symbol.Symbol.TheVariants as symbols
+use Rattle.st_tokens.specs.declared.token.Kind.TheVariants as token_kinds
+use Rattle.st_tree.specs.declared.tree.statement.Label.TheVariants as labels
+use Rattle.st_tree.specs.declared.tree.statement.Statement.TheVariants as statement_kinds
 use Rattle.st_parser.specs.Names.{CaseElement, ConditionalPart, Constant, Expression, Kind, Label, Statement}
 use Rattle.st_parser.specs.Reader.Parsers.{Parser, ◌>>=◌, ◌>>◌, pure, refuse, bump, peek, peek_second, is_symbol, is_keyword, expect_symbol, expect_keyword, enter, identifier, many, leading, listed}
 use Rattle.st_expressions.specs.Reader.{constant, expression, variable, call, inside_of}
@@ -17,63 +17,63 @@ pub record Deeper : Type 0 where
   pub statements : Parser (List Statement)
 
 abbrev pub label_by : Constant → Bool → Parser Label
-label_by x true = do bump; y ← constant; pure (l.Range x y)
-label_by x false = pure (l.Value x)
+label_by x true = do bump; y ← constant; pure (labels.Range x y)
+label_by x false = pure (labels.Value x)
 
 unfoldable pub label : Parser Label
 label = do
   x ← constant
   t ← peek
-  label_by x (is_symbol s.Range t)
+  label_by x (is_symbol symbols.Range t)
 
 -- the first token begins a label
 abbrev pub begins_label : Option Kind → Bool
-begins_label (Some (k.Number n)) = true
-begins_label (Some (k.Typed v)) = true
-begins_label (Some (k.Duration d)) = true
-begins_label (Some (k.Keyword w.True)) = true
-begins_label (Some (k.Keyword w.False)) = true
-begins_label (Some (k.Symbol s.Plus)) = true
-begins_label (Some (k.Symbol s.Minus)) = true
+begins_label (Some (token_kinds.Number n)) = true
+begins_label (Some (token_kinds.Typed v)) = true
+begins_label (Some (token_kinds.Duration d)) = true
+begins_label (Some (token_kinds.Keyword keywords.True)) = true
+begins_label (Some (token_kinds.Keyword keywords.False)) = true
+begins_label (Some (token_kinds.Symbol symbols.Plus)) = true
+begins_label (Some (token_kinds.Symbol symbols.Minus)) = true
 begins_label _ = false
 
 -- the first token begins a statement
 abbrev pub begins_statement : Option Kind → Bool
-begins_statement (Some (k.Word n)) = true
-begins_statement (Some (k.Symbol s.Semicolon)) = true
-begins_statement (Some (k.Keyword w.Return)) = true
-begins_statement (Some (k.Keyword w.Exit)) = true
-begins_statement (Some (k.Keyword w.If)) = true
-begins_statement (Some (k.Keyword w.Case)) = true
-begins_statement (Some (k.Keyword w.For)) = true
-begins_statement (Some (k.Keyword w.While)) = true
-begins_statement (Some (k.Keyword w.Repeat)) = true
+begins_statement (Some (token_kinds.Word n)) = true
+begins_statement (Some (token_kinds.Symbol symbols.Semicolon)) = true
+begins_statement (Some (token_kinds.Keyword keywords.Return)) = true
+begins_statement (Some (token_kinds.Keyword keywords.Exit)) = true
+begins_statement (Some (token_kinds.Keyword keywords.If)) = true
+begins_statement (Some (token_kinds.Keyword keywords.Case)) = true
+begins_statement (Some (token_kinds.Keyword keywords.For)) = true
+begins_statement (Some (token_kinds.Keyword keywords.While)) = true
+begins_statement (Some (token_kinds.Keyword keywords.Repeat)) = true
 begins_statement _ = false
 
 -- ---- statements without statements in them
 
 unfoldable pub empty : Parser Statement
-empty = do p ← bump; pure (t.Empty p)
+empty = do p ← bump; pure (statement_kinds.Empty p)
 
 unfoldable pub return_statement : Parser Statement
-return_statement = do p ← bump; expect_symbol s.Semicolon; pure (t.Return p)
+return_statement = do p ← bump; expect_symbol symbols.Semicolon; pure (statement_kinds.Return p)
 
 unfoldable pub exit_statement : Parser Statement
-exit_statement = do p ← bump; expect_symbol s.Semicolon; pure (t.Exit p)
+exit_statement = do p ← bump; expect_symbol symbols.Semicolon; pure (statement_kinds.Exit p)
 
 unfoldable pub assignment : ℕ → Parser Statement
 assignment depth_left = do
   v ← variable depth_left (inside_of depth_left)
-  expect_symbol s.Assign
+  expect_symbol symbols.Assign
   x ← expression depth_left
-  expect_symbol s.Semicolon
-  pure (t.Assignment v x)
+  expect_symbol symbols.Semicolon
+  pure (statement_kinds.Assignment v x)
 
 unfoldable pub invocation : ℕ → Parser Statement
 invocation depth_left = do
   x ← call depth_left (inside_of depth_left)
-  expect_symbol s.Semicolon
-  pure (t.Call x)
+  expect_symbol symbols.Semicolon
+  pure (statement_kinds.Call x)
 
 abbrev pub named_by : ℕ → Bool → Parser Statement
 named_by depth_left true = invocation depth_left
@@ -82,14 +82,14 @@ named_by depth_left false = assignment depth_left
 unfoldable pub named : ℕ → Parser Statement
 named depth_left = do
   t ← peek_second
-  named_by depth_left (is_symbol s.Open t)
+  named_by depth_left (is_symbol symbols.Open t)
 
 -- ---- statements with statements in them
 
 unfoldable pub conditional : Deeper → Parser ConditionalPart
 conditional deeper = do
   x ← deeper.expression
-  expect_keyword w.Then
+  expect_keyword keywords.Then
   ss ← deeper.statements
   pure (part_of x ss)
 
@@ -98,7 +98,7 @@ elsif deeper = bump >> conditional deeper
 
 -- the parts of IF and ELSIF
 abbrev pub conditionals : Deeper → Parser (List ConditionalPart)
-conditionals deeper = leading (conditional deeper) (is_keyword w.Elsif) (elsif deeper)
+conditionals deeper = leading (conditional deeper) (is_keyword keywords.Elsif) (elsif deeper)
 
 abbrev pub otherwise_by : Deeper → Bool → Parser (List Statement)
 otherwise_by deeper true = bump >> deeper.statements
@@ -107,21 +107,21 @@ otherwise_by deeper false = pure []
 unfoldable pub otherwise : Deeper → Parser (List Statement)
 otherwise deeper = do
   t ← peek
-  otherwise_by deeper (is_keyword w.Else t)
+  otherwise_by deeper (is_keyword keywords.Else t)
 
 unfoldable pub if_statement : ℕ → Deeper → Parser Statement
 if_statement depth_left deeper = do
   p ← enter depth_left
   xs ← conditionals deeper
   ys ← otherwise deeper
-  expect_keyword w.EndIf
-  expect_symbol s.Semicolon
-  pure (t.If (if_of p xs ys))
+  expect_keyword keywords.EndIf
+  expect_symbol symbols.Semicolon
+  pure (statement_kinds.If (if_of p xs ys))
 
 unfoldable pub case : Deeper → Parser CaseElement
 case deeper = do
   ls ← listed label
-  expect_symbol s.Colon
+  expect_symbol symbols.Colon
   ss ← deeper.statements
   pure (case_of ls ss)
 
@@ -132,12 +132,12 @@ unfoldable pub case_statement : ℕ → Deeper → Parser Statement
 case_statement depth_left deeper = do
   p ← enter depth_left
   x ← deeper.expression
-  expect_keyword w.Of
+  expect_keyword keywords.Of
   cs ← cases deeper
   ys ← otherwise deeper
-  expect_keyword w.EndCase
-  expect_symbol s.Semicolon
-  pure (t.Case (case_statement_of p x cs ys))
+  expect_keyword keywords.EndCase
+  expect_symbol symbols.Semicolon
+  pure (statement_kinds.Case (case_statement_of p x cs ys))
 
 abbrev pub step_by : Deeper → Bool → Parser (Option Expression)
 step_by deeper true = do bump; x ← deeper.expression; pure (Some x)
@@ -146,7 +146,7 @@ step_by deeper false = pure None
 unfoldable pub step : Deeper → Parser (Option Expression)
 step deeper = do
   t ← peek
-  step_by deeper (is_keyword w.By t)
+  step_by deeper (is_keyword keywords.By t)
 
 -- the values that a variable of FOR takes
 abbrev pub range_of : Expression → Expression → Option Expression → ForRange
@@ -155,7 +155,7 @@ range_of a b c = record { first = a; last = b; step = c }
 unfoldable pub for_bounds : Deeper → Parser ForRange
 for_bounds deeper = do
   a ← deeper.expression
-  expect_keyword w.To
+  expect_keyword keywords.To
   b ← deeper.expression
   c ← step deeper
   pure (range_of a b c)
@@ -164,44 +164,44 @@ unfoldable pub for_statement : ℕ → Deeper → Parser Statement
 for_statement depth_left deeper = do
   p ← enter depth_left
   n ← identifier
-  expect_symbol s.Assign
+  expect_symbol symbols.Assign
   x ← for_bounds deeper
-  expect_keyword w.Do
+  expect_keyword keywords.Do
   ss ← deeper.statements
-  expect_keyword w.EndFor
-  expect_symbol s.Semicolon
-  pure (t.For (for_of p n x.first x.last x.step ss))
+  expect_keyword keywords.EndFor
+  expect_symbol symbols.Semicolon
+  pure (statement_kinds.For (for_of p n x.first x.last x.step ss))
 
 unfoldable pub while_statement : ℕ → Deeper → Parser Statement
 while_statement depth_left deeper = do
   p ← enter depth_left
   x ← deeper.expression
-  expect_keyword w.Do
+  expect_keyword keywords.Do
   ss ← deeper.statements
-  expect_keyword w.EndWhile
-  expect_symbol s.Semicolon
-  pure (t.While (while_of p x ss))
+  expect_keyword keywords.EndWhile
+  expect_symbol symbols.Semicolon
+  pure (statement_kinds.While (while_of p x ss))
 
 unfoldable pub repeat_statement : ℕ → Deeper → Parser Statement
 repeat_statement depth_left deeper = do
   p ← enter depth_left
   ss ← deeper.statements
-  expect_keyword w.Until
+  expect_keyword keywords.Until
   x ← deeper.expression
-  expect_keyword w.EndRepeat
-  expect_symbol s.Semicolon
-  pure (t.Repeat (repeat_of p ss x))
+  expect_keyword keywords.EndRepeat
+  expect_symbol symbols.Semicolon
+  pure (statement_kinds.Repeat (repeat_of p ss x))
 
 abbrev pub statement_by : ℕ → Deeper → Option Kind → Parser Statement
-statement_by depth_left deeper (Some (k.Word n)) = named depth_left
-statement_by depth_left deeper (Some (k.Symbol s.Semicolon)) = empty
-statement_by depth_left deeper (Some (k.Keyword w.Return)) = return_statement
-statement_by depth_left deeper (Some (k.Keyword w.Exit)) = exit_statement
-statement_by depth_left deeper (Some (k.Keyword w.If)) = if_statement depth_left deeper
-statement_by depth_left deeper (Some (k.Keyword w.Case)) = case_statement depth_left deeper
-statement_by depth_left deeper (Some (k.Keyword w.For)) = for_statement depth_left deeper
-statement_by depth_left deeper (Some (k.Keyword w.While)) = while_statement depth_left deeper
-statement_by depth_left deeper (Some (k.Keyword w.Repeat)) = repeat_statement depth_left deeper
+statement_by depth_left deeper (Some (token_kinds.Word n)) = named depth_left
+statement_by depth_left deeper (Some (token_kinds.Symbol symbols.Semicolon)) = empty
+statement_by depth_left deeper (Some (token_kinds.Keyword keywords.Return)) = return_statement
+statement_by depth_left deeper (Some (token_kinds.Keyword keywords.Exit)) = exit_statement
+statement_by depth_left deeper (Some (token_kinds.Keyword keywords.If)) = if_statement depth_left deeper
+statement_by depth_left deeper (Some (token_kinds.Keyword keywords.Case)) = case_statement depth_left deeper
+statement_by depth_left deeper (Some (token_kinds.Keyword keywords.For)) = for_statement depth_left deeper
+statement_by depth_left deeper (Some (token_kinds.Keyword keywords.While)) = while_statement depth_left deeper
+statement_by depth_left deeper (Some (token_kinds.Keyword keywords.Repeat)) = repeat_statement depth_left deeper
 statement_by depth_left deeper _ = refuse
 
 unfoldable pub statement : ℕ → Deeper → Parser Statement

@@ -1,6 +1,6 @@
 use Rattle.std.proofs.Common.{[], sym, ap, Ok, ◌∙◌, arith}
 use Rattle.std.proofs.lemmas.Result.{err_from_is_err_and}
-use Rattle.st_tokens.specs.declared.symbol.Symbol.TheVariants as s
+use Rattle.st_tokens.specs.declared.symbol.Symbol.TheVariants as symbols
 use Rattle.st_parser.specs.Reader.Parsers as parser
 use Rattle.st_parser.proofs.Loops.{left_init, left_step, loop_end, loop_err, listed_first, listed_end, listed_err}
 use Rattle.st_parser.proofs.ParserLemmas.{next_at, takes_made}
@@ -14,7 +14,7 @@ expressions-returns-in_err-first t c =
     rw (e.1, e.2) (record { reads = listed_first ((spec.inside_of c.args.depth_left).expression) c.args.ts.now _ c.in_err-first.ensures.reads; shorter = tt })
 
 pub expressions-items-init : goal.expressions-items-init
-expressions-items-init t c = record { left = left_init (parser.is_symbol s.Comma) (parser.next_item ((spec.inside_of c.args.depth_left).expression)) c.in_ok-found.found c.inside.new.ts; shorter = omega arith }
+expressions-items-init t c = record { left = left_init (parser.is_symbol symbols.Comma) (parser.next_item ((spec.inside_of c.args.depth_left).expression)) c.in_ok-found.found c.inside.new.ts; shorter = omega arith }
 
 pub expressions-returns-in_err-item : goal.expressions-returns-in_err-item
 expressions-returns-in_err-item t c =
@@ -28,7 +28,7 @@ expressions-returns-in_err-item t c =
 pub expressions-items-preserved : goal.expressions-items-preserved
 expressions-items-preserved t c =
     record {
-      left = rw c.in_ok-push.ensures.ok (left_step (parser.is_symbol s.Comma) (parser.next_item ((spec.inside_of c.args.depth_left).expression)) c.in_ok-found.found c.inside.new.ts c.items.found c.items.ts _ _ c.items.invariant.left (sym c.at_symbol.ensures ∙ c.items-test.true)
+      left = rw c.in_ok-push.ensures.ok (left_step (parser.is_symbol symbols.Comma) (parser.next_item ((spec.inside_of c.args.depth_left).expression)) c.in_ok-found.found c.inside.new.ts c.items.found c.items.ts _ _ c.items.invariant.left (sym c.at_symbol.ensures ∙ c.items-test.true)
           (next_at ((spec.inside_of c.args.depth_left).expression) c.items.ts c.bump.new.self c.bump.ensures.rest ∙ c.in_ok-item.ensures.reads) (omega (arith, c.in_ok-item.ensures.shorter, c.bump.ensures.shorter)));
       shorter = omega (arith, c.in_ok-item.ensures.shorter, c.bump.ensures.shorter, c.items.invariant.shorter);
     }
@@ -45,7 +45,7 @@ argument_list-returns-in_err-first t c =
     rw (e.1, e.2) (record { reads = listed_first (spec.argument (spec.inside_of c.args.depth_left)) c.args.ts.now _ c.in_err-first.ensures.reads; shorter = tt })
 
 pub argument_list-items-init : goal.argument_list-items-init
-argument_list-items-init t c = record { left = left_init (parser.is_symbol s.Comma) (parser.next_item (spec.argument (spec.inside_of c.args.depth_left))) c.in_ok-found.found c.argument.new.ts; shorter = omega arith }
+argument_list-items-init t c = record { left = left_init (parser.is_symbol symbols.Comma) (parser.next_item (spec.argument (spec.inside_of c.args.depth_left))) c.in_ok-found.found c.argument.new.ts; shorter = omega arith }
 
 pub argument_list-returns-in_err-item : goal.argument_list-returns-in_err-item
 argument_list-returns-in_err-item t c =
@@ -59,7 +59,7 @@ argument_list-returns-in_err-item t c =
 pub argument_list-items-preserved : goal.argument_list-items-preserved
 argument_list-items-preserved t c =
     record {
-      left = rw c.in_ok-push.ensures.ok (left_step (parser.is_symbol s.Comma) (parser.next_item (spec.argument (spec.inside_of c.args.depth_left))) c.in_ok-found.found c.argument.new.ts c.items.found c.items.ts _ _ c.items.invariant.left (sym c.at_symbol.ensures ∙ c.items-test.true)
+      left = rw c.in_ok-push.ensures.ok (left_step (parser.is_symbol symbols.Comma) (parser.next_item (spec.argument (spec.inside_of c.args.depth_left))) c.in_ok-found.found c.argument.new.ts c.items.found c.items.ts _ _ c.items.invariant.left (sym c.at_symbol.ensures ∙ c.items-test.true)
           (next_at (spec.argument (spec.inside_of c.args.depth_left)) c.items.ts c.bump.new.self c.bump.ensures.rest ∙ c.in_ok-item.ensures.reads) (omega (arith, c.in_ok-item.ensures.shorter, c.bump.ensures.shorter)));
       shorter = omega (arith, c.in_ok-item.ensures.shorter, c.bump.ensures.shorter, c.items.invariant.shorter);
     }

@@ -1,6 +1,6 @@
 use Rattle.std.proofs.Common.{◌+◌, ◌*◌, ◌≤◌, [], length}
 use Rattle.st_parser.specs.Reader.Parsers as parser
-use Rattle.st_tokens.specs.declared.symbol.Symbol.TheVariants as s
+use Rattle.st_tokens.specs.declared.symbol.Symbol.TheVariants as symbols
 use Rattle.st_expressions.specs.Reader as spec
 use Rattle.st_parser.proofs.Loops.{Left}
 use Rattle.st_expressions.proofs.expression.+parser.Given as goal
@@ -79,7 +79,7 @@ decreases-expressions-items l = length l.ts
 
 abbrev pub invariant-expressions-items : goal.invariant-expressions-items
 invariant-expressions-items l = record {
-  left : Left (parser.is_symbol s.Comma) (parser.next_item (spec.inside_of l.depth_left).expression) l.initial.found l.initial.ts l.found l.ts;
+  left : Left (parser.is_symbol symbols.Comma) (parser.next_item (spec.inside_of l.depth_left).expression) l.initial.found l.initial.ts l.found l.ts;
   shorter : length l.ts ≤ length l.initial.ts;
 }
 
@@ -88,7 +88,7 @@ decreases-argument_list-items l = length l.ts
 
 abbrev pub invariant-argument_list-items : goal.invariant-argument_list-items
 invariant-argument_list-items l = record {
-  left : Left (parser.is_symbol s.Comma) (parser.next_item (spec.argument (spec.inside_of l.depth_left))) l.initial.found l.initial.ts l.found l.ts;
+  left : Left (parser.is_symbol symbols.Comma) (parser.next_item (spec.argument (spec.inside_of l.depth_left))) l.initial.found l.initial.ts l.found l.ts;
   shorter : length l.ts ≤ length l.initial.ts;
 }
 

@@ -1,6 +1,6 @@
 use Rattle.std.proofs.Common.{sym, ◌∙◌, arith}
 use Rattle.std.proofs.lemmas.Result.{err_from_is_err_and}
-use Rattle.st_tokens.specs.declared.symbol.Symbol.TheVariants as s
+use Rattle.st_tokens.specs.declared.symbol.Symbol.TheVariants as symbols
 use Rattle.st_parser.specs.Reader.Parsers.{is_symbol, next_item}
 use Rattle.st_parser.proofs.Loops.{left_init, left_step, listed_first, listed_end, listed_err}
 use Rattle.st_parser.proofs.ParserLemmas.{next_at}
@@ -12,7 +12,7 @@ returns-in_err-first-clause-read g c = λ p reads.
     rw (e.1, e.2) (listed_first p c.args.ts.now _ (reads _ _ _ _ c.in_err-first.ensures).reads)
 
 pub items-init : goal.items-init
-items-init g c = record { left = λ p reads. left_init (is_symbol s.Comma) (next_item p) c.in_ok-found.found c.item.new.arg3; shorter = omega arith }
+items-init g c = record { left = λ p reads. left_init (is_symbol symbols.Comma) (next_item p) c.in_ok-found.found c.item.new.arg3; shorter = omega arith }
 
 pub returns-in_err-next-clause-read : goal.returns-in_err-next-clause-read
 returns-in_err-next-clause-read g c = λ p reads.
@@ -25,7 +25,7 @@ items-preserved g c =
     let less = c.requires.shorter _ _ _ _ c.in_ok-next.ensures in
     record {
       left = λ p reads.
-          rw c.in_ok-push.ensures.ok (left_step (is_symbol s.Comma) (next_item p) c.in_ok-found.found c.item.new.arg3 c.items.found c.items.ts _ _ (c.items.invariant.left p reads) (sym c.at_symbol.ensures ∙ c.items-test.true)
+          rw c.in_ok-push.ensures.ok (left_step (is_symbol symbols.Comma) (next_item p) c.in_ok-found.found c.item.new.arg3 c.items.found c.items.ts _ _ (c.items.invariant.left p reads) (sym c.at_symbol.ensures ∙ c.items-test.true)
           (next_at p c.items.ts c.bump.new.self c.bump.ensures.rest ∙ (reads _ _ _ _ c.in_ok-next.ensures).reads) (omega (arith, less, c.bump.ensures.shorter)));
       shorter = omega (arith, less, c.bump.ensures.shorter, c.items.invariant.shorter);
     }

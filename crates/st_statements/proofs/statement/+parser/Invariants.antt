@@ -1,5 +1,5 @@
 use Rattle.std.proofs.Common.{◌+◌, ◌*◌, ◌≤◌, [], length}
-use Rattle.st_tokens.specs.declared.keyword.Keyword.TheVariants as w
+use Rattle.st_tokens.specs.declared.keyword.Keyword.TheVariants as keywords
 use Rattle.st_parser.specs.Reader.Parsers.{is_keyword}
 use Rattle.st_statements.specs.Reader.Statements as spec
 use Rattle.st_parser.proofs.Loops.{Left}
@@ -52,7 +52,7 @@ decreases-conditionals-items l = length l.ts
 
 abbrev pub invariant-conditionals-items : goal.invariant-conditionals-items
 invariant-conditionals-items l = record {
-  left : Left (is_keyword w.Elsif) (spec.elsif (spec.deeper_of l.depth_left)) l.initial.found l.initial.ts l.found l.ts;
+  left : Left (is_keyword keywords.Elsif) (spec.elsif (spec.deeper_of l.depth_left)) l.initial.found l.initial.ts l.found l.ts;
   shorter : length l.ts ≤ length l.initial.ts;
 }
 
