@@ -16,7 +16,7 @@ use Rattle.st_parser.specs.Reader.Parsers.{Parser, and_then, many}
 use Rattle.st_expressions.specs.Reader as spec
 use Rattle.st_expressions.specs.Reader.{Inside, begins_part}
 use Rattle.st_parser.specs.Grammar.Tokens.{Tok, kind, next, position}
-use Rattle.st_parser.proofs.Exact.{Relation, Exact, Always, Any, Then, seq, IsOne, one, IsPure, done, IsWord, a_word, IsNumber, a_number, exact_bind, exact_bind_if, exact_as, exact_iff, exact_last, exact_under, exact_pure, made, exact_refuse, exact_on, IsFirst, exact_token, exact_token_if, exact_enter, Behind, exact_symbol, symbol_is, exact_identifier, exact_number, exact_before, Ends, exact_many, exact_listed}
+use Rattle.st_parser.proofs.Exact.{Relation, Exact, Always, Any, Then, seq, IsOne, one, IsPure, done, IsWord, a_word, IsNumber, a_number, exact_bind, exact_bind_if, exact_as, exact_iff, exact_last, exact_under, exact_pure, made, exact_refuse, exact_on, IsFirst, exact_token, exact_token_if, exact_enter, AfterOpening, exact_symbol, symbol_is, exact_identifier, exact_number, exact_before, Ends, exact_many, exact_listed}
 use Rattle.st_expressions.proofs.Follows.{Stops, stops_less, stops_at, stops_part, stops_operator, precedence_is, begins_integer, integer_begins, begins_constant, constant_begins, primary_begins, argument_begins, part_begins, operation_begins, binary_word, Ending}
 use Rattle.st_parser.proofs.Levels.{At, past, Leads, leads}
 use Rattle.st_parser.specs.Names.{Argument, BinOp, Call, Constant, Expression, Identifier, Kind, Operation, Part, Position, SignedInteger, Variable}
@@ -121,7 +121,7 @@ module _ (r : ℕ) where
 
 -- ---- variables
 
--- what is read behind one more open level is read exactly
+-- what is read inside one more open level is read exactly
 abbrev pub ExactInside : ℕ → Inside → Type 0
 ExactInside zero i = Unit {0}
 ExactInside (suc r) i = (Exact 1 i.expression Always (IsBinary 7) (Stops 7) (At r) (At r)) × (Exact 1 i.variable Always IsVariable (Stops 0) (At r) (At r))
@@ -152,17 +152,17 @@ subscripts_to p ts x rest (seq (listed d m) (seq one e)) = made e (λ y us. IsPa
 subscripts_from : (p : Position) (ts : List Tok) (x : Part) (rest : List Tok) → IsPart ((p, token_kinds.Symbol symbols.OpenBracket) ∷ ts) x rest → AreSubscripts p ts x rest
 subscripts_from p ts x rest (subscripts d m) = seq (listed d (from_expressions m)) (seq one done)
 
-subscripts_behind : (r : ℕ) (i : Inside) → ExactInside r i
-    → Behind 1 r (λ p ts. and_then (parser.listed i.expression ts) (λ xs us. and_then (parser.expect_symbol symbols.CloseBracket us) (λ q. parser.pure (part_kinds.Subscripts p xs)))) (token_kinds.Symbol symbols.OpenBracket) IsPart Any
-subscripts_behind zero i e = tt
-subscripts_behind (suc r) i e = λ p. exact_iff
+subscripts_inside : (r : ℕ) (i : Inside) → ExactInside r i
+    → AfterOpening 1 r (λ p ts. and_then (parser.listed i.expression ts) (λ xs us. and_then (parser.expect_symbol symbols.CloseBracket us) (λ q. parser.pure (part_kinds.Subscripts p xs)))) (token_kinds.Symbol symbols.OpenBracket) IsPart Any
+subscripts_inside zero i e = tt
+subscripts_inside (suc r) i e = λ p. exact_iff
     (exact_before (token_kinds.Symbol symbols.CloseBracket) (exact_listed i.expression (IsBinary 7) (Stops 7) r e.0 tt) (refl, tt) (exact_symbol symbols.CloseBracket r refl) (λ xs q. exact_pure (part_kinds.Subscripts p xs) Always Any (At (suc r))))
     (subscripts_to p) (subscripts_from p)
 
 module _ (r : ℕ) (i : Inside) (e : ExactInside r i) where
   subscripts_exact : Exact 1 (spec.subscripts r i) (IsFirst (token_kinds.Symbol symbols.OpenBracket)) IsPart Any (At r) (At r)
   unfolding spec.subscripts
-  subscripts_exact = exact_enter 1 r _ (token_kinds.Symbol symbols.OpenBracket) refl (subscripts_behind r i e)
+  subscripts_exact = exact_enter 1 r _ (token_kinds.Symbol symbols.OpenBracket) refl (subscripts_inside r i e)
 
   part_by : (t : Option Kind) → Exact 1 (spec.part_by r i t) (λ ts. (kind ts ≡ t) × (begins_part (kind ts) ≡ true)) IsPart Any (At r) (At r)
   part_by (Some (token_kinds.Symbol symbols.Dot)) = exact_under (field_exact r) (λ ts p. p.0) (λ t g. g)
@@ -290,7 +290,7 @@ from_arguments no_argument = none
 from_arguments (next_arguments d m) = more (comma d) (from_arguments m)
 
 module _ (r : ℕ) (i : Inside) (e : ExactInside (suc r) i) (p : Position) where
-  -- behind the '('
+  -- after the '('
   abbrev IsRest : Relation (List Argument)
   IsRest ts xs rest = IsArguments ((p, token_kinds.Symbol symbols.Open) ∷ ts) xs rest
 
@@ -331,10 +331,10 @@ called_to n p ts x rest (seq d m) = seq d m
 called_from : (n : Identifier) (p : Position) (ts : List Tok) (x : Call) (rest : List Tok) → Called n ((p, token_kinds.Symbol symbols.Open) ∷ ts) x rest → Then (λ us. IsArguments ((p, token_kinds.Symbol symbols.Open) ∷ us)) (λ xs. IsPure (call_of n xs)) ts x rest
 called_from n p ts x rest (seq d m) = seq d m
 
-called_behind : (r : ℕ) (i : Inside) → ExactInside r i → (n : Identifier)
-    → Behind 1 r (λ p ts. and_then (spec.arguments i ts) (λ xs. parser.pure (call_of n xs))) (token_kinds.Symbol symbols.Open) (Called n) Any
-called_behind zero i e n = tt
-called_behind (suc r) i e n = λ p. exact_iff (exact_last (arguments_exact r i e p) (call_of n)) (called_to n p) (called_from n p)
+called_inside : (r : ℕ) (i : Inside) → ExactInside r i → (n : Identifier)
+    → AfterOpening 1 r (λ p ts. and_then (spec.arguments i ts) (λ xs. parser.pure (call_of n xs))) (token_kinds.Symbol symbols.Open) (Called n) Any
+called_inside zero i e n = tt
+called_inside (suc r) i e n = λ p. exact_iff (exact_last (arguments_exact r i e p) (call_of n)) (called_to n p) (called_from n p)
 
 call_to : (ts : List Tok) (x : Call) (rest : List Tok) → Then IsWord Called ts x rest → IsCall ts x rest
 call_to ts x rest (seq a_word (seq d p)) = made p (λ y us. IsCall ts y us) (called d)
@@ -349,7 +349,7 @@ word_carries t ts n mid h a_word = h
 pub call_exact : (r : ℕ) (i : Inside) → ExactInside r i → Exact 1 (spec.call r i) (λ ts. kind (next ts) ≡ Some (token_kinds.Symbol symbols.Open)) IsCall Any (At r) (At r)
 unfolding spec.call
 call_exact r i e = exact_iff
-    (exact_bind_if (exact_under (exact_identifier r) (λ ts p. tt) (λ t g. g)) (λ n. exact_enter 1 r _ (token_kinds.Symbol symbols.Open) refl (called_behind r i e n)) (word_carries (Some (token_kinds.Symbol symbols.Open))) (λ n mid rest y d g. tt))
+    (exact_bind_if (exact_under (exact_identifier r) (λ ts p. tt) (λ t g. g)) (λ n. exact_enter 1 r _ (token_kinds.Symbol symbols.Open) refl (called_inside r i e n)) (word_carries (Some (token_kinds.Symbol symbols.Open))) (λ n mid rest y d g. tt))
     call_to call_from
 
 -- ---- operands
@@ -365,10 +365,10 @@ parenthesized_from p ts x rest (variable d) = elim d [ ]
 parenthesized_from p ts x rest (call d) = elim d [ ]
 parenthesized_from p ts x rest (constant d) = absurd (let wrong = constant_begins d in cc)
 
-parenthesized_behind : (r : ℕ) (i : Inside) → ExactInside r i
-    → Behind 1 r (λ p ts. and_then (i.expression ts) (λ x us. and_then (parser.expect_symbol symbols.Close us) (λ q. parser.pure (expressions.Parenthesized p x)))) (token_kinds.Symbol symbols.Open) IsPrimary Any
-parenthesized_behind zero i h = tt
-parenthesized_behind (suc r) i h = λ p. exact_iff
+parenthesized_inside : (r : ℕ) (i : Inside) → ExactInside r i
+    → AfterOpening 1 r (λ p ts. and_then (i.expression ts) (λ x us. and_then (parser.expect_symbol symbols.Close us) (λ q. parser.pure (expressions.Parenthesized p x)))) (token_kinds.Symbol symbols.Open) IsPrimary Any
+parenthesized_inside zero i h = tt
+parenthesized_inside (suc r) i h = λ p. exact_iff
     (exact_before (token_kinds.Symbol symbols.Close) h.0 tt (exact_symbol symbols.Close r refl) (λ x q. exact_pure (expressions.Parenthesized p x) Always Any (At (suc r)))) (parenthesized_to p) (parenthesized_from p)
 
 call_as : (ts : List Tok) (x : Expression) (rest : List Tok) → Then IsCall (λ y. IsPure (expressions.Call y)) ts x rest → IsPrimary ts x rest
@@ -422,7 +422,7 @@ number_is ((p, _) ∷ ts) h = absurd (cc)
 module _ (r : ℕ) (i : Inside) (h : ExactInside r i) where
   parenthesized_exact : Exact 1 (spec.parenthesized r i) (IsFirst (token_kinds.Symbol symbols.Open)) IsPrimary Any (At r) (At r)
   unfolding spec.parenthesized
-  parenthesized_exact = exact_enter 1 r _ (token_kinds.Symbol symbols.Open) refl (parenthesized_behind r i h)
+  parenthesized_exact = exact_enter 1 r _ (token_kinds.Symbol symbols.Open) refl (parenthesized_inside r i h)
 
   named_by : (n : List ℕ) (b : Bool) → Exact 1 (spec.named_by r i b) (λ ts. (parser.is_symbol symbols.Open (kind (next ts)) ≡ b) × (kind ts ≡ Some (token_kinds.Word n))) IsPrimary (Stops 0) (At r) (At r)
   named_by n true = exact_as (exact_last (call_exact r i h) expressions.Call) (λ ts p. symbol_is symbols.Open (kind (next ts)) p.0) (λ ts x rest p d. call_as ts x rest d)
@@ -528,10 +528,10 @@ module _ (r n : ℕ) (P : Parser Expression) (a : Exact 1 P Always (IsBinary n) 
   operation_from p t op is ts x rest (operation {op = other} {x = y} its precedence d) =
       subst (λ o. Then (IsBinary n) (λ y. IsPure (operation_of p o y)) ts (operation_of p other y) rest) (same_some (sym its ∙ is)) (seq d done)
 
-  behind_operator : (p : Position) (t : Kind) (op : Option BinOp) → operator_of t ≡ op → spec.has_precedence (suc n) op ≡ true
+  after_operator : (p : Position) (t : Kind) (op : Option BinOp) → operator_of t ≡ op → spec.has_precedence (suc n) op ≡ true
       → Exact 1 (spec.operation_by P p op) Always (λ us. IsOperation n ((p, t) ∷ us)) (Stops n) (At r) (At r)
-  behind_operator p t (Some op) is precedence = exact_iff (exact_last a (operation_of p op)) (operation_to p t op is (has_precedence_is (suc n) op precedence)) (operation_from p t op is)
-  behind_operator p t None is precedence = absurd (cc)
+  after_operator p t (Some op) is precedence = exact_iff (exact_last a (operation_of p op)) (operation_to p t op is (has_precedence_is (suc n) op precedence)) (operation_from p t op is)
+  after_operator p t None is precedence = absurd (cc)
 
   -- no operator opens a level
   plain_operator : (t : Kind) (op : BinOp) → operator_of t ≡ Some op → opens t ≡ 0
@@ -564,7 +564,7 @@ module _ (r n : ℕ) (P : Parser Expression) (a : Exact 1 P Always (IsBinary n) 
     by : (b : Bool) → spec.has_precedence (suc n) (operator_of t) ≡ b
         → Exact 1 (λ ts. and_then (parser.bump ts) (λ p. spec.operation_by P p (operator_of t))) (λ ts. (kind ts ≡ Some t) × (spec.is_operator n (kind ts) ≡ true)) (IsOperation n) (Stops n) (At r) (At r)
     by true precedence = exact_under
-        (exact_token_if t Always (IsOperation n) (Stops n) (At r) (At r) (At r) (operator_leads t (operator_of t) refl precedence) (λ p. behind_operator p t (operator_of t) refl precedence))
+        (exact_token_if t Always (IsOperation n) (Stops n) (At r) (At r) (At r) (operator_leads t (operator_of t) refl precedence) (λ p. after_operator p t (operator_of t) refl precedence))
         (λ ts p. (p.0, tt)) (λ t g. g)
     by false precedence = record {
       reads = λ ts x rest p h. absurd (let wrong = subst (λ u. spec.is_operator n u ≡ true) p.0 p.1 in cc);

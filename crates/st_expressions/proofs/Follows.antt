@@ -157,7 +157,7 @@ operation_by n t op is precedence = subst (λ x. has_precedence (suc n) x ≡ tr
 pub operation_begins : (n : ℕ) (ts : List Tok) (x : Operation) (rest : List Tok) → IsOperation n ts x rest → is_operator n (kind ts) ≡ true
 operation_begins n ts x rest (operation {t = t} {op = op} is precedence d) = operation_by n t op is precedence
 
--- ---- a word, and a token that no expression has behind one
+-- ---- a word, and a token that no expression has after one
 
 -- such a token
 abbrev pub Ending : Kind → Type 0
@@ -178,7 +178,7 @@ primary_word stops (call (called (arguments d m))) = absurd stops
 unary_word : {p q : Position} {n : List ℕ} {t : Kind} {us rest : List Tok} {x : Expression} → Stops 7 (Some t) → IsUnary ((p, token_kinds.Word n) ∷ (q, t) ∷ us) x rest → kind rest ≡ Some t
 unary_word stops (primary d) = primary_word stops d
 
--- where such a token comes behind a word, an expression ends before it
+-- where such a token comes after a word, an expression ends before it
 pub binary_word : {r : ℕ} {p q : Position} {n : List ℕ} {t : Kind} {us rest : List Tok} {x : Expression} → Ending t → IsBinary r ((p, token_kinds.Word n) ∷ (q, t) ∷ us) x rest → kind rest ≡ Some t
 binary_word e (unary d) = unary_word e.0 d
 binary_word e (alone d) = binary_word e d

@@ -39,7 +39,7 @@ constant_by _ = do i ← signed_integer; pure (constants.Integer i)
 unfoldable pub constant : Parser Constant
 constant = peek >>= constant_by
 
--- ---- variables and calls. What stands in their brackets is read behind one more open level.
+-- ---- variables and calls. What stands in their brackets is read inside one more open level.
 
 pub record Inside : Type 0 where
   pub expression : Parser Expression
@@ -98,7 +98,7 @@ positional inside = do
   x ← inside.expression
   pure (argument_kinds.Positional x)
 
--- how an argument begins: with a word, and with what behind it
+-- how an argument begins: with a word, and with what after it
 abbrev pub argument_by : Inside → Option Kind → Option Kind → Parser Argument
 argument_by inside (Some (token_kinds.Word n)) (Some (token_kinds.Symbol symbols.Assign)) = input inside
 argument_by inside (Some (token_kinds.Word n)) (Some (token_kinds.Symbol symbols.Output)) = output inside
@@ -114,7 +114,7 @@ abbrev pub arguments_by : Inside → Bool → Parser (List Argument)
 arguments_by inside true = do bump; pure []
 arguments_by inside false = do xs ← listed (argument inside); expect_symbol symbols.Close; pure xs
 
--- behind the '(' of a call
+-- after the '(' of a call
 unfoldable pub arguments : Inside → Parser (List Argument)
 arguments inside = do
   t ← peek
@@ -224,7 +224,7 @@ binary depth_left inside (suc r) = do
   ls ← operations (binary depth_left inside r) r
   pure (chain p x ls)
 
--- what is read behind one more open level, of which there may be this many
+-- what is read inside one more open level, of which there may be this many
 unfoldable pub inside_of : ℕ → Inside
 inside_of zero = record { expression = refuse; variable = refuse }
 inside_of (suc depth_left) = record { expression = binary depth_left (inside_of depth_left) 7; variable = variable depth_left (inside_of depth_left) }

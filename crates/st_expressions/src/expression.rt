@@ -95,7 +95,7 @@ fn field(alloc: Global, ts: &mut Cursor<'_>) -> Result<Part, ReadFault>
     Ok(Part::Field(ts.identifier(alloc)?))
 }
 
-/// An expression behind one more open level.
+/// An expression inside one more open level.
 #[cycle(parser)]
 fn inside(alloc: Global, ts: &mut Cursor<'_>, depth_left: u8) -> Result<Expression, ReadFault>
     requires { 0 < depth_left }
@@ -104,7 +104,7 @@ fn inside(alloc: Global, ts: &mut Cursor<'_>, depth_left: u8) -> Result<Expressi
     binary(alloc, ts, depth_left - 1, LOOSEST)
 }
 
-/// A variable behind one more open level.
+/// A variable inside one more open level.
 #[cycle(parser)]
 fn target(alloc: Global, ts: &mut Cursor<'_>, depth_left: u8) -> Result<Variable, ReadFault>
     requires { 0 < depth_left }
@@ -418,7 +418,7 @@ fn operations(
     Ok(found)
 }
 
-/// The first operand and the operations behind it, or the operand alone where there are none.
+/// The first operand and the operations after it, or the operand alone where there are none.
 fn chain(
     alloc: Global,
     position: Position,

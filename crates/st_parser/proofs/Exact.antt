@@ -16,11 +16,11 @@ use Rattle.st_parser.specs.Grammar.Tokens.{identifier_of, Tok, kind, next, posit
 use Rattle.st_parser.proofs.Loops.{ahead, at_item, at_end, at_err, ahead_ok, ahead_err, ok_parts}
 use Rattle.st_parser.proofs.Levels.{At, past, Leads, leads, enters, full}
 
--- tokens, what they are, and the tokens behind it
+-- tokens, what they are, and the tokens after it
 abbrev pub Relation : Type 0 → Type 1
 Relation A = List Tok → A → List Tok → Type 0
 
--- of what was read: it is in R, it takes c tokens or more, and Q holds before it exactly where Q' holds behind it
+-- of what was read: it is in R, it takes c tokens or more, and Q holds before it exactly where Q' holds after it
 pub record Found {A : Type 0} (c : ℕ) (R : Relation A) (Q Q' : List Tok → Type 0) (ts : List Tok) (x : A) (rest : List Tok) : Type 0 where
   pub is : R ts x rest
   pub takes : length rest + c ≤ length ts
@@ -209,13 +209,13 @@ pub exact_token : {A : Type 0} {d r : ℕ} {f : Position → Parser A} (x : Kind
     → ((p : Position) → Exact d (f p) Always (λ us. R ((p, x) ∷ us)) F (At (past (closes x) r)) Q'') → Exact 1 (λ ts. and_then (parser.bump ts) f) (IsFirst x) R F (At r) Q''
 exact_token {r = r} x plain {R} {F} {Q''} b = exact_as (exact_token_if x Always R F (At r) (At (past (closes x) r)) Q'' (leads x r plain) b) (λ ts i. (i, tt)) (λ ts y rest i d. d) (λ ts y rest i g d. d) (λ t g. g)
 
--- what is behind a token that opens a level
-abbrev pub Behind : {A : Type 0} → ℕ → ℕ → (Position → Parser A) → Kind → Relation A → (Option Kind → Type 0) → Type 0
-Behind d zero f x R F = Unit {0}
-Behind d (suc r) f x R F = (p : Position) → Exact d (f p) Always (λ us. R ((p, x) ∷ us)) F (At r) (At (suc r))
+-- what is after a token that opens a level
+abbrev pub AfterOpening : {A : Type 0} → ℕ → ℕ → (Position → Parser A) → Kind → Relation A → (Option Kind → Type 0) → Type 0
+AfterOpening d zero f x R F = Unit {0}
+AfterOpening d (suc r) f x R F = (p : Position) → Exact d (f p) Always (λ us. R ((p, x) ∷ us)) F (At r) (At (suc r))
 
 pub exact_enter : {A : Type 0} (d r : ℕ) (f : Position → Parser A) (x : Kind) → opens x ≡ 1 → {R : Relation A} {F : Option Kind → Type 0}
-    → Behind d r f x R F → Exact 1 (λ ts. and_then (parser.enter r ts) f) (IsFirst x) R F (At r) (At r)
+    → AfterOpening d r f x R F → Exact 1 (λ ts. and_then (parser.enter r ts) f) (IsFirst x) R F (At r) (At r)
 unfolding parser.enter
 exact_enter d zero f x opening {R} {F} b = record {
   reads = λ ts y rest i h. absurd (cc);

@@ -12,16 +12,16 @@ abbrev pub below : (ℕ → Type 0) → ℕ → Type 0
 below P zero = ⊥
 below P (suc r) = P r
 
--- behind a token that opens and closes so many levels
-abbrev pub behind : ℕ → ℕ → (ℕ → Type 0) → ℕ → Type 0
-behind (suc o) c P r = below P r
-behind zero (suc c) P r = P (suc r)
-behind zero zero P r = P r
+-- after a token that opens and closes so many levels
+abbrev pub after_token : ℕ → ℕ → (ℕ → Type 0) → ℕ → Type 0
+after_token (suc o) c P r = below P r
+after_token zero (suc c) P r = P (suc r)
+after_token zero zero P r = P r
 
 -- the tokens open no more than r further levels
 abbrev pub Fits : List Tok → ℕ → Type 0
 Fits [] r = Unit {0}
-Fits (t ∷ ts) r = behind (opens t.1) (closes t.1) (Fits ts) r
+Fits (t ∷ ts) r = after_token (opens t.1) (closes t.1) (Fits ts) r
 
 -- how a token changes the count of open levels
 pub data Step : ℕ → ℕ → Type 0 where
@@ -47,7 +47,7 @@ step_of (token_kinds.Keyword keywords.EndRepeat) = down
 step_of _ = level
 
 tail : {o c : ℕ} → Step o c → (r : ℕ) (ts : List Tok) (P : ℕ → Type 0) → ((n : ℕ) → IsWithin n ts → P n)
-    → ((prefix rest : List Tok) → ts ≡ prefix ++ rest → o + opened prefix ≤ c + closed prefix + r) → o + 0 ≤ c + 0 + r → behind o c P r
+    → ((prefix rest : List Tok) → ts ≡ prefix ++ rest → o + opened prefix ≤ c + closed prefix + r) → o + 0 ≤ c + 0 + r → after_token o c P r
 tail up zero ts P go prefixes first = absurd (omega arith)
 tail up (suc r) ts P go prefixes first = go r (λ prefix rest e. let le = prefixes prefix rest e in omega (arith, le))
 tail down r ts P go prefixes first = go (suc r) (λ prefix rest e. let le = prefixes prefix rest e in omega (arith, le))
@@ -59,7 +59,7 @@ fits_from (t ∷ ts) r within = tail (step_of t.1) r ts (Fits ts) (fits_from ts)
     (λ prefix rest e. within (t ∷ prefix) rest (ap (λ us. t ∷ us) e)) (within (t ∷ []) ts refl)
 
 prefix_of : {o c : ℕ} → Step o c → (r : ℕ) (prefix : List Tok) (P : ℕ → Type 0) → ((n : ℕ) → P n → opened prefix ≤ closed prefix + n)
-    → behind o c P r → o + opened prefix ≤ c + closed prefix + r
+    → after_token o c P r → o + opened prefix ≤ c + closed prefix + r
 prefix_of up zero prefix P go fits = absurd fits
 prefix_of up (suc r) prefix P go fits = let le = go r fits in omega (arith, le)
 prefix_of down r prefix P go fits = let le = go (suc r) fits in omega (arith, le)
@@ -85,12 +85,12 @@ At r ts = Fits ts r
 abbrev pub Leads : (Q Q' : List Tok → Type 0) → Kind → Type 0
 Leads Q Q' x = (p : Position) (ts : List Tok) → (Q ((p, x) ∷ ts) → Q' ts) × (Q' ts → Q ((p, x) ∷ ts))
 
--- the levels that may be open behind a token that closes so many
+-- the levels that may be open after a token that closes so many
 abbrev pub past : ℕ → ℕ → ℕ
 past zero r = r
 past (suc c) r = suc r
 
-leads_by : {o c : ℕ} → Step o c → o ≡ 0 → (P : ℕ → Type 0) (r : ℕ) → (behind o c P r → P (past c r)) × (P (past c r) → behind o c P r)
+leads_by : {o c : ℕ} → Step o c → o ≡ 0 → (P : ℕ → Type 0) (r : ℕ) → (after_token o c P r → P (past c r)) × (P (past c r) → after_token o c P r)
 leads_by up none P r = absurd (omega arith)
 leads_by down none P r = (λ q. q, λ q. q)
 leads_by level none P r = (λ q. q, λ q. q)
@@ -99,7 +99,7 @@ leads_by level none P r = (λ q. q, λ q. q)
 pub leads : (x : Kind) (r : ℕ) → opens x ≡ 0 → Leads (At r) (At (past (closes x) r)) x
 leads x r plain p ts = leads_by (step_of x) plain (Fits ts) r
 
-enters_by : {o c : ℕ} → Step o c → o ≡ 1 → (P : ℕ → Type 0) (r : ℕ) → (behind o c P (suc r) → P r) × (P r → behind o c P (suc r))
+enters_by : {o c : ℕ} → Step o c → o ≡ 1 → (P : ℕ → Type 0) (r : ℕ) → (after_token o c P (suc r) → P r) × (P r → after_token o c P (suc r))
 enters_by up one P r = (λ q. q, λ q. q)
 enters_by down one P r = absurd (omega arith)
 enters_by level one P r = absurd (omega arith)
@@ -108,7 +108,7 @@ enters_by level one P r = absurd (omega arith)
 pub enters : (x : Kind) (r : ℕ) → opens x ≡ 1 → Leads (At (suc r)) (At r) x
 enters x r one p ts = enters_by (step_of x) one (Fits ts) r
 
-full_by : {o c : ℕ} → Step o c → o ≡ 1 → (P : ℕ → Type 0) → behind o c P zero → ⊥
+full_by : {o c : ℕ} → Step o c → o ≡ 1 → (P : ℕ → Type 0) → after_token o c P zero → ⊥
 full_by up one P fits = fits
 full_by down one P fits = absurd (omega arith)
 full_by level one P fits = absurd (omega arith)

@@ -7,7 +7,7 @@ use Rattle.st_parser.specs.Names.{Kind, ReadFault}
 use Rattle.st_parser.specs.declared.fault.ReadFault.TheVariants as read_faults
 use Rattle.st_parser.specs.Grammar.Tokens.{Tok, kind}
 use Rattle.st_parser.specs.Reader.Parsers.{Refuses, Refusal, Wrong, Deep, Outcome, Parser, and_then, many_from, many, leading, listed, is_symbol, next_item}
-use Rattle.st_parser.specs.Reader.Functions.{Behind, ReadsAs, TestsAs}
+use Rattle.st_parser.specs.Reader.Functions.{After, ReadsAs, TestsAs}
 
 -- what was found before stands before it
 abbrev pub ahead : {A : Type 0} → List A → Outcome (List A) → Outcome (List A)
@@ -118,7 +118,7 @@ module _ {A : Type 0} (head : Parser A) (test : Option Kind → Bool) (item : Pa
   unfolding leading
   leading_is = rw first (as_ahead (many test item mid))
 
-  -- a loop behind the first item
+  -- a loop after the first item
   pub leading_end : (one found : List A) (ts : List Tok) → one ≡ [] ++ x ∷ [] → Left test item one mid found ts
       → test (kind ts) ≡ false → leading head test item start ≡ Ok (found, ts)
   leading_end one found ts e w t = leading_is ∙ ap (λ zs. ahead zs (many test item mid)) (sym e) ∙ left_end test item one mid found ts w t
@@ -144,8 +144,8 @@ module _ {A : Type 0} (item : Parser A) (start : List Tok) where
   listed_err mid x first = leading_err item (is_symbol symbols.Comma) (next_item item) start mid x first
 
 -- for each parser that a passed function reads, what is found with what is left is all of its list
-abbrev pub EachLeft : {A : Type 0} → (Bor (List Tok) → Bool → Type 0) → Behind A → List Tok → List A → List Tok → Type 0
+abbrev pub EachLeft : {A : Type 0} → (Bor (List Tok) → Bool → Type 0) → After A → List Tok → List A → List Tok → Type 0
 EachLeft {A} tests post start found ts = (test : Option Kind → Bool) (p : Parser A) → TestsAs test tests → ReadsAs p post → Left test p [] start found ts
 
-abbrev pub EachNextLeft : {A : Type 0} → Behind A → List A → List Tok → List A → List Tok → Type 0
+abbrev pub EachNextLeft : {A : Type 0} → After A → List A → List Tok → List A → List Tok → Type 0
 EachNextLeft {A} post found_before start found ts = (p : Parser A) → ReadsAs p post → Left (is_symbol symbols.Comma) (next_item p) found_before start found ts

@@ -12,7 +12,7 @@ use Rattle.st_parser.specs.Grammar.Lists.{IsMany, none, more, IsListed, listed}
 use Rattle.st_parser.specs.Grammar.Tokens.{Tok, kind, next}
 use Rattle.st_parser.specs.Reader.Parsers as parser
 use Rattle.st_parser.specs.Reader.Parsers.{Parser, and_then, many, is_symbol, is_keyword}
-use Rattle.st_parser.proofs.Exact.{Relation, Exact, Always, Any, Then, seq, IsOne, one, IsPure, done, IsWord, a_word, exact_bind, exact_as, exact_iff, exact_last, exact_under, exact_zero, exact_pure, made, exact_refuse, exact_on, IsFirst, at_first, exact_token, exact_enter, Behind, symbol_is, keyword_is, exact_symbol, exact_keyword, exact_identifier, exact_before, before_token, Ends, exact_many, exact_listed}
+use Rattle.st_parser.proofs.Exact.{Relation, Exact, Always, Any, Then, seq, IsOne, one, IsPure, done, IsWord, a_word, exact_bind, exact_as, exact_iff, exact_last, exact_under, exact_zero, exact_pure, made, exact_refuse, exact_on, IsFirst, at_first, exact_token, exact_enter, AfterOpening, symbol_is, keyword_is, exact_symbol, exact_keyword, exact_identifier, exact_before, before_token, Ends, exact_many, exact_listed}
 use Rattle.st_parser.proofs.Levels.{At, past}
 use Rattle.st_expressions.specs.Grammar.{IsConstant, IsBinary, IsVariable, named as is_named, no_part, parts, field, subscripts, IsCall, called, no_arguments, arguments}
 use Rattle.st_expressions.specs.Reader.{inside_of}
@@ -29,7 +29,7 @@ use Rattle.st_statements.specs.Reader.Statements.{Deeper, range_of, begins_label
 abbrev NoRange : Option Kind → Type 0
 NoRange t = is_symbol symbols.Range t ≡ false
 
--- behind the first literal of a label
+-- after the first literal of a label
 data IsTail (x : Constant) : List Tok → Label → List Tok → Type 0 where
   single : {ts : List Tok} → IsTail x ts (labels.Value x) ts
   ranged : {p : Position} {ts rest : List Tok} {y : Constant} → IsConstant ts y rest → IsTail x ((p, token_kinds.Symbol symbols.Range) ∷ ts) (labels.Range x y) rest
@@ -164,7 +164,7 @@ module _ (r : ℕ) where
 abbrev pub EndsBlock : Option Kind → Type 0
 EndsBlock = Ends begins_statement Any
 
--- what is read behind one more open level is read exactly
+-- what is read inside one more open level is read exactly
 abbrev pub ExactDeeper : ℕ → Deeper → Type 0
 ExactDeeper zero d = Unit {0}
 ExactDeeper (suc r) d = (Exact 1 d.expression Always (IsBinary 7) (Stops 7) (At r) (At r)) × (Exact 0 d.statements Always IsStatements EndsBlock (At r) (At r))
@@ -441,7 +441,7 @@ closing : (x : Keyword) (r : ℕ) → opens (token_kinds.Keyword x) ≡ 0 → (y
 closing x r plain y = exact_bind (exact_keyword x r plain)
     (λ q. exact_bind (exact_symbol symbols.Semicolon (past (closes (token_kinds.Keyword x)) r) refl) (λ z. exact_pure y Always Any (At (past (closes (token_kinds.Keyword x)) r))) (λ z mid rest e d g. tt)) (λ q mid rest e d g. tt)
 
--- what the reading functions do behind the word that opens a level
+-- what the reading functions do after the word that opens a level
 module _ (d : Deeper) where
   abbrev after_if : Position → Parser Statement
   after_if p = λ ts. and_then (spec.conditionals d ts) (λ xs us. and_then (spec.otherwise d us) (λ ys vs. and_then (parser.expect_keyword keywords.EndIf vs) (λ q ws. and_then (parser.expect_symbol symbols.Semicolon ws) (λ z. parser.pure (statement_kinds.If (if_of p xs ys))))))
@@ -460,36 +460,36 @@ module _ (d : Deeper) where
   abbrev after_repeat : Position → Parser Statement
   after_repeat p = λ ts. and_then (d.statements ts) (λ ss us. and_then (parser.expect_keyword keywords.Until us) (λ u vs. and_then (d.expression vs) (λ a ws. and_then (parser.expect_keyword keywords.EndRepeat ws) (λ q xs. and_then (parser.expect_symbol symbols.Semicolon xs) (λ z. parser.pure (statement_kinds.Repeat (repeat_of p ss a)))))))
 
-  if_behind : (r : ℕ) → ExactDeeper r d → Behind 1 r after_if (token_kinds.Keyword keywords.If) IsStatement Any
-  if_behind zero e = tt
-  if_behind (suc r) e = λ p. exact_iff
+  after_if_exact : (r : ℕ) → ExactDeeper r d → AfterOpening 1 r after_if (token_kinds.Keyword keywords.If) IsStatement Any
+  after_if_exact zero e = tt
+  after_if_exact (suc r) e = λ p. exact_iff
       (exact_bind (conditionals_exact r d e) (λ xs. exact_bind (otherwise_exact r d e) (λ ys. closing keywords.EndIf r refl (statement_kinds.If (if_of p xs ys))) (λ ys mid rest y c g. before_token EndsElse (refl, (refl, tt)) c)) (if_statement_follow p))
       (if_statement_to p) (if_statement_from p)
 
-  case_behind : (r : ℕ) → ExactDeeper r d → Behind 1 r after_case (token_kinds.Keyword keywords.Case) IsStatement Any
-  case_behind zero e = tt
-  case_behind (suc r) e = λ p. exact_iff
+  after_case_exact : (r : ℕ) → ExactDeeper r d → AfterOpening 1 r after_case (token_kinds.Keyword keywords.Case) IsStatement Any
+  after_case_exact zero e = tt
+  after_case_exact (suc r) e = λ p. exact_iff
       (exact_before (token_kinds.Keyword keywords.Of) e.0 tt (exact_keyword keywords.Of r refl) (λ a q. exact_bind (cases_exact r d e)
       (λ cs. exact_bind (otherwise_exact r d e) (λ ys. closing keywords.EndCase r refl (statement_kinds.Case (case_statement_of p a cs ys))) (λ ys mid rest y c g. before_token EndsElse (refl, (refl, tt)) c)) (case_statement_follow p a)))
       (case_statement_to p) (case_statement_from p)
 
-  for_behind : (r : ℕ) → ExactDeeper r d → Behind 1 r after_for (token_kinds.Keyword keywords.For) IsStatement Any
-  for_behind zero e = tt
-  for_behind (suc r) e = λ p. exact_iff
+  after_for_exact : (r : ℕ) → ExactDeeper r d → AfterOpening 1 r after_for (token_kinds.Keyword keywords.For) IsStatement Any
+  after_for_exact zero e = tt
+  after_for_exact (suc r) e = λ p. exact_iff
       (exact_bind (exact_identifier r) (λ n. exact_bind (exact_symbol symbols.Assign r refl) (λ q. exact_before (token_kinds.Keyword keywords.Do) (bounds_exact r d e) (refl, tt) (exact_keyword keywords.Do r refl) (λ x v.
       exact_bind e.1 (λ ss. closing keywords.EndFor r refl (statement_kinds.For (for_of p n x.first x.last x.step ss))) (λ ss mid rest y c g. before_token EndsBlock (refl, tt) c)))
       (λ q mid rest y c g. tt)) (λ n mid rest y c g. tt))
       (for_statement_to p) (for_statement_from p)
 
-  while_behind : (r : ℕ) → ExactDeeper r d → Behind 1 r after_while (token_kinds.Keyword keywords.While) IsStatement Any
-  while_behind zero e = tt
-  while_behind (suc r) e = λ p. exact_iff
+  after_while_exact : (r : ℕ) → ExactDeeper r d → AfterOpening 1 r after_while (token_kinds.Keyword keywords.While) IsStatement Any
+  after_while_exact zero e = tt
+  after_while_exact (suc r) e = λ p. exact_iff
       (exact_before (token_kinds.Keyword keywords.Do) e.0 tt (exact_keyword keywords.Do r refl) (λ a q. exact_bind e.1 (λ ss. closing keywords.EndWhile r refl (statement_kinds.While (while_of p a ss))) (λ ss mid rest y c g. before_token EndsBlock (refl, tt) c)))
       (while_to p) (while_from p)
 
-  repeat_behind : (r : ℕ) → ExactDeeper r d → Behind 0 r after_repeat (token_kinds.Keyword keywords.Repeat) IsStatement Any
-  repeat_behind zero e = tt
-  repeat_behind (suc r) e = λ p. exact_iff
+  after_repeat_exact : (r : ℕ) → ExactDeeper r d → AfterOpening 0 r after_repeat (token_kinds.Keyword keywords.Repeat) IsStatement Any
+  after_repeat_exact zero e = tt
+  after_repeat_exact (suc r) e = λ p. exact_iff
       (exact_before (token_kinds.Keyword keywords.Until) e.1 (refl, tt) (exact_keyword keywords.Until r refl) (λ ss q. exact_bind e.0 (λ a. closing keywords.EndRepeat r refl (statement_kinds.Repeat (repeat_of p ss a))) (λ a mid rest y c g. before_token (Stops 7) tt c)))
       (repeat_to p) (repeat_from p)
 
@@ -521,23 +521,23 @@ from_statements (statements d m) = more d (from_statements m)
 module _ (r : ℕ) (d : Deeper) (e : ExactDeeper r d) where
   if_statement_exact : Exact 1 (spec.if_statement r d) (IsFirst (token_kinds.Keyword keywords.If)) IsStatement Any (At r) (At r)
   unfolding spec.if_statement
-  if_statement_exact = exact_enter 1 r (after_if d) (token_kinds.Keyword keywords.If) refl (if_behind d r e)
+  if_statement_exact = exact_enter 1 r (after_if d) (token_kinds.Keyword keywords.If) refl (after_if_exact d r e)
 
   case_statement_exact : Exact 1 (spec.case_statement r d) (IsFirst (token_kinds.Keyword keywords.Case)) IsStatement Any (At r) (At r)
   unfolding spec.case_statement
-  case_statement_exact = exact_enter 1 r (after_case d) (token_kinds.Keyword keywords.Case) refl (case_behind d r e)
+  case_statement_exact = exact_enter 1 r (after_case d) (token_kinds.Keyword keywords.Case) refl (after_case_exact d r e)
 
   for_statement_exact : Exact 1 (spec.for_statement r d) (IsFirst (token_kinds.Keyword keywords.For)) IsStatement Any (At r) (At r)
   unfolding spec.for_statement
-  for_statement_exact = exact_enter 1 r (after_for d) (token_kinds.Keyword keywords.For) refl (for_behind d r e)
+  for_statement_exact = exact_enter 1 r (after_for d) (token_kinds.Keyword keywords.For) refl (after_for_exact d r e)
 
   while_exact : Exact 1 (spec.while_statement r d) (IsFirst (token_kinds.Keyword keywords.While)) IsStatement Any (At r) (At r)
   unfolding spec.while_statement
-  while_exact = exact_enter 1 r (after_while d) (token_kinds.Keyword keywords.While) refl (while_behind d r e)
+  while_exact = exact_enter 1 r (after_while d) (token_kinds.Keyword keywords.While) refl (after_while_exact d r e)
 
   repeat_exact : Exact 1 (spec.repeat_statement r d) (IsFirst (token_kinds.Keyword keywords.Repeat)) IsStatement Any (At r) (At r)
   unfolding spec.repeat_statement
-  repeat_exact = exact_enter 0 r (after_repeat d) (token_kinds.Keyword keywords.Repeat) refl (repeat_behind d r e)
+  repeat_exact = exact_enter 0 r (after_repeat d) (token_kinds.Keyword keywords.Repeat) refl (after_repeat_exact d r e)
 
   statement_by : (t : Option Kind) → Exact 1 (spec.statement_by r d t) (λ ts. (kind ts ≡ t) × Always ts) IsStatement Any (At r) (At r)
   statement_by (Some (token_kinds.Word n)) = exact_under (named_exact r n) (λ ts p. p.0) (λ t g. g)

@@ -131,7 +131,7 @@ fn named(alloc: Global, ts: &mut Cursor<'_>, depth_left: u8) -> Result<Statement
     }
 }
 
-/// An expression behind one more open level.
+/// An expression inside one more open level.
 fn inner(alloc: Global, ts: &mut Cursor<'_>, depth_left: u8) -> Result<Expression, ReadFault>
     requires { 0 < depth_left }
     ensures { Takes ((spec.deeper_of depth_left).expression ts.old) result ts.old ts.new }
@@ -173,7 +173,7 @@ fn for_bounds(alloc: Global, ts: &mut Cursor<'_>, depth_left: u8) -> Result<ForR
     Ok(ForRange { first, last, step })
 }
 
-/// Statements behind one more open level.
+/// Statements inside one more open level.
 #[cycle(parser)]
 fn block(alloc: Global, ts: &mut Cursor<'_>, depth_left: u8) -> Result<List<Statement>, ReadFault>
     requires { 0 < depth_left }

@@ -2,7 +2,7 @@
 use Rattle.std.proofs.Common.{◌≡◌, ℕ, ◌≤◌, ◌^◌, List, [], ◌∷◌, length, refl, sym, ap, subst, ◌∙◌, arith}
 use Rattle.std.specs.Prelude.{Some, None, Ok}
 use Rattle.st_tokens.specs.declared.fault.SyntaxFault.{SyntaxFault}
-use Rattle.st_tokens.specs.declared.fault.SyntaxFault.TheVariants as fault
+use Rattle.st_tokens.specs.declared.fault.SyntaxFault.TheVariants as syntax_faults
 use Rattle.st_tokens.specs.Text.{HasTokens}
 use Rattle.st_tokens.proofs.Reading.{one_list}
 use Rattle.st_parser.specs.Names as names
@@ -12,7 +12,7 @@ use Rattle.st_parser.specs.Grammar.Levels.{IsWithin}
 use Rattle.st_parser.specs.Grammar.Lists.{IsMany}
 use Rattle.st_parser.specs.Grammar.Tokens.{Tok, line, numbered}
 use Rattle.st_parser.specs.Reader.Parsers.{Refuses}
-use Rattle.st_parser.specs.declared.fault.ReadFault.TheVariants as of_tokens
+use Rattle.st_parser.specs.declared.fault.ReadFault.TheVariants as read_faults
 use Rattle.st_parser.proofs.Exact.{Exact, Always, Any, Ends}
 use Rattle.st_parser.proofs.Levels.{At, fits_from, within_from}
 use Rattle.st_parser.proofs.Loops.{ok_parts}
@@ -55,13 +55,13 @@ left_over text tokens us rest n has read more = record {
 
 pub refused : (text : List ℕ) (tokens : List Token) (last : ℕ) (f : ReadFault) → HasTokens 1 text tokens → Refuses (units in_brackets (numbered 0 tokens)) f
     → Explains (in_text last f) text
-refused text tokens last of_tokens.Memory has h = tt
-refused text tokens last (of_tokens.NotInGrammar line) has h = record {
+refused text tokens last read_faults.Memory has h = tt
+refused text tokens last (read_faults.NotInGrammar line) has h = record {
   tokens = tokens;
   has = has;
   never = λ us are within. let wrong = sym h ∙ read_all (numbered 0 tokens) us are within in absurd (cc);
 }
-refused text tokens last (of_tokens.TooDeep line) has h = record {
+refused text tokens last (read_faults.TooDeep line) has h = record {
   tokens = tokens;
   has = has;
   deeper = λ within. top.deep (numbered 0 tokens) tt h (fits_from (numbered 0 tokens) 64 within);
@@ -76,19 +76,19 @@ one_text text us vs a b =
     (ok_parts (sym (read_all (numbered 0 a.tokens) us a.are a.within) ∙ read_all (numbered 0 a.tokens) vs are a.within)).0
 
 -- a text that is units is refused for want of memory alone
-pub only_memory : (text : List ℕ) (f : SyntaxFault) (us : List names.Unit) → Explains f text → length text ≤ 2 ^ 20 → IsTextOf text us → f ≡ fault.Memory
-only_memory text fault.Memory us h short t = refl
-only_memory text (fault.NoToken line) us h short t = absurd (h t.tokens t.has)
-only_memory text (fault.NotInGrammar line) us h short t =
+pub only_memory : (text : List ℕ) (f : SyntaxFault) (us : List names.Unit) → Explains f text → length text ≤ 2 ^ 20 → IsTextOf text us → f ≡ syntax_faults.Memory
+only_memory text syntax_faults.Memory us h short t = refl
+only_memory text (syntax_faults.NoToken line) us h short t = absurd (h t.tokens t.has)
+only_memory text (syntax_faults.NotInGrammar line) us h short t =
     absurd (h.never us (same_tokens text t.tokens h.tokens (λ ts. AreUnits (numbered 0 ts) us) t.has h.has t.are) (same_tokens text t.tokens h.tokens (λ ts. IsWithin 64 (numbered 0 ts)) t.has h.has t.within))
-only_memory text (fault.TooDeep line) us h short t =
+only_memory text (syntax_faults.TooDeep line) us h short t =
     absurd (h.deeper (same_tokens text t.tokens h.tokens (λ ts. IsWithin 64 (numbered 0 ts)) t.has h.has t.within))
-only_memory text fault.TooLong us h short t = absurd (omega (arith, h, short))
+only_memory text syntax_faults.TooLong us h short t = absurd (omega (arith, h, short))
 
 -- the fault of a text without tokens, or too long
 pub from_tokens : (text : List ℕ) (f : SyntaxFault) → Rattle.st_tokens.specs.Text.Explains f text → Explains f text
-from_tokens text fault.Memory h = tt
-from_tokens text (fault.NoToken line) h = h
-from_tokens text fault.TooLong h = h
-from_tokens text (fault.NotInGrammar line) h = absurd h
-from_tokens text (fault.TooDeep line) h = absurd h
+from_tokens text syntax_faults.Memory h = tt
+from_tokens text (syntax_faults.NoToken line) h = h
+from_tokens text syntax_faults.TooLong h = h
+from_tokens text (syntax_faults.NotInGrammar line) h = absurd h
+from_tokens text (syntax_faults.TooDeep line) h = absurd h

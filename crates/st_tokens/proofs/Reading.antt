@@ -274,8 +274,8 @@ pub line_end-bound : (b : ℕ) → bool_byte (b == 10) ≤ 1
 line_end-bound b = by_test (b == 10) (λ t. rw t (omega arith)) (λ t. rw t (omega arith))
 
 -- a blank takes a byte away, and adds no more than a line
-pub blank_room : (line ends size size' bound : ℕ) → size' ≡ size - 1 → 1 ≤ size → ends ≤ 1 → line + size ≤ bound → line + ends + size' ≤ bound
-blank_room line ends size size' bound e h le room = omega arith
+pub blank_within : (line ends size size' bound : ℕ) → size' ≡ size - 1 → 1 ≤ size → ends ≤ 1 → line + size ≤ bound → line + ends + size' ≤ bound
+blank_within line ends size size' bound e h le within = omega arith
 
 -- a result that is the text's tokens or explains the fault is this list, or want of memory
 pub only_result : (text : List ℕ) (ts : List Token) (result : Result (Vec Token) SyntaxFault) → IfOk result (λ v. HasTokens 1 text v.items)

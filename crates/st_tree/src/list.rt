@@ -74,7 +74,7 @@ impl<T: Copy> List<T> {
 }
 
 impl<T: Drop> List<T> {
-    /// Puts an item behind the others. The first takes room for itself alone, since most lists have one item.
+    /// Puts an item after the others. The first takes room for itself alone, since most lists have one item.
     pub fn push(&mut self, item: T) -> Result<(), AllocError>
         ensures ok { OnOk result (self.new ≡ self.old ++ item ∷ []) }
         ensures err { OnErr result (self.new ≡ self.old) }

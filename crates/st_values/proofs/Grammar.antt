@@ -18,7 +18,7 @@ use Rattle.st_values.specs.Words.{is_word}
 use Rattle.st_values.specs.declared.duration.TimeUnit.{TimeUnit}
 use Rattle.st_values.specs.declared.duration.TimeUnit.TheVariants.{Days, Hours, Minutes, Seconds, Milliseconds}
 
--- ---- fronts of lists
+-- ---- prefixes of lists
 
 abbrev no_letter : ℕ → Bool
 no_letter c = not (is_ascii_alphabetic c)

@@ -6,7 +6,7 @@ use Rattle.std.specs.Fmt.{decimal, digits, digits_onto, digit_glyph}
 use Rattle.std.specs.Int.Signed.{lt_z}
 use Rattle.st_values.specs.Texts.{signed_text}
 
--- what stands in front of `laid` once the digits of n, if any are left, are laid too
+-- what stands before `laid` once the digits of n, if any are left, are laid too
 abbrev pub with_rest : ℕ → ℕ → ℕ → List ℕ → List ℕ
 with_rest k base n laid = cond (n == 0) laid (digits_onto k base true n laid)
 

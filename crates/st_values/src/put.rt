@@ -20,7 +20,7 @@ pub fn put_value(value: Value, out: &mut Vec<u8>) -> Result<(), AllocError>
     requires { IsValue value }
     ensures ok { OnOk result (out.new.items ≡ out.old.items ++ text value) }
     ensures err { OnErr result (out.new.items ≡ out.old.items) }
-    ensures room { OnErr result (vec_capacity out.old < vec_len out.old + 24) }
+    ensures spare { OnErr result (vec_capacity out.old < vec_len out.old + 24) }
     ensures capacity { vec_capacity out.old ≤ vec_capacity out.new }
     ensures short { length (text value) ≤ 24 }
 {
@@ -32,7 +32,7 @@ pub fn put_value(value: Value, out: &mut Vec<u8>) -> Result<(), AllocError>
 /// Lays the text of a value at the end of the buffer, and answers where it begins.
 fn lay_value(value: Value, buffer: &mut [u8]) -> usize
     requires value { IsValue value }
-    requires room { length buffer.old ≡ 24 }
+    requires size { length buffer.old ≡ 24 }
     ensures start { result ≤ 24 }
     ensures laid { drop result buffer.new ≡ text value }
 {
@@ -65,7 +65,7 @@ fn lay_signed(buffer: &mut [u8], end: usize, number: i128, places: usize) -> usi
     requires digits { unsigned_abs number < 10 ^ places }
     requires some { 0 < places }
     requires few { places ≤ 20 }
-    requires room { places < end }
+    requires fits { places < end }
     requires within { end ≤ length buffer.old }
     ensures start { end ≤ result + places + 1 }
     ensures within { result ≤ end }
@@ -81,7 +81,7 @@ fn lay_signed(buffer: &mut [u8], end: usize, number: i128, places: usize) -> usi
 
 /// Lays a text just before `end`, and answers where it begins.
 fn lay(buffer: &mut [u8], end: usize, text: &[u8]) -> usize
-    requires room { length text.now ≤ end }
+    requires fits { length text.now ≤ end }
     requires within { end ≤ length buffer.old }
     ensures start { result + length text.now ≡ end }
     ensures laid { drop result buffer.new ≡ text.now ++ drop end buffer.old }
@@ -98,7 +98,7 @@ fn lay_digits(buffer: &mut [u8], end: usize, base: u64, mut number: u64, places:
     requires digits { number < 10 ^ places }
     requires some { 0 < places }
     requires few { places ≤ 20 }
-    requires room { places ≤ end }
+    requires fits { places ≤ end }
     requires within { end ≤ length buffer.old }
     ensures start { end ≤ result + places }
     ensures within { result ≤ end }

@@ -16,7 +16,7 @@ pub const MAX_STEPS: u32 = 10_000_000;
 /// The step limit of a scan where the words name none.
 pub const DEFAULT_STEPS: u32 = 100_000;
 
-/// The program's version, which `--version` prints behind its name.
+/// The program's version, which `--version` prints after its name.
 pub const VERSION: &str = "0.1.0";
 
 /// What is to be done with the source text.

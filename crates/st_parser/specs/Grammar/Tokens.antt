@@ -29,7 +29,7 @@ abbrev pub line : List Tok → Option ℕ
 line [] = None
 line (t ∷ ts) = Some t.0.line
 
--- the tokens behind the first
+-- the tokens after the first
 abbrev pub next : List Tok → List Tok
 next [] = []
 next (t ∷ ts) = ts

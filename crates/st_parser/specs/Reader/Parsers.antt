@@ -11,7 +11,7 @@ pub data Refusal : Type 0 where
   Wrong : Refusal
   Deep : Refusal
 
--- what was read, and the tokens behind it
+-- what was read, and the tokens after it
 abbrev pub Outcome : Type 0 → Type 0
 Outcome A = Result (A × List Tok) Refusal
 
@@ -36,7 +36,7 @@ pure a = λ ts. Ok (a, ts)
 abbrev pub refuse : {A : Type 0} → Parser A
 refuse = λ ts. Err Wrong
 
--- the first token's position, and the tokens behind it
+-- the first token's position, and the tokens after it
 abbrev pub bump : Parser Position
 bump = λ ts. Ok (position ts, next ts)
 
@@ -134,7 +134,7 @@ Refuses o read_faults.Memory = Unit {0}
 Refuses o (read_faults.NotInGrammar line) = o ≡ Err Wrong
 Refuses o (read_faults.TooDeep line) = o ≡ Err Deep
 
--- the outcome, with these tokens behind it, unless memory runs out
+-- the outcome, with these tokens after it, unless memory runs out
 abbrev pub Reads : {A : Type 0} → Outcome A → Result A ReadFault → List Tok → Type 0
 Reads o (Ok a) rest = o ≡ Ok (a, rest)
 Reads o (Err f) rest = Refuses o f

@@ -210,7 +210,7 @@ statement depth_left deeper = peek >>= statement_by depth_left deeper
 abbrev pub block : ℕ → Deeper → Parser (List Statement)
 block depth_left deeper = many begins_statement (statement depth_left deeper)
 
--- what is read behind one more open level, of which there may be this many
+-- what is read inside one more open level, of which there may be this many
 unfoldable pub deeper_of : ℕ → Deeper
 deeper_of zero = record { expression = refuse; statements = refuse }
 deeper_of (suc depth_left) = record { expression = expression depth_left; statements = block depth_left (deeper_of depth_left) }

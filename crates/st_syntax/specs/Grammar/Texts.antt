@@ -2,7 +2,7 @@
 use Rattle.std.specs.Prelude.{ℕ, ◌<◌, ◌^◌, List, length}
 use Rattle.st_tokens.specs.Text.{HasTokens}
 use Rattle.st_tokens.specs.declared.fault.SyntaxFault.{SyntaxFault}
-use Rattle.st_tokens.specs.declared.fault.SyntaxFault.TheVariants as fault
+use Rattle.st_tokens.specs.declared.fault.SyntaxFault.TheVariants as syntax_faults
 use Rattle.st_parser.specs.Names as names
 use Rattle.st_parser.specs.Names.{Token}
 use Rattle.st_parser.specs.Grammar.Levels.{IsWithin}
@@ -30,8 +30,8 @@ pub record IsDeep (text : List ℕ) : Type 0 where
 
 -- what a fault says of a text
 abbrev pub Explains : SyntaxFault → List ℕ → Type 0
-Explains fault.Memory text = Unit {0}
-Explains (fault.NoToken line) text = (tokens : List Token) → HasTokens 1 text tokens → ⊥
-Explains (fault.NotInGrammar line) text = IsOutside text
-Explains (fault.TooDeep line) text = IsDeep text
-Explains fault.TooLong text = 2 ^ 20 < length text
+Explains syntax_faults.Memory text = Unit {0}
+Explains (syntax_faults.NoToken line) text = (tokens : List Token) → HasTokens 1 text tokens → ⊥
+Explains (syntax_faults.NotInGrammar line) text = IsOutside text
+Explains (syntax_faults.TooDeep line) text = IsDeep text
+Explains syntax_faults.TooLong text = 2 ^ 20 < length text

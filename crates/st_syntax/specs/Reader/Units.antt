@@ -1,12 +1,12 @@
 -- The reading of units as functions: what each function that reads them answers. In brackets `depth_left` more levels may be opened.
 use Rattle.std.specs.Prelude.{ℕ, suc, Bool, true, false, List, Option, Some, Ok}
-use Rattle.st_tokens.specs.declared.keyword.Keyword.TheVariants as w
-use Rattle.st_tokens.specs.declared.symbol.Symbol.TheVariants as s
-use Rattle.st_tokens.specs.declared.token.Kind.TheVariants as k
+use Rattle.st_tokens.specs.declared.keyword.Keyword.TheVariants as keywords
+use Rattle.st_tokens.specs.declared.symbol.Symbol.TheVariants as symbols
+use Rattle.st_tokens.specs.declared.token.Kind.TheVariants as token_kinds
 use Rattle.st_values.specs.declared.elem.Elem.{Elem}
-use Rattle.st_tree.specs.declared.tree.declaration.DeclaredType.TheVariants as d
-use Rattle.st_tree.specs.declared.tree.unit.Body.TheVariants as b
-use Rattle.st_tree.specs.declared.tree.unit.Unit.TheVariants as u
+use Rattle.st_tree.specs.declared.tree.declaration.DeclaredType.TheVariants as declared_types
+use Rattle.st_tree.specs.declared.tree.unit.Body.TheVariants as bodies
+use Rattle.st_tree.specs.declared.tree.unit.Unit.TheVariants as unit_kinds
 use Rattle.st_parser.specs.Names as names
 use Rattle.st_parser.specs.Names.{Body, Declaration, DeclaredType, Keyword, Kind, Pou, TypeDeclaration}
 use Rattle.st_parser.specs.Grammar.Tokens.{kind, next}
@@ -20,7 +20,7 @@ unfoldable pub derived : ℕ → Parser DeclaredType
 derived depth_left = do
   x ← specification depth_left
   y ← initialized depth_left
-  pure (d.Derived x y)
+  pure (declared_types.Derived x y)
 
 abbrev pub members : ℕ → Parser (List Declaration)
 members depth_left = leading (member depth_left) is_word (member depth_left)
@@ -29,9 +29,9 @@ unfoldable pub structure : ℕ → Parser DeclaredType
 structure depth_left = do
   p ← bump
   xs ← members depth_left
-  expect_keyword w.EndStruct
-  expect_symbol s.Semicolon
-  pure (d.Structure p xs)
+  expect_keyword keywords.EndStruct
+  expect_symbol symbols.Semicolon
+  pure (declared_types.Structure p xs)
 
 abbrev pub declared_by : ℕ → Bool → Parser DeclaredType
 declared_by depth_left true = structure depth_left
@@ -40,12 +40,12 @@ declared_by depth_left false = derived depth_left
 unfoldable pub declared : ℕ → Parser DeclaredType
 declared depth_left = do
   t ← peek
-  declared_by depth_left (is_keyword w.Struct t)
+  declared_by depth_left (is_keyword keywords.Struct t)
 
 unfoldable pub type_declaration : ℕ → Parser TypeDeclaration
 type_declaration depth_left = do
   n ← identifier
-  expect_symbol s.Colon
+  expect_symbol symbols.Colon
   x ← declared depth_left
   pure (type_of n x)
 
@@ -56,11 +56,11 @@ unfoldable pub types : ℕ → Parser names.Unit
 types depth_left = do
   p ← bump
   xs ← type_declarations depth_left
-  expect_keyword w.EndType
-  pure (u.Types p xs)
+  expect_keyword keywords.EndType
+  pure (unit_kinds.Types p xs)
 
 abbrev pub elementary_by : Option Kind → Parser Elem
-elementary_by (Some (k.Type e)) = λ ts. Ok (e, next ts)
+elementary_by (Some (token_kinds.Type e)) = λ ts. Ok (e, next ts)
 elementary_by _ = refuse
 
 unfoldable pub elementary : Parser Elem
@@ -70,22 +70,22 @@ unfoldable pub function : ℕ → Parser names.Unit
 function depth_left = do
   p ← bump
   n ← identifier
-  expect_symbol s.Colon
+  expect_symbol symbols.Colon
   e ← elementary
   vs ← variables depth_left
   ss ← statements (suc depth_left)
-  expect_keyword w.EndFunction
-  pure (u.Function (function_of p n e vs ss))
+  expect_keyword keywords.EndFunction
+  pure (unit_kinds.Function (function_of p n e vs ss))
 
 unfoldable pub chart_body : ℕ → Parser Body
 chart_body depth_left = do
   xs ← chart (suc depth_left)
-  pure (b.Chart xs)
+  pure (bodies.Chart xs)
 
 unfoldable pub plain_body : ℕ → Parser Body
 plain_body depth_left = do
   ss ← statements (suc depth_left)
-  pure (b.Statements ss)
+  pure (bodies.Statements ss)
 
 abbrev pub body_by : ℕ → Bool → Parser Body
 body_by depth_left true = chart_body depth_left
@@ -108,27 +108,27 @@ pou depth_left last = do
 
 unfoldable pub function_block : ℕ → Parser names.Unit
 function_block depth_left = do
-  x ← pou depth_left w.EndFunctionBlock
-  pure (u.FunctionBlock x)
+  x ← pou depth_left keywords.EndFunctionBlock
+  pure (unit_kinds.FunctionBlock x)
 
 unfoldable pub program : ℕ → Parser names.Unit
 program depth_left = do
-  x ← pou depth_left w.EndProgram
-  pure (u.Program x)
+  x ← pou depth_left keywords.EndProgram
+  pure (unit_kinds.Program x)
 
 -- the first token begins a unit
 abbrev pub begins_unit : Option Kind → Bool
-begins_unit (Some (k.Keyword w.Type)) = true
-begins_unit (Some (k.Keyword w.Function)) = true
-begins_unit (Some (k.Keyword w.FunctionBlock)) = true
-begins_unit (Some (k.Keyword w.Program)) = true
+begins_unit (Some (token_kinds.Keyword keywords.Type)) = true
+begins_unit (Some (token_kinds.Keyword keywords.Function)) = true
+begins_unit (Some (token_kinds.Keyword keywords.FunctionBlock)) = true
+begins_unit (Some (token_kinds.Keyword keywords.Program)) = true
 begins_unit _ = false
 
 abbrev pub unit_by : ℕ → Option Kind → Parser names.Unit
-unit_by depth_left (Some (k.Keyword w.Type)) = types depth_left
-unit_by depth_left (Some (k.Keyword w.Function)) = function depth_left
-unit_by depth_left (Some (k.Keyword w.FunctionBlock)) = function_block depth_left
-unit_by depth_left (Some (k.Keyword w.Program)) = program depth_left
+unit_by depth_left (Some (token_kinds.Keyword keywords.Type)) = types depth_left
+unit_by depth_left (Some (token_kinds.Keyword keywords.Function)) = function depth_left
+unit_by depth_left (Some (token_kinds.Keyword keywords.FunctionBlock)) = function_block depth_left
+unit_by depth_left (Some (token_kinds.Keyword keywords.Program)) = program depth_left
 unit_by depth_left _ = refuse
 
 unfoldable pub unit_of : ℕ → Parser names.Unit

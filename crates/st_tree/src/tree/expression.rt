@@ -31,7 +31,7 @@ pub struct Operation {
     /// Where the operator stands.
     pub position: Position,
     pub operator: BinOp,
-    /// The operand behind it.
+    /// The operand after it.
     pub operand: Expression,
 }
 

@@ -39,7 +39,7 @@ pub struct IfStatement {
     pub position: Position,
     /// Those of IF and of each ELSIF, in order.
     pub parts: List<ConditionalPart>,
-    /// Behind ELSE. Without ELSE there are none.
+    /// After ELSE. Without ELSE there are none.
     pub otherwise: List<Statement>,
 }
 
@@ -49,11 +49,11 @@ pub struct IfStatement {
 pub struct CaseStatement {
     /// Where it begins.
     pub position: Position,
-    /// Behind CASE.
+    /// After CASE.
     pub selector: Expression,
-    /// Behind OF, in order.
+    /// After OF, in order.
     pub cases: List<CaseElement>,
-    /// Behind ELSE. Without ELSE there are none.
+    /// After ELSE. Without ELSE there are none.
     pub otherwise: List<Statement>,
 }
 
@@ -63,15 +63,15 @@ pub struct CaseStatement {
 pub struct ForStatement {
     /// Where it begins.
     pub position: Position,
-    /// Behind FOR.
+    /// After FOR.
     pub variable: Identifier,
-    /// Its first value, behind `:=`.
+    /// Its first value, after `:=`.
     pub first: Expression,
-    /// Its last value, behind TO.
+    /// Its last value, after TO.
     pub last: Expression,
     /// How far apart two values are. Without BY it is 1.
     pub step: Option<Expression>,
-    /// Behind DO.
+    /// After DO.
     pub statements: List<Statement>,
 }
 
@@ -81,9 +81,9 @@ pub struct ForStatement {
 pub struct WhileStatement {
     /// Where it begins.
     pub position: Position,
-    /// Behind WHILE.
+    /// After WHILE.
     pub condition: Expression,
-    /// Behind DO.
+    /// After DO.
     pub statements: List<Statement>,
 }
 
@@ -93,9 +93,9 @@ pub struct WhileStatement {
 pub struct RepeatStatement {
     /// Where it begins.
     pub position: Position,
-    /// Behind REPEAT.
+    /// After REPEAT.
     pub statements: List<Statement>,
-    /// Behind UNTIL.
+    /// After UNTIL.
     pub condition: Expression,
 }
 
@@ -103,9 +103,9 @@ pub struct RepeatStatement {
 #[cycle(statement)]
 #[derive(Drop)]
 pub struct ConditionalPart {
-    /// Behind IF or ELSIF.
+    /// After IF or ELSIF.
     pub condition: Expression,
-    /// Behind THEN.
+    /// After THEN.
     pub statements: List<Statement>,
 }
 
@@ -115,7 +115,7 @@ pub struct ConditionalPart {
 pub struct CaseElement {
     /// The labels, as they are written.
     pub labels: List<Label>,
-    /// Behind the colon.
+    /// After the colon.
     pub statements: List<Statement>,
 }
 

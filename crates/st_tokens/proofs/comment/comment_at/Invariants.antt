@@ -5,7 +5,7 @@ use Rattle.st_tokens.proofs.comment.comment_at.Given as goal
 -- no `*)` has come so far
 abbrev pub invariant-loop-rest : goal.invariant-loop-rest
 invariant-loop-rest l = record {
-  room : l.line + length l.rest < 2 ^ 32;
+  lines : l.line + length l.rest < 2 ^ 32;
   same : spec.comment_at l.line l.rest ≡ spec.comment_at l.fn.line l.text;
 }
 

@@ -2,7 +2,7 @@ use Rattle.std.proofs.Common.{◌≡◌, ◌+◌, ℕ, List, true, sym, ap, ◌�
 use Rattle.std.specs.Prelude.{Some, None, codes}
 use Rattle.st_values.specs.Words.{begins_with}
 use Rattle.st_tokens.specs.Scanning.{seen, comment_at, token_at}
-use Rattle.st_tokens.proofs.Reading.{Reads, reads_end, blank_step, comment_step, open_comment, token_step, stuck, shorter_comment, shorter_token, line_end-bound, line_end-is, blank_room, nothing}
+use Rattle.st_tokens.proofs.Reading.{Reads, reads_end, blank_step, comment_step, open_comment, token_step, stuck, shorter_comment, shorter_token, line_end-bound, line_end-is, blank_within, nothing}
 use Rattle.st_tokens.proofs.Runs.{take_rest}
 use Rattle.st_tokens.proofs.scan.scan.Goals.{In-Some}
 use Rattle.st_tokens.proofs.scan.scan.Goals as goal
@@ -12,8 +12,8 @@ loop-rest-preserved-then-is_blank c =
     let rest = c.loop-rest.rest.now in
     let shorter : length (take (length rest - 1) (drop 1 rest)) ≡ length rest - 1 = ap length (take_rest 1 rest) ∙ length-drop 1 rest in
     record {
-      room = blank_room c.loop-rest.line c.from-line.result (length rest) _ _ shorter c.in-len1-up.len_at_least
-          (rw c.from-line.ensures (line_end-bound (get_or rest 0 0))) c.loop-rest.invariant.room;
+      lines = blank_within c.loop-rest.line c.from-line.result (length rest) _ _ shorter c.in-len1-up.len_at_least
+          (rw c.from-line.ensures (line_end-bound (get_or rest 0 0))) c.loop-rest.invariant.lines;
       reads = subst (λ zs. Reads c.args.text.now c.loop-rest.found.items (c.loop-rest.line + c.from-line.result) zs) (sym (take_rest 1 rest))
           (blank_step c.args.text.now rest c.loop-rest.found.items c.loop-rest.line (c.loop-rest.line + c.from-line.result) c.in-len1-up.len_at_least
           c.loop-rest.invariant.reads (sym c.is_blank.ensures ∙ c.if-is_blank.true)
@@ -48,7 +48,7 @@ pub loop-rest-preserved-then-starts_with : goal.loop-rest-preserved-then-starts_
 loop-rest-preserved-then-starts_with c =
     let a = after_comment c in let b = a.shorter.0 in
     record {
-      room = omega arith;
+      lines = omega arith;
       reads = comment_step c.args.text.now c.loop-rest.rest.now c.in-Some.remaining.now c.loop-rest.found.items c.loop-rest.line c.in-Some.next
           c.loop-rest.invariant.reads a.mark a.found;
     }
@@ -67,7 +67,7 @@ loop-rest-preserved c =
     let found : token_at c.loop-rest.rest.now ≡ Some (c.in-Some-token_at.kind, c.in-Some-token_at.remaining.now) = sym c.token_at.ensures ∙ ap seen c.in-Some-token_at.is in
     let shorter = shorter_token c.loop-rest.rest.now c.in-Some-token_at.remaining.now c.in-Some-token_at.kind found in
     record {
-      room = omega arith;
+      lines = omega arith;
       reads = subst (λ ts. Reads c.args.text.now ts c.loop-rest.line c.in-Some-token_at.remaining.now) (sym c.in_ok-push.ensures.items)
           (token_step c.args.text.now c.loop-rest.rest.now c.in-Some-token_at.remaining.now c.loop-rest.found.items c.loop-rest.line c.in-Some-token_at.kind
           c.in-len1-up.len_at_least c.loop-rest.invariant.reads (sym c.is_blank.ensures ∙ c.if-is_blank.false)

@@ -5,7 +5,7 @@ use Rattle.st_tokens.proofs.scan.scan.Given as goal
 -- what is left decides about the tokens that are left
 abbrev pub invariant-loop-rest : goal.invariant-loop-rest
 invariant-loop-rest l = record {
-  room : l.line + length l.rest ≤ 1 + length l.text;
+  lines : l.line + length l.rest ≤ 1 + length l.text;
   reads : Reads l.text l.found.items l.line l.rest;
 }
 

@@ -12,14 +12,14 @@ loop-number-init c = record {
 
 pub overflow_sub-start-in-loop-number : goal.overflow_sub-start-in-loop-number
 overflow_sub-start-in-loop-number c =
-    let room : 0 < c.loop-number.start + c.args.places - c.args.end = some_place c.loop-number.number _ c.loop-number-test.true c.loop-number.invariant.small in omega arith
+    let left : 0 < c.loop-number.start + c.args.places - c.args.end = some_place c.loop-number.number _ c.loop-number-test.true c.loop-number.invariant.small in omega arith
 
 pub loop-number-smaller : goal.loop-number-smaller
 loop-number-smaller c = quotient_falls c.args.base c.loop-number.number c.loop-number-test.true c.requires.low
 
 pub loop-number-preserved : goal.loop-number-preserved
 loop-number-preserved c =
-    let room : 0 < c.loop-number.start + c.args.places - c.args.end = some_place c.loop-number.number _ c.loop-number-test.true c.loop-number.invariant.small in
+    let left : 0 < c.loop-number.start + c.args.places - c.args.end = some_place c.loop-number.number _ c.loop-number-test.true c.loop-number.invariant.small in
     let same : length c.loop-number.buffer ≡ length c.args.buffer.now = omega (arith, length-set {A = ℕ}) in
     record {
       below = omega arith;
