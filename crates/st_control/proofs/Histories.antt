@@ -6,7 +6,7 @@ use Rattle.st_control.specs.Controllers.{ControllerView, FitsChain, IsCoherent, 
 use Rattle.st_control.specs.Machine.{accept, accept_at, is_full}
 use Rattle.st_control.specs.States.{FitsRecord, StateView, undone}
 use Rattle.st_control.specs.declared.record.Record.{Record}
-use Rattle.st_control.specs.declared.refusal.Refusal.TheVariants.{O}
+use Rattle.st_control.specs.declared.refusal.Refusal.TheVariants as refusals
 
 -- the same controller in another state, with one record more
 abbrev pub kept : ControllerView → StateView → Record → ControllerView
@@ -38,7 +38,7 @@ is_full-records c len len_is = ap (nat_le 256) (length-history c ∙ sym len_is)
 -- a command for which no leaf was found is refused
 pub takes_refused : (c : ControllerView) (change : ℕ → StateView) (find : Bool → Result ℕ ℕ) (len number : ℕ)
     → len ≡ length c.records → Err number ≡ find (nat_le 256 len)
-    → Takes {A = Unit {0}} (accept_at (machine_of c) change (find (is_full (machine_of c)))) c (Err (O number)) c
+    → Takes {A = Unit {0}} (accept_at (machine_of c) change (find (is_full (machine_of c)))) c (Err (refusals.O number)) c
 takes_refused c change find len number len_is found = rw (is_full-records c len len_is, ← found) (refl, refl)
 
 -- a command that changed the leaf that was found, and kept a record that leads back, is accepted

@@ -21,7 +21,7 @@ use Rattle.st_tree.specs.declared.leaf.Leaf.{Leaf}
 use Rattle.st_values.specs.Types.{is_same, place_of}
 use Rattle.st_values.specs.Values.{is_value}
 use Rattle.st_values.specs.declared.elem.Elem.{Elem}
-use Rattle.st_values.specs.declared.elem.Elem.TheVariants as E
+use Rattle.st_values.specs.declared.elem.Elem.TheVariants as elems
 use Rattle.st_values.specs.declared.value.Value.{Value}
 
 -- ---- what a command leaves
@@ -88,26 +88,26 @@ record_fits (release path) m next whole accepted =
 -- ---- whole states
 
 -- the types in the order of their places
-elems : List Elem
-elems = E.Bool ∷ E.Sint ∷ E.Int ∷ E.Dint ∷ E.Lint ∷ E.Usint ∷ E.Uint ∷ E.Udint ∷ E.Ulint ∷ E.Byte ∷ E.Word ∷ E.Dword ∷ E.Lword ∷ E.Time ∷ []
+all_elems : List Elem
+all_elems = elems.Bool ∷ elems.Sint ∷ elems.Int ∷ elems.Dint ∷ elems.Lint ∷ elems.Usint ∷ elems.Uint ∷ elems.Udint ∷ elems.Ulint ∷ elems.Byte ∷ elems.Word ∷ elems.Dword ∷ elems.Lword ∷ elems.Time ∷ []
 
 -- a type is the one at its place
-elem_at_place : (elem : Elem) → get_or elems (place_of elem) E.Bool ≡ elem
-unfolding elems
-elem_at_place E.Bool = refl
-elem_at_place E.Sint = refl
-elem_at_place E.Int = refl
-elem_at_place E.Dint = refl
-elem_at_place E.Lint = refl
-elem_at_place E.Usint = refl
-elem_at_place E.Uint = refl
-elem_at_place E.Udint = refl
-elem_at_place E.Ulint = refl
-elem_at_place E.Byte = refl
-elem_at_place E.Word = refl
-elem_at_place E.Dword = refl
-elem_at_place E.Lword = refl
-elem_at_place E.Time = refl
+elem_at_place : (elem : Elem) → get_or all_elems (place_of elem) elems.Bool ≡ elem
+unfolding all_elems
+elem_at_place elems.Bool = refl
+elem_at_place elems.Sint = refl
+elem_at_place elems.Int = refl
+elem_at_place elems.Dint = refl
+elem_at_place elems.Lint = refl
+elem_at_place elems.Usint = refl
+elem_at_place elems.Uint = refl
+elem_at_place elems.Udint = refl
+elem_at_place elems.Ulint = refl
+elem_at_place elems.Byte = refl
+elem_at_place elems.Word = refl
+elem_at_place elems.Dword = refl
+elem_at_place elems.Lword = refl
+elem_at_place elems.Time = refl
 
 both : (a b : Bool) → a && b ≡ true → (a ≡ true) × (b ≡ true)
 both true true is = (refl, refl)
@@ -117,7 +117,7 @@ both false b is = absurd (cc)
 same_elem : (a b : Elem) → is_same a b ≡ true → a ≡ b
 same_elem a b same =
     let place : place_of a ≡ place_of b = (Decides-eqb (place_of a) (place_of b)).0 same in
-    sym (elem_at_place a) ∙ ap (λ place. get_or elems place E.Bool) place ∙ elem_at_place b
+    sym (elem_at_place a) ∙ ap (λ place. get_or all_elems place elems.Bool) place ∙ elem_at_place b
 
 -- what is tested to be a value of a leaf is one
 takes_value : (leaves : List Leaf) (i : ℕ) (value : Value) → is_value_of (leaf_at leaves i) value ≡ true → IsValueAt leaves i value

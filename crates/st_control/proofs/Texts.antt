@@ -10,7 +10,7 @@ use Rattle.st_control.specs.Texts.{IsReadAs, TextsGiveOneList, refusal_of_units}
 use Rattle.st_control.specs.ThinPrograms.{IsThinProgram}
 use Rattle.st_control.specs.declared.refusal.Refusal.TheVariants as refusals
 use Rattle.st_control.specs.declared.thin.fault.ThinFault.{ThinFault}
-use Rattle.st_control.specs.declared.thin.fault.ThinFault.TheVariants.{Memory, NotThin}
+use Rattle.st_control.specs.declared.thin.fault.ThinFault.TheVariants as thin_faults
 use Rattle.st_control.proofs.ThinPrograms.{one_list as one_list_of_units}
 
 -- a text is the program of a name with one list of leaves at most
@@ -23,13 +23,13 @@ pub parsed_short : {A : Type 0} (text : List ℕ) (units : A) (fault : SyntaxFau
 parsed_short text units fault long = elim (cases_lt (2 ^ 20) (length text)) [ inl longer ↦ absurd (cc (long longer)) | inr short ↦ short ]
 
 -- units that aren't taken refuse the text
-pub units_refuse : (text main : List ℕ) (units : List ProgramUnit) (fault : ThinFault) → length text ≤ 2 ^ 20 → IsTextOf text units → (fault ≡ NotThin → (leaves : List Leaf) → IsThinProgram units main leaves → ⊥)
+pub units_refuse : (text main : List ℕ) (units : List ProgramUnit) (fault : ThinFault) → length text ≤ 2 ^ 20 → IsTextOf text units → (fault ≡ thin_faults.NotThin → (leaves : List Leaf) → IsThinProgram units main leaves → ⊥)
     → IsReadAs text main (Err (refusal_of_units fault))
-units_refuse text main units Memory short is_text refused = inr (short, inl refl)
-units_refuse text main units NotThin short is_text refused = inr (short, inr (inr (refl, (units, is_text, refused refl))))
+units_refuse text main units thin_faults.Memory short is_text refused = inr (short, inl refl)
+units_refuse text main units thin_faults.NotThin short is_text refused = inr (short, inr (inr (refl, (units, is_text, refused refl))))
 
 -- units that are a program are refused for want of memory alone
 pub only_memory : (main : List ℕ) (units : List ProgramUnit) (leaves : List Leaf) (fault : ThinFault) → IsThinProgram units main leaves
-    → (fault ≡ NotThin → (others : List Leaf) → IsThinProgram units main others → ⊥) → refusal_of_units fault ≡ refusals.M
-only_memory main units leaves Memory is_thin refused = refl
-only_memory main units leaves NotThin is_thin refused = absurd (refused refl leaves is_thin)
+    → (fault ≡ thin_faults.NotThin → (others : List Leaf) → IsThinProgram units main others → ⊥) → refusal_of_units fault ≡ refusals.M
+only_memory main units leaves thin_faults.Memory is_thin refused = refl
+only_memory main units leaves thin_faults.NotThin is_thin refused = absurd (refused refl leaves is_thin)

@@ -11,7 +11,7 @@ use Rattle.st_tree.specs.declared.leaf.Leaf.{Leaf}
 use Rattle.st_tree.specs.declared.tree.declaration.Declaration.{Declaration}
 use Rattle.st_control.specs.ThinLists.{Joins, Refuses}
 use Rattle.st_control.specs.declared.thin.fault.ThinFault.{ThinFault}
-use Rattle.st_control.specs.declared.thin.fault.ThinFault.TheVariants.{Memory, NotThin}
+use Rattle.st_control.specs.declared.thin.fault.ThinFault.TheVariants as thin_faults
 use Rattle.st_control.specs.ThinPrograms.{Declares, declared_leaf}
 
 -- a path of at most 255 bytes
@@ -107,7 +107,7 @@ first_leaves : (program : List ℕ) (declarations : List Declaration) (leaves al
 first_leaves program declarations leaves all i declares whole = Some-injective leaves (take i all)
     (sym declares.gives ∙ sym (take-map (declared_leaf program) i declarations) ∙ ap (take i) whole.gives ∙ take-map Some i all)
 
--- the next leaf may stand behind the first ones
+-- the next leaf may stand after the first ones
 pub next_joins : (program : List ℕ) (declarations : List Declaration) (leaves all : List Leaf) (i : ℕ) → i < length declarations → Declares program (take i declarations) leaves → Declares program declarations all
     → Joins leaves (get_or all i no_leaf)
 next_joins program declarations leaves all i below declares whole =
@@ -123,14 +123,14 @@ next_joins program declarations leaves all i below declares whole =
 
 -- a declaration that is refused gives no leaf
 pub refused_leaf : (program : List ℕ) (declarations : List Declaration) (all : List Leaf) (i : ℕ) (none one : Declaration) (fault : ThinFault) → i < length declarations → one ≡ get_or declarations i none
-    → Declares program declarations all → fault ≡ NotThin → Refuses (declared_leaf program one) fault → ⊥
-refused_leaf program declarations all i none one NotThin below is_one declares is_fault refuses =
+    → Declares program declarations all → fault ≡ thin_faults.NotThin → Refuses (declared_leaf program one) fault → ⊥
+refused_leaf program declarations all i none one thin_faults.NotThin below is_one declares is_fault refuses =
     let given = leaf_at_place program declarations all i none below declares in
     let gives = ap (declared_leaf program) is_one in
     absurd (cc (given, gives, refuses))
-refused_leaf program declarations all i none one Memory below is_one declares is_fault refuses = absurd (cc)
+refused_leaf program declarations all i none one thin_faults.Memory below is_one declares is_fault refuses = absurd (cc)
 
--- the leaf that the next declaration gives may stand behind the first ones
+-- the leaf that the next declaration gives may stand after the first ones
 pub given_joins : (program : List ℕ) (declarations : List Declaration) (leaves all : List Leaf) (i : ℕ) (none one : Declaration) (leaf : Leaf) → i < length declarations → one ≡ get_or declarations i none
     → Declares program (take i declarations) leaves → Declares program declarations all → declared_leaf program one ≡ Some leaf → Joins leaves leaf
 given_joins program declarations leaves all i none one leaf below is_one declares whole gives =

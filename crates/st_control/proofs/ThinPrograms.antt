@@ -7,7 +7,7 @@ use Rattle.st_layout.specs.Layout.{IsSound, IsValueOf, raised}
 use Rattle.st_values.specs.Readings.{value_of}
 use Rattle.st_values.specs.Values.{IsValue, in_range}
 use Rattle.st_values.specs.declared.elem.Elem.{Elem}
-use Rattle.st_values.specs.declared.elem.Elem.TheVariants as E
+use Rattle.st_values.specs.declared.elem.Elem.TheVariants as elems
 use Rattle.st_tree.specs.declared.leaf.Leaf.{Leaf}
 use Rattle.st_tree.specs.declared.tree.constant.Constant.{Constant}
 use Rattle.st_tree.specs.declared.tree.constant.Constant.TheVariants as constants
@@ -24,7 +24,7 @@ use Rattle.st_control.proofs.ThinDeclarations.{one_list as one_list_of_declarati
 
 -- zero is a value of each type
 zero_fits : (elem : Elem) → IsValue (record { elem = elem; bits = pos 0 })
-zero_fits E.Bool = refl
+zero_fits elems.Bool = refl
 zero_fits _ = refl
 
 -- what is in range is a value
@@ -35,7 +35,7 @@ value_of-fits elem number value reads = by_range (in_range elem number) refl rea
   by_range false fits is_value = absurd (cc)
 
 -- what a truth value is as a number
-truth_fits : (truth : Bool) → IsValue (record { elem = E.Bool; bits = cond truth (pos 1) (pos 0) })
+truth_fits : (truth : Bool) → IsValue (record { elem = elems.Bool; bits = cond truth (pos 1) (pos 0) })
 truth_fits true = refl
 truth_fits false = refl
 
@@ -45,8 +45,8 @@ literal_value-fits elem (constants.Integer number) value is_value = by_sign numb
   by_sign : (negative : Bool) → cond negative None (value_of elem (pos number.magnitude)) ≡ Some value → IsValue value
   by_sign true is_value = absurd (cc)
   by_sign false is_value = value_of-fits elem (pos number.magnitude) value is_value
-literal_value-fits E.Bool (constants.Bool place truth) value is_value =
-    let same : record { elem = E.Bool; bits = cond truth (pos 1) (pos 0) } ≡ value = cc in subst IsValue same (truth_fits truth)
+literal_value-fits elems.Bool (constants.Bool place truth) value is_value =
+    let same : record { elem = elems.Bool; bits = cond truth (pos 1) (pos 0) } ≡ value = cc in subst IsValue same (truth_fits truth)
 literal_value-fits _ _ value is_value = absurd (cc)
 
 -- and what a variable begins with

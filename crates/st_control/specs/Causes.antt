@@ -1,7 +1,7 @@
 -- The numbers of refusals, each by its name.
 use Rattle.std.specs.Prelude.{ℕ}
 use Rattle.st_control.specs.declared.refusal.Refusal.{Refusal}
-use Rattle.st_control.specs.declared.refusal.Refusal.TheVariants.{C, S}
+use Rattle.st_control.specs.declared.refusal.Refusal.TheVariants as refusals
 
 -- ---- of an operator's command (O)
 
@@ -41,8 +41,8 @@ no_such_line = 11
 
 -- the text is longer than a text may be
 abbrev pub too_long : Refusal
-too_long = S 4 1
+too_long = refusals.S 4 1
 
 -- the text is no program of the name
 abbrev pub no_such_program : Refusal
-no_such_program = C 10 0
+no_such_program = refusals.C 10 0

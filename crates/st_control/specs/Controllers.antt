@@ -7,7 +7,7 @@ use Rattle.st_control.specs.States.{StateView, first_state, leaf_of, undone, Fit
 use Rattle.st_control.specs.declared.record.Record.{Record}
 use Rattle.st_control.specs.declared.record.Record.TheVariants.{Force, Release, Write}
 use Rattle.st_control.specs.declared.refusal.Refusal.{Refusal}
-use Rattle.st_control.specs.declared.refusal.Refusal.TheVariants.{O}
+use Rattle.st_control.specs.declared.refusal.Refusal.TheVariants as refusals
 use Rattle.st_layout.specs.Memory.{value_at, forced_at}
 use Rattle.st_tree.specs.declared.leaf.Leaf.{Leaf}
 use Rattle.st_values.specs.declared.value.Value.{Value}
@@ -44,7 +44,7 @@ IsCoherent s records = FitsChain s (reverse records)
 -- the call did this step of the machine: it was accepted, or refused by that number with all left as it was
 abbrev pub Takes : {A : Type 0} → Result Machine ℕ → ControllerView → Result A Refusal → ControllerView → Type 0
 Takes (Ok next) old result new = IsOk result × (machine_of new ≡ next)
-Takes (Err number) old result new = (result ≡ Err (O number)) × (new ≡ old)
+Takes (Err number) old result new = (result ≡ Err (refusals.O number)) × (new ≡ old)
 
 -- ---- what a command leaves in its record
 
@@ -86,7 +86,7 @@ value_and_force s leaf = (value_at s.content.values leaf, forced_at s.content.fo
 
 -- the same of the leaf that was found, if there is one
 abbrev pub shown_to : StateView → Option ℕ → Result (Value × Bool) Refusal
-shown_to s None = Err (O no_such_path)
+shown_to s None = Err (refusals.O no_such_path)
 shown_to s (Some leaf) = Ok (value_and_force s leaf)
 
 -- how many leaves are forced

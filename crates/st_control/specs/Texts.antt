@@ -3,12 +3,12 @@ use Rattle.std.specs.Prelude.{ℕ, ◌≡◌, ◌⊎◌, ◌<◌, ◌≤◌, ◌
 use Rattle.st_control.specs.Causes.{no_such_program, too_long}
 use Rattle.st_control.specs.ThinPrograms.{IsThinProgram}
 use Rattle.st_control.specs.declared.refusal.Refusal.{Refusal}
-use Rattle.st_control.specs.declared.refusal.Refusal.TheVariants.{M, S}
+use Rattle.st_control.specs.declared.refusal.Refusal.TheVariants as refusals
 use Rattle.st_control.specs.declared.thin.fault.ThinFault.{ThinFault}
 use Rattle.st_control.specs.declared.thin.fault.ThinFault.TheVariants as thin_faults
 use Rattle.st_syntax.specs.Grammar.Texts.{Explains, IsTextOf}
 use Rattle.st_tokens.specs.declared.fault.SyntaxFault.{SyntaxFault}
-use Rattle.st_tokens.specs.declared.fault.SyntaxFault.TheVariants as faults
+use Rattle.st_tokens.specs.declared.fault.SyntaxFault.TheVariants as syntax_faults
 use Rattle.st_tree.specs.declared.leaf.Leaf.{Leaf}
 use Rattle.st_tree.specs.declared.tree.unit.Unit.{Unit as ProgramUnit}
 
@@ -25,15 +25,15 @@ TextsGiveOneList = (text main : List ℕ) (leaves others : List Leaf) →
 
 -- how a fault of the parser is answered: S1 to S4, and the line that it names
 abbrev pub refusal_of : SyntaxFault → Refusal
-refusal_of faults.Memory = M
-refusal_of (faults.NoToken line) = S 1 line
-refusal_of (faults.NotInGrammar line) = S 2 line
-refusal_of (faults.TooDeep line) = S 3 line
-refusal_of faults.TooLong = too_long
+refusal_of syntax_faults.Memory = refusals.M
+refusal_of (syntax_faults.NoToken line) = refusals.S 1 line
+refusal_of (syntax_faults.NotInGrammar line) = refusals.S 2 line
+refusal_of (syntax_faults.TooDeep line) = refusals.S 3 line
+refusal_of syntax_faults.TooLong = too_long
 
 -- how units that are no thin program are answered
 abbrev pub refusal_of_units : ThinFault → Refusal
-refusal_of_units thin_faults.Memory = M
+refusal_of_units thin_faults.Memory = refusals.M
 refusal_of_units thin_faults.NotThin = no_such_program
 
 -- the refusal is the answer to a fault that the text has
@@ -52,7 +52,7 @@ Reading = Result (List Leaf) Refusal
 
 -- a text that isn't too long is refused by a fault that it has, because it is no program of this name, or for want of memory
 abbrev pub IsRefusedAs : List ℕ → List ℕ → Refusal → Type 0
-IsRefusedAs text main refusal = (refusal ≡ M) ⊎ (IsFaultOf text refusal ⊎ ((refusal ≡ no_such_program) × IsOtherText text main))
+IsRefusedAs text main refusal = (refusal ≡ refusals.M) ⊎ (IsFaultOf text refusal ⊎ ((refusal ≡ no_such_program) × IsOtherText text main))
 
 -- A text of at most 2 ^ 20 bytes is read as the leaves of the program of this name, or refused. A longer one is refused as
 -- too long, whatever else holds of it.

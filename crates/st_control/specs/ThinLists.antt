@@ -2,15 +2,15 @@
 use Rattle.std.specs.Prelude.{◌≡◌, ◌≢◌, ◌<◌, ◌≤◌, List, length, Option, None}
 use Rattle.std.specs.List.{All}
 use Rattle.st_control.specs.declared.thin.fault.ThinFault.{ThinFault}
-use Rattle.st_control.specs.declared.thin.fault.ThinFault.TheVariants.{NotThin, Memory}
+use Rattle.st_control.specs.declared.thin.fault.ThinFault.TheVariants as thin_faults
 use Rattle.st_tree.specs.declared.leaf.Leaf.{Leaf}
 
 -- where a declaration is refused it gives nothing
 abbrev pub Refuses : {A : Type 0} → Option A → ThinFault → Type 0
-Refuses given NotThin = given ≡ None
-Refuses given Memory = Unit {0}
+Refuses given thin_faults.NotThin = given ≡ None
+Refuses given thin_faults.Memory = Unit {0}
 
--- a leaf that may stand behind these in a program
+-- a leaf that may stand after these in a program
 pub record Joins (leaves : List Leaf) (leaf : Leaf) : Type 0 where
   pub apart : All (λ other. other.path ≢ leaf.path) leaves
   pub short : length leaf.path ≤ 255

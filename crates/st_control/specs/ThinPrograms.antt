@@ -5,7 +5,7 @@ use Rattle.st_layout.specs.Layout.{raised}
 use Rattle.st_values.specs.Readings.{value_of}
 use Rattle.st_values.specs.Words.{is_word}
 use Rattle.st_values.specs.declared.elem.Elem.{Elem}
-use Rattle.st_values.specs.declared.elem.Elem.TheVariants as E
+use Rattle.st_values.specs.declared.elem.Elem.TheVariants as elems
 use Rattle.st_tree.specs.declared.leaf.Leaf.{Leaf}
 use Rattle.st_tree.specs.declared.leaf.Role.TheVariants.{Plain}
 use Rattle.st_tree.specs.declared.tree.constant.Constant.{Constant}
@@ -13,7 +13,7 @@ use Rattle.st_tree.specs.declared.tree.constant.Constant.TheVariants as constant
 use Rattle.st_tree.specs.declared.tree.declaration.Declaration.{Declaration}
 use Rattle.st_tree.specs.declared.tree.declaration.Initial.{Initial}
 use Rattle.st_tree.specs.declared.tree.declaration.Initial.TheVariants as initials
-use Rattle.st_tree.specs.declared.tree.declaration.VarKind.TheVariants as sections
+use Rattle.st_tree.specs.declared.tree.declaration.VarKind.TheVariants as var_kinds
 use Rattle.st_tree.specs.declared.tree.declaration.Specification.{Specification}
 use Rattle.st_tree.specs.declared.tree.declaration.Specification.TheVariants as specifications
 use Rattle.st_tree.specs.declared.tree.declaration.TypeName.TheVariants as type_names
@@ -22,7 +22,7 @@ use Rattle.st_tree.specs.declared.tree.position.Identifier.{Identifier}
 use Rattle.st_tree.specs.declared.tree.unit.Body.TheVariants as bodies
 use Rattle.st_tree.specs.declared.tree.unit.Pou.{Pou}
 use Rattle.st_tree.specs.declared.tree.unit.Unit.{Unit as ProgramUnit}
-use Rattle.st_tree.specs.declared.tree.unit.Unit.TheVariants as unit
+use Rattle.st_tree.specs.declared.tree.unit.Unit.TheVariants as unit_kinds
 use Rattle.st_values.specs.declared.value.Value.{Value}
 
 -- ---- variables (2.4.3)
@@ -38,14 +38,14 @@ only_name _ = None
 
 -- the type, where it is BOOL or INT
 abbrev pub type_of : Specification → Option Elem
-type_of (specifications.Simple (type_names.Elementary place E.Bool)) = Some E.Bool
-type_of (specifications.Simple (type_names.Elementary place E.Int)) = Some E.Int
+type_of (specifications.Simple (type_names.Elementary place elems.Bool)) = Some elems.Bool
+type_of (specifications.Simple (type_names.Elementary place elems.Int)) = Some elems.Int
 type_of _ = None
 
 -- the value that a literal is of a type: a number that isn't below zero and is in the type's range, or TRUE or FALSE of BOOL
 abbrev pub literal_value : Elem → Constant → Option Value
 literal_value elem (constants.Integer number) = if number.is_negative then None else value_of elem (pos number.magnitude)
-literal_value E.Bool (constants.Bool place truth) = Some (record { elem = E.Bool; bits = if truth then pos 1 else pos 0 })
+literal_value elems.Bool (constants.Bool place truth) = Some (record { elem = elems.Bool; bits = if truth then pos 1 else pos 0 })
 literal_value elem _ = None
 
 -- the value that a variable of a type begins with: the one that is written, else 0 or FALSE
@@ -80,13 +80,13 @@ pub record Declares (program : List ℕ) (declarations : List Declaration) (leav
 -- a program's only block of variables, which VAR begins
 pub record IsOnlyBlock (program : Pou) (block : VarBlock) : Type 0 where
   pub is_only : program.variables ≡ block ∷ []
-  pub is_internal : block.kind ≡ sections.Internal
+  pub is_internal : block.kind ≡ var_kinds.Internal
 
 -- The units are one program, of the name in question ignoring case, with one block of variables and no statements.
 pub record IsThinProgram (units : List ProgramUnit) (main : List ℕ) (leaves : List Leaf) : Type 0 where
   pub program : Pou
   pub block : VarBlock
-  pub is_only : units ≡ unit.Program program ∷ []
+  pub is_only : units ≡ unit_kinds.Program program ∷ []
   pub is_main : is_word main program.name.spelling ≡ true
   pub short : length program.name.spelling ≤ 128
   pub has_block : IsOnlyBlock program block

@@ -249,7 +249,7 @@ fn keep(records: &mut Vec<Record>, newest: Record)
     requires { vec_len records.old < vec_capacity records.old }
     ensures items { records.new.items ≡ records.old.items ++ newest ∷ [] }
     ensures len { vec_len records.new ≡ vec_len records.old + 1 }
-    ensures room { vec_capacity records.old ≤ vec_capacity records.new }
+    ensures capacity { vec_capacity records.old ≤ vec_capacity records.new }
 {
     let _ = records.push(newest);
 }

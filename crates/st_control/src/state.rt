@@ -75,7 +75,7 @@ impl<M: Memory> State<M> {
         ensures below { IfOk result (λ leaf. leaf < length self.entry.now.leaves) }
         ensures opens { IfOk result (λ leaf. IsOpenAt self.entry.now.leaves leaf) }
         ensures fits { IfOk result (λ leaf. IsValueAt self.entry.now.leaves leaf value) }
-        ensures room { OnOk result (full ≡ false) }
+        ensures not_full { OnOk result (full ≡ false) }
     {
         let Some(leaf) = self.layout.leaf(path) else {
             return Err(NO_SUCH_PATH);
@@ -99,7 +99,7 @@ impl<M: Memory> State<M> {
         ensures below { IfOk result (λ leaf. leaf < length self.entry.now.leaves) }
         ensures opens { IfOk result (λ leaf. IsOpenAt self.entry.now.leaves leaf) }
         ensures fits { IfOk result (λ leaf. IsValueAt self.entry.now.leaves leaf value) }
-        ensures room { OnOk result (full ≡ false) }
+        ensures not_full { OnOk result (full ≡ false) }
     {
         let Some(leaf) = self.layout.leaf(path) else {
             return Err(NO_SUCH_PATH);
@@ -119,7 +119,7 @@ impl<M: Memory> State<M> {
         ensures value { result ≡ leaf_to_release self.entry.now full path.now }
         ensures below { IfOk result (λ leaf. leaf < length self.entry.now.leaves) }
         ensures forced { IfOk result (λ leaf. forced_at self.entry.now.content.forced leaf ≡ true) }
-        ensures room { OnOk result (full ≡ false) }
+        ensures not_full { OnOk result (full ≡ false) }
     {
         let Some(leaf) = self.layout.leaf(path) else {
             return Err(NO_SUCH_PATH);

@@ -10,7 +10,7 @@ use Rattle.std.proofs.lemmas.List.Splits.{length-slice_split, slice_split_at, sl
 use Rattle.st_session.specs.Lines.{is_lf, parts_of, ended_line, last_line, lines_in, lines_of, whole_lines_in, whole_lines_of}
 use Rattle.st_session.specs.Pending.{NoLf, TakesFound}
 use Rattle.st_session.specs.declared.input.Found.{Found}
-use Rattle.st_session.specs.declared.input.Found.TheVariants as F
+use Rattle.st_session.specs.declared.input.Found.TheVariants as findings
 
 parts_some : (bytes : List ℕ) → 0 < length (parts_of bytes)
 parts_some bytes = omega (arith, length-slice_split is_lf bytes)
@@ -73,7 +73,7 @@ kept_whole line part kept short = kept ∙ take_all 4096 part (ltb-false 4096 (l
 
 -- an LF was taken
 pub line_ended : (is_empty is_long at_end : Bool) (line bytes rest more text : List ℕ) (found : Found) → LineSoFar is_empty is_long line bytes rest → rest ≡ 10 ∷ more
-    → (is_long ≡ true → found ≡ F.TooLong) → (is_long ≡ false → (found ≡ F.Line) × (text ≡ strip_carriage_return line))
+    → (is_long ≡ true → found ≡ findings.TooLong) → (is_long ≡ false → (found ≡ findings.Line) × (text ≡ strip_carriage_return line))
     → TakesFound found at_end text bytes more
 line_ended is_empty true at_end line bytes rest more text found so next long short =
     rw (long refl) (inl (record { part = so.part; split = so.split ∙ ap (λ xs. so.part ++ xs) next; no_lf = so.no_lf; is = rw (← so.long) refl }))
@@ -87,7 +87,7 @@ line_ended is_empty false at_end line bytes rest more text found so next long sh
 
 -- the end was met, after some bytes
 pub line_last : (is_empty is_long at_end : Bool) (line bytes rest more : List ℕ) (found : Found) → LineSoFar is_empty is_long line bytes rest → is_empty ≡ false → (rest ≡ []) × (more ≡ []) → at_end ≡ true
-    → (is_long ≡ true → found ≡ F.TooLong) → (is_long ≡ false → found ≡ F.Line)
+    → (is_long ≡ true → found ≡ findings.TooLong) → (is_long ≡ false → found ≡ findings.Line)
     → TakesFound found at_end line bytes more
 line_last is_empty true at_end line bytes rest more found so bytes_read none ended long short =
     let whole : bytes ≡ so.part = so.split ∙ ap (λ xs. so.part ++ xs) none.0 ∙ append-nil so.part in
@@ -99,7 +99,7 @@ line_last is_empty false at_end line bytes rest more found so bytes_read none en
 -- another byte was taken, and there is room for it
 pub byte_kept : (is_empty is_long : Bool) (line bytes rest more after : List ℕ) (byte : ℕ) → LineSoFar is_empty is_long line bytes rest → rest ≡ byte ∷ more → byte ≢ 10 → length line < 4096
     → after ≡ line ++ byte ∷ [] → LineSoFar false is_long after bytes more
-byte_kept is_empty is_long line bytes rest more after byte so next other room pushed =
+byte_kept is_empty is_long line bytes rest more after byte so next other spare pushed =
     let line_length : length line ≡ min 4096 (length so.part) = ap length so.kept ∙ length-take 4096 so.part in
     let longer = length-append so.part (byte ∷ []) in
     let whole : line ≡ so.part = so.kept ∙ take_all 4096 so.part (omega (arith, line_length)) in

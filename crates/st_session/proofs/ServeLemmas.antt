@@ -9,7 +9,7 @@ use Rattle.st_control.specs.Loads.{OfLoad}
 use Rattle.st_control.specs.Machine.{Machine}
 use Rattle.st_control.specs.Texts.{IsReadAs}
 use Rattle.st_control.specs.declared.refusal.Refusal.{Refusal}
-use Rattle.st_control.specs.declared.refusal.Refusal.TheVariants.{M}
+use Rattle.st_control.specs.declared.refusal.Refusal.TheVariants as refusals
 use Rattle.st_session.specs.Lines.{lines_of}
 use Rattle.st_session.specs.Pending.{OnBytes, OnReading}
 use Rattle.st_session.specs.Replies.{ended, refusal_text}
@@ -42,18 +42,18 @@ pub WritesPart-long : (refusal : Refusal) (before now : Option (List ℕ)) → r
 WritesPart-long refusal before now is part = subst (λ (r : Refusal). WritesPart [] before now (Err r)) (sym is) (part.0, subst (λ (text : List ℕ). Appends before now (take part.0 (ended text))) (sym too_long_text) part.1)
 
 -- where a refusal of another cause than the text's length was read, the text is short enough for want of memory
-short_text : (text main : List ℕ) (refusal : Refusal) → IsReadAs text main (Err refusal) → refusal ≢ too_long → IsReadAs text main (Err M)
+short_text : (text main : List ℕ) (refusal : Refusal) → IsReadAs text main (Err refusal) → refusal ≢ too_long → IsReadAs text main (Err refusals.M)
 short_text text main refusal (inl long) other = absurd (other long.1)
 short_text text main refusal (inr short) other = inr (short.0, inl refl)
 
 -- a refusal was cut, or that of want of memory
 pub WritesPart-refused : (text main : List ℕ) (limit : ℕ) (refusal : Refusal) (known before now : Option (List ℕ)) → IsReadAs text main (Err refusal)
-    → WritesPart [] before now (Err refusal) ⊎ ((refusal ≢ too_long) × WritesPart [] before now (Err M))
+    → WritesPart [] before now (Err refusal) ⊎ ((refusal ≢ too_long) × WritesPart [] before now (Err refusals.M))
     → OnBytes known (λ bytes. OfLoad text main limit (WritesPart (lines_of bytes) before now))
 WritesPart-refused text main limit refusal known before now refuses (inl part) =
     OnBytes-all known (λ bytes. OfLoad text main limit (WritesPart (lines_of bytes) before now)) (λ bytes. (Err refusal, refuses, part))
 WritesPart-refused text main limit refusal known before now refuses (inr part) =
-    OnBytes-all known (λ bytes. OfLoad text main limit (WritesPart (lines_of bytes) before now)) (λ bytes. (Err M, short_text text main refusal refuses part.0, part.1))
+    OnBytes-all known (λ bytes. OfLoad text main limit (WritesPart (lines_of bytes) before now)) (λ bytes. (Err refusals.M, short_text text main refusal refuses part.0, part.1))
 
 -- ---- what a session's answers are for a run
 

@@ -2,7 +2,7 @@
 use Rattle.std.specs.Prelude.{◌≡◌, ◌<◌, ◌⊎◌, ℕ, Bool, true, false, List, [], ◌∷◌, ◌++◌, length, All, Option, Some, None, ⊤}
 use Rattle.st_session.specs.Lines.{Line, is_lf, ended_line, last_line}
 use Rattle.st_session.specs.declared.input.Found.{Found}
-use Rattle.st_session.specs.declared.input.Found.TheVariants as F
+use Rattle.st_session.specs.declared.input.Found.TheVariants as findings
 
 -- the bytes can be those of a source: where they are known they are these, and else they can be any
 abbrev pub CanBe : Option (List ℕ) → List ℕ → Type 0
@@ -50,12 +50,12 @@ TakesLine at_end line bytes rest = TakesEnded line bytes rest ⊎ (TakesLast lin
 
 -- a line was taken into the buffer, or passed over as too long, or there is none
 abbrev pub TakesFound : Found → Bool → List ℕ → List ℕ → List ℕ → Type 0
-TakesFound F.End at_end text bytes rest = (bytes ≡ []) × (rest ≡ [])
-TakesFound F.Line at_end text bytes rest = TakesLine at_end (Some text) bytes rest
-TakesFound F.TooLong at_end text bytes rest = TakesLine at_end None bytes rest
+TakesFound findings.End at_end text bytes rest = (bytes ≡ []) × (rest ≡ [])
+TakesFound findings.Line at_end text bytes rest = TakesLine at_end (Some text) bytes rest
+TakesFound findings.TooLong at_end text bytes rest = TakesLine at_end None bytes rest
 
 -- there is a line
 abbrev pub IsFound : Found → Type 0
-IsFound F.End = ⊥
-IsFound F.Line = ⊤
-IsFound F.TooLong = ⊤
+IsFound findings.End = ⊥
+IsFound findings.Line = ⊤
+IsFound findings.TooLong = ⊤

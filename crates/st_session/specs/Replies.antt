@@ -7,7 +7,7 @@ use Rattle.st_control.specs.Controllers.{force_count}
 use Rattle.st_control.specs.Machine.{Command, Machine, step, undo_step}
 use Rattle.st_control.specs.States.{StateView, leaf_of}
 use Rattle.st_control.specs.declared.refusal.Refusal.{Refusal}
-use Rattle.st_control.specs.declared.refusal.Refusal.TheVariants.{S, C, O, M}
+use Rattle.st_control.specs.declared.refusal.Refusal.TheVariants as refusals
 use Rattle.st_control.specs.declared.state.RunFaultKind.{RunFaultKind}
 use Rattle.st_control.specs.declared.state.RunFaultKind.TheVariants.{StepLimit, ZeroDivisor, IndexOutOfRange}
 use Rattle.st_control.specs.declared.state.Status.{Status}
@@ -19,7 +19,7 @@ use Rattle.st_session.specs.Requests.{RequestView, request_in}
 use Rattle.st_session.specs.Words.{words_of}
 use Rattle.st_values.specs.Readings.{reads}
 use Rattle.st_values.specs.Texts.{signed_text, text}
-use Rattle.st_values.specs.declared.elem.Elem.TheVariants as E
+use Rattle.st_values.specs.declared.elem.Elem.TheVariants as elems
 use Rattle.st_values.specs.declared.value.Value.{Value}
 
 -- ---- texts
@@ -30,10 +30,10 @@ ended reply = reply ++ 10 ∷ []
 
 -- `refused S2 line 3`, `refused C3 line 7`, `refused O3` or `refused M`
 abbrev pub refusal_text : Refusal → List ℕ
-refusal_text (S number line) = codes "refused S" ++ decimal number ++ codes " line " ++ decimal line
-refusal_text (C number line) = codes "refused C" ++ decimal number ++ codes " line " ++ decimal line
-refusal_text (O number) = codes "refused O" ++ decimal number
-refusal_text M = codes "refused M"
+refusal_text (refusals.S number line) = codes "refused S" ++ decimal number ++ codes " line " ++ decimal line
+refusal_text (refusals.C number line) = codes "refused C" ++ decimal number ++ codes " line " ++ decimal line
+refusal_text (refusals.O number) = codes "refused O" ++ decimal number
+refusal_text refusals.M = codes "refused M"
 
 -- `ok` or a refusal
 abbrev pub result_text : {A : Type 0} → Result A Refusal → List ℕ
@@ -64,7 +64,7 @@ report_text status now forces undo =
 
 -- a value of no type
 abbrev pub value_of_none : Value
-value_of_none = record { elem = E.Bool; bits = pos 2 }
+value_of_none = record { elem = elems.Bool; bits = pos 2 }
 
 -- the value that a text is for the leaf with this path: a text that is no value of the leaf's type counts as one of none
 abbrev pub value_given : StateView → List ℕ → List ℕ → Value
@@ -88,11 +88,11 @@ refuses m refusal = record { reply = ended (refusal_text refusal); refused = tru
 -- a command was accepted, or refused by a number
 abbrev pub stepped : Machine → Result Machine ℕ → Turn
 stepped m (Ok next) = told next (codes "ok")
-stepped m (Err number) = refuses m (O number)
+stepped m (Err number) = refuses m (refusals.O number)
 
 -- a leaf is shown, if there is one
 abbrev pub shown : Machine → Option ℕ → Turn
-shown m None = refuses m (O no_such_path)
+shown m None = refuses m (refusals.O no_such_path)
 shown m (Some leaf) =
     told m (shown_text (leaf_at m.state.leaves leaf).shown (value_at m.state.content.values leaf) (forced_at m.state.content.forced leaf))
 
@@ -105,11 +105,11 @@ answer (RequestView.force path given) m = stepped m (step (Command.force path (v
 answer (RequestView.release path) m = stepped m (step (Command.release path) m)
 answer RequestView.undo m = stepped m (undo_step m)
 answer RequestView.status m = told m (report_text m.state.status m.state.now (force_count m.state) (length m.history))
-answer RequestView.unknown m = refuses m (O no_such_line)
+answer RequestView.unknown m = refuses m (refusals.O no_such_line)
 
 -- what a line does: a line that is too long asks for nothing that there is
 abbrev pub turn : Line → Machine → Turn
-turn None m = refuses m (O no_such_line)
+turn None m = refuses m (refusals.O no_such_line)
 turn (Some line) m = answer (request_in (words_of line)) m
 
 -- ---- lists of lines

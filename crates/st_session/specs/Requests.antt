@@ -2,7 +2,7 @@
 use Rattle.std.specs.Prelude.{ℕ, List, [], ◌∷◌, if◌then◌else◌, codes}
 use Rattle.std.specs.Str.{bytes_eq}
 use Rattle.st_session.specs.declared.request.Request.{Request}
-use Rattle.st_session.specs.declared.request.Request.TheVariants as R
+use Rattle.st_session.specs.declared.request.Request.TheVariants as requests
 
 -- what a line asks for: paths and values are texts
 pub data RequestView : Type 0 where
@@ -46,11 +46,11 @@ request_in (word ∷ path ∷ value ∷ next ∷ more) = unknown
 
 -- what was read as a request
 abbrev pub request_of : Request → RequestView
-request_of R.Nothing = nothing
-request_of (R.Show path) = show path.now
-request_of (R.Write path value) = write path.now value.now
-request_of (R.Force path value) = force path.now value.now
-request_of (R.Release path) = release path.now
-request_of R.Undo = undo
-request_of R.Status = status
-request_of R.Unknown = unknown
+request_of requests.Nothing = nothing
+request_of (requests.Show path) = show path.now
+request_of (requests.Write path value) = write path.now value.now
+request_of (requests.Force path value) = force path.now value.now
+request_of (requests.Release path) = release path.now
+request_of requests.Undo = undo
+request_of requests.Status = status
+request_of requests.Unknown = unknown

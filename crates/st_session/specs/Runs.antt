@@ -4,7 +4,7 @@ use Rattle.std.specs.Io.KnownBytes.{Appends}
 use Rattle.st_control.specs.Controllers.{ControllerView, machine_of}
 use Rattle.st_control.specs.Loads.{IsLoaded, Loaded}
 use Rattle.st_control.specs.declared.refusal.Refusal.{Refusal}
-use Rattle.st_control.specs.declared.refusal.Refusal.TheVariants.{M}
+use Rattle.st_control.specs.declared.refusal.Refusal.TheVariants as refusals
 use Rattle.st_session.specs.Lines.{Line, whole_lines_of}
 use Rattle.st_session.specs.Replies.{ended, refusal_text, replies, some_refused}
 
@@ -15,7 +15,7 @@ output_of (Err refusal) lines = ended (refusal_text refusal)
 
 -- 5 where there was no memory, and 1 where the text is no program
 abbrev pub refusal_status : Refusal → ℕ
-refusal_status M = 5
+refusal_status refusals.M = 5
 refusal_status refusal = 1
 
 -- 3 where some line was refused, and 0 where none was

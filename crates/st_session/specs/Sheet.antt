@@ -7,8 +7,8 @@ abbrev pub written_on : Sheet → List ℕ
 written_on sheet = sheet.written.items
 
 -- the bytes that it can hold without more memory
-abbrev pub room_on : Sheet → ℕ
-room_on sheet = vec_capacity sheet.written
+abbrev pub capacity_of : Sheet → ℕ
+capacity_of sheet = vec_capacity sheet.written
 
 -- the size of its pieces
 abbrev pub piece_of : Sheet → ℕ

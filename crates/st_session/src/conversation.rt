@@ -150,7 +150,7 @@ struct Buffers {
     /// The line that was taken last.
     line: Vec<u8>,
     reply: Reply,
-    ghost room: { 4096 ≤ vec_capacity line },
+    ghost capacity: { 4096 ≤ vec_capacity line },
 }
 
 impl Buffers {

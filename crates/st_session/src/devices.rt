@@ -20,10 +20,10 @@ pub trait Source {
     /// Whether it has failed.
     ghost has_failed: { Self → Bool };
 
-    /// Reads a piece into the buffer, from its beginning on, and answers its size. The buffer has room, and 0 is answered only at
-    /// the end.
+    /// Reads a piece into the buffer, from its beginning on, and answers its size. The buffer is not empty, and 0 is answered
+    /// only at the end.
     fn read_some(&mut self, buffer: &mut [u8]) -> Result<usize, DeviceFault>
-        requires room { 0 < length buffer.old }
+        requires not_empty { 0 < length buffer.old }
         requires works { has_failed self.old ≡ false }
         ensures bound { IfOk result (λ count. count ≤ length buffer.new) }
         ensures bytes { ReadConsumes (rest self.old) (rest self.new) result buffer.new }

@@ -109,14 +109,14 @@ impl Input {
         line: &mut Vec<u8>,
     ) -> Result<Found, DeviceFault>
         requires works { R.has_failed source.old ≡ false }
-        requires room { 4096 ≤ vec_capacity line.old }
+        requires capacity { 4096 ≤ vec_capacity line.old }
         ensures line { IfOk result (λ found. OnReading (pending self.old (R.rest source.old))
             (pending self.new (R.rest source.new)) (TakesFound found self.new.at_end line.new.items)) }
         ensures err { OnErr result (OnReading (pending self.old (R.rest source.old)) (R.rest source.new) TakesPart) }
         ensures not_ended { OnErr result (self.old.at_end ≡ false) }
         ensures progress { IfOk result (λ found. IsFound found → left self.new (R.reads_left source.new)
             < left self.old (R.reads_left source.old)) }
-        ensures room { 4096 ≤ vec_capacity line.new }
+        ensures capacity { 4096 ≤ vec_capacity line.new }
         ensures ended { self.old.at_end ≡ true → self.new.at_end ≡ true }
         ensures failed { R.has_failed source.new ≡ is_err result }
     {
@@ -148,7 +148,7 @@ impl Input {
 fn ended(line: &mut Vec<u8>, is_long: bool) -> Found
     ensures long { is_long ≡ true → result ≡ Found.TooLong }
     ensures text { is_long ≡ false → (result ≡ Found.Line) × (line.new.items ≡ strip_carriage_return line.old.items) }
-    ensures room { vec_capacity line.old ≤ vec_capacity line.new }
+    ensures capacity { vec_capacity line.old ≤ vec_capacity line.new }
 {
     if is_long {
         return Found::TooLong;

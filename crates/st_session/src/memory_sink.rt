@@ -44,7 +44,7 @@ impl Sheet {
 }
 
 impl Sink for Sheet {
-    ghost use Rattle.st_session.specs.Sheet.{written_on, room_on, piece_of, good_calls_of, has_failed_of};
+    ghost use Rattle.st_session.specs.Sheet.{written_on, capacity_of, piece_of, good_calls_of, has_failed_of};
 
     ghost taken = { λ sheet. Some (written_on sheet) };
 
@@ -61,8 +61,8 @@ impl Sink for Sheet {
         // It fails only after the good calls or for want of room, and takes a whole piece where there is one.
         ensures call { OnOk result (0 < good_calls_of self.old) }
         ensures calls { OnOk result (good_calls_of self.new + 1 ≡ good_calls_of self.old) }
-        ensures room { OnErr result (0 < good_calls_of self.old
-            → room_on self.old < length (written_on self.old) + min (piece_of self.old) (length bytes.now)) }
+        ensures capacity { OnErr result (0 < good_calls_of self.old
+            → capacity_of self.old < length (written_on self.old) + min (piece_of self.old) (length bytes.now)) }
         ensures count { IfOk result (λ count. count ≡ min (piece_of self.old) (length bytes.now)) }
         ensures piece { piece_of self.new ≡ piece_of self.old }
     {

@@ -45,7 +45,7 @@ impl<'a> Source for Bytes<'a> {
     ghost has_failed = { has_failed_of };
 
     fn read_some(&mut self, buffer: &mut [u8]) -> Result<usize, DeviceFault>
-        requires room { 0 < length buffer.old }
+        requires not_empty { 0 < length buffer.old }
         requires works { has_failed_of self.old ≡ false }
         ensures bound { IfOk result (λ count. count ≤ length buffer.new) }
         ensures bytes { ReadConsumes (Some (rest_of self.old)) (Some (rest_of self.new)) result buffer.new }
@@ -53,7 +53,7 @@ impl<'a> Source for Bytes<'a> {
         ensures steady { OnOk result (length (rest_of self.new) ≤ length (rest_of self.old)) }
         ensures failed { has_failed_of self.new ≡ is_err result }
 
-        // It fails only after the good calls, and gives a whole piece where it has one and there is room.
+        // It fails only after the good calls, and gives a whole piece where it has one and the buffer holds it.
         ensures call { is_err result ≡ (good_calls_of self.old == 0) }
         ensures calls { OnOk result (good_calls_of self.new + 1 ≡ good_calls_of self.old) }
         ensures count { IfOk result (λ count. count

@@ -43,7 +43,7 @@ impl<R: Read> Source for FromReader<R> {
     ghost has_failed = { reader_has_failed };
 
     fn read_some(&mut self, buffer: &mut [u8]) -> Result<usize, DeviceFault>
-        requires room { 0 < length buffer.old }
+        requires not_empty { 0 < length buffer.old }
         requires works { reader_has_failed self.old ≡ false }
         ensures bound { IfOk result (λ count. count ≤ length buffer.new) }
         ensures bytes { ReadConsumes (R.remaining (reader_of self.old)) (R.remaining (reader_of self.new)) result buffer.new }

@@ -151,7 +151,7 @@ impl Reply {
 
     /// Puts a number at its end.
     fn put_number(&mut self, number: u32)
-        requires room { length self.old + 24 ≤ 512 }
+        requires fits { length self.old + 24 ≤ 512 }
         ensures text { self.new ≡ self.old ++ decimal number }
         ensures len { length self.new ≤ length self.old + 24 }
     {
@@ -163,7 +163,7 @@ impl Reply {
 
     /// Puts the text of a value at its end.
     fn put_value(&mut self, value: Value)
-        requires room { length self.old + 24 ≤ 512 }
+        requires fits { length self.old + 24 ≤ 512 }
         requires value { IsValue value }
         ensures text { self.new ≡ self.old ++ text value }
         ensures len { length self.new ≤ length self.old + 24 }
@@ -173,7 +173,7 @@ impl Reply {
 
     /// Puts bytes at its end.
     fn put(&mut self, bytes: &[u8])
-        requires room { length self.old + length bytes.now ≤ 512 }
+        requires fits { length self.old + length bytes.now ≤ 512 }
         ensures text { self.new ≡ self.old ++ bytes.now }
         ensures len { length self.new ≡ length self.old + length bytes.now }
     {

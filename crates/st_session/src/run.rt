@@ -3,7 +3,6 @@ ghost use Rattle.std.specs.Prelude.{◌≡◌, ◌≢◌, ◌<◌, ◌^◌, ◌�
 ghost use Rattle.std.specs.Io.KnownBytes.{Appends};
 ghost use Rattle.st_control.specs.Causes.{too_long};
 ghost use Rattle.st_control.specs.Loads.{OfLoad};
-ghost use Rattle.st_control.specs.declared.refusal.Refusal.TheVariants.{M};
 ghost use Rattle.st_session.specs.Lines.{lines_of};
 ghost use Rattle.st_session.specs.Pending.{OnBytes, OnReading};
 ghost use Rattle.st_session.specs.Replies.{ended};
@@ -103,7 +102,7 @@ fn refuse<W: Sink>(alloc: Global, refusal: Refusal, sink: &mut W) -> u8
     ensures memory { result ≡ NO_MEMORY → (refusal ≢ too_long)
         × Appends (W.taken sink.old) (W.taken sink.new) (ended (codes "refused M")) }
     ensures part { result ≡ DEVICE_FAILED → WritesPart [] (W.taken sink.old) (W.taken sink.new) (Err refusal)
-        ⊎ ((refusal ≢ too_long) × WritesPart [] (W.taken sink.old) (W.taken sink.new) (Err M)) }
+        ⊎ ((refusal ≢ too_long) × WritesPart [] (W.taken sink.old) (W.taken sink.new) (Err Refusal.M)) }
     ensures failed { IsTrue (W.has_failed sink.new) ↔ (result ≡ DEVICE_FAILED) }
 {
     if is_too_long(refusal) {

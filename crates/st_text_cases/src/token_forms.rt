@@ -78,7 +78,7 @@ fn each_remark(rt: HostRuntime) -> Result<(), Fail> {
     let alloc = rt.alloc();
     // a comment ends at the first `*)`
     has(&rt, alloc, b"(* (* *) 1", &[Kind::Number(1)])?;
-    // single `_` in a duration's numbers, units left out, none held to a range, and other tokens behind it
+    // single `_` in a duration's numbers, units left out, none held to a range, and other tokens after it
     let text = b"T#1_0s T#1d5ms T#100m5s T#5s*x";
     let expected = [
         Kind::Duration(10_000),
@@ -89,7 +89,7 @@ fn each_remark(rt: HostRuntime) -> Result<(), Fail> {
         word(b"x"),
     ];
     has(&rt, alloc, text, &expected)?;
-    // a typed literal has a base or a sign; other tokens behind it
+    // a typed literal has a base or a sign; other tokens after it
     let text = b"BYTE#2#1111_0000+1. WORD#+8 sint";
     let expected = [
         typed(Elem::Byte, 240),

@@ -61,13 +61,13 @@ fn refuses_each_beginning(rt: HostRuntime) -> Result<(), Fail> {
     is_read(&rt, alloc, text, 1)?;
     is_read(&rt, alloc, b"", 0)?;
     for end in 1..text.len() {
-        let front = &text[..end];
-        let fault = if front.ends_with(b"END_") {
+        let prefix = &text[..end];
+        let fault = if prefix.ends_with(b"END_") {
             SyntaxFault::NoToken { line: 1 }
         } else {
             SyntaxFault::NotInGrammar { line: 1 }
         };
-        is_refused(&rt, alloc, front, fault);
+        is_refused(&rt, alloc, prefix, fault);
     }
     Ok(())
 }

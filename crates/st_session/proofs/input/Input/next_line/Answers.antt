@@ -2,7 +2,7 @@ use Rattle.std.proofs.Common.{◌++◌, ◌≡◌, ◌≤◌, ◌<◌, true, fal
 use Rattle.std.specs.Prelude.{Some, None}
 use Rattle.st_session.specs.Inputs.{pending, left, unread}
 use Rattle.st_session.specs.Pending.{TakesByte, TakesFound, TakesPart}
-use Rattle.st_session.specs.declared.input.Found.TheVariants.{Line, TooLong}
+use Rattle.st_session.specs.declared.input.Found.TheVariants as findings
 use Rattle.st_session.proofs.LineLemmas.{LineSoFar, line_ended, line_last, byte_dropped, byte_kept}
 use Rattle.st_session.proofs.TakingLemmas.{OnErr-from, OnReading-trans, TakesByte-same, not_ended_before, takes_nothing}
 use Rattle.st_session.proofs.input.Input.next_line.Goals as goal
@@ -26,7 +26,7 @@ loop-byte-preserved g c =
     let full : 4096 ≤ length c.loop-byte.line.items = omega (arith, c.len.ensures, c.loop-byte.line.ok.0, c.if-len-lt-MAX_LINE_BYTES.false) in
     let nearer : left c.next_byte.new.self (g.R.Source.reads_left c.next_byte.new.source) < left c.loop-byte.self (g.R.Source.reads_left c.loop-byte.source) = rw c.in-Some.is at c.in_ok-byte.ensures.progress in
     record {
-      room = c.loop-byte.invariant.room;
+      capacity = c.loop-byte.invariant.capacity;
       so_far = OnReading-trans first before after
           (LineSoFar c.loop-byte.is_empty c.loop-byte.is_long c.loop-byte.line.items) (TakesByte (Some c.in-Some.byte)) (LineSoFar false true c.loop-byte.line.items)
           (λ x y z so next. byte_dropped c.loop-byte.is_empty c.loop-byte.is_long c.loop-byte.line.items x y z c.in-Some.byte so next c.if-byte-eq10.false full)
@@ -42,15 +42,15 @@ loop-byte-preserved-then-len-lt-MAX_LINE_BYTES g c =
     let first = pending c.args.self.now (g.R.Source.rest c.args.source.now) in
     let before = pending c.loop-byte.self (g.R.Source.rest c.loop-byte.source) in
     let after = pending c.next_byte.new.self (g.R.Source.rest c.next_byte.new.source) in
-    let room : length c.loop-byte.line.items < 4096 = omega (arith, c.len.ensures, c.loop-byte.line.ok.0, c.if-len-lt-MAX_LINE_BYTES.true) in
-    let pushed = c.push.ensures.succeeds (omega (arith, c.len.ensures, c.if-len-lt-MAX_LINE_BYTES.true, c.loop-byte.invariant.room)) in
+    let spare : length c.loop-byte.line.items < 4096 = omega (arith, c.len.ensures, c.loop-byte.line.ok.0, c.if-len-lt-MAX_LINE_BYTES.true) in
+    let pushed = c.push.ensures.succeeds (omega (arith, c.len.ensures, c.if-len-lt-MAX_LINE_BYTES.true, c.loop-byte.invariant.capacity)) in
     let items = rw pushed at c.push.ensures.items in
     let nearer : left c.next_byte.new.self (g.R.Source.reads_left c.next_byte.new.source) < left c.loop-byte.self (g.R.Source.reads_left c.loop-byte.source) = rw c.in-Some.is at c.in_ok-byte.ensures.progress in
     record {
-      room = omega (arith, c.loop-byte.invariant.room, c.push.ensures.capacity);
+      capacity = omega (arith, c.loop-byte.invariant.capacity, c.push.ensures.capacity);
       so_far = OnReading-trans first before after
           (LineSoFar c.loop-byte.is_empty c.loop-byte.is_long c.loop-byte.line.items) (TakesByte (Some c.in-Some.byte)) (LineSoFar false c.loop-byte.is_long c.push.new.self.items)
-          (λ x y z so next. byte_kept c.loop-byte.is_empty c.loop-byte.is_long c.loop-byte.line.items x y z c.push.new.self.items c.in-Some.byte so next c.if-byte-eq10.false room items)
+          (λ x y z so next. byte_kept c.loop-byte.is_empty c.loop-byte.is_long c.loop-byte.line.items x y z c.push.new.self.items c.in-Some.byte so next c.if-byte-eq10.false spare items)
           c.loop-byte.invariant.so_far (TakesByte-same c.in_ok-byte.field-0 (Some c.in-Some.byte) before after c.in_ok-byte.ensures.bytes c.in-Some.is);
       ended = λ was. c.next_byte.ensures.ended (c.loop-byte.invariant.ended was);
       works = c.in_ok-byte.ensures.failed;
@@ -66,8 +66,8 @@ returns-then-is_long-clause-line g c =
     let at_end = c.next_byte.new.self.at_end in
     let ended : at_end ≡ true = c.in_ok-byte.ensures.at_end c.in_default.is in
     OnReading-trans first before after
-    (LineSoFar c.loop-byte.is_empty c.loop-byte.is_long c.loop-byte.line.items) (TakesByte None) (TakesFound TooLong at_end c.loop-byte.line.items)
-    (λ x y z so next. line_last c.loop-byte.is_empty c.loop-byte.is_long at_end c.loop-byte.line.items x y z TooLong so c.if-is_empty.false next ended (λ _. refl) (λ short. cc (short, c.if-is_long.true)))
+    (LineSoFar c.loop-byte.is_empty c.loop-byte.is_long c.loop-byte.line.items) (TakesByte None) (TakesFound findings.TooLong at_end c.loop-byte.line.items)
+    (λ x y z so next. line_last c.loop-byte.is_empty c.loop-byte.is_long at_end c.loop-byte.line.items x y z findings.TooLong so c.if-is_empty.false next ended (λ _. refl) (λ short. cc (short, c.if-is_long.true)))
     c.loop-byte.invariant.so_far (TakesByte-same c.in_ok-byte.field-0 None before after c.in_ok-byte.ensures.bytes c.in_default.is)
 
 pub returns-else-is_long-clause-line : goal.returns-else-is_long-clause-line
@@ -78,8 +78,8 @@ returns-else-is_long-clause-line g c =
     let at_end = c.next_byte.new.self.at_end in
     let ended : at_end ≡ true = c.in_ok-byte.ensures.at_end c.in_default.is in
     OnReading-trans first before after
-    (LineSoFar c.loop-byte.is_empty c.loop-byte.is_long c.loop-byte.line.items) (TakesByte None) (TakesFound Line at_end c.loop-byte.line.items)
-    (λ x y z so next. line_last c.loop-byte.is_empty c.loop-byte.is_long at_end c.loop-byte.line.items x y z Line so c.if-is_empty.false next ended (λ long. cc (long, c.if-is_long.false)) (λ _. refl))
+    (LineSoFar c.loop-byte.is_empty c.loop-byte.is_long c.loop-byte.line.items) (TakesByte None) (TakesFound findings.Line at_end c.loop-byte.line.items)
+    (λ x y z so next. line_last c.loop-byte.is_empty c.loop-byte.is_long at_end c.loop-byte.line.items x y z findings.Line so c.if-is_empty.false next ended (λ long. cc (long, c.if-is_long.false)) (λ _. refl))
     c.loop-byte.invariant.so_far (TakesByte-same c.in_ok-byte.field-0 None before after c.in_ok-byte.ensures.bytes c.in_default.is)
 
 -- a part of a line was read when the source failed

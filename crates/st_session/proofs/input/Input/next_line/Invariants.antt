@@ -6,7 +6,7 @@ use Rattle.st_session.proofs.input.Input.next_line.Given as goal
 
 abbrev pub invariant-loop-byte : goal.invariant-loop-byte
 invariant-loop-byte g l = record {
-  room : 4096 ≤ vec_capacity l.line;
+  capacity : 4096 ≤ vec_capacity l.line;
   so_far : OnReading (pending l.fn.self (g.R.Source.rest l.fn.source)) (pending l.self (g.R.Source.rest l.source)) (LineSoFar l.is_empty l.is_long l.line.items);
   ended : l.fn.self.at_end ≡ true → l.self.at_end ≡ true;
   works : g.R.Source.has_failed l.source ≡ false;
