@@ -1,18 +1,23 @@
 -- The status with which the program ends.
-use Rattle.std.specs.Prelude.{◌≡◌, ◌⊎◌, ℕ, List}
-use Rattle.clap.specs.Words.{IsAmong, Kinds}
+use Rattle.std.specs.Prelude.{◌≡◌, ◌≢◌, ◌⊎◌, ℕ, List, [], ◌∷◌}
+use Rattle.std.specs.declared.io.ErrorKind.{ErrorKind as IoErrorKind}
+use Rattle.std.specs.declared.io.ErrorKind.TheVariants as io_error_kinds
+use Rattle.clap.specs.Words.{IsAmong, Kinds, Text}
 use Rattle.clap.specs.declared.error.kind.ErrorKind.{ErrorKind}
-use Rattle.clap.specs.declared.error.kind.ErrorKind.TheVariants as kind
+use Rattle.clap.specs.declared.error.kind.ErrorKind.TheVariants as error_kinds
 use Rattle.st_control.specs.Loads.{OfLoad}
 use Rattle.st_session.specs.Lines.{Line}
 use Rattle.st_session.specs.Runs.{status_of}
+use Rattle.st_words.specs.Words.{AreInOrder, HasLimit, IsOrder, chosen_by, faults_of, limit_of}
+use Rattle.st_words.specs.declared.words.Order.{Order}
+use Rattle.st_words.specs.declared.words.Verb.TheVariants.{Run}
 
 -- 5 where memory ran out, 0 where help or the version was asked for, and 2 where the words are at fault; or 4 where what the
 -- user is to read couldn't be written
 abbrev pub EndsBy : ErrorKind → ℕ → Type 0
-EndsBy kind.OutOfMemory status = status ≡ 5
-EndsBy kind.DisplayHelp status = (status ≡ 0) ⊎ (status ≡ 4)
-EndsBy kind.DisplayVersion status = (status ≡ 0) ⊎ (status ≡ 4)
+EndsBy error_kinds.OutOfMemory status = status ≡ 5
+EndsBy error_kinds.DisplayHelp status = (status ≡ 0) ⊎ (status ≡ 4)
+EndsBy error_kinds.DisplayVersion status = (status ≡ 0) ⊎ (status ≡ 4)
 EndsBy other status = (status ≡ 2) ⊎ (status ≡ 4)
 
 -- memory ran out, or the status is that of one of the faults
@@ -22,3 +27,19 @@ EndsByOneOf faults status = (status ≡ 5) ⊎ ((fault : ErrorKind) × IsAmong f
 -- the text is loaded under this name and limit, and of some lines the status is theirs
 abbrev pub EndsAsLoaded : List ℕ → List ℕ → ℕ → ℕ → Type 0
 EndsAsLoaded text main limit status = OfLoad text main limit (λ loaded. (lines : List Line) × (status ≡ status_of loaded lines))
+
+-- where the order is to run: memory ran out, or the file couldn't be read or a device failed, or some text is loaded as the
+-- order says, and of some lines the status is theirs
+abbrev pub EndsAsOrdered : Order → ℕ → Type 0
+EndsAsOrdered order status = order.verb ≡ Run → status ≢ 4 → status ≢ 5 → (text : List ℕ) × EndsAsLoaded text order.main.now order.steps status
+
+-- the status of these words: that of one of their faults, of a K outside its range, or of the order that they give
+pub record EndsByWords (words : List Text) (status : ℕ) : Type 0 where
+  pub fault : faults_of words ≢ [] → EndsByOneOf (faults_of words) status
+  pub limit : faults_of words ≡ [] → ¬ HasLimit (limit_of (chosen_by words)) → EndsByOneOf (error_kinds.ValueValidation ∷ []) status
+  pub order : AreInOrder words → status ≢ 5 → (given : Order) × IsOrder given (chosen_by words) × EndsAsOrdered given status
+
+-- 5 where memory ran out, and else the status of another error
+abbrev pub error_status : IoErrorKind → ℕ → ℕ
+error_status io_error_kinds.OutOfMemory other = 5
+error_status kind other = other

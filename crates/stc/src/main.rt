@@ -1,22 +1,22 @@
 //! The program `stc`: a soft controller for programs in Structured Text, driven line by line.
 #![tactic(auto)]
 
-ghost use Rattle.std.specs.Prelude.{◌≡◌, ◌≢◌, ◌⊎◌, ◌↔◌, ◌||◌, ◌<◌, ◌^◌, [], ◌∷◌, false, true, IsTrue, codes, length, map};
+ghost use Rattle.std.specs.Prelude.{◌≡◌, ◌≢◌, ◌⊎◌, ◌↔◌, ◌||◌, ◌+◌, ◌<◌, ◌^◌, List, [], false, true, IfOk, IfSome, IsTrue, codes, length, map, take};
 ghost use Rattle.std.specs.Io.KnownBytes.{Appends};
-ghost use Rattle.clap.specs.Words.{kind_of};
+ghost use Rattle.std.specs.IoError.{error_kind};
+ghost use Rattle.clap.specs.Words.{Text, kind_of};
 ghost use Rattle.st_control.specs.Loads.{OfLoad};
 ghost use Rattle.st_session.specs.Lines.{lines_of};
 ghost use Rattle.st_session.specs.Pending.{OnBytes, OnReading};
 ghost use Rattle.st_session.specs.Replies.{ended};
 ghost use Rattle.st_session.specs.Runs.{OfProgram, WritesAll, WritesPart, WritesRead};
-ghost use Rattle.st_words.specs.Words.{HasLimit, chosen_by, faults_of, limit_of};
-ghost use Rattle.st_words.specs.declared.words.Verb.TheVariants.{Run};
-ghost use Rattle.stc.specs.Statuses.{EndsAsLoaded, EndsBy, EndsByOneOf};
+ghost use Rattle.stc.specs.Statuses.{EndsAsLoaded, EndsAsOrdered, EndsBy, EndsByWords, error_status};
 
 use clap::error::ErrorKind;
 use st_session::{
     ACCEPTED, DEVICE_FAILED, FromReader, NO_MEMORY, NO_PROGRAM, Sink, Source, ToWriter, run_text,
 };
+use st_tokens::MAX_TEXT_BYTES;
 use st_words::{Order, Verb, read_words};
 use std::alloc::Global;
 use std::convert::AsStr;
@@ -26,7 +26,7 @@ use std::process::ExitCode;
 use std::rt::{Env, Files};
 
 /// The most bytes that are read of a file: one more than a text may have, so that a longer text is seen to be too long.
-const MAX_READ_BYTES: u64 = 1_048_577;
+const MAX_READ_BYTES: u64 = MAX_TEXT_BYTES as u64 + 1;
 
 /// The words are at fault.
 const USAGE: u8 = 2;
@@ -36,15 +36,26 @@ fn main(rt: HostRuntime) -> ExitCode {
 }
 
 /// Does what the program's words order, and answers its status.
-fn run<R: Env + Files + Input + Print + Eprint + AllocGlobal>(rt: &R) -> u8 {
+///
+/// No clause knows the words that it was started with. So of some words the status is theirs.
+fn run<R: Env + Files + Input + Print + Eprint + AllocGlobal>(rt: &R) -> u8
+    ensures { (result ≡ NO_MEMORY) ⊎ (result ≡ USAGE) ⊎ ((words : List Text) × EndsByWords words result) }
+{
     match given_words(rt) {
         Ok(words) => obey_words(rt, words.as_slice()),
-        Err(error) if error.kind() == io::ErrorKind::OutOfMemory => NO_MEMORY,
-        Err(_) => {
-            let _ = eprintln!(rt; "error: a word is not text in UTF-8");
-            USAGE
-        }
+        Err(error) => explain_words(rt, &error),
     }
+}
+
+/// Says that a word can't be read, where there is memory, and answers the status.
+fn explain_words<R: Eprint>(rt: &R, error: &io::Error) -> u8
+    ensures { result ≡ error_status (error_kind error.now) USAGE }
+{
+    if error.kind() == io::ErrorKind::OutOfMemory {
+        return NO_MEMORY;
+    }
+    let _ = eprintln!(rt; "error: a word is not text in UTF-8");
+    USAGE
 }
 
 /// The program's words, of which the first is its own name.
@@ -55,9 +66,7 @@ fn given_words<R: Env + AllocGlobal>(rt: &R) -> io::Result<Vec<String>> {
 
 /// Obeys the words, of which the first is the program's own name, or says why they are no order, and answers the status.
 fn obey_words<R: Files + Input + Print + Eprint + AllocGlobal, S: AsStr>(rt: &R, words: &[S]) -> u8
-    ensures fault { faults_of (map S.text words.now) ≢ [] → EndsByOneOf (faults_of (map S.text words.now)) result }
-    ensures limit { faults_of (map S.text words.now) ≡ [] → ¬ HasLimit (limit_of (chosen_by (map S.text words.now)))
-        → EndsByOneOf (ErrorKind.ValueValidation ∷ []) result }
+    ensures { EndsByWords (map S.text words.now) result }
 {
     match read_words(rt.alloc(), words) {
         Ok(order) => obey(rt, order),
@@ -81,22 +90,39 @@ fn explain<R: Print + Eprint>(rt: &R, error: &clap::Error) -> u8
 }
 
 /// Reads the source text and does with it what is ordered.
-fn obey<R: Files + Input + Print + Eprint + AllocGlobal>(rt: &R, order: Order<'_>) -> u8 {
+///
+/// No clause knows what the file holds. So of some text the status is its.
+fn obey<R: Files + Input + Print + Eprint + AllocGlobal>(rt: &R, order: Order<'_>) -> u8
+    ensures { EndsAsOrdered order.entry result }
+{
     match read_source(rt, order.file) {
         Ok(text) => serve(rt, order, text.as_slice()),
-        Err(error) if error.kind() == io::ErrorKind::OutOfMemory => NO_MEMORY,
-        Err(_) => {
-            let _ = eprintln!(rt; "cannot read {}", order.file);
-            DEVICE_FAILED
-        }
+        Err(error) => explain_file(rt, order.file, &error),
     }
 }
 
-/// As much of the file as a source text may have, and one byte more.
+/// Says that the file can't be read, where there is memory, and answers the status.
+fn explain_file<R: Eprint>(rt: &R, file: &str, error: &io::Error) -> u8
+    ensures { result ≡ error_status (error_kind error.now) DEVICE_FAILED }
+{
+    if error.kind() == io::ErrorKind::OutOfMemory {
+        return NO_MEMORY;
+    }
+    let _ = eprintln!(rt; "cannot read {file}");
+    DEVICE_FAILED
+}
+
+/// The text of the file, or the beginning of a longer one than a text may be.
 fn read_source<R: Files + AllocGlobal>(rt: &R, path: &str) -> io::Result<Vec<u8>> {
-    let file = std::fs::open(rt, path)?;
-    let mut text = Vec::new(rt.alloc());
-    file.take(MAX_READ_BYTES).read_to_end(&mut text)?;
+    read_text(rt.alloc(), std::fs::open(rt, path)?)
+}
+
+/// As much of what the reader gives as a source text may have, and one byte more.
+fn read_text<R: Read + Drop>(alloc: Global, reader: R) -> io::Result<Vec<u8>>
+    ensures { IfOk result (λ text. IfSome (R.remaining reader) (λ bytes. text.items ≡ take (2 ^ 20 + 1) bytes)) }
+{
+    let mut text = Vec::new(alloc);
+    reader.take(MAX_READ_BYTES).read_to_end(&mut text)?;
     Ok(text)
 }
 
@@ -104,7 +130,7 @@ fn read_source<R: Files + AllocGlobal>(rt: &R, path: &str) -> io::Result<Vec<u8>
 ///
 /// No clause knows the bytes of standard input. So of some lines the status is theirs.
 fn serve<R: Input + Print + AllocGlobal>(rt: &R, order: Order<'_>, text: &[u8]) -> u8
-    ensures run_status { order.entry.verb ≡ Run → result ≢ DEVICE_FAILED → result ≢ NO_MEMORY
+    ensures run_status { order.entry.verb ≡ Verb.Run → result ≢ DEVICE_FAILED → result ≢ NO_MEMORY
         → EndsAsLoaded text.now order.entry.main.now order.entry.steps result }
 {
     let mut source = FromReader::new(rt.reader());
@@ -126,22 +152,22 @@ fn obey_text<R: Source, W: Sink>(
     requires sink { W.has_failed sink.old ≡ false }
 
     // The replies to all lines are written, or the refusal of the load.
-    ensures run_all { order.entry.verb ≡ Run → result ≢ DEVICE_FAILED → result ≢ NO_MEMORY
+    ensures run_all { order.entry.verb ≡ Verb.Run → result ≢ DEVICE_FAILED → result ≢ NO_MEMORY
         → OnBytes (R.rest source.old) (λ bytes. OfLoad text.now order.entry.main.now order.entry.steps
         (WritesAll (lines_of bytes) result (W.taken sink.old) (W.taken sink.new))) }
-    ensures run_memory { order.entry.verb ≡ Run → result ≡ NO_MEMORY → Appends (W.taken sink.old) (W.taken sink.new) []
+    ensures run_memory { order.entry.verb ≡ Verb.Run → result ≡ NO_MEMORY → Appends (W.taken sink.old) (W.taken sink.new) []
         ⊎ Appends (W.taken sink.old) (W.taken sink.new) (ended (codes "refused M")) }
 
     // A text that is too long is refused for that alone, also where there is no memory.
-    ensures run_long { order.entry.verb ≡ Run → 2 ^ 20 < length text.now → result ≢ DEVICE_FAILED → (result ≡ NO_PROGRAM)
+    ensures run_long { order.entry.verb ≡ Verb.Run → 2 ^ 20 < length text.now → result ≢ DEVICE_FAILED → (result ≡ NO_PROGRAM)
         × Appends (W.taken sink.old) (W.taken sink.new) (ended (codes "refused S4 line 1")) }
 
     // A device has failed, and the run ended there. Where it is the source, the text was loaded, and of the lines that were
     // read whole none is lost.
-    ensures run_part { order.entry.verb ≡ Run → result ≡ DEVICE_FAILED
+    ensures run_part { order.entry.verb ≡ Verb.Run → result ≡ DEVICE_FAILED
         → OnBytes (R.rest source.old) (λ bytes. OfLoad text.now order.entry.main.now order.entry.steps
         (WritesPart (lines_of bytes) (W.taken sink.old) (W.taken sink.new))) }
-    ensures run_read { order.entry.verb ≡ Run → R.has_failed source.new ≡ true
+    ensures run_read { order.entry.verb ≡ Verb.Run → R.has_failed source.new ≡ true
         → OnReading (R.rest source.old) (R.rest source.new) (λ bytes rest. OfProgram text.now order.entry.main.now
         order.entry.steps (WritesRead bytes rest (W.taken sink.old) (W.taken sink.new))) }
     ensures failed { IsTrue (R.has_failed source.new || W.has_failed sink.new) ↔ (result ≡ DEVICE_FAILED) }
@@ -149,21 +175,5 @@ fn obey_text<R: Source, W: Sink>(
     let main = order.main.as_bytes();
     match order.verb {
         Verb::Run => run_text(alloc, text, main, order.steps, source, sink),
-    }
-}
-
-#[cfg(test)]
-mod tests {
-    use super::*;
-
-    #[test]
-    fn needs_the_file(rt: HostRuntime) {
-        let order = Order {
-            verb: Verb::Run,
-            file: "no/such/file.st",
-            main: "Main",
-            steps: 1,
-        };
-        assert_eq!(rt; obey(&rt, order), DEVICE_FAILED);
     }
 }

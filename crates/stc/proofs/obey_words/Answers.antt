@@ -1,12 +1,21 @@
-use Rattle.std.proofs.Common.{map}
+use Rattle.std.proofs.Common.{map, subst}
 use Rattle.st_words.specs.Words.{chosen_by, faults_of}
-use Rattle.stc.proofs.Ends.{ends_by_fault, order_has_limit}
+use Rattle.stc.specs.Statuses.{EndsBy}
+use Rattle.stc.proofs.Ends.{ends_by_fault, ends_by_limit, order_has_limit}
 use Rattle.stc.proofs.obey_words.Goals as goal
 
-pub returns-in-Ok-clause-limit : goal.returns-in-Ok-clause-limit
-returns-in-Ok-clause-limit g c =
-    λ none unlimited. absurd (unlimited (order_has_limit c.in-Ok.order (chosen_by (map g.S.AsStr.text c.args.words.now)) c.in-Ok.ensures.order))
+pub returns-in-Ok : goal.returns-in-Ok
+returns-in-Ok g c = record {
+  fault = λ some. absurd (some c.in-Ok.ensures.faultless);
+  limit = λ none unlimited. absurd (unlimited (order_has_limit c.in-Ok.order (chosen_by (map g.S.AsStr.text c.args.words.now)) c.in-Ok.ensures.order));
+  order = λ in_order memory. (c.in-Ok.order, c.in-Ok.ensures.order, c.obey.ensures);
+}
 
-pub returns-in-Err-clause-fault : goal.returns-in-Err-clause-fault
-returns-in-Err-clause-fault g c =
-    ends_by_fault (faults_of (map g.S.AsStr.text c.args.words.now)) c.in-Err.error c.explain.result c.in-Err.ensures.fault c.explain.ensures
+pub returns-in-Err : goal.returns-in-Err
+returns-in-Err g c =
+    let words = map g.S.AsStr.text c.args.words.now in
+    record {
+      fault = ends_by_fault (faults_of words) c.in-Err.error c.explain.result c.in-Err.ensures.fault c.explain.ensures;
+      limit = λ none unlimited. ends_by_limit (faults_of words) c.in-Err.error c.explain.result c.in-Err.ensures.fault c.explain.ensures none;
+      order = λ in_order memory. absurd (memory (subst (λ k. EndsBy k c.explain.result) (c.in-Err.ensures.memory in_order) c.explain.ensures));
+    }
