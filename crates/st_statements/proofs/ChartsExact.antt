@@ -5,7 +5,7 @@ use Rattle.st_tokens.specs.declared.keyword.Keyword.TheVariants as keywords
 use Rattle.st_tokens.specs.declared.symbol.Symbol.TheVariants as symbols
 use Rattle.st_tokens.specs.declared.token.Kind.TheVariants as token_kinds
 use Rattle.st_tree.specs.declared.tree.unit.ChartElement.TheVariants as chart_elements
-use Rattle.st_parser.specs.Names.{ActionQualifier, Association, ChartElement, Duration, Identifier, Kind, Position}
+use Rattle.st_parser.specs.Names.{ActionQualifier, Association, ChartElement, Duration, Expression, Identifier, Kind, Position}
 use Rattle.st_parser.specs.Grammar.Levels.{IsWithin}
 use Rattle.st_parser.specs.Grammar.Lists.{IsMany, IsListed, listed}
 use Rattle.st_parser.specs.Grammar.Tokens.{Tok, kind}
@@ -275,19 +275,30 @@ one_from : (ts : List Tok) (x : List Identifier) (rest : List Tok) → is_symbol
 one_from ts x rest h (one_name d) = seq d done
 one_from ts x rest h (names d m) = absurd (cc)
 
+-- FROM names TO names
+abbrev IsConnection : Relation (List Identifier × List Identifier)
+IsConnection = Then (IsOne (token_kinds.Keyword keywords.From)) (λ q. Then IsNames (λ xs. Then (IsOne (token_kinds.Keyword keywords.To)) (λ u. Then IsNames (λ ys. IsPure (xs, ys)))))
+
+-- ':=' expression ';' END_TRANSITION
+abbrev IsCondition : Relation Expression
+IsCondition = Then (IsOne (token_kinds.Symbol symbols.Assign)) (λ v. Then (IsBinary 7) (λ x. Then (IsOne (token_kinds.Symbol symbols.Semicolon)) (λ y. Then (IsOne (token_kinds.Keyword keywords.EndTransition)) (λ z. IsPure x))))
+
 abbrev TransitionRule : Position → Relation ChartElement
-TransitionRule p = Then IsOptionalName (λ n. Then IsPriority (λ m. Then (IsOne (token_kinds.Keyword keywords.From)) (λ q. Then IsNames (λ xs. Then (IsOne (token_kinds.Keyword keywords.To)) (λ u. Then IsNames (λ ys.
-    Then (IsOne (token_kinds.Symbol symbols.Assign)) (λ v. Then (IsBinary 7) (λ x. Then (IsOne (token_kinds.Symbol symbols.Semicolon)) (λ y. Then (IsOne (token_kinds.Keyword keywords.EndTransition)) (λ z. IsPure (chart_elements.Transition (transition_of p n m xs ys x))))))))))))
+TransitionRule p = Then IsOptionalName (λ n. Then IsPriority (λ m. Then IsConnection (λ c. Then IsCondition (λ x. IsPure (chart_elements.Transition (transition_of p n m c.0 c.1 x))))))
 
 transition_to : (p : Position) (ts : List Tok) (x : ChartElement) (rest : List Tok) → TransitionRule p ts x rest → IsElement ((p, token_kinds.Keyword keywords.Transition) ∷ ts) x rest
-transition_to p ts x rest (seq a (seq b (seq one (seq d (seq one (seq e (seq one (seq f (seq one (seq one g)))))))))) = made g (λ y us. IsElement ((p, token_kinds.Keyword keywords.Transition) ∷ ts) y us) (transition (transition_rest a b d e f))
+transition_to p ts x rest (seq a (seq b (seq (seq one (seq d (seq one (seq e done)))) (seq (seq one (seq f (seq one (seq one done)))) g)))) =
+    made g (λ y us. IsElement ((p, token_kinds.Keyword keywords.Transition) ∷ ts) y us) (transition (transition_rest a b d e f))
 
 transition_from : (p : Position) (ts : List Tok) (x : ChartElement) (rest : List Tok) → IsElement ((p, token_kinds.Keyword keywords.Transition) ∷ ts) x rest → TransitionRule p ts x rest
-transition_from p ts x rest (transition (transition_rest a b d e f)) = seq a (seq b (seq one (seq d (seq one (seq e (seq one (seq f (seq one (seq one done)))))))))
+transition_from p ts x rest (transition (transition_rest a b d e f)) = seq a (seq b (seq (seq one (seq d (seq one (seq e done)))) (seq (seq one (seq f (seq one (seq one done)))) done)))
 
-optional_follow : {S : Option ℕ → Relation ChartElement} (mid rest : List Tok) (y : ChartElement) → Then IsPriority (λ m. Then (IsOne (token_kinds.Keyword keywords.From)) (λ q. S m)) mid y rest → Any (kind rest) → NoWord (kind mid)
+optional_follow : {S : Option ℕ → List Identifier × List Identifier → Relation ChartElement} (mid rest : List Tok) (y : ChartElement) → Then IsPriority (λ m. Then IsConnection (S m)) mid y rest → Any (kind rest) → NoWord (kind mid)
 optional_follow mid rest y (seq (priority t) d) g = refl
-optional_follow mid rest y (seq no_priority (seq one d)) g = refl
+optional_follow mid rest y (seq no_priority (seq (seq one c) d)) g = refl
+
+priority_follow : {S : List Identifier × List Identifier → Relation ChartElement} (mid rest : List Tok) (y : ChartElement) → Then IsConnection S mid y rest → NoOpen (kind mid)
+priority_follow mid rest y (seq (seq one c) d) = refl
 
 abbrev ActionRule : Position → Relation ChartElement
 ActionRule p = Then IsWord (λ n. Then (IsOne (token_kinds.Symbol symbols.Colon)) (λ q. Then IsStatements (λ ss. Then (IsOne (token_kinds.Keyword keywords.EndAction)) (λ z. IsPure (chart_elements.Action (action_of p n ss))))))
@@ -344,13 +355,21 @@ module _ (r : ℕ) where
   unfolding spec.names
   names_exact = exact_on (λ ts. is_symbol symbols.Open (kind ts)) (spec.names_by (suc r)) Always IsNames Any (At (suc r)) (At (suc r)) names_by
 
+  connection_exact : Exact 1 (spec.connection (suc r)) Always IsConnection Any (At (suc r)) (At (suc r))
+  unfolding spec.connection
+  connection_exact = exact_bind (exact_keyword keywords.From (suc r) refl) (λ q. exact_bind names_exact (λ xs. exact_bind (exact_keyword keywords.To (suc r) refl) (λ u. exact_last names_exact (λ ys. (xs, ys)))
+      (λ u mid rest y d g. tt)) (λ xs mid rest y d g. tt)) (λ q mid rest y d g. tt)
+
+  condition_exact : Exact 1 (spec.condition (suc r)) Always IsCondition Any (At (suc r)) (At (suc r))
+  unfolding spec.condition
+  condition_exact = exact_bind (exact_symbol symbols.Assign (suc r) refl) (λ v. exact_before (token_kinds.Symbol symbols.Semicolon) (expression_exact (suc r)) tt (exact_symbol symbols.Semicolon (suc r) refl)
+      (λ x y. exact_bind (exact_keyword keywords.EndTransition (suc r) refl) (λ z. exact_pure x Always Any (At (suc r))) (λ z mid rest y' d g. tt))) (λ v mid rest y d g. tt)
+
   transition_exact : Exact 1 (spec.transition (suc r)) (IsFirst (token_kinds.Keyword keywords.Transition)) IsElement Any (At (suc r)) (At (suc r))
   unfolding spec.transition
   transition_exact = exact_token (token_kinds.Keyword keywords.Transition) refl {R = IsElement} (λ p. exact_iff
-      (exact_bind (optional_exact (suc r)) (λ n. exact_before (token_kinds.Keyword keywords.From) priority_exact refl (exact_keyword keywords.From (suc r) refl) (λ m q. exact_bind names_exact (λ xs. exact_bind (exact_keyword keywords.To (suc r) refl)
-      (λ u. exact_bind names_exact (λ ys. exact_bind (exact_symbol symbols.Assign (suc r) refl) (λ v. exact_before (token_kinds.Symbol symbols.Semicolon) (expression_exact (suc r)) tt (exact_symbol symbols.Semicolon (suc r) refl)
-      (λ x y. exact_bind (exact_keyword keywords.EndTransition (suc r) refl) (λ z. exact_pure (chart_elements.Transition (transition_of p n m xs ys x)) Always Any (At (suc r))) (λ z mid rest y' d g. tt)))
-      (λ v mid rest y d g. tt)) (λ ys mid rest y d g. tt)) (λ u mid rest y d g. tt)) (λ xs mid rest y d g. tt))) (λ n mid rest y d g. optional_follow mid rest y d g))
+      (exact_bind (optional_exact (suc r)) (λ n. exact_bind priority_exact (λ m. exact_bind connection_exact (λ c. exact_last condition_exact (λ x. chart_elements.Transition (transition_of p n m c.0 c.1 x)))
+      (λ c mid rest y d g. tt)) (λ m mid rest y d g. priority_follow mid rest y d)) (λ n mid rest y d g. optional_follow mid rest y d g))
       (transition_to p) (transition_from p))
 
   action_exact : Exact 1 (spec.action (suc r)) (IsFirst (token_kinds.Keyword keywords.Action)) IsElement Any (At (suc r)) (At (suc r))

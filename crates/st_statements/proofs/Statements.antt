@@ -241,14 +241,22 @@ label_ends (Some (token_kinds.Symbol symbols.Plus)) h = (refl, tt)
 label_ends (Some (token_kinds.Symbol symbols.Minus)) h = (refl, tt)
 label_ends _ h = absurd (cc)
 
+-- this, and a token after it
+abbrev Before : {A : Type 0} → Relation A → Kind → Relation A
+Before R x = Then R (λ a. Then (IsOne x) (λ q. IsPure a))
+
+-- this, the word that closes its level, and ';'
+abbrev Closed : {A : Type 0} → Relation A → Kind → Relation A
+Closed R x = Then R (λ a. Then (IsOne x) (λ q. Then (IsOne (token_kinds.Symbol symbols.Semicolon)) (λ z. IsPure a)))
+
 abbrev ConditionalRule : Relation ConditionalPart
-ConditionalRule = Then (IsBinary 7) (λ x. Then (IsOne (token_kinds.Keyword keywords.Then)) (λ q. Then IsStatements (λ ss. IsPure (part_of x ss))))
+ConditionalRule = Then (Before (IsBinary 7) (token_kinds.Keyword keywords.Then)) (λ x. Then IsStatements (λ ss. IsPure (part_of x ss)))
 
 conditional_to : (ts : List Tok) (x : ConditionalPart) (rest : List Tok) → ConditionalRule ts x rest → IsConditional ts x rest
-conditional_to ts x rest (seq d (seq one (seq e m))) = made m (λ y us. IsConditional ts y us) (conditional d e)
+conditional_to ts x rest (seq (seq d (seq one done)) (seq e m)) = made m (λ y us. IsConditional ts y us) (conditional d e)
 
 conditional_from : (ts : List Tok) (x : ConditionalPart) (rest : List Tok) → IsConditional ts x rest → ConditionalRule ts x rest
-conditional_from ts x rest (conditional d e) = seq d (seq one (seq e done))
+conditional_from ts x rest (conditional d e) = seq (seq d (seq one done)) (seq e done)
 
 abbrev CaseRule : Relation CaseElement
 CaseRule = Then (IsListed IsLabel) (λ ls. Then (IsOne (token_kinds.Symbol symbols.Colon)) (λ q. Then IsStatements (λ ss. IsPure (case_of ls ss))))
@@ -293,9 +301,20 @@ no_by_from ts x rest h no_by = done
 no_by_from ts x rest h (by_step d) = absurd (cc)
 
 module _ (r : ℕ) (d : Deeper) (e : ExactDeeper (suc r) d) where
+  expression_before_exact : (x : Keyword) → Stops 7 (Some (token_kinds.Keyword x)) → opens (token_kinds.Keyword x) ≡ 0
+      → Exact 1 (spec.expression_before d x) Always (Before (IsBinary 7) (token_kinds.Keyword x)) Any (At r) (At (past (closes (token_kinds.Keyword x)) r))
+  unfolding spec.expression_before
+  expression_before_exact x stops plain = exact_before (token_kinds.Keyword x) e.0 stops (exact_keyword x r plain) (λ a q. exact_pure a Always Any (At (past (closes (token_kinds.Keyword x)) r)))
+
+  closed_block_exact : (x : Keyword) → EndsBlock (Some (token_kinds.Keyword x)) → opens (token_kinds.Keyword x) ≡ 0
+      → Exact 0 (spec.closed_block d x) Always (Closed IsStatements (token_kinds.Keyword x)) Any (At r) (At (past (closes (token_kinds.Keyword x)) r))
+  unfolding spec.closed_block
+  closed_block_exact x ends plain = exact_before (token_kinds.Keyword x) e.1 ends (exact_keyword x r plain) (λ ss q. exact_bind (exact_symbol symbols.Semicolon (past (closes (token_kinds.Keyword x)) r) refl)
+      (λ z. exact_pure ss Always Any (At (past (closes (token_kinds.Keyword x)) r))) (λ z mid rest y c g. tt))
+
   conditional_exact : Exact 1 (spec.conditional d) Always IsConditional EndsBlock (At r) (At r)
   unfolding spec.conditional
-  conditional_exact = exact_iff (exact_before (token_kinds.Keyword keywords.Then) e.0 tt (exact_keyword keywords.Then r refl) (λ x q. exact_last e.1 (part_of x))) conditional_to conditional_from
+  conditional_exact = exact_iff (exact_bind (expression_before_exact keywords.Then tt refl) (λ x. exact_last e.1 (part_of x)) (λ x mid rest y c g. tt)) conditional_to conditional_from
 
   elsif_exact : Exact 1 (spec.elsif d) (λ ts. is_keyword keywords.Elsif (kind ts) ≡ true) IsElsif EndsBlock (At r) (At r)
   unfolding spec.elsif
@@ -322,6 +341,12 @@ module _ (r : ℕ) (d : Deeper) (e : ExactDeeper (suc r) d) where
   unfolding spec.otherwise
   otherwise_exact = exact_on (λ ts. is_keyword keywords.Else (kind ts)) (spec.otherwise_by d) Always IsElse EndsElse (At r) (At r) otherwise_by
 
+  closed_otherwise_exact : (x : Keyword) → EndsElse (Some (token_kinds.Keyword x)) → opens (token_kinds.Keyword x) ≡ 0
+      → Exact 0 (spec.closed_otherwise d x) Always (Closed IsElse (token_kinds.Keyword x)) Any (At r) (At (past (closes (token_kinds.Keyword x)) r))
+  unfolding spec.closed_otherwise
+  closed_otherwise_exact x ends plain = exact_before (token_kinds.Keyword x) otherwise_exact ends (exact_keyword x r plain) (λ ss q. exact_bind (exact_symbol symbols.Semicolon (past (closes (token_kinds.Keyword x)) r) refl)
+      (λ z. exact_pure ss Always Any (At (past (closes (token_kinds.Keyword x)) r))) (λ z mid rest y c g. tt))
+
   step_by : (b : Bool) → Exact 0 (spec.step_by d b) (λ ts. (is_keyword keywords.By (kind ts) ≡ b) × Always ts) IsBy EndsBy (At r) (At r)
   step_by true = exact_zero (exact_under (exact_token (token_kinds.Keyword keywords.By) refl {R = IsBy} (λ p. exact_as (exact_last e.0 (λ x. Some x)) (λ ts u. u) (λ ts x rest u i. by_to p ts x rest i) (λ ts x rest u g i. by_from p ts x rest g i) (λ t g. g.1)))
       (λ ts h. keyword_is keywords.By (kind ts) h.0) (λ t g. g))
@@ -346,151 +371,156 @@ module _ (r : ℕ) (d : Deeper) (e : ExactDeeper (suc r) d) where
 
 -- ---- statements with statements in them
 
--- a word that closes a level, and ';'
-abbrev Closing : Kind → Statement → Relation Statement
-Closing x y = Then (IsOne x) (λ q. Then (IsOne (token_kinds.Symbol symbols.Semicolon)) (λ z. IsPure y))
-
 abbrev IfRule : Position → Relation Statement
-IfRule p = Then AreConditionals (λ xs. Then IsElse (λ ys. Closing (token_kinds.Keyword keywords.EndIf) (statement_kinds.If (if_of p xs ys))))
+IfRule p = Then AreConditionals (λ xs. Then (Closed IsElse (token_kinds.Keyword keywords.EndIf)) (λ ys. IsPure (statement_kinds.If (if_of p xs ys))))
 
 if_statement_to : (p : Position) (ts : List Tok) (x : Statement) (rest : List Tok) → IfRule p ts x rest → IsStatement ((p, token_kinds.Keyword keywords.If) ∷ ts) x rest
-if_statement_to p ts x rest (seq (conditionals a m) (seq b (seq one (seq one c)))) = made c (λ y us. IsStatement ((p, token_kinds.Keyword keywords.If) ∷ ts) y us) (if_statement a m b)
+if_statement_to p ts x rest (seq (conditionals a m) (seq (seq b (seq one (seq one done))) c)) = made c (λ y us. IsStatement ((p, token_kinds.Keyword keywords.If) ∷ ts) y us) (if_statement a m b)
 
 if_statement_from : (p : Position) (ts : List Tok) (x : Statement) (rest : List Tok) → IsStatement ((p, token_kinds.Keyword keywords.If) ∷ ts) x rest → IfRule p ts x rest
-if_statement_from p ts x rest (if_statement a m b) = seq (conditionals a m) (seq b (seq one (seq one done)))
+if_statement_from p ts x rest (if_statement a m b) = seq (conditionals a m) (seq (seq b (seq one (seq one done))) done)
 if_statement_from p ts x rest (assignment d e) = elim d [ ]
 if_statement_from p ts x rest (invocation d) = elim d [ ]
 
 abbrev CaseStatementRule : Position → Relation Statement
-CaseStatementRule p = Then (IsBinary 7) (λ a. Then (IsOne (token_kinds.Keyword keywords.Of)) (λ q. Then AreCases (λ cs. Then IsElse (λ ys. Closing (token_kinds.Keyword keywords.EndCase) (statement_kinds.Case (case_statement_of p a cs ys))))))
+CaseStatementRule p = Then (Before (IsBinary 7) (token_kinds.Keyword keywords.Of)) (λ a. Then AreCases (λ cs. Then (Closed IsElse (token_kinds.Keyword keywords.EndCase)) (λ ys. IsPure (statement_kinds.Case (case_statement_of p a cs ys)))))
 
 case_statement_to : (p : Position) (ts : List Tok) (x : Statement) (rest : List Tok) → CaseStatementRule p ts x rest → IsStatement ((p, token_kinds.Keyword keywords.Case) ∷ ts) x rest
-case_statement_to p ts x rest (seq a (seq one (seq (all_cases b m) (seq o (seq one (seq one c)))))) = made c (λ y us. IsStatement ((p, token_kinds.Keyword keywords.Case) ∷ ts) y us) (case_statement a b m o)
+case_statement_to p ts x rest (seq (seq a (seq one done)) (seq (all_cases b m) (seq (seq o (seq one (seq one done))) c))) = made c (λ y us. IsStatement ((p, token_kinds.Keyword keywords.Case) ∷ ts) y us) (case_statement a b m o)
 
 case_statement_from : (p : Position) (ts : List Tok) (x : Statement) (rest : List Tok) → IsStatement ((p, token_kinds.Keyword keywords.Case) ∷ ts) x rest → CaseStatementRule p ts x rest
-case_statement_from p ts x rest (case_statement a b m o) = seq a (seq one (seq (all_cases b m) (seq o (seq one (seq one done)))))
+case_statement_from p ts x rest (case_statement a b m o) = seq (seq a (seq one done)) (seq (all_cases b m) (seq (seq o (seq one (seq one done))) done))
 case_statement_from p ts x rest (assignment d e) = elim d [ ]
 case_statement_from p ts x rest (invocation d) = elim d [ ]
 
--- the values that a variable of FOR takes
+-- the values that a variable of FOR takes, and DO
 data IsForRange : List Tok → ForRange → List Tok → Type 0 where
-  bounds : {p : Position} {ts mid then rest : List Tok} {a b : Expression} {c : Option Expression} → IsBinary 7 ts a ((p, token_kinds.Keyword keywords.To) ∷ mid) → IsBinary 7 mid b then → IsBy then c rest → IsForRange ts (range_of a b c) rest
+  bounds : {p q : Position} {ts mid then rest : List Tok} {a b : Expression} {c : Option Expression} → IsBinary 7 ts a ((p, token_kinds.Keyword keywords.To) ∷ mid) → IsBinary 7 mid b then
+      → IsBy then c ((q, token_kinds.Keyword keywords.Do) ∷ rest) → IsForRange ts (range_of a b c) rest
+
+abbrev LastRule : Relation (Expression × Option Expression)
+LastRule = Then (IsBinary 7) (λ b. Then IsBy (λ c. Then (IsOne (token_kinds.Keyword keywords.Do)) (λ q. IsPure (b, c))))
 
 abbrev RangeRule : Relation ForRange
-RangeRule = Then (IsBinary 7) (λ a. Then (IsOne (token_kinds.Keyword keywords.To)) (λ u. Then (IsBinary 7) (λ b. Then IsBy (λ c. IsPure (range_of a b c)))))
+RangeRule = Then (Before (IsBinary 7) (token_kinds.Keyword keywords.To)) (λ a. Then LastRule (λ x. IsPure (range_of a x.0 x.1)))
 
 bounds_to : (ts : List Tok) (x : ForRange) (rest : List Tok) → RangeRule ts x rest → IsForRange ts x rest
-bounds_to ts x rest (seq a (seq one (seq b (seq c m)))) = made m (λ y us. IsForRange ts y us) (bounds a b c)
+bounds_to ts x rest (seq (seq a (seq one done)) (seq (seq b (seq c (seq one done))) m)) = made m (λ y us. IsForRange ts y us) (bounds a b c)
 
 bounds_from : (ts : List Tok) (x : ForRange) (rest : List Tok) → IsForRange ts x rest → RangeRule ts x rest
-bounds_from ts x rest (bounds a b c) = seq a (seq one (seq b (seq c done)))
+bounds_from ts x rest (bounds a b c) = seq (seq a (seq one done)) (seq (seq b (seq c (seq one done))) done)
 
-by_follow : {A : Type 0} {f : Option Expression → A} (mid rest : List Tok) (y : A) → Then IsBy (λ c. IsPure (f c)) mid y rest → EndsBy (kind rest) → Stops 7 (kind mid)
-by_follow mid rest y (seq (by_step d) c) g = tt
-by_follow mid rest y (seq no_by c) g = made c (λ z us. EndsBy (kind us) → Stops 7 (kind mid)) (λ h. h.1) g
+by_follow : {A : Type 0} {f : Option Expression → A} (mid rest : List Tok) (y : A) → Then IsBy (λ c. Then (IsOne (token_kinds.Keyword keywords.Do)) (λ q. IsPure (f c))) mid y rest → Stops 7 (kind mid)
+by_follow mid rest y (seq (by_step d) c) = tt
+by_follow mid rest y (seq no_by (seq one c)) = tt
 
-bounds_exact : (r : ℕ) (d : Deeper) → ExactDeeper (suc r) d → Exact 1 (spec.for_bounds d) Always IsForRange EndsBy (At r) (At r)
-unfolding spec.for_bounds
-bounds_exact r d e = exact_iff (exact_before (token_kinds.Keyword keywords.To) e.0 tt (exact_keyword keywords.To r refl) (λ a u. exact_bind e.0 (λ b. exact_last (step_exact r d e) (range_of a b)) (λ b mid rest y c g. by_follow {f = range_of a b} mid rest y c g)))
-    bounds_to bounds_from
+module _ (r : ℕ) (d : Deeper) (e : ExactDeeper (suc r) d) where
+  last_exact : Exact 1 (spec.last_and_step d) Always LastRule Any (At r) (At r)
+  unfolding spec.last_and_step
+  last_exact = exact_bind e.0 (λ b. exact_before (token_kinds.Keyword keywords.Do) (step_exact r d e) (refl, tt) (exact_keyword keywords.Do r refl) (λ c q. exact_pure (b, c) Always Any (At r)))
+      (λ b mid rest y c g. by_follow {f = λ x. (b, x)} mid rest y c)
+
+  bounds_exact : Exact 1 (spec.for_range d) Always IsForRange Any (At r) (At r)
+  unfolding spec.for_range
+  bounds_exact = exact_iff (exact_bind (expression_before_exact r d e keywords.To tt refl) (λ a. exact_last last_exact (λ x. range_of a x.0 x.1)) (λ a mid rest y c g. tt)) bounds_to bounds_from
 
 abbrev ForRule : Position → Relation Statement
-ForRule p = Then IsWord (λ n. Then (IsOne (token_kinds.Symbol symbols.Assign)) (λ q. Then IsForRange (λ x. Then (IsOne (token_kinds.Keyword keywords.Do)) (λ v. Then IsStatements (λ ss. Closing (token_kinds.Keyword keywords.EndFor) (statement_kinds.For (for_of p n x.first x.last x.step ss)))))))
+ForRule p = Then IsWord (λ n. Then (IsOne (token_kinds.Symbol symbols.Assign)) (λ q. Then IsForRange (λ x. Then (Closed IsStatements (token_kinds.Keyword keywords.EndFor)) (λ ss. IsPure (statement_kinds.For (for_of p n x.first x.last x.step ss))))))
 
 for_statement_to : (p : Position) (ts : List Tok) (x : Statement) (rest : List Tok) → ForRule p ts x rest → IsStatement ((p, token_kinds.Keyword keywords.For) ∷ ts) x rest
-for_statement_to p ts x rest (seq a_word (seq one (seq (bounds a b c) (seq one (seq m (seq one (seq one e))))))) = made e (λ y us. IsStatement ((p, token_kinds.Keyword keywords.For) ∷ ts) y us) (for_statement a b c m)
+for_statement_to p ts x rest (seq a_word (seq one (seq (bounds a b c) (seq (seq m (seq one (seq one done))) e)))) = made e (λ y us. IsStatement ((p, token_kinds.Keyword keywords.For) ∷ ts) y us) (for_statement a b c m)
 
 for_statement_from : (p : Position) (ts : List Tok) (x : Statement) (rest : List Tok) → IsStatement ((p, token_kinds.Keyword keywords.For) ∷ ts) x rest → ForRule p ts x rest
-for_statement_from p ts x rest (for_statement a b c m) = seq a_word (seq one (seq (bounds a b c) (seq one (seq m (seq one (seq one done))))))
+for_statement_from p ts x rest (for_statement a b c m) = seq a_word (seq one (seq (bounds a b c) (seq (seq m (seq one (seq one done))) done)))
 for_statement_from p ts x rest (assignment d e) = elim d [ ]
 for_statement_from p ts x rest (invocation d) = elim d [ ]
 
 abbrev WhileRule : Position → Relation Statement
-WhileRule p = Then (IsBinary 7) (λ a. Then (IsOne (token_kinds.Keyword keywords.Do)) (λ q. Then IsStatements (λ ss. Closing (token_kinds.Keyword keywords.EndWhile) (statement_kinds.While (while_of p a ss)))))
+WhileRule p = Then (Before (IsBinary 7) (token_kinds.Keyword keywords.Do)) (λ a. Then (Closed IsStatements (token_kinds.Keyword keywords.EndWhile)) (λ ss. IsPure (statement_kinds.While (while_of p a ss))))
 
 while_to : (p : Position) (ts : List Tok) (x : Statement) (rest : List Tok) → WhileRule p ts x rest → IsStatement ((p, token_kinds.Keyword keywords.While) ∷ ts) x rest
-while_to p ts x rest (seq a (seq one (seq m (seq one (seq one c))))) = made c (λ y us. IsStatement ((p, token_kinds.Keyword keywords.While) ∷ ts) y us) (while_statement a m)
+while_to p ts x rest (seq (seq a (seq one done)) (seq (seq m (seq one (seq one done))) c)) = made c (λ y us. IsStatement ((p, token_kinds.Keyword keywords.While) ∷ ts) y us) (while_statement a m)
 
 while_from : (p : Position) (ts : List Tok) (x : Statement) (rest : List Tok) → IsStatement ((p, token_kinds.Keyword keywords.While) ∷ ts) x rest → WhileRule p ts x rest
-while_from p ts x rest (while_statement a m) = seq a (seq one (seq m (seq one (seq one done))))
+while_from p ts x rest (while_statement a m) = seq (seq a (seq one done)) (seq (seq m (seq one (seq one done))) done)
 while_from p ts x rest (assignment d e) = elim d [ ]
 while_from p ts x rest (invocation d) = elim d [ ]
 
+abbrev UntilRule : Relation Expression
+UntilRule = Then (Before (IsBinary 7) (token_kinds.Keyword keywords.EndRepeat)) (λ a. Then (IsOne (token_kinds.Symbol symbols.Semicolon)) (λ z. IsPure a))
+
 abbrev RepeatRule : Position → Relation Statement
-RepeatRule p = Then IsStatements (λ ss. Then (IsOne (token_kinds.Keyword keywords.Until)) (λ q. Then (IsBinary 7) (λ a. Closing (token_kinds.Keyword keywords.EndRepeat) (statement_kinds.Repeat (repeat_of p ss a)))))
+RepeatRule p = Then IsStatements (λ ss. Then (IsOne (token_kinds.Keyword keywords.Until)) (λ q. Then UntilRule (λ a. IsPure (statement_kinds.Repeat (repeat_of p ss a)))))
 
 repeat_to : (p : Position) (ts : List Tok) (x : Statement) (rest : List Tok) → RepeatRule p ts x rest → IsStatement ((p, token_kinds.Keyword keywords.Repeat) ∷ ts) x rest
-repeat_to p ts x rest (seq m (seq one (seq a (seq one (seq one c))))) = made c (λ y us. IsStatement ((p, token_kinds.Keyword keywords.Repeat) ∷ ts) y us) (repeat_statement m a)
+repeat_to p ts x rest (seq m (seq one (seq (seq (seq a (seq one done)) (seq one done)) c))) = made c (λ y us. IsStatement ((p, token_kinds.Keyword keywords.Repeat) ∷ ts) y us) (repeat_statement m a)
 
 repeat_from : (p : Position) (ts : List Tok) (x : Statement) (rest : List Tok) → IsStatement ((p, token_kinds.Keyword keywords.Repeat) ∷ ts) x rest → RepeatRule p ts x rest
-repeat_from p ts x rest (repeat_statement m a) = seq m (seq one (seq a (seq one (seq one done))))
+repeat_from p ts x rest (repeat_statement m a) = seq m (seq one (seq (seq (seq a (seq one done)) (seq one done)) done))
 repeat_from p ts x rest (assignment d e) = elim d [ ]
 repeat_from p ts x rest (invocation d) = elim d [ ]
 
-if_statement_follow : (p : Position) (xs : List ConditionalPart) (mid rest : List Tok) (y : Statement) → Then IsElse (λ ys. Closing (token_kinds.Keyword keywords.EndIf) (statement_kinds.If (if_of p xs ys))) mid y rest → Any (kind rest) → Ends (is_keyword keywords.Elsif) EndsBlock (kind mid)
-if_statement_follow p xs mid rest y (seq (otherwise d) c) g = (refl, (refl, tt))
-if_statement_follow p xs mid rest y (seq no_else (seq one c)) g = (refl, (refl, tt))
+if_statement_follow : (p : Position) (xs : List ConditionalPart) (mid rest : List Tok) (y : Statement) → Then (Closed IsElse (token_kinds.Keyword keywords.EndIf)) (λ ys. IsPure (statement_kinds.If (if_of p xs ys))) mid y rest → Any (kind rest) → Ends (is_keyword keywords.Elsif) EndsBlock (kind mid)
+if_statement_follow p xs mid rest y (seq (seq (otherwise d) c) m) g = (refl, (refl, tt))
+if_statement_follow p xs mid rest y (seq (seq no_else (seq one c)) m) g = (refl, (refl, tt))
 
-case_statement_follow : (p : Position) (a : Expression) (xs : List CaseElement) (mid rest : List Tok) (y : Statement) → Then IsElse (λ ys. Closing (token_kinds.Keyword keywords.EndCase) (statement_kinds.Case (case_statement_of p a xs ys))) mid y rest → Any (kind rest) → Ends begins_label EndsBlock (kind mid)
-case_statement_follow p a xs mid rest y (seq (otherwise d) c) g = (refl, (refl, tt))
-case_statement_follow p a xs mid rest y (seq no_else (seq one c)) g = (refl, (refl, tt))
-
--- a word that closes a level, and ';'
-closing : (x : Keyword) (r : ℕ) → opens (token_kinds.Keyword x) ≡ 0 → (y : Statement)
-    → Exact 1 (λ ts. and_then (parser.expect_keyword x ts) (λ q us. and_then (parser.expect_symbol symbols.Semicolon us) (λ z. parser.pure y))) Always (Closing (token_kinds.Keyword x) y) Any (At r) (At (past (closes (token_kinds.Keyword x)) r))
-closing x r plain y = exact_bind (exact_keyword x r plain)
-    (λ q. exact_bind (exact_symbol symbols.Semicolon (past (closes (token_kinds.Keyword x)) r) refl) (λ z. exact_pure y Always Any (At (past (closes (token_kinds.Keyword x)) r))) (λ z mid rest e d g. tt)) (λ q mid rest e d g. tt)
+case_statement_follow : (p : Position) (a : Expression) (xs : List CaseElement) (mid rest : List Tok) (y : Statement) → Then (Closed IsElse (token_kinds.Keyword keywords.EndCase)) (λ ys. IsPure (statement_kinds.Case (case_statement_of p a xs ys))) mid y rest → Any (kind rest) → Ends begins_label EndsBlock (kind mid)
+case_statement_follow p a xs mid rest y (seq (seq (otherwise d) c) m) g = (refl, (refl, tt))
+case_statement_follow p a xs mid rest y (seq (seq no_else (seq one c)) m) g = (refl, (refl, tt))
 
 -- what the reading functions do after the word that opens a level
 module _ (d : Deeper) where
   abbrev after_if : Position → Parser Statement
-  after_if p = λ ts. and_then (spec.conditionals d ts) (λ xs us. and_then (spec.otherwise d us) (λ ys vs. and_then (parser.expect_keyword keywords.EndIf vs) (λ q ws. and_then (parser.expect_symbol symbols.Semicolon ws) (λ z. parser.pure (statement_kinds.If (if_of p xs ys))))))
+  after_if p = λ ts. and_then (spec.conditionals d ts) (λ xs us. and_then (spec.closed_otherwise d keywords.EndIf us) (λ ys. parser.pure (statement_kinds.If (if_of p xs ys))))
 
   abbrev after_case : Position → Parser Statement
-  after_case p = λ ts. and_then (d.expression ts) (λ a us. and_then (parser.expect_keyword keywords.Of us) (λ u vs. and_then (spec.cases d vs) (λ cs ws. and_then (spec.otherwise d ws)
-      (λ ys xs. and_then (parser.expect_keyword keywords.EndCase xs) (λ q zs. and_then (parser.expect_symbol symbols.Semicolon zs) (λ z. parser.pure (statement_kinds.Case (case_statement_of p a cs ys))))))))
+  after_case p = λ ts. and_then (spec.expression_before d keywords.Of ts) (λ a us. and_then (spec.cases d us) (λ cs vs. and_then (spec.closed_otherwise d keywords.EndCase vs) (λ ys. parser.pure (statement_kinds.Case (case_statement_of p a cs ys)))))
 
   abbrev after_for : Position → Parser Statement
-  after_for p = λ ts. and_then (parser.identifier ts) (λ n us. and_then (parser.expect_symbol symbols.Assign us) (λ q vs. and_then (spec.for_bounds d vs) (λ x ws. and_then (parser.expect_keyword keywords.Do ws) (λ v ks. and_then (d.statements ks) (λ ss bs. and_then (parser.expect_keyword keywords.EndFor bs)
-      (λ y cs. and_then (parser.expect_symbol symbols.Semicolon cs) (λ z. parser.pure (statement_kinds.For (for_of p n x.first x.last x.step ss)))))))))
+  after_for p = λ ts. and_then (parser.identifier ts) (λ n us. and_then (parser.expect_symbol symbols.Assign us) (λ q vs. and_then (spec.for_range d vs) (λ x ws. and_then (spec.closed_block d keywords.EndFor ws)
+      (λ ss. parser.pure (statement_kinds.For (for_of p n x.first x.last x.step ss))))))
 
   abbrev after_while : Position → Parser Statement
-  after_while p = λ ts. and_then (d.expression ts) (λ a us. and_then (parser.expect_keyword keywords.Do us) (λ u vs. and_then (d.statements vs) (λ ss ws. and_then (parser.expect_keyword keywords.EndWhile ws) (λ q xs. and_then (parser.expect_symbol symbols.Semicolon xs) (λ z. parser.pure (statement_kinds.While (while_of p a ss)))))))
+  after_while p = λ ts. and_then (spec.expression_before d keywords.Do ts) (λ a us. and_then (spec.closed_block d keywords.EndWhile us) (λ ss. parser.pure (statement_kinds.While (while_of p a ss))))
 
   abbrev after_repeat : Position → Parser Statement
-  after_repeat p = λ ts. and_then (d.statements ts) (λ ss us. and_then (parser.expect_keyword keywords.Until us) (λ u vs. and_then (d.expression vs) (λ a ws. and_then (parser.expect_keyword keywords.EndRepeat ws) (λ q xs. and_then (parser.expect_symbol symbols.Semicolon xs) (λ z. parser.pure (statement_kinds.Repeat (repeat_of p ss a)))))))
+  after_repeat p = λ ts. and_then (d.statements ts) (λ ss us. and_then (parser.expect_keyword keywords.Until us) (λ u vs. and_then (spec.until d vs) (λ a. parser.pure (statement_kinds.Repeat (repeat_of p ss a)))))
 
   after_if_exact : (r : ℕ) → ExactDeeper r d → AfterOpening 1 r after_if (token_kinds.Keyword keywords.If) IsStatement Any
   after_if_exact zero e = tt
   after_if_exact (suc r) e = λ p. exact_iff
-      (exact_bind (conditionals_exact r d e) (λ xs. exact_bind (otherwise_exact r d e) (λ ys. closing keywords.EndIf r refl (statement_kinds.If (if_of p xs ys))) (λ ys mid rest y c g. before_token EndsElse (refl, (refl, tt)) c)) (if_statement_follow p))
+      (exact_bind (conditionals_exact r d e) (λ xs. exact_last (closed_otherwise_exact r d e keywords.EndIf (refl, (refl, tt)) refl) (λ ys. statement_kinds.If (if_of p xs ys))) (if_statement_follow p))
       (if_statement_to p) (if_statement_from p)
 
   after_case_exact : (r : ℕ) → ExactDeeper r d → AfterOpening 1 r after_case (token_kinds.Keyword keywords.Case) IsStatement Any
   after_case_exact zero e = tt
   after_case_exact (suc r) e = λ p. exact_iff
-      (exact_before (token_kinds.Keyword keywords.Of) e.0 tt (exact_keyword keywords.Of r refl) (λ a q. exact_bind (cases_exact r d e)
-      (λ cs. exact_bind (otherwise_exact r d e) (λ ys. closing keywords.EndCase r refl (statement_kinds.Case (case_statement_of p a cs ys))) (λ ys mid rest y c g. before_token EndsElse (refl, (refl, tt)) c)) (case_statement_follow p a)))
+      (exact_bind (expression_before_exact r d e keywords.Of tt refl) (λ a. exact_bind (cases_exact r d e)
+      (λ cs. exact_last (closed_otherwise_exact r d e keywords.EndCase (refl, (refl, tt)) refl) (λ ys. statement_kinds.Case (case_statement_of p a cs ys))) (case_statement_follow p a)) (λ a mid rest y c g. tt))
       (case_statement_to p) (case_statement_from p)
 
   after_for_exact : (r : ℕ) → ExactDeeper r d → AfterOpening 1 r after_for (token_kinds.Keyword keywords.For) IsStatement Any
   after_for_exact zero e = tt
   after_for_exact (suc r) e = λ p. exact_iff
-      (exact_bind (exact_identifier r) (λ n. exact_bind (exact_symbol symbols.Assign r refl) (λ q. exact_before (token_kinds.Keyword keywords.Do) (bounds_exact r d e) (refl, tt) (exact_keyword keywords.Do r refl) (λ x v.
-      exact_bind e.1 (λ ss. closing keywords.EndFor r refl (statement_kinds.For (for_of p n x.first x.last x.step ss))) (λ ss mid rest y c g. before_token EndsBlock (refl, tt) c)))
-      (λ q mid rest y c g. tt)) (λ n mid rest y c g. tt))
+      (exact_bind (exact_identifier r) (λ n. exact_bind (exact_symbol symbols.Assign r refl) (λ q. exact_bind (bounds_exact r d e)
+      (λ x. exact_last (closed_block_exact r d e keywords.EndFor (refl, tt) refl) (λ ss. statement_kinds.For (for_of p n x.first x.last x.step ss)))
+      (λ x mid rest y c g. tt)) (λ q mid rest y c g. tt)) (λ n mid rest y c g. tt))
       (for_statement_to p) (for_statement_from p)
 
   after_while_exact : (r : ℕ) → ExactDeeper r d → AfterOpening 1 r after_while (token_kinds.Keyword keywords.While) IsStatement Any
   after_while_exact zero e = tt
   after_while_exact (suc r) e = λ p. exact_iff
-      (exact_before (token_kinds.Keyword keywords.Do) e.0 tt (exact_keyword keywords.Do r refl) (λ a q. exact_bind e.1 (λ ss. closing keywords.EndWhile r refl (statement_kinds.While (while_of p a ss))) (λ ss mid rest y c g. before_token EndsBlock (refl, tt) c)))
+      (exact_bind (expression_before_exact r d e keywords.Do tt refl) (λ a. exact_last (closed_block_exact r d e keywords.EndWhile (refl, tt) refl) (λ ss. statement_kinds.While (while_of p a ss))) (λ a mid rest y c g. tt))
       (while_to p) (while_from p)
+
+  until_exact : (r : ℕ) → ExactDeeper (suc r) d → Exact 1 (spec.until d) Always UntilRule Any (At r) (At (suc r))
+  unfolding spec.until
+  until_exact r e = exact_bind (expression_before_exact r d e keywords.EndRepeat tt refl) (λ a. exact_bind (exact_symbol symbols.Semicolon (suc r) refl) (λ z. exact_pure a Always Any (At (suc r))) (λ z mid rest y c g. tt)) (λ a mid rest y c g. tt)
 
   after_repeat_exact : (r : ℕ) → ExactDeeper r d → AfterOpening 0 r after_repeat (token_kinds.Keyword keywords.Repeat) IsStatement Any
   after_repeat_exact zero e = tt
   after_repeat_exact (suc r) e = λ p. exact_iff
-      (exact_before (token_kinds.Keyword keywords.Until) e.1 (refl, tt) (exact_keyword keywords.Until r refl) (λ ss q. exact_bind e.0 (λ a. closing keywords.EndRepeat r refl (statement_kinds.Repeat (repeat_of p ss a))) (λ a mid rest y c g. before_token (Stops 7) tt c)))
+      (exact_before (token_kinds.Keyword keywords.Until) e.1 (refl, tt) (exact_keyword keywords.Until r refl) (λ ss q. exact_last (until_exact r e) (λ a. statement_kinds.Repeat (repeat_of p ss a))))
       (repeat_to p) (repeat_from p)
 
 -- ---- statements

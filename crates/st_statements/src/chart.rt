@@ -13,8 +13,8 @@ use st_parser::{Cursor, ReadFault, many, single, words};
 use st_tokens::{Keyword, Kind, Symbol};
 use st_tree::List;
 use st_tree::tree::{
-    Action, ActionQualifier, Association, ChartElement, Duration, Identifier, Position, Step,
-    Transition,
+    Action, ActionQualifier, Association, ChartElement, Duration, Expression, Identifier, Position,
+    Step, Transition,
 };
 use std::alloc::Global;
 
@@ -194,6 +194,34 @@ fn names(alloc: Global, ts: &mut Cursor<'_>, depth_left: u8) -> Result<List<Iden
     Ok(single(alloc, name)?)
 }
 
+/// `FROM names TO names`
+#[tactic(auto, unfolding(crate::specs::Reader::Charts::connection))]
+fn connection(
+    alloc: Global,
+    ts: &mut Cursor<'_>,
+    depth_left: u8,
+) -> Result<(List<Identifier>, List<Identifier>), ReadFault>
+    ensures { Takes (spec.connection depth_left ts.old) result ts.old ts.new }
+{
+    ts.expect_keyword(Keyword::From)?;
+    let from = names(alloc, ts, depth_left)?;
+    ts.expect_keyword(Keyword::To)?;
+    let to = names(alloc, ts, depth_left)?;
+    Ok((from, to))
+}
+
+/// `':=' expression ';' END_TRANSITION`
+#[tactic(auto, unfolding(crate::specs::Reader::Charts::condition))]
+fn condition(alloc: Global, ts: &mut Cursor<'_>, depth_left: u8) -> Result<Expression, ReadFault>
+    ensures { Takes (spec.condition depth_left ts.old) result ts.old ts.new }
+{
+    ts.expect_symbol(Symbol::Assign)?;
+    let condition = expression(alloc, ts, depth_left)?;
+    ts.expect_symbol(Symbol::Semicolon)?;
+    ts.expect_keyword(Keyword::EndTransition)?;
+    Ok(condition)
+}
+
 /// `TRANSITION [ word ] [ priority ] FROM names TO names ':=' expression ';' END_TRANSITION`
 #[tactic(auto, unfolding(crate::specs::Reader::Charts::transition))]
 fn transition(alloc: Global, ts: &mut Cursor<'_>, depth_left: u8) -> Result<ChartElement, ReadFault>
@@ -202,14 +230,8 @@ fn transition(alloc: Global, ts: &mut Cursor<'_>, depth_left: u8) -> Result<Char
     let position = ts.bump();
     let name = optional_name(alloc, ts)?;
     let priority = priority(ts, depth_left)?;
-    ts.expect_keyword(Keyword::From)?;
-    let from = names(alloc, ts, depth_left)?;
-    ts.expect_keyword(Keyword::To)?;
-    let to = names(alloc, ts, depth_left)?;
-    ts.expect_symbol(Symbol::Assign)?;
-    let condition = expression(alloc, ts, depth_left)?;
-    ts.expect_symbol(Symbol::Semicolon)?;
-    ts.expect_keyword(Keyword::EndTransition)?;
+    let (from, to) = connection(alloc, ts, depth_left)?;
+    let condition = condition(alloc, ts, depth_left)?;
     Ok(ChartElement::Transition(Transition {
         position,
         name,

@@ -53,9 +53,9 @@ fn label(alloc: Global, ts: &mut Cursor<'_>) -> Result<Label, ReadFault>
     let first = constant(ts)?;
     if ts.at_symbol(Symbol::Range) {
         ts.bump();
-        let last = constant(ts)?;
         let first = Boxed::new(alloc, first)?;
-        return Ok(Label::Range(first, Boxed::new(alloc, last)?));
+        let last = Boxed::new(alloc, constant(ts)?)?;
+        return Ok(Label::Range(first, last));
     }
     Ok(Label::Value(first))
 }
@@ -101,12 +101,11 @@ fn exit_statement(ts: &mut Cursor<'_>) -> Result<Statement, ReadFault>
 fn assignment(alloc: Global, ts: &mut Cursor<'_>, depth_left: u8) -> Result<Statement, ReadFault>
     ensures { Takes (spec.assignment depth_left ts.old) result ts.old ts.new }
 {
-    let target = variable(alloc, ts, depth_left)?;
+    let target = Boxed::new(alloc, variable(alloc, ts, depth_left)?)?;
     ts.expect_symbol(Symbol::Assign)?;
-    let value = expression(alloc, ts, depth_left)?;
+    let value = Boxed::new(alloc, expression(alloc, ts, depth_left)?)?;
     ts.expect_symbol(Symbol::Semicolon)?;
-    let target = Boxed::new(alloc, target)?;
-    Ok(Statement::Assignment(target, Boxed::new(alloc, value)?))
+    Ok(Statement::Assignment(target, value))
 }
 
 /// `call ';'`
@@ -114,9 +113,9 @@ fn assignment(alloc: Global, ts: &mut Cursor<'_>, depth_left: u8) -> Result<Stat
 fn invocation(alloc: Global, ts: &mut Cursor<'_>, depth_left: u8) -> Result<Statement, ReadFault>
     ensures { Takes (spec.invocation depth_left ts.old) result ts.old ts.new }
 {
-    let call = call(alloc, ts, depth_left)?;
+    let call = Boxed::new(alloc, call(alloc, ts, depth_left)?)?;
     ts.expect_symbol(Symbol::Semicolon)?;
-    Ok(Statement::Call(Boxed::new(alloc, call)?))
+    Ok(Statement::Call(call))
 }
 
 /// `call ';' | variable ':=' expression ';'`
@@ -137,6 +136,22 @@ fn inner(alloc: Global, ts: &mut Cursor<'_>, depth_left: u8) -> Result<Expressio
     ensures { Takes ((spec.deeper_of depth_left).expression ts.old) result ts.old ts.new }
 {
     expression(alloc, ts, depth_left - 1)
+}
+
+/// `expression` and the keyword after it, inside one more open level
+#[tactic(auto, unfolding(crate::specs::Reader::Statements::expression_before))]
+fn expression_before(
+    alloc: Global,
+    ts: &mut Cursor<'_>,
+    depth_left: u8,
+    keyword: Keyword,
+) -> Result<Expression, ReadFault>
+    requires { 0 < depth_left }
+    ensures { Takes (spec.expression_before (spec.deeper_of depth_left) keyword ts.old) result ts.old ts.new }
+{
+    let found = inner(alloc, ts, depth_left)?;
+    ts.expect_keyword(keyword)?;
+    Ok(found)
 }
 
 /// `[ BY expression ]`
@@ -160,17 +175,42 @@ struct ForRange {
     step: Option<Expression>,
 }
 
-/// `expression TO expression [ BY expression ]`
-#[tactic(auto, unfolding(crate::specs::Reader::Statements::for_bounds))]
-fn for_bounds(alloc: Global, ts: &mut Cursor<'_>, depth_left: u8) -> Result<ForRange, ReadFault>
+/// `expression [ BY expression ] DO`
+#[tactic(auto, unfolding(crate::specs::Reader::Statements::last_and_step))]
+fn last_and_step(
+    alloc: Global,
+    ts: &mut Cursor<'_>,
+    depth_left: u8,
+) -> Result<(Expression, Option<Expression>), ReadFault>
     requires { 0 < depth_left }
-    ensures { Takes (spec.for_bounds (spec.deeper_of depth_left) ts.old) result ts.old ts.new }
+    ensures { Takes (spec.last_and_step (spec.deeper_of depth_left) ts.old) result ts.old ts.new }
 {
-    let first = inner(alloc, ts, depth_left)?;
-    ts.expect_keyword(Keyword::To)?;
     let last = inner(alloc, ts, depth_left)?;
     let step = step(alloc, ts, depth_left)?;
+    ts.expect_keyword(Keyword::Do)?;
+    Ok((last, step))
+}
+
+/// `expression TO expression [ BY expression ] DO`
+#[tactic(auto, unfolding(crate::specs::Reader::Statements::for_range))]
+fn for_range(alloc: Global, ts: &mut Cursor<'_>, depth_left: u8) -> Result<ForRange, ReadFault>
+    requires { 0 < depth_left }
+    ensures { Takes (spec.for_range (spec.deeper_of depth_left) ts.old) result ts.old ts.new }
+{
+    let first = expression_before(alloc, ts, depth_left, Keyword::To)?;
+    let (last, step) = last_and_step(alloc, ts, depth_left)?;
     Ok(ForRange { first, last, step })
+}
+
+/// `expression END_REPEAT ';'`
+#[tactic(auto, unfolding(crate::specs::Reader::Statements::until))]
+fn until(alloc: Global, ts: &mut Cursor<'_>, depth_left: u8) -> Result<Expression, ReadFault>
+    requires { 0 < depth_left }
+    ensures { Takes (spec.until (spec.deeper_of depth_left) ts.old) result ts.old ts.new }
+{
+    let condition = expression_before(alloc, ts, depth_left, Keyword::EndRepeat)?;
+    ts.expect_symbol(Symbol::Semicolon)?;
+    Ok(condition)
 }
 
 /// Statements inside one more open level.
@@ -180,6 +220,24 @@ fn block(alloc: Global, ts: &mut Cursor<'_>, depth_left: u8) -> Result<List<Stat
     ensures { MayTake ((spec.deeper_of depth_left).statements ts.old) result ts.old ts.new }
 {
     statements(alloc, ts, depth_left - 1)
+}
+
+/// `statements`, the keyword that closes their level, and `';'`
+#[cycle(parser)]
+#[tactic(auto, unfolding(crate::specs::Reader::Statements::closed_block))]
+fn closed_block(
+    alloc: Global,
+    ts: &mut Cursor<'_>,
+    depth_left: u8,
+    keyword: Keyword,
+) -> Result<List<Statement>, ReadFault>
+    requires { 0 < depth_left }
+    ensures { Takes (spec.closed_block (spec.deeper_of depth_left) keyword ts.old) result ts.old ts.new }
+{
+    let statements = block(alloc, ts, depth_left)?;
+    ts.expect_keyword(keyword)?;
+    ts.expect_symbol(Symbol::Semicolon)?;
+    Ok(statements)
 }
 
 /// `expression THEN statements`
@@ -193,8 +251,7 @@ fn conditional(
     requires { 0 < depth_left }
     ensures { Takes (spec.conditional (spec.deeper_of depth_left) ts.old) result ts.old ts.new }
 {
-    let condition = inner(alloc, ts, depth_left)?;
-    ts.expect_keyword(Keyword::Then)?;
+    let condition = expression_before(alloc, ts, depth_left, Keyword::Then)?;
     let statements = block(alloc, ts, depth_left)?;
     Ok(ConditionalPart {
         condition,
@@ -252,6 +309,24 @@ fn otherwise(
     Ok(List::new(alloc))
 }
 
+/// `[ ELSE statements ]`, the keyword that closes the level, and `';'`
+#[cycle(parser)]
+#[tactic(auto, unfolding(crate::specs::Reader::Statements::closed_otherwise))]
+fn closed_otherwise(
+    alloc: Global,
+    ts: &mut Cursor<'_>,
+    depth_left: u8,
+    keyword: Keyword,
+) -> Result<List<Statement>, ReadFault>
+    requires { 0 < depth_left }
+    ensures { Takes (spec.closed_otherwise (spec.deeper_of depth_left) keyword ts.old) result ts.old ts.new }
+{
+    let statements = otherwise(alloc, ts, depth_left)?;
+    ts.expect_keyword(keyword)?;
+    ts.expect_symbol(Symbol::Semicolon)?;
+    Ok(statements)
+}
+
 /// `IF conditional { ELSIF conditional } [ ELSE statements ] END_IF ';'`
 #[cycle(parser)]
 #[tactic(auto, unfolding(crate::specs::Reader::Statements::if_statement))]
@@ -260,9 +335,7 @@ fn if_statement(alloc: Global, ts: &mut Cursor<'_>, depth_left: u8) -> Result<St
 {
     let position = ts.enter(depth_left)?;
     let parts = conditionals(alloc, ts, depth_left)?;
-    let otherwise = otherwise(alloc, ts, depth_left)?;
-    ts.expect_keyword(Keyword::EndIf)?;
-    ts.expect_symbol(Symbol::Semicolon)?;
+    let otherwise = closed_otherwise(alloc, ts, depth_left, Keyword::EndIf)?;
     let statement = IfStatement {
         position,
         parts,
@@ -312,12 +385,9 @@ fn case_statement(
     ensures { Takes (spec.case_statement depth_left (spec.deeper_of depth_left) ts.old) result ts.old ts.new }
 {
     let position = ts.enter(depth_left)?;
-    let selector = inner(alloc, ts, depth_left)?;
-    ts.expect_keyword(Keyword::Of)?;
+    let selector = expression_before(alloc, ts, depth_left, Keyword::Of)?;
     let cases = cases(alloc, ts, depth_left)?;
-    let otherwise = otherwise(alloc, ts, depth_left)?;
-    ts.expect_keyword(Keyword::EndCase)?;
-    ts.expect_symbol(Symbol::Semicolon)?;
+    let otherwise = closed_otherwise(alloc, ts, depth_left, Keyword::EndCase)?;
     let statement = CaseStatement {
         position,
         selector,
@@ -336,17 +406,14 @@ fn for_statement(alloc: Global, ts: &mut Cursor<'_>, depth_left: u8) -> Result<S
     let position = ts.enter(depth_left)?;
     let variable = ts.identifier(alloc)?;
     ts.expect_symbol(Symbol::Assign)?;
-    let ForRange { first, last, step } = for_bounds(alloc, ts, depth_left)?;
-    ts.expect_keyword(Keyword::Do)?;
-    let statements = block(alloc, ts, depth_left)?;
-    ts.expect_keyword(Keyword::EndFor)?;
-    ts.expect_symbol(Symbol::Semicolon)?;
+    let range = for_range(alloc, ts, depth_left)?;
+    let statements = closed_block(alloc, ts, depth_left, Keyword::EndFor)?;
     let statement = ForStatement {
         position,
         variable,
-        first,
-        last,
-        step,
+        first: range.first,
+        last: range.last,
+        step: range.step,
         statements,
     };
     Ok(Statement::For(Boxed::new(alloc, statement)?))
@@ -363,11 +430,8 @@ fn while_statement(
     ensures { Takes (spec.while_statement depth_left (spec.deeper_of depth_left) ts.old) result ts.old ts.new }
 {
     let position = ts.enter(depth_left)?;
-    let condition = inner(alloc, ts, depth_left)?;
-    ts.expect_keyword(Keyword::Do)?;
-    let statements = block(alloc, ts, depth_left)?;
-    ts.expect_keyword(Keyword::EndWhile)?;
-    ts.expect_symbol(Symbol::Semicolon)?;
+    let condition = expression_before(alloc, ts, depth_left, Keyword::Do)?;
+    let statements = closed_block(alloc, ts, depth_left, Keyword::EndWhile)?;
     let statement = WhileStatement {
         position,
         condition,
@@ -389,9 +453,7 @@ fn repeat_statement(
     let position = ts.enter(depth_left)?;
     let statements = block(alloc, ts, depth_left)?;
     ts.expect_keyword(Keyword::Until)?;
-    let condition = inner(alloc, ts, depth_left)?;
-    ts.expect_keyword(Keyword::EndRepeat)?;
-    ts.expect_symbol(Symbol::Semicolon)?;
+    let condition = until(alloc, ts, depth_left)?;
     let statement = RepeatStatement {
         position,
         statements,

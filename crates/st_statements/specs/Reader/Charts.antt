@@ -4,7 +4,7 @@ use Rattle.st_tokens.specs.declared.keyword.Keyword.TheVariants as keywords
 use Rattle.st_tokens.specs.declared.symbol.Symbol.TheVariants as symbols
 use Rattle.st_tokens.specs.declared.token.Kind.TheVariants as token_kinds
 use Rattle.st_tree.specs.declared.tree.unit.ChartElement.TheVariants as chart_elements
-use Rattle.st_parser.specs.Names.{ActionQualifier, Association, ChartElement, Duration, Identifier, Kind, Position}
+use Rattle.st_parser.specs.Names.{ActionQualifier, Association, ChartElement, Duration, Expression, Identifier, Kind, Position}
 use Rattle.st_parser.specs.Grammar.Tokens.{kind, next, position}
 use Rattle.st_parser.specs.Reader.Parsers.{Parser, ◌>>=◌, ◌>>◌, pure, refuse, bump, peek, is_symbol, is_word, expect_symbol, expect_keyword, open_level, enter, identifier, number, many, leading, listed, Wrong}
 use Rattle.st_expressions.specs.Grammar.{duration_of}
@@ -105,20 +105,30 @@ names depth_left = do
   t ← peek
   names_by depth_left (is_symbol symbols.Open t)
 
+unfoldable pub connection : ℕ → Parser (List Identifier × List Identifier)
+connection depth_left = do
+  expect_keyword keywords.From
+  xs ← names depth_left
+  expect_keyword keywords.To
+  ys ← names depth_left
+  pure (xs, ys)
+
+unfoldable pub condition : ℕ → Parser Expression
+condition depth_left = do
+  expect_symbol symbols.Assign
+  x ← expression depth_left
+  expect_symbol symbols.Semicolon
+  expect_keyword keywords.EndTransition
+  pure x
+
 unfoldable pub transition : ℕ → Parser ChartElement
 transition depth_left = do
   p ← bump
   n ← optional_name
   m ← priority depth_left
-  expect_keyword keywords.From
-  xs ← names depth_left
-  expect_keyword keywords.To
-  ys ← names depth_left
-  expect_symbol symbols.Assign
-  x ← expression depth_left
-  expect_symbol symbols.Semicolon
-  expect_keyword keywords.EndTransition
-  pure (chart_elements.Transition (transition_of p n m xs ys x))
+  steps ← connection depth_left
+  x ← condition depth_left
+  pure (chart_elements.Transition (transition_of p n m steps.0 steps.1 x))
 
 unfoldable pub action : ℕ → Parser ChartElement
 action depth_left = do

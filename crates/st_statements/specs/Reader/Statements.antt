@@ -5,7 +5,7 @@ use Rattle.st_tokens.specs.declared.symbol.Symbol.TheVariants as symbols
 use Rattle.st_tokens.specs.declared.token.Kind.TheVariants as token_kinds
 use Rattle.st_tree.specs.declared.tree.statement.Label.TheVariants as labels
 use Rattle.st_tree.specs.declared.tree.statement.Statement.TheVariants as statement_kinds
-use Rattle.st_parser.specs.Names.{CaseElement, ConditionalPart, Constant, Expression, Kind, Label, Statement}
+use Rattle.st_parser.specs.Names.{CaseElement, ConditionalPart, Constant, Expression, Keyword, Kind, Label, Statement}
 use Rattle.st_parser.specs.Reader.Parsers.{Parser, ◌>>=◌, ◌>>◌, pure, refuse, bump, peek, peek_second, is_symbol, is_keyword, expect_symbol, expect_keyword, enter, identifier, many, leading, listed}
 use Rattle.st_expressions.specs.Reader.{constant, expression, variable, call, inside_of}
 use Rattle.st_statements.specs.declared.statement.ForRange.{ForRange}
@@ -86,10 +86,24 @@ named depth_left = do
 
 -- ---- statements with statements in them
 
+-- an expression, and a keyword after it
+unfoldable pub expression_before : Deeper → Keyword → Parser Expression
+expression_before deeper keyword = do
+  x ← deeper.expression
+  expect_keyword keyword
+  pure x
+
+-- statements, the keyword that closes their level, and ';'
+unfoldable pub closed_block : Deeper → Keyword → Parser (List Statement)
+closed_block deeper keyword = do
+  ss ← deeper.statements
+  expect_keyword keyword
+  expect_symbol symbols.Semicolon
+  pure ss
+
 unfoldable pub conditional : Deeper → Parser ConditionalPart
 conditional deeper = do
-  x ← deeper.expression
-  expect_keyword keywords.Then
+  x ← expression_before deeper keywords.Then
   ss ← deeper.statements
   pure (part_of x ss)
 
@@ -109,13 +123,18 @@ otherwise deeper = do
   t ← peek
   otherwise_by deeper (is_keyword keywords.Else t)
 
+unfoldable pub closed_otherwise : Deeper → Keyword → Parser (List Statement)
+closed_otherwise deeper keyword = do
+  ss ← otherwise deeper
+  expect_keyword keyword
+  expect_symbol symbols.Semicolon
+  pure ss
+
 unfoldable pub if_statement : ℕ → Deeper → Parser Statement
 if_statement depth_left deeper = do
   p ← enter depth_left
   xs ← conditionals deeper
-  ys ← otherwise deeper
-  expect_keyword keywords.EndIf
-  expect_symbol symbols.Semicolon
+  ys ← closed_otherwise deeper keywords.EndIf
   pure (statement_kinds.If (if_of p xs ys))
 
 unfoldable pub case : Deeper → Parser CaseElement
@@ -131,12 +150,9 @@ cases deeper = leading (case deeper) begins_label (case deeper)
 unfoldable pub case_statement : ℕ → Deeper → Parser Statement
 case_statement depth_left deeper = do
   p ← enter depth_left
-  x ← deeper.expression
-  expect_keyword keywords.Of
+  x ← expression_before deeper keywords.Of
   cs ← cases deeper
-  ys ← otherwise deeper
-  expect_keyword keywords.EndCase
-  expect_symbol symbols.Semicolon
+  ys ← closed_otherwise deeper keywords.EndCase
   pure (statement_kinds.Case (case_statement_of p x cs ys))
 
 abbrev pub step_by : Deeper → Bool → Parser (Option Expression)
@@ -152,44 +168,47 @@ step deeper = do
 abbrev pub range_of : Expression → Expression → Option Expression → ForRange
 range_of a b c = record { first = a; last = b; step = c }
 
-unfoldable pub for_bounds : Deeper → Parser ForRange
-for_bounds deeper = do
-  a ← deeper.expression
-  expect_keyword keywords.To
+unfoldable pub last_and_step : Deeper → Parser (Expression × Option Expression)
+last_and_step deeper = do
   b ← deeper.expression
   c ← step deeper
-  pure (range_of a b c)
+  expect_keyword keywords.Do
+  pure (b, c)
+
+unfoldable pub for_range : Deeper → Parser ForRange
+for_range deeper = do
+  a ← expression_before deeper keywords.To
+  rest ← last_and_step deeper
+  pure (range_of a rest.0 rest.1)
 
 unfoldable pub for_statement : ℕ → Deeper → Parser Statement
 for_statement depth_left deeper = do
   p ← enter depth_left
   n ← identifier
   expect_symbol symbols.Assign
-  x ← for_bounds deeper
-  expect_keyword keywords.Do
-  ss ← deeper.statements
-  expect_keyword keywords.EndFor
-  expect_symbol symbols.Semicolon
+  x ← for_range deeper
+  ss ← closed_block deeper keywords.EndFor
   pure (statement_kinds.For (for_of p n x.first x.last x.step ss))
 
 unfoldable pub while_statement : ℕ → Deeper → Parser Statement
 while_statement depth_left deeper = do
   p ← enter depth_left
-  x ← deeper.expression
-  expect_keyword keywords.Do
-  ss ← deeper.statements
-  expect_keyword keywords.EndWhile
-  expect_symbol symbols.Semicolon
+  x ← expression_before deeper keywords.Do
+  ss ← closed_block deeper keywords.EndWhile
   pure (statement_kinds.While (while_of p x ss))
+
+unfoldable pub until : Deeper → Parser Expression
+until deeper = do
+  x ← expression_before deeper keywords.EndRepeat
+  expect_symbol symbols.Semicolon
+  pure x
 
 unfoldable pub repeat_statement : ℕ → Deeper → Parser Statement
 repeat_statement depth_left deeper = do
   p ← enter depth_left
   ss ← deeper.statements
   expect_keyword keywords.Until
-  x ← deeper.expression
-  expect_keyword keywords.EndRepeat
-  expect_symbol symbols.Semicolon
+  x ← until deeper
   pure (statement_kinds.Repeat (repeat_of p ss x))
 
 abbrev pub statement_by : ℕ → Deeper → Option Kind → Parser Statement

@@ -8,6 +8,12 @@ use Rattle.st_statements.proofs.statement.+parser.Given as goal
 abbrev pub decreases-block : goal.decreases-block
 decreases-block l = 16 * l.depth_left
 
+abbrev pub decreases-closed_block : goal.decreases-closed_block
+decreases-closed_block l = 16 * l.depth_left + 1
+
+abbrev pub decreases-closed_otherwise : goal.decreases-closed_otherwise
+decreases-closed_otherwise l = 16 * l.depth_left + 2
+
 abbrev pub decreases-conditional : goal.decreases-conditional
 decreases-conditional l = 16 * l.depth_left + 1
 
@@ -33,10 +39,10 @@ abbrev pub decreases-case_statement : goal.decreases-case_statement
 decreases-case_statement l = 16 * l.depth_left + 3
 
 abbrev pub decreases-for_statement : goal.decreases-for_statement
-decreases-for_statement l = 16 * l.depth_left + 1
+decreases-for_statement l = 16 * l.depth_left + 2
 
 abbrev pub decreases-while_statement : goal.decreases-while_statement
-decreases-while_statement l = 16 * l.depth_left + 1
+decreases-while_statement l = 16 * l.depth_left + 2
 
 abbrev pub decreases-repeat_statement : goal.decreases-repeat_statement
 decreases-repeat_statement l = 16 * l.depth_left + 1
