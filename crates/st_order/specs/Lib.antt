@@ -1,0 +1,4 @@
+pub mod Graphs
+pub mod Reversals
+pub mod Searches
+pub mod Walks
