@@ -7,4 +7,4 @@ mod Steps
 mod Reversing
 mod Searching
 mod Returning
-mod Orders
+pub mod Orders

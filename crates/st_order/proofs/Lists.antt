@@ -1,9 +1,9 @@
 -- Lists of rows.
-use Rattle.std.proofs.Common.{◌≡◌, ◌≢◌, ℕ, zero, suc, ◌+◌, ◌<◌, ◌≤◌, List, [], ◌∷◌, ◌++◌, length, get_or, Bool, true, false, nat_eq, cond, refl, ap, sym, ◌∙◌, subst, arith, ◌⊎◌, inl, inr, length-append}
-use Rattle.std.specs.List.{All, AllPairs, Contains, count_by}
-use Rattle.std.proofs.Math.Seq.{get_or-append_seam}
+use Rattle.std.proofs.Common.{◌≡◌, ◌≢◌, ℕ, zero, suc, ◌+◌, ◌<◌, List, [], ◌∷◌, ◌++◌, length, get_or, take, drop, nat_eq, cond, refl, ap, sym, ◌∙◌, subst, arith, ◌⊎◌, inl, inr, length-append}
+use Rattle.std.specs.List.{AllPairs, Contains}
+use Rattle.std.proofs.Math.Seq.{drop-cons, get_or-append_seam}
 use Rattle.std.proofs.lemmas.Bool.Decides.{nat_tests}
-use Rattle.std.proofs.lemmas.List.{get_or_append_left}
+use Rattle.std.proofs.lemmas.List.{get_or_append_left, take-append-drop}
 use Rattle.std.proofs.lemmas.List.Sums.{sum_by-append}
 use Rattle.std.proofs.lemmas.List.Elements.{Contains-push_cases}
 use Rattle.st_order.specs.Walks.{occurrences}
@@ -51,6 +51,11 @@ contained a (b ∷ rows) h = elim (same_or_not a b) as (λ _. Contains (b ∷ ro
   | inl e ↦ subst (λ x. Contains (x ∷ rows) a) e (Contains-head a rows)
   | inr n ↦ Contains-tail a b rows (contained a rows (omega (arith, h, occurrences-append a (b ∷ []) rows, occurrences-other a b n)))
 ]
+
+-- a row with those before and after it
+pub split_at : (rows : List ℕ) (a : ℕ) → Contains rows a → (before : List ℕ) × (after : List ℕ) × (rows ≡ before ++ a ∷ after)
+split_at rows a (k, below, is) =
+    (take k rows, drop (suc k) rows, sym (take-append-drop k rows) ∙ ap (λ rest. take k rows ++ rest) (drop-cons rows k a below ∙ ap (λ b. b ∷ drop (suc k) rows) is))
 
 -- where a row stands in a list with one row more
 pub split_push : (rows before after : List ℕ) (a b : ℕ) → rows ++ b ∷ [] ≡ before ++ a ∷ after

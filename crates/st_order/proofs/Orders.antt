@@ -1,12 +1,13 @@
 -- Orders of all rows.
-use Rattle.std.proofs.Common.{◌≡◌, ℕ, ◌<◌, ◌≤◌, List, [], ◌∷◌, ◌++◌, sym, subst, arith, ◌⊎◌, inl, inr}
+use Rattle.std.proofs.Common.{◌≡◌, ◌≢◌, ℕ, ◌≤◌, List, [], ◌∷◌, ◌++◌, ap, sym, ◌∙◌, subst, arith, append_assoc, inl, inr}
 use Rattle.std.specs.Prelude.{◌↔◌}
-use Rattle.std.specs.List.{All, Contains}
-use Rattle.std.proofs.lemmas.List.Elements.{All-contains, Contains-push, Contains-push_cases}
+use Rattle.std.specs.List.{All, AllPairs, Contains}
+use Rattle.std.proofs.lemmas.List.Elements.{All-contains, Contains-append_left, Contains-push, Contains-push_cases}
 use Rattle.st_order.specs.Graphs.{Graph, Refers, Reaches, direct, onward, IsBefore, IsOrder, IsFirstToReturn}
+use Rattle.st_order.specs.Laws.{NoneReachesItself, ReachedIsBefore}
 use Rattle.st_order.specs.Walks.{IsPostorder}
 use Rattle.st_order.proofs.GraphLemmas.{reaches_row}
-use Rattle.st_order.proofs.Lists.{Contains-nil}
+use Rattle.st_order.proofs.Lists.{Contains-nil, once_only, split_at}
 
 -- where no row reaches itself, what a row refers to stands before it
 pub postorder_is_order : (graph : Graph) (order : List ℕ) → IsPostorder graph order → ((a : ℕ) → Reaches graph a a → ⊥) → IsOrder graph order
@@ -34,3 +35,22 @@ least_is_first graph rows a b cyclic has least same = subst (IsFirstToReturn gra
 
 pub none_returns : (graph : Graph) (rows : List ℕ) → ((a : ℕ) → Contains rows a ↔ Reaches graph a a) → rows ≡ [] → (a : ℕ) → Reaches graph a a → ⊥
 none_returns graph rows cyclic none a h = Contains-nil a (subst (λ xs. Contains xs a) none ((cyclic a).1 h))
+
+-- ---- what follows of an order
+
+-- what stands before a row stands before those after it
+before_goes_on : (order : List ℕ) (a b c : ℕ) → IsBefore order c b → IsBefore order b a → IsBefore order c a
+before_goes_on order a b c first second before after is =
+    let split : (rows : List ℕ) × (rest : List ℕ) × (before ≡ rows ++ b ∷ rest) = split_at before b (second before after is) in
+    let whole : order ≡ split.0 ++ b ∷ (split.1 ++ a ∷ after) = is ∙ ap (λ rows. rows ++ a ∷ after) split.2 ∙ append_assoc split.0 (b ∷ split.1) (a ∷ after) in
+    subst (λ rows. Contains rows c) (sym split.2) (Contains-append_left split.0 (b ∷ split.1) c (first split.0 (split.1 ++ a ∷ after) whole))
+
+pub reached_is_before : ReachedIsBefore
+reached_is_before graph order a b o (direct r) = o.after a b r
+reached_is_before graph order a b o (onward {b = m} r k) =
+    before_goes_on order a m b (reached_is_before graph order m b o k) (o.after a m r)
+
+pub none_reaches_itself : NoneReachesItself
+none_reaches_itself graph order a o h =
+    let split : (rows : List ℕ) × (rest : List ℕ) × (order ≡ rows ++ a ∷ rest) = split_at order a (o.all a (reaches_row graph a a h)) in
+    once_only split.0 split.1 a (subst (AllPairs (λ b c. b ≢ c)) split.2 o.once) (reached_is_before graph order a a o h split.0 split.1 split.2)

@@ -1,11 +1,10 @@
 -- Turns of a search.
 use Rattle.std.proofs.Common.{◌≡◌, ℕ, ◌+◌, ◌<◌, ◌≤◌, List, [], ◌∷◌, ◌++◌, Bool, true, false, not, length, get_or, set, drop, take, refl, ap, sym, ◌∙◌, subst, arith, ◌⊎◌, inl, inr, add-one, append_assoc, cond, length-drop, get_or-set_other, length-append}
-use Rattle.std.specs.Prelude.{◌↔◌}
-use Rattle.std.specs.List.{All, Contains, count_by}
+use Rattle.std.specs.List.{All, Contains}
 use Rattle.std.proofs.Math.Seq.{drop-append_seam, drop-cons}
 use Rattle.std.proofs.lemmas.List.{append-nil, drop-append-le, get_or_default, take_more}
 use Rattle.std.proofs.lemmas.List.Sums.{sum_by-set}
-use Rattle.std.proofs.lemmas.List.Elements.{All-contains, Contains-append_left, Contains-append_right, Contains-append_cases, Contains-push, Contains-push_cases}
+use Rattle.std.proofs.lemmas.List.Elements.{Contains-append_left, Contains-append_right, Contains-append_cases, Contains-push, Contains-push_cases}
 use Rattle.st_order.specs.Graphs.{Graph, references, IsRow, IsClosed, Refers, Reaches, direct, onward}
 use Rattle.st_order.specs.Searches.{AddsNew}
 use Rattle.st_order.specs.Walks.{IsSeen}

@@ -1,7 +1,7 @@
 -- Turns of the loop that walks in depth.
-use Rattle.std.proofs.Common.{◌≡◌, ℕ, ◌+◌, ◌-◌, ◌<◌, ◌≤◌, List, [], ◌∷◌, ◌++◌, Bool, true, false, length, get_or, set, map, refl, ap, sym, ◌∙◌, subst, arith}
+use Rattle.std.proofs.Common.{◌≡◌, ℕ, ◌+◌, ◌<◌, ◌≤◌, List, [], ◌∷◌, ◌++◌, Bool, true, false, length, get_or, set, refl, ap, sym, ◌∙◌, subst, arith}
 use Rattle.std.specs.Prelude.{Some}
-use Rattle.std.specs.List.{All, Contains, sum_by}
+use Rattle.std.specs.List.{All, Contains}
 use Rattle.std.proofs.lemmas.List.{get_or_default, map-append}
 use Rattle.std.proofs.lemmas.List.Elements.{All-nil, All-pop, All-push, Contains-get_or}
 use Rattle.std.proofs.lemmas.List.Sums.{sum_by_push}
@@ -10,7 +10,7 @@ use Rattle.st_order.specs.Walks.{IsSeen, IsWalk}
 use Rattle.st_order.specs.declared.walk.Visit.{Visit}
 use Rattle.st_order.proofs.Lists.{Contains-nil}
 use Rattle.st_order.proofs.Marks.{mark_read, set_sees, set_keeps}
-use Rattle.st_order.proofs.Visits.{rows_of, visit_of, IsFollowed, Keeps, follows_keeps, followed_keeps, not_followed, one_followed, all_followed, work_on, work_ahead, work, work_ahead-set}
+use Rattle.st_order.proofs.Visits.{rows_of, visit_of, IsFollowed, Keeps, follows_keeps, followed_keeps, not_followed, one_followed, all_followed, work_on, work, work_ahead-set}
 use Rattle.st_order.proofs.Walking.{entered, path_reaches, left}
 
 -- a walk from a row, where these rows were seen before

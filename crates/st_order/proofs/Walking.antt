@@ -1,14 +1,14 @@
 -- Steps of a walk in depth.
-use Rattle.std.proofs.Common.{◌≡◌, ◌≢◌, ℕ, ◌+◌, ◌<◌, ◌≤◌, List, [], ◌∷◌, ◌++◌, Bool, true, false, length, get_or, set, refl, ap, sym, ◌∙◌, subst, arith, ◌⊎◌, inl, inr, length-set}
-use Rattle.std.specs.List.{All, AllPairs, Contains}
-use Rattle.std.proofs.lemmas.List.Elements.{All-push, All-contains, Contains-append_left, Contains-get_or, Contains-push, Contains-push_cases}
+use Rattle.std.proofs.Common.{◌≡◌, ◌≢◌, ℕ, ◌<◌, ◌≤◌, List, [], ◌∷◌, ◌++◌, Bool, true, false, length, get_or, set, ap, sym, ◌∙◌, subst, arith, ◌⊎◌, inl, inr, length-set}
+use Rattle.std.specs.List.{AllPairs, Contains}
+use Rattle.std.proofs.lemmas.List.Elements.{All-push, Contains-append_left, Contains-get_or, Contains-push, Contains-push_cases}
 use Rattle.std.proofs.lemmas.List.{get_or_default}
 use Rattle.std.proofs.lemmas.List.Quantifiers.{all_pairs_push}
-use Rattle.st_order.specs.Graphs.{Graph, references, IsRow, Refers, Reaches, direct, onward}
+use Rattle.st_order.specs.Graphs.{Graph, IsRow, Refers, Reaches, direct}
 use Rattle.st_order.specs.Walks.{IsSeen, occurrences, one, StaysOrReaches, IsPostorder, IsWalk}
 use Rattle.st_order.proofs.GraphLemmas.{onwards}
 use Rattle.st_order.proofs.Lists.{Contains-nil, occurrences-append, occurs, contained, split_push, pairs_last, pairs_shorter}
-use Rattle.st_order.proofs.Marks.{seen_or_not, set_sees, set_keeps, one-set}
+use Rattle.st_order.proofs.Marks.{set_keeps, one-set}
 
 -- the row that is entered stands at the end of the path from now on
 pub entered : (graph : Graph) (path : List ℕ) (seen : List Bool) (order : List ℕ) (a : ℕ) → IsWalk graph path seen order

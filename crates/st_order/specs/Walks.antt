@@ -1,7 +1,7 @@
 -- What a walk in depth keeps.
-use Rattle.std.specs.Prelude.{ℕ, ◌≡◌, ◌≢◌, ◌<◌, ◌≤◌, ◌+◌, ◌⊎◌, Bool, true, false, nat_eq, List, [], ◌∷◌, ◌++◌, length, slice_index_or}
+use Rattle.std.specs.Prelude.{ℕ, ◌≡◌, ◌≢◌, ◌+◌, ◌⊎◌, Bool, true, false, nat_eq, List, [], ◌∷◌, ◌++◌, length, slice_index_or}
 use Rattle.std.specs.List.{All, AllPairs, Contains, count_by}
-use Rattle.st_order.specs.Graphs.{Graph, references, IsRow, Refers, Reaches}
+use Rattle.st_order.specs.Graphs.{Graph, IsRow, Refers, Reaches}
 
 -- the row is seen
 abbrev pub IsSeen : List Bool → ℕ → Type 0

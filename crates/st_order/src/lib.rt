@@ -2,9 +2,11 @@
 #![tactic(auto)]
 
 mod cycles;
+mod laws;
 mod reversal;
 mod search;
 mod sorting;
 mod walk;
 
+pub use laws::ordered_has_no_cycle;
 pub use sorting::{OrderFault, order};

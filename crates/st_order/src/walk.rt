@@ -8,10 +8,10 @@ use st_tree::List;
 use std::alloc::{AllocError, Global};
 
 /// A row on the path of a walk, and how many of its references were followed.
-#[derive(Clone, Copy, Debug, PartialEq, Eq)]
-pub struct Visit {
-    pub row: usize,
-    pub followed: usize,
+#[derive(Clone, Copy)]
+struct Visit {
+    row: usize,
+    followed: usize,
 }
 
 impl Visit {

@@ -1,4 +1,4 @@
-use Rattle.std.proofs.Common.{sym, ◌∙◌, arith}
+use Rattle.std.proofs.Common.{sym, ◌∙◌}
 use Rattle.std.proofs.lemmas.List.{get_or_default}
 use Rattle.st_order.proofs.Reversing.{one_reversed, all_reversed}
 use Rattle.st_order.proofs.reversal.reversed.Goals as goal

@@ -1,4 +1,4 @@
-use Rattle.std.proofs.Common.{rules, arith, sym, ◌∙◌}
+use Rattle.std.proofs.Common.{rules, arith, ◌∙◌}
 use Rattle.st_order.proofs.GraphLemmas.{references_read}
 use Rattle.st_order.proofs.Searching.{search_begun, search_continued, search_ended, next_row, references_marked}
 use Rattle.st_order.proofs.search.add_reached.Goals as goal

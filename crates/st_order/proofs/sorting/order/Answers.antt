@@ -1,5 +1,4 @@
-use Rattle.std.proofs.Common.{◌≡◌, sym, ◌∙◌, subst}
-use Rattle.std.specs.List.{All, Contains}
+use Rattle.std.proofs.Common.{◌≡◌, sym, ◌∙◌}
 use Rattle.st_order.proofs.Orders.{postorder_is_order, least_is_first, none_returns}
 use Rattle.st_order.proofs.sorting.order.Goals as goal
 
