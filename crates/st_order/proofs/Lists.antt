@@ -52,10 +52,13 @@ contained a (b ∷ rows) h = elim (same_or_not a b) as (λ _. Contains (b ∷ ro
   | inr n ↦ Contains-tail a b rows (contained a rows (omega (arith, h, occurrences-append a (b ∷ []) rows, occurrences-other a b n)))
 ]
 
--- a row with those before and after it
+-- a row at a place, with those before and after it
+pub split_place : (rows : List ℕ) (place a : ℕ) → place < length rows → get_or rows place a ≡ a → rows ≡ take place rows ++ a ∷ drop (suc place) rows
+split_place rows place a below is = sym (take-append-drop place rows)
+    ∙ ap (λ rest. take place rows ++ rest) (drop-cons rows place a below ∙ ap (λ b. b ∷ drop (suc place) rows) is)
+
 pub split_at : (rows : List ℕ) (a : ℕ) → Contains rows a → (before : List ℕ) × (after : List ℕ) × (rows ≡ before ++ a ∷ after)
-split_at rows a (k, below, is) =
-    (take k rows, drop (suc k) rows, sym (take-append-drop k rows) ∙ ap (λ rest. take k rows ++ rest) (drop-cons rows k a below ∙ ap (λ b. b ∷ drop (suc k) rows) is))
+split_at rows a (place, below, is) = (take place rows, drop (suc place) rows, split_place rows place a below is)
 
 -- where a row stands in a list with one row more
 pub split_push : (rows before after : List ℕ) (a b : ℕ) → rows ++ b ∷ [] ≡ before ++ a ∷ after

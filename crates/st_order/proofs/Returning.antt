@@ -3,14 +3,14 @@ use Rattle.std.proofs.Common.{◌≡◌, ℕ, suc, ◌+◌, ◌-◌, ◌<◌, �
 use Rattle.std.specs.Prelude.{◌↔◌}
 use Rattle.std.specs.List.{All, Contains}
 use Rattle.std.proofs.Math.Seq.{drop-cons}
-use Rattle.std.proofs.lemmas.List.{get_or-drop, get_or-take, get_or_default, length-take-le, take-append-drop}
+use Rattle.std.proofs.lemmas.List.{get_or-drop, get_or-take, get_or_default, length-take-le}
 use Rattle.std.proofs.lemmas.List.Elements.{All-from_get_or, Contains-append_left, Contains-append_right, Contains-append_cases, Contains-get_or, Contains-push, Contains-push_cases}
 use Rattle.st_order.specs.Graphs.{Graph, references, IsRow, IsClosed, Refers, Reaches, direct, onward}
 use Rattle.st_order.specs.Reversals.{IsReversal}
 use Rattle.st_order.specs.Searches.{AddsNew}
 use Rattle.st_order.specs.Walks.{IsSeen, StaysOrReaches, ReachesLast, IsPostorder}
 use Rattle.st_order.proofs.GraphLemmas.{refers_row, reaches_row, onwards}
-use Rattle.st_order.proofs.Lists.{Contains-cons_cases, same_or_not}
+use Rattle.st_order.proofs.Lists.{Contains-cons_cases, same_or_not, split_place}
 use Rattle.st_order.proofs.Marks.{mark_read, set_sees, set_keeps}
 use Rattle.st_order.proofs.Searching.{listed}
 
@@ -62,10 +62,7 @@ reaches_later graph order before after a b last is h not_before =
 pub reaches_place : (graph : Graph) (order : List ℕ) (place a b : ℕ) → IsPostorder graph order → place < length order
     → b ≡ get_or order place b → Contains order a → (Contains (drop (place + 1) order) a → ⊥) → Reaches graph a b → Reaches graph a a
 reaches_place graph order place a b postorder lt is (i, below, e) not_after h =
-    reaches_later graph order (take i order) (drop (suc i) order) a b postorder.last split h not_before where
-      split : order ≡ take i order ++ a ∷ drop (suc i) order
-      split = sym (take-append-drop i order) ∙ ap (λ rows. take i order ++ rows) (drop-cons order i a below ∙ ap (λ x. x ∷ drop (suc i) order) e)
-
+    reaches_later graph order (take i order) (drop (suc i) order) a b postorder.last (split_place order i a below e) h not_before where
       up_to : i ≤ place
       up_to = elim (within_or_after place) as (λ _. i ≤ place) [
         | inl le ↦ le

@@ -60,19 +60,6 @@ pub record IsReversedBelow (graph reversal : Graph) (row : ℕ) : Type 0 where
   pub rows : length reversal ≡ length graph
   pub turned : (a b : ℕ) → Refers reversal b a ↔ ((a < row) × Refers graph a b)
 
-pub none_reversed : (graph reversal : Graph) → reversal ≡ replicate (length graph) [] → IsReversedBelow graph reversal 0
-none_reversed graph reversal is = record {
-  rows = ap length is ∙ length-replicate (length graph) [];
-  turned = λ a b. (
-    (λ h. absurd (Contains-nil a (subst (λ rows. Contains rows a) (get_or-replicate_nil (length graph) b) (subst (λ r. Refers r b a) is h)))),
-    (λ h. let no : a < 0 = h.0 in absurd (omega arith)),
-  );
-} where
-  get_or-replicate_nil : (n b : ℕ) → references (replicate n []) b ≡ []
-  get_or-replicate_nil zero b = refl
-  get_or-replicate_nil (suc n) zero = refl
-  get_or-replicate_nil (suc n) (suc b) = get_or-replicate_nil n b
-
 pub one_reversed : (graph reversal reversal' : Graph) (row : ℕ) (refs : List ℕ) → IsReversedBelow graph reversal row → references graph row ≡ refs
     → AddsReferences refs row reversal reversal' → IsReversedBelow graph reversal' (row + 1)
 one_reversed graph reversal reversal' row refs w same added = record {

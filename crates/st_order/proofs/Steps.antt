@@ -10,7 +10,7 @@ use Rattle.st_order.specs.Walks.{IsSeen, IsWalk}
 use Rattle.st_order.specs.declared.walk.Visit.{Visit}
 use Rattle.st_order.proofs.Lists.{Contains-nil}
 use Rattle.st_order.proofs.Marks.{mark_read, set_sees, set_keeps}
-use Rattle.st_order.proofs.Visits.{rows_of, visit_of, IsFollowed, Keeps, follows_keeps, followed_keeps, not_followed, one_followed, all_followed, work_on, work, work_ahead-set}
+use Rattle.st_order.proofs.Visits.{rows_of, visit_of, next_of, IsFollowed, Keeps, follows_keeps, followed_keeps, not_followed, one_followed, all_followed, work_on, work, work_ahead-set}
 use Rattle.st_order.proofs.Walking.{entered, path_reaches, left}
 
 -- a walk from a row, where these rows were seen before
@@ -73,25 +73,24 @@ module _ {graph : Graph} {from : ℕ} {before : List Bool} {path rest : List Vis
       mark_read seen (get_or refs visit.followed 0) mark known (omega (arith, row_here closed lt, t.here.length)) read is
 
   -- the next reference is seen
-  pub passed_here : (next : List Visit) → next ≡ rest ++ visit_of visit.row (visit.followed + 1) ∷ [] → visit.followed < length refs
+  pub passed_here : (next : List Visit) → next ≡ rest ++ next_of visit ∷ [] → visit.followed < length refs
       → IsSeen seen (get_or refs visit.followed 0) → IsWalkFrom graph from before next seen order
   passed_here next is_next lt known =
-      let after : Visit = visit_of visit.row (visit.followed + 1) in
       rw is_next (record {
-        walk = rw (rows_of_push rest after) t.here;
-        followed = All-push (IsFollowed graph seen) rest after t.others (one_followed graph seen visit.row visit.followed t.last (rw t.lists lt) (rw t.lists known));
+        walk = rw (rows_of_push rest (next_of visit)) t.here;
+        followed = All-push (IsFollowed graph seen) rest (next_of visit) t.others (one_followed graph seen visit.row visit.followed t.last (rw t.lists lt) (rw t.lists known));
         begins = t.begins;
         keeps = t.keeps;
       })
 
-  rows_entered : (next : List Visit) (b : ℕ) → next ≡ (rest ++ visit_of visit.row (visit.followed + 1) ∷ []) ++ visit_of b 0 ∷ []
+  rows_entered : (next : List Visit) (b : ℕ) → next ≡ (rest ++ next_of visit ∷ []) ++ visit_of b 0 ∷ []
       → rows_of next ≡ (rows_of rest ++ visit.row ∷ []) ++ b ∷ []
   rows_entered next b is_next = ap rows_of is_next
-      ∙ rows_of_push (rest ++ visit_of visit.row (visit.followed + 1) ∷ []) (visit_of b 0)
-      ∙ ap (λ rows. rows ++ b ∷ []) (rows_of_push rest (visit_of visit.row (visit.followed + 1)))
+      ∙ rows_of_push (rest ++ next_of visit ∷ []) (visit_of b 0)
+      ∙ ap (λ rows. rows ++ b ∷ []) (rows_of_push rest (next_of visit))
 
   -- it isn't, and the walk goes on to it
-  pub entered_here : (next : List Visit) (b : ℕ) → IsClosed graph → next ≡ (rest ++ visit_of visit.row (visit.followed + 1) ∷ []) ++ visit_of b 0 ∷ []
+  pub entered_here : (next : List Visit) (b : ℕ) → IsClosed graph → next ≡ (rest ++ next_of visit ∷ []) ++ visit_of b 0 ∷ []
       → b ≡ get_or refs visit.followed 0 → visit.followed < length refs → get_or seen b false ≡ false
       → IsWalkFrom graph from before next (set seen b true) order
   entered_here next b closed is_next is lt new =
@@ -104,9 +103,9 @@ module _ {graph : Graph} {from : ℕ} {before : List Bool} {path rest : List Vis
       record {
         walk = rw (rows_entered next b is_next)
             (entered graph (rows_of rest ++ visit.row ∷ []) seen order b t.here is_row new
-            (path_reaches graph (rows_of rest) visit.row b t.here.onward (subst (Contains (references graph visit.row)) (sym refers) (Contains-get_or (references graph visit.row) visit.followed 0 within))));
-        followed = rw is_next (All-push (IsFollowed graph marked) (rest ++ visit_of visit.row (visit.followed + 1) ∷ []) (visit_of b 0)
-            (All-push (IsFollowed graph marked) rest (visit_of visit.row (visit.followed + 1))
+            (path_reaches graph (rows_of rest) visit.row b t.here.along (subst (Contains (references graph visit.row)) (sym refers) (Contains-get_or (references graph visit.row) visit.followed 0 within))));
+        followed = rw is_next (All-push (IsFollowed graph marked) (rest ++ next_of visit ∷ []) (visit_of b 0)
+            (All-push (IsFollowed graph marked) rest (next_of visit)
             (followed_keeps graph seen marked rest keeps t.others)
             (one_followed graph marked visit.row visit.followed (follows_keeps graph seen marked visit keeps t.last) within (subst (IsSeen marked) refers (set_sees seen b b in_marks refl))))
             (not_followed graph marked b is_row));
@@ -124,16 +123,16 @@ module _ {graph : Graph} {from : ℕ} {before : List Bool} {path rest : List Vis
   })
 
   -- each turn leaves less to be done
-  pub less_passed : (next : List Visit) → next ≡ rest ++ visit_of visit.row (visit.followed + 1) ∷ [] → visit.followed < length refs
+  pub less_passed : (next : List Visit) → next ≡ rest ++ next_of visit ∷ [] → visit.followed < length refs
       → work graph next seen < work graph path seen
   less_passed next is_next lt = rw (is_next, t.ends) (omega (
     arith,
     sum_by_push (work_on graph) rest visit,
-    sum_by_push (work_on graph) rest (visit_of visit.row (visit.followed + 1)),
+    sum_by_push (work_on graph) rest (next_of visit),
     ap length t.lists,
   ))
 
-  pub less_entered : (next : List Visit) (b : ℕ) → IsClosed graph → next ≡ (rest ++ visit_of visit.row (visit.followed + 1) ∷ []) ++ visit_of b 0 ∷ []
+  pub less_entered : (next : List Visit) (b : ℕ) → IsClosed graph → next ≡ (rest ++ next_of visit ∷ []) ++ visit_of b 0 ∷ []
       → b ≡ get_or refs visit.followed 0 → visit.followed < length refs → get_or seen b false ≡ false
       → work graph next (set seen b true) < work graph path seen
   less_entered next b closed is_next is lt new =
@@ -143,8 +142,8 @@ module _ {graph : Graph} {from : ℕ} {before : List Bool} {path rest : List Vis
       rw (is_next, t.ends) (omega (
         arith,
         sum_by_push (work_on graph) rest visit,
-        sum_by_push (work_on graph) rest (visit_of visit.row (visit.followed + 1)),
-        sum_by_push (work_on graph) (rest ++ visit_of visit.row (visit.followed + 1) ∷ []) (visit_of b 0),
+        sum_by_push (work_on graph) rest (next_of visit),
+        sum_by_push (work_on graph) (rest ++ next_of visit ∷ []) (visit_of b 0),
         within,
         work_ahead-set graph seen b is_row in_marks new,
       ))

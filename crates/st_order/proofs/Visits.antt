@@ -13,13 +13,17 @@ rows_of path = map (λ visit. visit.row) path
 abbrev pub visit_of : ℕ → ℕ → Visit
 visit_of a followed = record { row = a; followed = followed }
 
+-- the visit with one reference more followed
+abbrev pub next_of : Visit → Visit
+next_of visit = record { row = visit.row; followed = visit.followed + 1 }
+
 -- as many references as were followed are seen
 pub record IsFollowed (graph : Graph) (seen : List Bool) (visit : Visit) : Type 0 where
   pub row : IsRow graph visit.row
   pub within : visit.followed ≤ length (references graph visit.row)
   pub sees : (k : ℕ) → k < visit.followed → IsSeen seen (get_or (references graph visit.row) k 0)
 
--- no more rows are to be seen
+-- what was seen stays seen
 abbrev pub Keeps : List Bool → List Bool → Type 0
 Keeps seen seen' = (a : ℕ) → IsSeen seen a → IsSeen seen' a
 

@@ -23,7 +23,7 @@ entered graph path seen order a w row new reach =
       once = w.once;
       last = w.last;
       followed = λ b c h r. set_keeps seen c a in_marks (w.followed b c h r);
-      onward = all_pairs_push (Reaches graph) path a w.onward (λ k d h. reach (get_or path k d) (Contains-get_or path k d h));
+      along = all_pairs_push (Reaches graph) path a w.along (λ k d h. reach (get_or path k d) (Contains-get_or path k d h));
     }
 
 -- where the last row of the path refers to a row, all rows of the path reach that one
@@ -60,7 +60,7 @@ stays graph path seen order a w refers b c h r =
     elim (placed graph (path ++ a ∷ []) seen order c w seen_c) as (λ _. Contains (order ++ a ∷ []) c ⊎ Reaches graph c a) [
       | inl k ↦ inl (Contains-append_left order (a ∷ []) c k)
       | inr k ↦ elim (Contains-push_cases path a c k) as (λ _. Contains (order ++ a ∷ []) c ⊎ Reaches graph c a) [
-        | inl m ↦ inr (pairs_last (Reaches graph) path a c w.onward m)
+        | inl m ↦ inr (pairs_last (Reaches graph) path a c w.along m)
         | inr e ↦ inl (subst (Contains (order ++ a ∷ [])) e (Contains-push order a))
       ]
     ] where
@@ -86,7 +86,7 @@ left graph path seen order a w row refers = record {
     | inl k ↦ w.followed b c k r
     | inr e ↦ refers c (subst (λ x. Refers graph x c) (sym e) r)
   ];
-  onward = pairs_shorter (Reaches graph) path a w.onward;
+  along = pairs_shorter (Reaches graph) path a w.along;
 }
 
 -- a walk that stands on no path and has seen all rows

@@ -11,6 +11,7 @@ IsSeen seen a = slice_index_or seen a false ≡ true
 abbrev pub occurrences : ℕ → List ℕ → ℕ
 occurrences a rows = count_by (nat_eq a) rows
 
+-- 1 for true
 abbrev pub one : Bool → ℕ
 one true = 1
 one false = 0
@@ -41,4 +42,4 @@ pub record IsWalk (graph : Graph) (path : List ℕ) (seen : List Bool) (order : 
   pub last : ReachesLast graph order
   pub followed : (a b : ℕ) → Contains order a → Refers graph a b → IsSeen seen b
   -- each row of the path reaches all later ones
-  pub onward : AllPairs (Reaches graph) path
+  pub along : AllPairs (Reaches graph) path

@@ -1,7 +1,7 @@
 //! The rows that a row reaches.
 ghost use Rattle.std.specs.Prelude.{◌≡◌, ◌<◌, ℕ, length, All, OnOk};
 ghost use Rattle.std.specs.List.{Contains};
-ghost use Rattle.st_order.specs.Graphs.{IsClosed, Reaches, Refers};
+ghost use Rattle.st_order.specs.Graphs.{IsClosed, IsRow, Reaches, Refers};
 ghost use Rattle.st_order.specs.Searches.{AddsNew};
 ghost use Rattle.st_order.specs.Walks.{IsSeen};
 
@@ -31,8 +31,9 @@ pub fn add_reached(
     found: &mut Vec<usize>,
 ) -> Result<(), AllocError>
     requires closed { IsClosed graph.now }
-    requires from { from < length graph.now }
+    requires from { IsRow graph.now from }
     requires length { length seen.old.items ≡ length graph.now }
+    // What seen rows refer to is seen.
     requires seen { (a b : ℕ) → IsSeen seen.old.items a → Refers graph.now a b → IsSeen seen.old.items b }
     ensures length { OnOk result (length seen.new.items ≡ length graph.now) }
     ensures new { OnOk result (AddsNew (Reaches graph.now from) seen.old.items seen.new.items found.old.items found.new.items) }

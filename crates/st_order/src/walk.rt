@@ -1,7 +1,6 @@
 //! A walk through a graph in depth.
-ghost use Rattle.std.specs.Prelude.{◌≡◌, ◌≢◌, ◌<◌, ◌⊎◌, ℕ, [], false, length, slice_index_or, All, AllPairs, IfOk, OnOk};
-ghost use Rattle.std.specs.List.{Contains};
-ghost use Rattle.st_order.specs.Graphs.{IsClosed};
+ghost use Rattle.std.specs.Prelude.{◌≡◌, ℕ, [], false, slice_index_or, IfOk, OnOk};
+ghost use Rattle.st_order.specs.Graphs.{IsClosed, IsRow};
 ghost use Rattle.st_order.specs.Walks.{IsPostorder, IsSeen, IsWalk};
 
 use st_tree::List;
@@ -47,7 +46,7 @@ fn walk(
     order: &mut Vec<usize>,
 ) -> Result<(), AllocError>
     requires closed { IsClosed graph.now }
-    requires from { from < length graph.now }
+    requires from { IsRow graph.now from }
     requires new { slice_index_or seen.old.items from false ≡ false }
     requires walk { IsWalk graph.now [] seen.old.items order.old.items }
     ensures walk { OnOk result (IsWalk graph.now [] seen.new.items order.new.items) }
