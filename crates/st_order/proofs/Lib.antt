@@ -1,0 +1,10 @@
+mod Lists
+mod GraphLemmas
+mod Marks
+mod Walking
+mod Visits
+mod Steps
+mod Reversing
+mod Searching
+mod Returning
+pub mod Orders

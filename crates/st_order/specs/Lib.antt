@@ -1,0 +1,5 @@
+pub mod Graphs
+pub mod Laws
+pub mod Reversals
+pub mod Searches
+pub mod Walks
