@@ -1,0 +1,7 @@
+//! How many leaves a variable has, how many bytes they take and how long their paths are: counted without listing them.
+#![tactic(auto)]
+
+mod size;
+mod subrange;
+
+pub use size::{Choices, MOST, Size};
