@@ -1,13 +1,14 @@
 -- Orders of all rows.
-use Rattle.std.proofs.Common.{◌≡◌, ◌≢◌, ℕ, ◌≤◌, List, [], ◌∷◌, ◌++◌, ap, sym, ◌∙◌, subst, arith, append_assoc, inl, inr}
+use Rattle.std.proofs.Common.{◌≡◌, ◌≢◌, ℕ, suc, ◌≤◌, List, [], ◌∷◌, ◌++◌, get_or, take, drop, ap, sym, ◌∙◌, subst, arith, append_assoc, inl, inr}
 use Rattle.std.specs.Prelude.{◌↔◌}
 use Rattle.std.specs.List.{All, AllPairs, Contains}
+use Rattle.std.proofs.lemmas.List.{get_or_default}
 use Rattle.std.proofs.lemmas.List.Elements.{All-contains, Contains-append_left, Contains-push, Contains-push_cases}
 use Rattle.st_order.specs.Graphs.{Graph, Refers, Reaches, direct, onward, IsBefore, IsOrder, IsFirstToReturn}
-use Rattle.st_order.specs.Laws.{NoneReachesItself, ReachedIsBefore}
+use Rattle.st_order.specs.Laws.{NoneReachesItself, ReachedIsBefore, ReferencesAreBefore}
 use Rattle.st_order.specs.Walks.{IsPostorder}
 use Rattle.st_order.proofs.GraphLemmas.{reaches_row}
-use Rattle.st_order.proofs.Lists.{Contains-nil, once_only, split_at}
+use Rattle.st_order.proofs.Lists.{Contains-nil, once_only, split_at, split_place}
 
 -- where no row reaches itself, what a row refers to stands before it
 pub postorder_is_order : (graph : Graph) (order : List ℕ) → IsPostorder graph order → ((a : ℕ) → Reaches graph a a → ⊥) → IsOrder graph order
@@ -37,6 +38,11 @@ pub none_returns : (graph : Graph) (rows : List ℕ) → ((a : ℕ) → Contains
 none_returns graph rows cyclic none a h = Contains-nil a (subst (λ xs. Contains xs a) none ((cyclic a).1 h))
 
 -- ---- what follows of an order
+
+pub references_are_before : ReferencesAreBefore
+references_are_before graph order place b o below r =
+    let a : ℕ = get_or order place 0 in
+    o.after a b r (take place order) (drop (suc place) order) (split_place order place a below (get_or_default order place a 0 below))
 
 -- what stands before a row stands before those after it
 before_goes_on : (order : List ℕ) (a b c : ℕ) → IsBefore order c b → IsBefore order b a → IsBefore order c a

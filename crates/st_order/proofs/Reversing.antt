@@ -1,13 +1,13 @@
 -- Turns of the loops that turn references round.
-use Rattle.std.proofs.Common.{◌≡◌, ℕ, zero, suc, ◌+◌, ◌<◌, ◌≤◌, List, [], ◌∷◌, ◌++◌, length, get_or, set, replicate, refl, ap, sym, ◌∙◌, subst, arith, ◌⊎◌, inl, inr, length-set, get_or-set_same, get_or-set_other}
+use Rattle.std.proofs.Common.{◌≡◌, ℕ, ◌+◌, ◌<◌, ◌≤◌, List, [], ◌∷◌, ◌++◌, length, get_or, set, ap, sym, ◌∙◌, subst, arith, ◌⊎◌, inl, inr, length-set, get_or-set_same, get_or-set_other}
 use Rattle.std.specs.Prelude.{◌↔◌}
 use Rattle.std.specs.List.{Contains}
-use Rattle.std.proofs.lemmas.List.{get_or_default, length-replicate}
+use Rattle.std.proofs.lemmas.List.{get_or_default}
 use Rattle.std.proofs.lemmas.List.Elements.{Contains-append_left, Contains-push, Contains-push_cases}
 use Rattle.st_order.specs.Graphs.{Graph, references, IsRow, Refers}
 use Rattle.st_order.specs.Reversals.{IsReversal, AddsReferences}
 use Rattle.st_order.proofs.GraphLemmas.{refers_row}
-use Rattle.st_order.proofs.Lists.{Contains-nil, same_or_not}
+use Rattle.st_order.proofs.Lists.{same_or_not}
 
 -- one row more refers to this one
 pub one_reference : (from : List ℕ) (to : ℕ) (graph graph' : Graph) (a : ℕ) (old new : List ℕ) → AddsReferences from to graph graph'

@@ -1,8 +1,10 @@
 //! Laws of orders.
-ghost use Rattle.st_order.specs.Laws.{NoneReachesItself, ReachedIsBefore};
+ghost use Rattle.st_order.specs.Laws.{NoneReachesItself, ReachedIsBefore, ReferencesAreBefore};
 
-/// In an order, what a row reaches stands before it. So a graph that has an order has no row that reaches itself.
+/// In an order, what a row refers to stands at the places before it, and so does what it reaches. So a graph that has an
+/// order has no row that reaches itself.
 pub fn ordered_has_no_cycle()
-    ensures before { ReachedIsBefore }
+    ensures places { ReferencesAreBefore }
+    ensures reached { ReachedIsBefore }
     ensures none { NoneReachesItself }
 {}
