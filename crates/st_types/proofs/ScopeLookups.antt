@@ -1,8 +1,9 @@
 -- What names stand for in the scope of a unit.
-use Rattle.std.proofs.Common.{◌≡◌, ℕ, zero, suc, ◌<◌, Bool, false, List, [], ◌∷◌, length, map, Option, Some, None, is_some, refl, sym, ◌∙◌, ap, subst, arith, ◌⊎◌, inl, inr}
+use Rattle.std.proofs.Common.{◌≡◌, ℕ, zero, suc, ◌<◌, Bool, false, List, [], ◌∷◌, length, get_or, map, Option, Some, None, is_some, refl, sym, ◌∙◌, ap, subst, arith, ◌⊎◌, inl, inr}
 use Rattle.std.specs.List.{slice_get}
-use Rattle.std.specs.Option.{option_map}
-use Rattle.std.proofs.lemmas.Option.{same_Some}
+use Rattle.std.proofs.lemmas.List.{length-map}
+use Rattle.std.specs.Option.{option_map, option_map_or}
+use Rattle.std.proofs.lemmas.Option.{same_Some, slice_get_read}
 use Rattle.st_names.specs.Tables.{first_of}
 use Rattle.st_tree.specs.declared.tree.position.Identifier.{Identifier}
 use Rattle.st_tree.specs.declared.tree.unit.Action.{Action}
@@ -13,7 +14,7 @@ use Rattle.st_types.specs.Inside.{declares_at}
 use Rattle.st_types.specs.Lookups.{optional_unit_callee, optional_unit_member, optional_variable}
 use Rattle.st_types.specs.Names.{Declared, Declares, Named, actions_of, declared_named, is_action, is_among, is_step, number_of, steps_of, unit_at, unit_by, units_of, variables_of}
 use Rattle.st_types.specs.Names as names
-use Rattle.st_types.specs.Declarations.{names_in}
+use Rattle.st_types.specs.Declarations.{names_at, names_in}
 use Rattle.st_types.specs.UnitNames.{unit_names}
 use Rattle.st_types.specs.declared.names.UnitNames.{UnitNames}
 use Rattle.st_types.specs.Scopes.{callee_named, member_of, optional_callee, optional_member, optional_scope, scope_at, scope_of, global_callee, symbol_callee, symbol_of, variable_named}
@@ -153,3 +154,13 @@ module _ (units : List Named) where
   pub callee-global : (name : List ℕ) (standard : Option Standard) (i : ℕ) → standard ≡ None → number_of units name ≡ Some i → optional_unit_callee units (declares_at units i) ≡ global_callee units name standard
   callee-global name standard i none number =
       sym (ap (global_callee units name) none ∙ (ap (λ (n : Option ℕ). optional_callee units (unit_by units n)) number ∙ callee_at units (unit_at units i)))
+
+  names-found : (unit : Option Declares) (found : UnitNames) → option_map (unit_names units) unit ≡ Some found → found.declarations ≡ option_map_or names_in unit []
+  names-found None found is = cc
+  names-found (Some unit) found is = sym (ap (λ (n : UnitNames). n.declarations) (same_Some (unit_names units unit) found is))
+
+  -- what is declared in the unit that is read
+  pub names-read : (all : List UnitNames) (i : ℕ) (found : UnitNames) → all ≡ map (λ u. unit_names units u.declares) units → i < length units → found ≡ get_or all i found → found.declarations ≡ names_at units i
+  names-read all i found are below read =
+      let len : length units ≡ length all = sym (ap length are ∙ length-map units (λ (u : Named). unit_names units u.declares)) in
+      names-found (declares_at units i) found (sym (told_at (unit_names units) units i) ∙ (sym (ap (λ (ns : List UnitNames). slice_get ns i) are) ∙ slice_get_read all (length units) i found len below read))

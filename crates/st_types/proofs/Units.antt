@@ -1,8 +1,5 @@
 -- Units by number.
-use Rattle.std.proofs.Common.{◌≡◌, ℕ, zero, suc, ◌<◌, ◌≤◌, List, [], ◌∷◌, length, map, get_or, Option, Some, None, refl, sym, ap, arith}
-use Rattle.std.specs.List.{slice_get}
-use Rattle.std.specs.Option.{option_map}
-use Rattle.st_types.specs.Inside.{declares_at}
+use Rattle.std.proofs.Common.{◌≡◌, ℕ, zero, suc, ◌<◌, ◌≤◌, List, [], ◌∷◌, length, map, get_or, Some, None, refl, sym, ap, arith}
 use Rattle.st_types.specs.Names.{Named, unit_at}
 
 -- the unit that is read
@@ -16,9 +13,3 @@ pub unit_at-past : (units : List Named) (i : ℕ) → length units ≤ i → uni
 unit_at-past [] i past = refl
 unit_at-past (u ∷ us) zero past = absurd (omega (arith, past))
 unit_at-past (u ∷ us) (suc i) past = unit_at-past us i (omega (arith, past))
-
--- what the unit that is read declares
-pub declares-got : (units : List Named) (i : ℕ) (got : Option Named) → got ≡ slice_get units i → option_map (λ (u : Named). u.declares) got ≡ declares_at units i
-declares-got [] i got is = ap (option_map (λ (u : Named). u.declares)) is
-declares-got (u ∷ us) zero got is = ap (option_map (λ (u : Named). u.declares)) is
-declares-got (u ∷ us) (suc i) got is = declares-got us i got is

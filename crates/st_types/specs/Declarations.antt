@@ -1,7 +1,9 @@
 -- Declared names, as tables hold them.
-use Rattle.std.specs.Prelude.{ℕ, ◌≡◌, List, map}
+use Rattle.std.specs.Prelude.{ℕ, ◌≡◌, List, [], map}
+use Rattle.std.specs.Option.{option_map_or}
 use Rattle.st_tree.specs.declared.tree.declaration.DeclaredType.TheVariants as declared_types
-use Rattle.st_types.specs.Names.{Declared, Declares, members_of, variables_in}
+use Rattle.st_types.specs.Inside.{declares_at}
+use Rattle.st_types.specs.Names.{Declared, Declares, Named, members_of, variables_in}
 use Rattle.st_types.specs.Names as names
 use Rattle.st_types.specs.declared.declaration.Declarations.TheInside.{Inside}
 use Rattle.st_types.specs.declared.declaration.Declared.{Declared as Row}
@@ -25,3 +27,7 @@ pub record AreDeclarations (all : Inside) : Type 0 where
 abbrev pub names_in : Declares → List Declared
 names_in (names.type (declared_types.Structure position declarations)) = members_of declarations
 names_in unit = variables_in unit
+
+-- what the unit of this number declares
+abbrev pub names_at : List Named → ℕ → List Declared
+names_at units i = option_map_or names_in (declares_at units i) []

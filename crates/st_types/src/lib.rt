@@ -20,8 +20,11 @@ mod variable;
 mod walk;
 
 pub use base::{Base, Purpose};
+pub use declaration::Declared;
 pub use pin::Pin;
 pub use scope::Scope;
 pub use standard::{Standard, StandardBlock, StandardFunction, standard_of};
 pub use symbol::{Callee, Due, Elements, Input, Member, Shape, Signature, Symbol};
 pub use tables::Tables;
+pub use unit::{NamedUnit, UnitKind};
+pub use variable::{may_hold_instances, must_be_value};

@@ -1,16 +1,20 @@
 //! Tables of a text: its units, what they declare, and what its types stand for.
-ghost use Rattle.std.specs.Prelude.{◌≡◌, ◌<◌, IfOk, IfSome, length, slice_get};
+ghost use Rattle.std.specs.Prelude.{◌≡◌, ◌<◌, IfOk, IfSome, Some, length, map, slice_get};
 ghost use Rattle.std.specs.Option.{option_copied, option_map};
-ghost use Rattle.st_types.specs.Inside.{declares_at};
-ghost use Rattle.st_types.specs.Names.{number_of, units_of};
-ghost use Rattle.st_types.specs.Types.{shape_of, type_at};
+ghost use Rattle.st_types.specs.Declarations.{names_at, seen};
+ghost use Rattle.st_types.specs.Inside.{declares_at, named_by};
+ghost use Rattle.st_types.specs.Names.{number_of, unit_at, units_of};
+ghost use Rattle.st_types.specs.Types.{elements_in, shape_of, type_at};
 ghost use Rattle.st_types.specs.UnitNames.{unit_names};
 
 use crate::base::Base;
+use crate::declaration::Declared;
+use crate::lookup::elements_in;
 use crate::names::{UnitNames, names_of};
 use crate::scope::Scope;
-use crate::symbol::Shape;
+use crate::symbol::{Elements, Shape};
 use crate::types::TypeTable;
+use crate::unit::NamedUnit;
 use st_tree::tree::{Specification, Unit};
 use std::alloc::{AllocError, Global};
 use std::marker::Model;
@@ -66,6 +70,30 @@ impl<'a> Tables<'a> {
         self.types.len()
     }
 
+    /// The units, in order.
+    pub fn units(&self) -> &[NamedUnit<'a>]
+        ensures { map named_by result.now ≡ units_of self.now }
+    {
+        self.types.units()
+    }
+
+    /// The unit of this number.
+    pub fn unit(&self, number: usize) -> NamedUnit<'a>
+        requires { number < length (units_of self.now) }
+        ensures { Some (named_by result) ≡ unit_at (units_of self.now) number }
+    {
+        self.types.unit(number)
+    }
+
+    /// What the unit of this number declares, in order: its variables, or the members of a structure.
+    pub fn declared(&self, unit: usize) -> &[Declared<'a>]
+        requires { unit < length (units_of self.now) }
+        ensures { map seen result.now ≡ names_at (units_of self.now) unit }
+    {
+        let names = &self.names[unit];
+        names.declarations.as_slice()
+    }
+
     /// The number of the first unit of this name, ignoring case.
     pub fn number_of(&self, name: &[u8]) -> Option<usize>
         ensures number { result ≡ number_of (units_of self.now) name.now }
@@ -86,6 +114,13 @@ impl<'a> Tables<'a> {
         ensures { result ≡ shape_of (units_of self.now) specification.now }
     {
         self.types.shape_of(specification)
+    }
+
+    /// The subscripts and elements of an array type.
+    pub fn elements(&self, base: Base) -> Option<Elements<'_>>
+        ensures { result ≡ elements_in (units_of self.now) base }
+    {
+        elements_in(self, base)
     }
 
     /// What the names in the statements of a unit stand for.

@@ -1,9 +1,9 @@
 //! What the types of a text stand for (2.3.3), and what variables are made of (2.4.1).
-ghost use Rattle.std.specs.Prelude.{◌≡◌, ◌<◌, IfOk, IfSome, length, map, slice_get};
+ghost use Rattle.std.specs.Prelude.{◌≡◌, ◌<◌, IfOk, IfSome, Some, length, map};
 ghost use Rattle.std.specs.Option.{option_map};
 ghost use Rattle.st_types.specs.Inside.{declared_by, declares_at, named_by};
 ghost use Rattle.st_types.specs.Links.{names_of};
-ghost use Rattle.st_types.specs.Names.{number_of, units_of};
+ghost use Rattle.st_types.specs.Names.{number_of, unit_at, units_of};
 ghost use Rattle.st_types.specs.Types.{name_stands_for, shape_of, type_at, type_named};
 
 use crate::base::Base;
@@ -74,19 +74,21 @@ impl<'a> TypeTable<'a> {
     }
 
     /// The unit of this number.
-    fn unit(&self, number: usize) -> Option<NamedUnit<'a>>
-        ensures { option_map named_by result ≡ slice_get self.now number }
+    pub fn unit(&self, number: usize) -> NamedUnit<'a>
+        requires { number < length self.now }
+        ensures { Some (named_by result) ≡ unit_at self.now number }
     {
-        self.units.get(number).copied()
+        self.units[number]
     }
 
     /// What the unit of this number declares.
     pub fn kind(&self, number: usize) -> Option<UnitKind<'a>>
         ensures { option_map declared_by result ≡ declares_at self.now number }
     {
-        match self.unit(number) {
-            Some(unit) => Some(unit.kind),
-            None => None,
+        if number < self.len() {
+            Some(self.unit(number).kind)
+        } else {
+            None
         }
     }
 

@@ -24,7 +24,7 @@ fn purpose_of(kind: VarKind) -> Purpose
 }
 
 /// Whether instances may stand there: under VAR of a function block or program.
-fn may_hold_instances(unit: UnitKind, kind: VarKind) -> bool
+pub fn may_hold_instances(unit: UnitKind, kind: VarKind) -> bool
     ensures { result ≡ may_hold_instances (declared_by unit.entry) kind }
 {
     match unit {
@@ -34,7 +34,7 @@ fn may_hold_instances(unit: UnitKind, kind: VarKind) -> bool
 }
 
 /// Whether an elementary type must stand there: in functions, and under VAR CONSTANT.
-fn must_be_value(unit: UnitKind, kind: VarKind) -> bool
+pub fn must_be_value(unit: UnitKind, kind: VarKind) -> bool
     ensures { result ≡ must_be_value (declared_by unit.entry) kind }
 {
     matches!(unit, UnitKind::Function(_)) || matches!(kind, VarKind::Constant)
