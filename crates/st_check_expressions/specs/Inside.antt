@@ -1,0 +1,93 @@
+-- What the functions of this crate give that do parts of the walk.
+use Rattle.std.specs.Prelude.{ℕ, Bool, true, ◌&&◌, ◌||◌, not, List, [], ◌∷◌, ◌++◌, Option, None, if◌then◌else◌}
+use Rattle.std.specs.List.{list_all, list_any}
+use Rattle.st_values.specs.Words.{is_word}
+use Rattle.st_values.specs.declared.elem.Elem.{Elem}
+use Rattle.st_values.specs.declared.elem.Elem.TheVariants as elems
+use Rattle.st_tree.specs.declared.operator.BinOp.{BinOp}
+use Rattle.st_tree.specs.declared.tree.expression.Variable.{Variable}
+use Rattle.st_tree.specs.declared.tree.position.Position.{Position}
+use Rattle.st_faults.specs.Faults.{fault, when}
+use Rattle.st_faults.specs.declared.fault.Fault.{Fault}
+use Rattle.st_faults.specs.declared.fault.Rule.TheVariants as rules
+use Rattle.st_types.specs.OwnTypes.{compared_type, compares, is_boolean, is_integer, is_shift, takes}
+use Rattle.st_types.specs.Scopes.{Scope}
+use Rattle.st_types.specs.Types.{Shape, elem_of, is_unknown, is_value}
+use Rattle.st_types.specs.declared.standard.StandardFunction.{StandardFunction}
+use Rattle.st_types.specs.declared.standard.StandardFunction.TheVariants as functions
+use Rattle.st_types.specs.declared.symbol.Due.{Due}
+use Rattle.st_types.specs.declared.symbol.Due.TheVariants as dues
+use Rattle.st_check_expressions.specs.Calls.{ArgumentKnown, positional}
+use Rattle.st_check_expressions.specs.Known.{Known, OperandKnown, alone, is_empty, operators_of, owns_of}
+use Rattle.st_check_expressions.specs.Variables.{element_faults, is_fixed, misfit, shape_elements, start_by}
+use Rattle.st_check_expressions.specs.Walk.{known_parts}
+use Rattle.st_check_expressions.specs.declared.route.Route.{Route}
+use Rattle.st_check_expressions.specs.declared.route.Start.{Start}
+
+-- ---- calls
+
+-- the own type of an argument, the first or not, is that of the call
+abbrev pub types_call : StandardFunction → Bool → Bool
+types_call functions.Sel is_first = not is_first
+types_call f is_first = is_first || not (is_shift f)
+
+-- the own type of an argument by position, the first or not, where that is the type of the call
+abbrev pub argument_own : StandardFunction → Bool → ArgumentKnown → Option Elem
+argument_own f is_first (positional x) = if types_call f is_first then x.own else None
+argument_own f is_first _ = None
+
+-- ---- what is due
+
+-- the type at which a part is taken where this is due
+abbrev pub due_elem : Known → Due → Elem
+due_elem x (dues.Type e) = e
+due_elem x _ = alone x
+
+-- a part that is taken at a type meets what is due, besides the type itself
+abbrev pub meets : Known → Elem → Due → Bool
+meets x e dues.Any = true
+meets x e (dues.Type d) = true
+meets x e dues.Integer = is_integer e || x.fits_all
+meets x e dues.NoValue = x.fits_all
+
+-- ---- chains
+
+-- the type at which the operands of a chain are taken, where this type is due of the whole
+abbrev pub chain_type : Known → List OperandKnown → Elem → Elem
+chain_type x ls e = if compares (operators_of ls) then compared_type x.own (owns_of ls) else e
+
+-- the type at which the operands behind the second are taken
+abbrev pub further_type : List BinOp → Elem → Elem
+further_type os e = if compares os then elems.Bool else e
+
+-- operands: the first at this type, and each further one at that
+abbrev pub operands_from : List OperandKnown → Elem → Elem → List Fault
+operands_from [] e further = []
+operands_from (l ∷ ls) e further = l.operand.faults_at l.operand.position e ++ operands_from ls further further
+
+-- the operators take their operands, and give what is due
+abbrev pub fits_chain : List BinOp → Elem → Bool
+fits_chain os e = if compares os then is_boolean e else list_all (λ o. takes o e) os
+
+-- ---- variables
+
+-- where the way through a variable begins
+abbrev pub start_at : Scope → Variable → Start
+start_at scope v = start_by scope v.name (known_parts scope v.parts) (scope.variable v.name.spelling)
+
+-- so many subscripts at this position are not as many as the array has
+abbrev pub count_faults : Scope → Shape → Position → ℕ → List Fault
+count_faults scope s position count = element_faults (is_unknown s.base) position count (shape_elements scope s)
+
+-- it has another type than is due, or is no one value
+abbrev pub shape_misfit : Shape → Position → Elem → List Fault
+shape_misfit s at e = misfit (is_unknown s.base) (elem_of s) at e
+
+-- what is no one value
+abbrev pub whole_faults : Shape → Position → List Fault
+whole_faults s at = when (not (is_unknown s.base || is_value s)) (fault at rules.TypeMismatch)
+
+-- A variable that is reached so takes no value: it is a constant or an input, or the way to it led through an instance or a
+-- step, or a loop counts it.
+abbrev pub is_kept : Scope → List (List ℕ) → Variable → Route → Bool
+is_kept scope counters v r = is_fixed (scope.variable v.name.spelling) || r.through || (is_empty v.parts && list_any (is_word v.name.spelling) counters)

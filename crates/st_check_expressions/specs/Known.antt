@@ -1,0 +1,133 @@
+-- What is known of a part of an expression (3.3.1), and what the rules say of it where a type is due.
+use Rattle.std.specs.Prelude.{ℕ, zero, suc, pos, negsuc, Bool, true, false, ◌||◌, not, List, [], ◌∷◌, ◌++◌, map, Option, ℤ, if◌then◌else◌}
+use Rattle.std.specs.List.{flat_map, list_all}
+use Rattle.st_values.specs.Types.{is_same}
+use Rattle.st_values.specs.Values.{in_range}
+use Rattle.st_values.specs.declared.elem.Elem.{Elem}
+use Rattle.st_values.specs.declared.elem.Elem.TheVariants as elems
+use Rattle.st_tree.specs.declared.operator.BinOp.{BinOp}
+use Rattle.st_tree.specs.declared.tree.constant.Constant.{Constant}
+use Rattle.st_tree.specs.declared.tree.constant.Constant.TheVariants as constants
+use Rattle.st_tree.specs.declared.tree.constant.SignedInteger.{SignedInteger}
+use Rattle.st_tree.specs.declared.tree.position.Position.{Position}
+use Rattle.st_faults.specs.Faults.{fault, when}
+use Rattle.st_faults.specs.declared.fault.Fault.{Fault}
+use Rattle.st_faults.specs.declared.fault.Rule.TheVariants as rules
+use Rattle.st_types.specs.OwnTypes.{chain_own, compared_type, compares, complements, is_boolean, is_integer, literal_own, negates, or_lint, takes}
+use Rattle.st_types.specs.declared.symbol.Due.{Due}
+use Rattle.st_types.specs.declared.symbol.Due.TheVariants as dues
+
+abbrev pub is_empty : {A : Type 0} → List A → Bool
+is_empty [] = true
+is_empty (x ∷ xs) = false
+
+pub record Known : Type 0 where
+  pub position : Position  -- of its first token
+  pub own : Option Elem  -- its own type
+  pub fits_all : Bool  -- its type can't be known, for a fault of its own
+  pub faults_at : Position → Elem → List Fault  -- its faults where this type is due, those of its type at this position
+
+-- the type that a part has without context
+abbrev pub alone : Known → Elem
+alone x = or_lint x.own
+
+-- its faults where nothing is due
+abbrev pub faults_alone : Known → List Fault
+faults_alone x = x.faults_at x.position (alone x)
+
+-- its faults where this is due
+abbrev pub faults_as : Known → Due → List Fault
+faults_as x dues.Any = faults_alone x
+faults_as x (dues.Type e) = x.faults_at x.position e
+faults_as x dues.Integer = faults_alone x ++ when (not (is_integer (alone x) || x.fits_all)) (fault x.position rules.TypeMismatch)
+faults_as x dues.NoValue = faults_alone x ++ when (not x.fits_all) (fault x.position rules.TypeMismatch)
+
+-- ---- literals (2.2)
+
+abbrev pub below_zero : ℕ → ℤ
+below_zero zero = pos 0
+below_zero (suc n) = negsuc n
+
+abbrev pub number_of : SignedInteger → ℤ
+number_of n = if n.is_negative then below_zero n.magnitude else pos n.magnitude
+
+abbrev pub literal_position : Constant → Position
+literal_position (constants.Integer n) = n.position
+literal_position (constants.Typed position v) = position
+literal_position (constants.Duration d) = d.position
+literal_position (constants.Bool position b) = position
+
+-- out of the range of the type that it names itself
+abbrev pub is_misstated : Constant → Bool
+is_misstated (constants.Typed position v) = not (in_range v.elem v.bits)
+is_misstated (constants.Duration d) = not (in_range elems.Time d.milliseconds)
+is_misstated _ = false
+
+-- a literal that names its type
+abbrev pub stated_faults : Bool → Elem → Position → Position → Elem → List Fault
+stated_faults misstated stated position at e =
+    if misstated then fault position rules.OutOfRange ∷ [] else when (not (is_same stated e)) (fault at rules.TypeMismatch)
+
+abbrev pub literal_faults : Constant → Position → Elem → List Fault
+literal_faults (constants.Integer n) at e =
+    if is_same e elems.Time then fault at rules.TypeMismatch ∷ [] else when (not (in_range e (number_of n))) (fault n.position rules.OutOfRange)
+literal_faults (constants.Typed position v) at e = stated_faults (not (in_range v.elem v.bits)) v.elem position at e
+literal_faults (constants.Duration d) at e = stated_faults (not (in_range elems.Time d.milliseconds)) elems.Time d.position at e
+literal_faults (constants.Bool position b) at e = stated_faults false elems.Bool position at e
+
+abbrev pub literal : Constant → Known
+literal c = record { position = literal_position c; own = literal_own c; fits_all = is_misstated c; faults_at = literal_faults c }
+
+-- ---- operators (table 55)
+
+-- an operator, and its right operand
+pub record OperandKnown : Type 0 where
+  pub operator : BinOp
+  pub operand : Known
+
+-- A part in parentheses begins at its `(`.
+abbrev pub parenthesized : Position → Known → Known
+parenthesized position x = record { position = position; own = x.own; fits_all = x.fits_all; faults_at = x.faults_at }
+
+abbrev pub negated : Position → Known → Known
+negated position x = record {
+  position = position;
+  own = x.own;
+  fits_all = false;
+  faults_at = λ at e. x.faults_at x.position e ++ when (not (negates e)) (fault at rules.TypeMismatch);
+}
+
+abbrev pub complemented : Position → Known → Known
+complemented position x = record {
+  position = position;
+  own = x.own;
+  fits_all = false;
+  faults_at = λ at e. x.faults_at x.position e ++ when (not (complements e)) (fault at rules.TypeMismatch);
+}
+
+abbrev pub operators_of : List OperandKnown → List BinOp
+operators_of ls = map (λ l. l.operator) ls
+
+abbrev pub operands_at : List OperandKnown → Elem → List Fault
+operands_at ls e = flat_map (λ l. l.operand.faults_at l.operand.position e) ls
+
+-- operators that give what they take: each operand has the type of the whole
+abbrev pub arithmetic_faults : Known → List OperandKnown → Position → Elem → List Fault
+arithmetic_faults x ls at e = x.faults_at x.position e ++ operands_at ls e ++ when (not (list_all (λ o. takes o e) (operators_of ls))) (fault at rules.TypeMismatch)
+
+-- Comparisons give BOOL. The first compares its two sides; each further one a BOOL, which is what those before it give.
+abbrev pub compared_at : List OperandKnown → Elem → List Fault
+compared_at [] e = []
+compared_at (l ∷ ls) e = l.operand.faults_at l.operand.position e ++ compared_at ls elems.Bool
+
+abbrev pub comparison_faults : Elem → Known → List OperandKnown → Position → Elem → List Fault
+comparison_faults compared x ls at e = x.faults_at x.position compared ++ compared_at ls compared ++ when (not (is_boolean e)) (fault at rules.TypeMismatch)
+
+abbrev pub owns_of : List OperandKnown → List (Option Elem)
+owns_of ls = map (λ l. l.operand.own) ls
+
+abbrev pub chain_faults : Known → List OperandKnown → Position → Elem → List Fault
+chain_faults x ls at e = if compares (operators_of ls) then comparison_faults (compared_type x.own (owns_of ls)) x ls at e else arithmetic_faults x ls at e
+
+abbrev pub chain : Position → Known → List OperandKnown → Known
+chain position x ls = record { position = position; own = chain_own (operators_of ls) x.own (owns_of ls); fits_all = false; faults_at = chain_faults x ls }

@@ -1,0 +1,21 @@
+//! What the rules say of expressions, and of the variables and calls in them.
+#![tactic(auto)]
+
+mod arguments;
+mod calls;
+mod check;
+mod literals;
+mod names;
+mod operators;
+mod own;
+mod route;
+mod variables;
+
+pub use arguments::{count_positionals, input_names, output_names};
+pub use calls::offer_broken;
+pub use check::{check_arguments, check_expression, check_target};
+pub use literals::{check_literal, is_misstated, literal_position};
+pub use names::has_repeated;
+pub use operators::is_integer;
+pub use own::own_type;
+pub use route::{elem_of, is_unknown};

@@ -1,0 +1,115 @@
+//! Literals (2.2).
+#![tactic(auto, unfolding(st_faults::specs::Faults::offer_all))]
+
+ghost use Rattle.std.specs.Prelude.{◌≡◌};
+ghost use Rattle.st_values.specs.Values.{in_range};
+ghost use Rattle.st_faults.specs.Faults.{offer_all};
+ghost use Rattle.st_types.specs.OwnTypes.{literal_own};
+ghost use Rattle.st_check_expressions.specs.Known.{is_misstated, literal_faults, literal_position, number_of, stated_faults};
+
+use st_faults::{FirstFault, Rule};
+use st_tree::tree::{Constant, Duration, Position, SignedInteger};
+use st_values::{Elem, Value, is_value};
+
+/// Where a literal stands.
+pub fn literal_position(literal: &Constant) -> Position
+    ensures { result ≡ literal_position literal.now }
+{
+    match literal {
+        Constant::Integer(number) => number.position,
+        Constant::Typed(position, _) => *position,
+        Constant::Duration(duration) => duration.position,
+        Constant::Bool(position, _) => *position,
+    }
+}
+
+/// The type that a literal has by itself. A number has none.
+pub fn literal_own(literal: &Constant) -> Option<Elem>
+    ensures { result ≡ literal_own literal.now }
+{
+    match literal {
+        Constant::Integer(_) => None,
+        Constant::Typed(_, value) => Some(value.elem),
+        Constant::Duration(_) => Some(Elem::Time),
+        Constant::Bool(_, _) => Some(Elem::Bool),
+    }
+}
+
+/// Whether a literal is out of the range of the type that it names itself.
+pub fn is_misstated(literal: &Constant) -> bool
+    ensures { result ≡ is_misstated literal.now }
+{
+    match literal {
+        Constant::Typed(_, value) => !is_value(*value),
+        Constant::Duration(duration) => !is_value(duration_value(duration)),
+        _ => false,
+    }
+}
+
+/// A duration as a value of TIME, in its range or not.
+fn duration_value(duration: &Duration) -> Value
+    ensures elem { result.elem ≡ Elem.Time }
+    ensures bits { result.bits ≡ duration.now.milliseconds }
+{
+    Value {
+        elem: Elem::Time,
+        bits: duration.milliseconds,
+    }
+}
+
+/// Offers the faults of a literal, where a type is due, in a part that begins at `at`.
+pub fn check_literal(literal: &Constant, at: Position, due: Elem, first: &mut FirstFault)
+    ensures { first.new ≡ offer_all first.old (literal_faults literal.now at due) }
+{
+    match literal {
+        Constant::Integer(number) => check_number(number, at, due, first),
+        Constant::Typed(position, value) => {
+            check_stated(!is_value(*value), value.elem, *position, at, due, first);
+        }
+        Constant::Duration(duration) => {
+            let is_misstated = !is_value(duration_value(duration));
+            check_stated(is_misstated, Elem::Time, duration.position, at, due, first);
+        }
+        Constant::Bool(position, _) => check_stated(false, Elem::Bool, *position, at, due, first),
+    }
+}
+
+/// Offers the faults of a number.
+fn check_number(number: &SignedInteger, at: Position, due: Elem, first: &mut FirstFault)
+    ensures { first.new ≡ offer_all first.old (literal_faults (Constant.Integer number.now) at due) }
+{
+    if due.is(Elem::Time) {
+        first.offer(at, Rule::TypeMismatch);
+    } else {
+        first.offer_when(!number_fits(number, due), number.position, Rule::OutOfRange);
+    }
+}
+
+/// Offers the faults of a literal at `position` that names its type.
+fn check_stated(
+    is_misstated: bool,
+    stated: Elem,
+    position: Position,
+    at: Position,
+    due: Elem,
+    first: &mut FirstFault,
+)
+    ensures { first.new ≡ offer_all first.old (stated_faults is_misstated stated position at due) }
+{
+    if is_misstated {
+        first.offer(position, Rule::OutOfRange);
+    } else {
+        first.offer_when(!stated.is(due), at, Rule::TypeMismatch);
+    }
+}
+
+/// Whether a number is in the range of a type.
+fn number_fits(number: &SignedInteger, elem: Elem) -> bool
+    ensures { result ≡ in_range elem (number_of number.now) }
+{
+    if number.is_negative {
+        number.magnitude == 0 || (elem.is_signed() && number.magnitude <= elem.limit())
+    } else {
+        number.magnitude < elem.limit()
+    }
+}

@@ -1,0 +1,4 @@
+pub mod Callers
+pub mod Calls
+pub mod Contained
+pub mod References
