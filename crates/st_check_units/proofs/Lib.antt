@@ -1,0 +1,5 @@
+pub mod ArraySizes
+pub mod NamesTwice
+pub mod Offers
+pub mod TextUnits
+pub mod UnitSizes
