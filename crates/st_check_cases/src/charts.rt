@@ -1,0 +1,72 @@
+//! Charts (2.6).
+use crate::answers::all_are_answered;
+use std::test::Fail;
+
+const CHARTS: &[u8] = b"# ok: a chart
+PROGRAM Main VAR Go : BOOL; Lamp : BOOL; T : TIME; END_VAR
+INITIAL_STEP S1: Lamp(n); Work(L, T#1s); Work(d, T#0s); Tick(P); Work(); END_STEP
+STEP S2: Lamp(R); Lamp(S); END_STEP
+TRANSITION FROM S1 TO S2 := Go AND s2.t > T#1s; END_TRANSITION
+TRANSITION Back (PRIORITY := 1) FROM (S2, S2) TO (S1) := NOT S1.X; END_TRANSITION
+ACTION Work: T := S1.T; END_ACTION ACTION Tick: END_ACTION END_PROGRAM
+# C8 2: no initial step, at the unit's name
+PROGRAM
+Main STEP S1: END_STEP END_PROGRAM
+# C8 2: a second one, at its name
+PROGRAM Main INITIAL_STEP S1: END_STEP INITIAL_STEP
+S2: END_STEP END_PROGRAM
+# C8 2: an unknown step
+PROGRAM Main INITIAL_STEP S1: END_STEP TRANSITION FROM S1 TO
+S3 := TRUE; END_TRANSITION END_PROGRAM
+# C8 2: an unknown qualifier
+PROGRAM Main VAR A : BOOL; END_VAR INITIAL_STEP S1:
+A(X); END_STEP END_PROGRAM
+# C8 2: L without a duration
+PROGRAM Main VAR A : BOOL; END_VAR INITIAL_STEP S1: A(N);
+A(L); END_STEP END_PROGRAM
+# C8 2: N with one
+PROGRAM Main VAR A : BOOL; END_VAR INITIAL_STEP S1: A(D, T#1s);
+A(N, T#1s); END_STEP END_PROGRAM
+# C8 2: P with one
+PROGRAM Main VAR A : BOOL; END_VAR INITIAL_STEP S1: A(P);
+A(P, T#1s); END_STEP END_PROGRAM
+# C1 2: neither an action nor a variable
+PROGRAM Main INITIAL_STEP S1:
+S1(); END_STEP END_PROGRAM
+# C3 2: no BOOL variable
+PROGRAM Main VAR A : INT; END_VAR INITIAL_STEP S1:
+A(); END_STEP END_PROGRAM
+# C5 2: an input
+PROGRAM Main VAR_INPUT A : BOOL; END_VAR INITIAL_STEP S1:
+A(); END_STEP END_PROGRAM
+# C3 3: a condition that is no BOOL
+PROGRAM Main INITIAL_STEP S1: END_STEP
+TRANSITION FROM S1 TO S1 :=
+1 + 1; END_TRANSITION END_PROGRAM
+# C1 3: a step's name is no value
+PROGRAM Main INITIAL_STEP S1: END_STEP
+TRANSITION FROM S1 TO S1 :=
+S1; END_TRANSITION END_PROGRAM
+# C1 3: a step has X and T alone
+PROGRAM Main INITIAL_STEP S1: END_STEP
+TRANSITION FROM S1 TO S1 :=
+S1.Y; END_TRANSITION END_PROGRAM
+# C5 3: a step's flag
+PROGRAM Main INITIAL_STEP S1: END_STEP
+ACTION A:
+S1.X := TRUE; END_ACTION END_PROGRAM
+# C2 2: a step named as a variable
+PROGRAM Main VAR S1 : BOOL; END_VAR INITIAL_STEP
+s1: END_STEP END_PROGRAM
+# C2 2: a transition named as an action
+PROGRAM Main INITIAL_STEP S1: END_STEP ACTION A: END_ACTION TRANSITION
+A FROM S1 TO S1 := TRUE; END_TRANSITION END_PROGRAM
+# C7 2: EXIT in an action
+PROGRAM Main INITIAL_STEP S1: END_STEP ACTION A:
+EXIT; END_ACTION END_PROGRAM
+";
+
+#[test]
+fn charts_are_well_formed(rt: HostRuntime) -> Result<(), Fail> {
+    all_are_answered(&rt, rt.alloc(), CHARTS)
+}

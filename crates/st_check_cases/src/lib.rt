@@ -1,0 +1,16 @@
+//! What no clause says of the rules: that they mean what the standard's readers expect, case by case, with answers made by
+//! hand.
+//!
+//! This crate has tests alone.
+#![tactic(auto)]
+
+#[cfg(test)]
+mod answers;
+#[cfg(test)]
+mod charts;
+#[cfg(test)]
+mod declarations;
+#[cfg(test)]
+mod expressions;
+#[cfg(test)]
+mod statements;
