@@ -1,7 +1,6 @@
 pub mod Counts
 pub mod Folds
 pub mod Nodes
-pub mod Offers
 pub mod Owns
 pub mod Repeated
 pub mod Steps

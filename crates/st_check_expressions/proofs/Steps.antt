@@ -36,7 +36,7 @@ use Rattle.st_check_expressions.specs.Walk.{known, known_arguments, known_call, 
 use Rattle.st_check_expressions.specs.declared.route.Route.{Route}
 use Rattle.st_check_expressions.proofs.Folds.{call_known, known_call_is, known_chain, known_variable_is}
 use Rattle.st_check_expressions.proofs.Nodes.{empty_map, operators_known, position_known, rule_known}
-use Rattle.st_check_expressions.proofs.Offers.{both, three}
+use Rattle.st_faults.proofs.Offers.{both, three}
 
 -- ---- what is due
 

@@ -3,7 +3,7 @@ ghost use Rattle.std.specs.Prelude.{◌≡◌, ◌&&◌, ◌||◌, IfOk, Some, m
 ghost use Rattle.std.specs.List.{list_all};
 ghost use Rattle.std.specs.Option.{is_some};
 ghost use Rattle.st_faults.specs.Faults.{offer_all};
-ghost use Rattle.st_types.specs.OwnTypes.{gives, least_arguments, most_arguments, position_due, standard_due};
+ghost use Rattle.st_types.specs.OwnTypes.{gives, is_shift, least_arguments, most_arguments, position_due, standard_due};
 ghost use Rattle.st_types.specs.Signatures.{input_number};
 ghost use Rattle.st_check_expressions.specs.Calls.{are_own_arguments, broken, is_at_most, is_faulty, is_input_of, is_repeated, mismatch, name_due, rule_by, takes_arguments};
 ghost use Rattle.st_check_expressions.specs.Nodes.{rule_of};
@@ -11,7 +11,6 @@ ghost use Rattle.st_check_expressions.specs.Nodes.{rule_of};
 use crate::arguments::{count_positionals, input_names, output_names};
 use crate::names::has_repeated;
 use crate::operators::{is_bits, is_integer};
-use crate::own::is_shift;
 use st_faults::{FirstFault, Rule};
 use st_tree::tree::{Argument, Identifier, Position};
 use st_types::{Callee, Due, Signature, StandardFunction};
@@ -19,6 +18,19 @@ use st_values::Elem;
 use std::alloc::{AllocError, Global};
 
 // ---- which arguments a function takes
+
+/// Whether a function is a shift or a rotation.
+pub fn is_shift(function: StandardFunction) -> bool
+    ensures { result ≡ is_shift function }
+{
+    matches!(
+        function,
+        StandardFunction::Shl
+            | StandardFunction::Shr
+            | StandardFunction::Rol
+            | StandardFunction::Ror
+    )
+}
 
 /// How many arguments a standard function takes at least.
 fn least_arguments(function: StandardFunction) -> usize

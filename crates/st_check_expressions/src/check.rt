@@ -19,8 +19,9 @@ use crate::variables::{
     check_count, check_field, check_misfit, check_whole, is_kept, offer_unknown,
 };
 use st_faults::{FirstFault, Rule};
+use st_scopes::Scope;
 use st_tree::tree::{Argument, Call, Expression, Operation, Part, Position, Variable};
-use st_types::{Callee, Due, Scope, Shape};
+use st_types::{Callee, Due, Shape};
 use st_values::Elem;
 use std::alloc::{AllocError, Global};
 

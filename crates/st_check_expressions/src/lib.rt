@@ -19,3 +19,4 @@ pub use names::has_repeated;
 pub use operators::is_integer;
 pub use own::own_type;
 pub use route::{elem_of, is_unknown};
+pub use variables::is_counted;

@@ -1,6 +1,6 @@
 //! What is known of an expression before its type is due: where it begins, its own type, and whether that can be known.
 ghost use Rattle.std.specs.Prelude.{◌≡◌, IfOk, None};
-ghost use Rattle.st_types.specs.OwnTypes.{call_own, compared_type, first_own, is_shift, standard_own};
+ghost use Rattle.st_types.specs.OwnTypes.{call_own, compared_type, first_own, standard_own};
 ghost use Rattle.st_types.specs.Scopes.{scope_at};
 ghost use Rattle.st_check_expressions.specs.Calls.{owns_in};
 ghost use Rattle.st_check_expressions.specs.Inside.{argument_own, chain_type, due_elem, meets, types_call};
@@ -9,12 +9,13 @@ ghost use Rattle.st_check_expressions.specs.Nodes.{position_of};
 ghost use Rattle.st_check_expressions.specs.Walk.{known, known_argument, known_arguments, known_operation, known_operations};
 
 use crate::arguments::is_positional;
-use crate::calls::is_unknown_call;
+use crate::calls::{is_shift, is_unknown_call};
 use crate::literals::{is_misstated, literal_own, literal_position};
 use crate::operators::{compares, is_integer};
 use crate::route::{elem_of, is_unknown, reach};
+use st_scopes::Scope;
 use st_tree::tree::{Argument, Call, Expression, Operation, Position};
-use st_types::{Callee, Due, Scope, StandardFunction};
+use st_types::{Callee, Due, StandardFunction};
 use st_values::Elem;
 use std::alloc::{AllocError, Global};
 
@@ -31,19 +32,6 @@ pub fn position(expression: &Expression) -> Position
         | Expression::Not(position, _)
         | Expression::Chain(position, _, _) => *position,
     }
-}
-
-/// Whether a function is a shift or a rotation.
-pub fn is_shift(function: StandardFunction) -> bool
-    ensures { result ≡ is_shift function }
-{
-    matches!(
-        function,
-        StandardFunction::Shl
-            | StandardFunction::Shr
-            | StandardFunction::Rol
-            | StandardFunction::Ror
-    )
 }
 
 /// Whether an argument's own type is that of the call: of SEL all but the first, of a shift the first. `is_first` says

@@ -1,6 +1,5 @@
 //! Ways through variables and their parts (2.4.1).
 ghost use Rattle.std.specs.Prelude.{◌≡◌, ◌≤◌, None, Some, length, true, false};
-ghost use Rattle.st_values.specs.Words.{is_word};
 ghost use Rattle.st_types.specs.Scopes.{Scope as Names, scope_at};
 ghost use Rattle.st_types.specs.Types.{elem_of, is_unknown, plain};
 ghost use Rattle.st_check_expressions.specs.Inside.{start_at};
@@ -8,8 +7,10 @@ ghost use Rattle.st_check_expressions.specs.Variables.{element_route, entered_by
 ghost use Rattle.st_check_expressions.specs.Variables as variables;
 ghost use Rattle.st_check_expressions.specs.Walk.{known_part, known_parts, known_variable};
 
+use st_names::is_same_name;
+use st_scopes::Scope;
 use st_tree::tree::{Identifier, Part, Position, Variable};
-use st_types::{Base, Elements, Member, Scope, Shape};
+use st_types::{Base, Elements, Member, Shape};
 use st_values::Elem;
 
 /// What a variable, or a part of it, is, and whether the way to it led through an instance or a step.
@@ -205,20 +206,13 @@ fn step_start<'a>(variable: &Variable) -> Start<'a>
         return unknown(variable.name.position, 0);
     };
     let spelling = name.spelling.as_slice();
-    if is_word(b"X", spelling) {
+    if is_same_name(b"X", spelling) {
         step_value(Elem::Bool)
-    } else if is_word(b"T", spelling) {
+    } else if is_same_name(b"T", spelling) {
         step_value(Elem::Time)
     } else {
         unknown(name.position, 1)
     }
-}
-
-/// Whether a text is a word, ignoring case.
-pub fn is_word(word: &[u8], text: &[u8]) -> bool
-    ensures { result ≡ is_word word.now text.now }
-{
-    text.eq_ignore_ascii_case(word)
 }
 
 /// Where the way through a variable begins.

@@ -7,10 +7,12 @@ ghost use Rattle.st_types.specs.Scopes.{scope_at};
 ghost use Rattle.st_check_expressions.specs.Inside.{count_faults, is_kept, shape_misfit, whole_faults};
 ghost use Rattle.st_check_expressions.specs.Variables.{field_faults, is_fixed, unknown_faults};
 
-use crate::route::{Route, elem_of, elements, is_unknown, is_word, member};
+use crate::route::{Route, elem_of, elements, is_unknown, member};
 use st_faults::{FirstFault, Rule};
+use st_names::is_same_name;
+use st_scopes::Scope;
 use st_tree::tree::{Identifier, Position, Variable};
-use st_types::{Purpose, Scope, Shape, Symbol};
+use st_types::{Purpose, Shape, Symbol};
 use st_values::Elem;
 
 /// Offers that a name isn't there.
@@ -79,10 +81,10 @@ fn is_fixed(symbol: Option<Symbol<'_>>) -> bool
 }
 
 /// Whether one of these is the name, ignoring case.
-fn is_counted(counters: &[&[u8]], name: &[u8]) -> bool
+pub fn is_counted(counters: &[&[u8]], name: &[u8]) -> bool
     ensures { result ≡ list_any (λ n. is_word name.now n.now) counters.now }
 {
-    counters.iter().any(|counter| is_word(name, counter))
+    counters.iter().any(|counter| is_same_name(name, counter))
 }
 
 /// Whether a variable that is reached so takes no value, in loops that count these variables.

@@ -1,16 +1,15 @@
 //! The variable that FOR counts (3.3.2.4).
 ghost use Rattle.std.specs.Prelude.{◌≡◌, map};
-ghost use Rattle.std.specs.List.{list_any};
-ghost use Rattle.st_values.specs.Words.{is_word};
 ghost use Rattle.st_faults.specs.Faults.{offer_all};
 ghost use Rattle.st_types.specs.Scopes.{elem_due, scope_at};
 ghost use Rattle.st_check_expressions.specs.Variables.{is_fixed_purpose};
 ghost use Rattle.st_check_statements.specs.Statements.{counter_due, counter_faults, counts, is_integer_type, may_count};
 
-use st_check_expressions::{elem_of, is_integer, is_unknown};
+use st_check_expressions::{elem_of, is_counted, is_integer, is_unknown};
 use st_faults::{FirstFault, Rule};
+use st_scopes::Scope;
 use st_tree::tree::Identifier;
-use st_types::{Due, Purpose, Scope, Shape, Symbol};
+use st_types::{Due, Purpose, Shape, Symbol};
 use st_values::Elem;
 
 /// What is asked where this type is due.
@@ -45,20 +44,6 @@ fn is_fixed_purpose(purpose: Purpose) -> bool
     ensures { result ≡ is_fixed_purpose purpose }
 {
     matches!(purpose, Purpose::Constant | Purpose::Input)
-}
-
-/// Whether the two are the same name, ignoring case.
-fn is_word(name: &[u8], other: &[u8]) -> bool
-    ensures { result ≡ is_word name.now other.now }
-{
-    other.eq_ignore_ascii_case(name)
-}
-
-/// Whether one of these is the name, ignoring case.
-fn is_counted(counters: &[&[u8]], name: &[u8]) -> bool
-    ensures { result ≡ list_any (λ n. is_word name.now n.now) counters.now }
-{
-    counters.iter().any(|counter| is_word(name, counter))
 }
 
 /// Whether FOR may count the variable, in loops that count these.

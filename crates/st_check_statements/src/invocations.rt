@@ -13,8 +13,9 @@ use st_check_expressions::{
     offer_broken, output_names,
 };
 use st_faults::{FirstFault, Rule};
+use st_scopes::Scope;
 use st_tree::tree::{Argument, Call, Identifier, Variable};
-use st_types::{Base, Callee, Due, Scope};
+use st_types::{Base, Callee, Due};
 use std::alloc::{AllocError, Global};
 
 /// Offers the faults of a call statement.

@@ -6,8 +6,9 @@ ghost use Rattle.st_check_statements.specs.Invocations.{are_other, input_due, is
 
 use st_check_expressions::{elem_of, is_unknown};
 use st_faults::{FirstFault, Rule};
+use st_scopes::Scope;
 use st_tree::tree::{Identifier, Position};
-use st_types::{Base, Due, Purpose, Scope, Shape, Symbol};
+use st_types::{Base, Due, Purpose, Shape, Symbol};
 use st_values::Elem;
 
 /// What stands for a name in an instance.

@@ -12,11 +12,12 @@ use crate::invocations::check_call_statement;
 use crate::labels::check_labels;
 use st_check_expressions::{check_expression, check_target, elem_of, own_type};
 use st_faults::{FirstFault, Rule};
+use st_scopes::Scope;
 use st_tree::tree::{
     CaseElement, CaseStatement, ConditionalPart, Expression, ForStatement, IfStatement,
     RepeatStatement, Statement, Variable, WhileStatement,
 };
-use st_types::{Due, Scope};
+use st_types::Due;
 use st_values::Elem;
 use std::alloc::{AllocError, Global};
 

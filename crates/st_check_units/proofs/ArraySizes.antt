@@ -1,11 +1,11 @@
 -- How many elements the subscripts of an array select, as far as a number of 128 bits goes.
-use Rattle.std.proofs.Common.{◌≡◌, ℕ, ◌+◌, ◌*◌, ◌^◌, ◌<◌, ◌≤◌, ℤ, pos, negsuc, ◌-ℤ◌, Bool, true, false, ltb, if◌then◌else◌, List, [], ◌∷◌, Option, Some, None, length, get_or, drop, refl, ap, sym, ◌∙◌, arith}
+use Rattle.std.proofs.Common.{◌≡◌, ℕ, ◌+◌, ◌*◌, ◌^◌, ◌<◌, ◌≤◌, ℤ, pos, negsuc, ◌-ℤ◌, true, false, ltb, List, [], ◌∷◌, Option, Some, None, length, get_or, drop, refl, ap, sym, ◌∙◌, arith}
 use Rattle.std.proofs.Math.Nat.{le-mul_of_pos_right, mul_assoc}
 use Rattle.std.proofs.lemmas.Bool.Decides.{nat_tests}
+use Rattle.std.proofs.lemmas.List.{drop_more}
 use Rattle.st_tree.specs.declared.tree.declaration.Subrange.{Subrange}
 use Rattle.st_check_units.specs.Counted.{counted}
 use Rattle.st_check_units.specs.Subscripts.{array_size, bound_of, count_between, count_to, product, subrange_size}
-use Rattle.st_check_units.proofs.Offers.{dropped_at}
 
 -- ---- each subscript has a value
 
@@ -63,7 +63,7 @@ counted_product m (Some k) one le =
 module _ (ranges : List Subrange) (i : ℕ) (d : Subrange) (lt : i < length ranges) (size n : ℕ) (has : Some n ≡ subrange_size (get_or ranges i d)) where
   one_more : product (Some size) (array_size (drop i ranges)) ≡ product (Some (size * n)) (array_size (drop (i + 1) ranges))
   one_more =
-      ap (λ rs. product (Some size) (array_size rs)) (dropped_at ranges i d lt) ∙ ap (λ o. product (Some size) (product o (array_size (drop (i + 1) ranges)))) (sym has)
+      ap (λ rs. product (Some size) (array_size rs)) (drop_more ranges i d lt) ∙ ap (λ o. product (Some size) (product o (array_size (drop (i + 1) ranges)))) (sym has)
       ∙ product_assoc size n (array_size (drop (i + 1) ranges))
 
   -- after a subscript more

@@ -1,5 +1,4 @@
 pub mod ArraySizes
 pub mod NamesTwice
-pub mod Offers
 pub mod TextUnits
 pub mod UnitSizes

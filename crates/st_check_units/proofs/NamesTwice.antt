@@ -1,5 +1,5 @@
 -- Names that stand twice.
-use Rattle.std.proofs.Common.{◌≡◌, ℕ, ◌+◌, ◌<◌, suc, Bool, true, false, cond, not, ◌||◌, List, [], ◌∷◌, ◌++◌, Option, Some, None, length, get_or, drop, map, is_some, position, refl, ap, sym, ◌∙◌, ltb, append_assoc, arith}
+use Rattle.std.proofs.Common.{◌≡◌, ℕ, ◌+◌, ◌<◌, suc, Bool, true, false, cond, not, ◌||◌, List, [], ◌∷◌, ◌++◌, Option, Some, None, length, get_or, drop, is_some, position, refl, ap, sym, ◌∙◌, ltb, append_assoc, arith}
 use Rattle.std.proofs.lemmas.Bool.Decides.{nat_tests}
 use Rattle.std.specs.List.{flat_map, list_any, position_or_len}
 use Rattle.std.proofs.lemmas.List.{append-nil, map-append}
@@ -8,7 +8,7 @@ use Rattle.st_faults.specs.Faults.{fault, offer_all, when}
 use Rattle.st_faults.specs.declared.fault.Fault.{Fault}
 use Rattle.st_faults.specs.declared.fault.Rule.TheVariants as rules
 use Rattle.st_check_units.specs.Repeats.{is_there, repeated, spellings}
-use Rattle.st_check_units.proofs.Offers.{dropped, offered}
+use Rattle.st_faults.proofs.Offers.{dropped, offered}
 
 -- ---- what a table finds
 

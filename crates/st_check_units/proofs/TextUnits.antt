@@ -1,5 +1,5 @@
 -- The units of a text, one after the other.
-use Rattle.std.proofs.Common.{◌≡◌, ℕ, zero, suc, ◌+◌, ◌<◌, ◌≤◌, List, [], ◌∷◌, ◌++◌, map, length, get_or, drop, Option, Some, None, refl, ap, sym, ◌∙◌, arith}
+use Rattle.std.proofs.Common.{◌≡◌, ℕ, zero, suc, ◌+◌, ◌<◌, ◌≤◌, List, [], ◌∷◌, ◌++◌, map, length, get_or, drop, Option, Some, ap, sym, ◌∙◌, arith}
 use Rattle.std.specs.List.{flat_map}
 use Rattle.std.proofs.lemmas.List.{drop_all}
 use Rattle.std.proofs.lemmas.List.Folds.{flat_map-map}
@@ -17,7 +17,7 @@ use Rattle.st_check_units.specs.Declarations.{block_faults}
 use Rattle.st_check_units.specs.Repeats.{repeated, spellings}
 use Rattle.st_check_units.specs.Units.{body_of_faults, chart_names, name_faults, names_faults, pou_faults, unit_faults, units_faults, variable_names}
 use Rattle.st_check_units.proofs.NamesTwice.{repeated-append}
-use Rattle.st_check_units.proofs.Offers.{both, dropped, offered, three}
+use Rattle.st_faults.proofs.Offers.{both, dropped, offered, three}
 
 -- ---- a function block or program
 

@@ -1,5 +1,5 @@
 -- What the rules say of charts (2.6).
-use Rattle.std.specs.Prelude.{ℕ, Bool, true, false, ◌&&◌, ◌||◌, not, List, [], ◌∷◌, ◌++◌, codes, Option, Some, None, if◌then◌else◌}
+use Rattle.std.specs.Prelude.{ℕ, Bool, true, false, ◌||◌, not, List, [], ◌∷◌, ◌++◌, codes, Option, Some, None, if◌then◌else◌}
 use Rattle.std.specs.List.{flat_map}
 use Rattle.std.specs.Option.{is_some}
 use Rattle.st_values.specs.Values.{in_range}
@@ -8,13 +8,11 @@ use Rattle.st_values.specs.declared.elem.Elem.{Elem}
 use Rattle.st_values.specs.declared.elem.Elem.TheVariants as elems
 use Rattle.st_tree.specs.declared.tree.constant.Duration.{Duration}
 use Rattle.st_tree.specs.declared.tree.position.Identifier.{Identifier}
-use Rattle.st_tree.specs.declared.tree.unit.Action.{Action}
 use Rattle.st_tree.specs.declared.tree.unit.ActionQualifier.{ActionQualifier}
 use Rattle.st_tree.specs.declared.tree.unit.Association.{Association}
 use Rattle.st_tree.specs.declared.tree.unit.ChartElement.{ChartElement}
 use Rattle.st_tree.specs.declared.tree.unit.ChartElement.TheVariants as chart_elements
 use Rattle.st_tree.specs.declared.tree.unit.Step.{Step}
-use Rattle.st_tree.specs.declared.tree.unit.Transition.{Transition}
 use Rattle.st_faults.specs.Faults.{fault, when}
 use Rattle.st_faults.specs.declared.fault.Fault.{Fault}
 use Rattle.st_faults.specs.declared.fault.Rule.TheVariants as rules

@@ -1,6 +1,5 @@
 -- How many elements arrays have, as far as a number of 128 bits goes.
 use Rattle.std.specs.Prelude.{ℕ, ◌^◌, nat_lt, List, map, Option, Some, None, if◌then◌else◌}
-use Rattle.st_tree.specs.declared.tree.declaration.DeclaredType.{DeclaredType}
 use Rattle.st_tree.specs.declared.tree.declaration.DeclaredType.TheVariants as declared_types
 use Rattle.st_tree.specs.declared.tree.declaration.Specification.{Specification}
 use Rattle.st_tree.specs.declared.tree.declaration.Specification.TheVariants as specifications

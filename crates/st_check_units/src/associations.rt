@@ -7,8 +7,9 @@ ghost use Rattle.st_check_expressions.specs.Variables.{is_fixed_purpose};
 ghost use Rattle.st_check_units.specs.Charts.{associated_faults, association_faults, duration_faults, is_boolean_type, is_qualifier, is_timed, is_untimed, qualifier_faults};
 
 use st_faults::{FirstFault, Rule};
+use st_scopes::Scope;
 use st_tree::tree::{ActionQualifier, Association, Duration, Identifier};
-use st_types::{Purpose, Scope, Symbol};
+use st_types::{Purpose, Symbol};
 use st_values::{Elem, Value, is_value};
 
 /// Whether a qualifier is written with a duration.

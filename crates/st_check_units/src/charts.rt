@@ -10,8 +10,9 @@ use crate::associations::check_associations;
 use st_check_expressions::check_expression;
 use st_check_statements::check_body;
 use st_faults::{FirstFault, Rule};
+use st_scopes::Scope;
 use st_tree::tree::{ChartElement, Identifier, Transition};
-use st_types::{Due, Scope};
+use st_types::Due;
 use st_values::Elem;
 use std::alloc::{AllocError, Global};
 

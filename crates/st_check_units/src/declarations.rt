@@ -13,11 +13,12 @@ use crate::type_uses::{check_specification, is_permitted};
 use crate::values::check_initial;
 use st_faults::{FirstFault, Rule};
 use st_names::NameTable;
+use st_scopes::{may_hold_instances, must_be_value};
 use st_tree::Boxed;
 use st_tree::tree::{
     Declaration, DeclaredType, Identifier, Initial, Specification, VarBlock, VarKind,
 };
-use st_types::{UnitKind, may_hold_instances, must_be_value};
+use st_types::UnitKind;
 use std::alloc::{AllocError, Global};
 
 /// Whether the unit is a function.

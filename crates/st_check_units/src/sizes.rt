@@ -9,9 +9,10 @@ ghost use Rattle.st_check_units.specs.Subscripts.{is_more};
 
 use crate::subscripts::array_size;
 use crate::values::{element_of, is_composed};
+use st_scopes::Tables;
 use st_tree::Boxed;
 use st_tree::tree::{ArrayElement, DeclaredType, Initial, Specification};
-use st_types::{Base, Shape, Tables, UnitKind};
+use st_types::{Base, Shape, UnitKind};
 use std::alloc::{AllocError, Global};
 use std::marker::Model;
 

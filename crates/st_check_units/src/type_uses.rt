@@ -8,8 +8,9 @@ ghost use Rattle.st_check_units.specs.Declarations.{as_type, is_missing, is_perm
 use crate::permitted::{Permitted, TypeUse};
 use crate::subscripts::check_subranges;
 use st_faults::{FirstFault, Rule};
+use st_scopes::Tables;
 use st_tree::tree::{Position, Specification, TypeName};
-use st_types::{Standard, Tables, UnitKind, standard_of};
+use st_types::{Standard, UnitKind, standard_of};
 
 /// What something standard is, used as a type.
 fn standard_as_type(standard: Standard) -> TypeUse

@@ -13,9 +13,10 @@ use crate::sizes::TextTypes;
 use st_check_statements::check_body;
 use st_faults::{FirstFault, Rule};
 use st_names::NameTable;
+use st_scopes::{Scope, Tables};
 use st_tree::MAX_NAME_BYTES;
 use st_tree::tree::{Body, ChartElement, Function, Identifier, Pou};
-use st_types::{NamedUnit, Scope, Tables, UnitKind, standard_of};
+use st_types::{NamedUnit, UnitKind, standard_of};
 use std::alloc::{AllocError, Global};
 
 /// The most units that a text may have.

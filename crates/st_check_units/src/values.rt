@@ -7,9 +7,10 @@ ghost use Rattle.st_check_units.specs.Declarations.{array_literal_faults, consta
 
 use st_check_expressions::{check_literal, is_misstated, literal_position};
 use st_faults::{FirstFault, Rule};
+use st_scopes::Tables;
 use st_tree::Boxed;
 use st_tree::tree::{ArrayElement, Constant, Initial, Position};
-use st_types::{Base, Shape, Tables};
+use st_types::{Base, Shape};
 
 /// Offers the fault of a literal for an array.
 fn check_array_literal(constant: &Constant, first: &mut FirstFault)

@@ -4,8 +4,9 @@ ghost use Rattle.st_references.specs.Callers.{called_by};
 ghost use Rattle.st_references.specs.References.{listed};
 
 use crate::row::add_found;
+use st_scopes::{Scope, Tables};
 use st_tree::List;
-use st_types::{Callee, Scope, Tables};
+use st_types::Callee;
 use std::alloc::AllocError;
 
 /// A unit whose calls are followed: what its names stand for, and the units of the text.

@@ -7,9 +7,10 @@ ghost use Rattle.st_references.specs.Contained.{block_names, declaration_names};
 ghost use Rattle.st_references.specs.References.{contained, listed, specified_names, type_names_in, unit_types};
 
 use crate::row::add_found;
+use st_scopes::Tables;
 use st_tree::List;
 use st_tree::tree::{Declaration, DeclaredType, Specification, TypeName, VarBlock};
-use st_types::{Tables, UnitKind, standard_of};
+use st_types::{UnitKind, standard_of};
 use std::alloc::AllocError;
 
 /// Adds the types and function blocks that are named in the declarations of a unit.

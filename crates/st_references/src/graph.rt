@@ -6,8 +6,8 @@ ghost use Rattle.st_references.specs.References.{graph_of};
 use crate::caller::Caller;
 use crate::contained::add_contained;
 use crate::unit::add_unit;
+use st_scopes::Tables;
 use st_tree::List;
-use st_types::Tables;
 use std::alloc::{AllocError, Global};
 
 /// For each unit of the text, by its number, the numbers of the units that it contains or calls (IEC 61131-3:2003, 2.5).

@@ -1,5 +1,4 @@
 pub mod Cases
-pub mod DeclaredNames
 pub mod Entries
 pub mod Following
 pub mod InputTables
@@ -7,7 +6,6 @@ pub mod LinkTables
 pub mod Pins
 pub mod Places
 pub mod Prefixes
-pub mod ScopeLookups
 pub mod TypeTables
 pub mod Units
 pub mod WalkSteps

@@ -12,7 +12,7 @@ use Rattle.st_tree.specs.declared.tree.unit.Function.{Function}
 use Rattle.st_tree.specs.declared.tree.unit.Unit.{Unit as Section}
 use Rattle.st_types.specs.Names.{Declared, Declares, Named, declared_named, is_action, is_step, members_of, unit_at, unit_named, units_of, variables_in, variables_of}
 use Rattle.st_types.specs.Names as names
-use Rattle.st_types.specs.Signatures.{Input, Signature}
+use Rattle.st_types.specs.Signatures.{Input, Signature, signature}
 use Rattle.st_types.specs.Standard.{Pin, pin_named, pins_of, standard_of}
 use Rattle.st_types.specs.Types.{Elements, Shape, elem_of, elements_in, is_instance, is_unknown, is_value, plain, shape_of, unknown}
 use Rattle.st_types.specs.declared.base.Base.{Base}
@@ -140,7 +140,7 @@ abbrev pub inputs_of : List Named → Function → List Input
 inputs_of units f = flat_map (input_of units (names.function f)) (variables_of f.variables)
 
 abbrev pub signature_of : List Named → Function → Signature
-signature_of units f = record { result = f.result; inputs = inputs_of units f }
+signature_of units f = signature f.result (inputs_of units f)
 
 abbrev pub unit_callee : List Named → Declares → Callee
 unit_callee units (names.function f) = callees.Own (signature_of units f)

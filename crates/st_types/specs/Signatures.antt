@@ -15,6 +15,9 @@ pub record Signature : Type 0 where
   pub result : Elem
   pub inputs : List Input
 
+abbrev pub signature : Elem → List Input → Signature
+signature result inputs = record { result = result; inputs = inputs }
+
 -- the number of the first input of this name
 abbrev pub input_number : List Input → List ℕ → Option ℕ
 input_number inputs name = position (λ i. is_word i.name name) inputs

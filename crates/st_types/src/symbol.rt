@@ -1,7 +1,7 @@
 //! What names stand for.
 ghost use Rattle.std.specs.Prelude.{◌≡◌, ◌<◌, None, false, length, IfSome};
 ghost use Rattle.st_types.specs.Scopes.{member};
-ghost use Rattle.st_types.specs.Signatures.{input_number};
+ghost use Rattle.st_types.specs.Signatures.{input_number, signature};
 ghost use Rattle.st_types.specs.OwnTypes.{nth_due};
 ghost use Rattle.st_types.specs.Types.{array_shape, elem_of, is_value, plain, unknown};
 
@@ -100,7 +100,7 @@ pub struct Member<'a> {
 
 impl<'a> Member<'a> {
     /// Nothing stands for the name.
-    pub(crate) fn none() -> Member<'a>
+    pub fn none() -> Member<'a>
         ensures { result ≡ member None false }
     {
         Member {
@@ -157,8 +157,8 @@ impl<'a> Model for Input<'a> {
 /// A function of the text: its result, and its inputs in order.
 #[derive(Drop)]
 pub struct Signature<'a> {
-    pub(crate) result: Elem,
-    pub(crate) inputs: &'a Inputs<'a>,
+    result: Elem,
+    inputs: &'a Inputs<'a>,
 }
 
 impl<'a> Model for Signature<'a> {
@@ -170,6 +170,16 @@ impl<'a> Model for Signature<'a> {
 }
 
 impl<'a> Signature<'a> {
+    /// Of a function with this type of result and these inputs.
+    pub fn new(result_type: Elem, inputs: &'a Inputs<'a>) -> Signature<'a>
+        ensures { result ≡ signature result_type inputs.now }
+    {
+        Signature {
+            result: result_type,
+            inputs,
+        }
+    }
+
     /// The type of its result.
     pub fn result(&self) -> Elem
         ensures { result ≡ self.now.result }

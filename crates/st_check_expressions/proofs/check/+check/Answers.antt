@@ -6,7 +6,7 @@ use Rattle.st_check_expressions.specs.Inside.{operands_from}
 use Rattle.st_check_expressions.specs.Known.{Known, OperandKnown, faults_as}
 use Rattle.st_check_expressions.specs.Variables.{part_faults, parts_faults, select_all, subscripts_faults}
 use Rattle.st_check_expressions.specs.Walk.{known, known_argument, known_arguments, known_expressions, known_operation, known_operations, known_part, known_parts}
-use Rattle.st_check_expressions.proofs.Offers.{step, turn}
+use Rattle.st_faults.proofs.Offers.{split_turn, step}
 use Rattle.st_check_expressions.proofs.Steps.{call_done, chain_done, due_done, negate_done, not_done, subscripts_done, target_done, variable_done}
 use Rattle.st_check_expressions.proofs.check.+check.Goals as goal
 
@@ -14,13 +14,13 @@ use Rattle.st_check_expressions.proofs.check.+check.Goals as goal
 
 pub check_subscripts-subscripts-preserved : goal.check_subscripts-subscripts-preserved
 check_subscripts-subscripts-preserved t c =
-    turn (λ xs. subscripts_faults (known_expressions (scope_at c.args.scope.now) xs)) (λ xs. subscripts_faults (known_expressions (scope_at c.args.scope.now) xs))
+    split_turn (λ xs. subscripts_faults (known_expressions (scope_at c.args.scope.now) xs)) (λ xs. subscripts_faults (known_expressions (scope_at c.args.scope.now) xs))
     (faults_as (known (scope_at c.args.scope.now) c.subscript-item.result) dues.Integer) c.args.subscripts.now c.subscripts.subscript-index c.subscript-item.result c.subscripts.first c.check_expression.new.first _ refl
     c.subscripts-test.true c.subscript-item.is c.in_ok-check_expression.ensures c.subscripts.invariant
 
 pub check_operations-operations-preserved : goal.check_operations-operations-preserved
 check_operations-operations-preserved t c =
-    turn (λ ls. operands_from (known_operations (scope_at c.args.scope.now) ls) c.operations.due c.args.further_due)
+    split_turn (λ ls. operands_from (known_operations (scope_at c.args.scope.now) ls) c.operations.due c.args.further_due)
     (λ ls. operands_from (known_operations (scope_at c.args.scope.now) ls) c.args.further_due c.args.further_due)
     (Known.faults_at (OperandKnown.operand (known_operation (scope_at c.args.scope.now) c.operation-item.result)) (Known.position (OperandKnown.operand (known_operation (scope_at c.args.scope.now) c.operation-item.result))) c.operations.due)
     c.args.operations.now c.operations.operation-index c.operation-item.result c.operations.first c.check_operand.new.first _ refl
@@ -34,7 +34,7 @@ check_parts-parts-preserved t c = record {
       (ap (λ r. select_all (scope_at c.args.scope.now) r (known_parts (scope_at c.args.scope.now) (drop (c.parts.part-index + 1) c.args.parts.now))) (sym c.select-route.ensures))
       c.parts-test.true c.part-item.is c.parts.invariant.route;
   first =
-      turn (λ ps. parts_faults (scope_at c.args.scope.now) c.parts.route (known_parts (scope_at c.args.scope.now) ps)) (λ ps. parts_faults (scope_at c.args.scope.now) c.select-route.result (known_parts (scope_at c.args.scope.now) ps))
+      split_turn (λ ps. parts_faults (scope_at c.args.scope.now) c.parts.route (known_parts (scope_at c.args.scope.now) ps)) (λ ps. parts_faults (scope_at c.args.scope.now) c.select-route.result (known_parts (scope_at c.args.scope.now) ps))
       (part_faults (scope_at c.args.scope.now) c.parts.route (known_part (scope_at c.args.scope.now) c.part-item.result))
       c.args.parts.now c.parts.part-index c.part-item.result c.parts.first c.check_part.new.first _
       (ap (λ r. part_faults (scope_at c.args.scope.now) c.parts.route (known_part (scope_at c.args.scope.now) c.part-item.result) ++ parts_faults (scope_at c.args.scope.now) r (known_parts (scope_at c.args.scope.now) (drop (c.parts.part-index + 1) c.args.parts.now))) (sym c.select-route.ensures))
@@ -43,7 +43,7 @@ check_parts-parts-preserved t c = record {
 
 pub check_arguments-arguments-preserved : goal.check_arguments-arguments-preserved
 check_arguments-arguments-preserved t c =
-    turn (λ xs. arguments_faults c.args.callee.now c.args.whole c.arguments.number (known_arguments (scope_at c.args.scope.now) xs))
+    split_turn (λ xs. arguments_faults c.args.callee.now c.args.whole c.arguments.number (known_arguments (scope_at c.args.scope.now) xs))
     (λ xs. arguments_faults c.args.callee.now c.args.whole (c.arguments.number + 1) (known_arguments (scope_at c.args.scope.now) xs))
     (argument_faults c.args.callee.now c.args.whole c.arguments.number (known_argument (scope_at c.args.scope.now) c.index-arguments-number.result))
     c.args.arguments.now c.arguments.number c.index-arguments-number.result c.arguments.first c.check_argument.new.first _ refl

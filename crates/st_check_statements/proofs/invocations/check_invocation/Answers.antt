@@ -1,5 +1,5 @@
 use Rattle.st_check_expressions.proofs.Folds.{known_call_is}
-use Rattle.st_check_expressions.proofs.Offers.{both}
+use Rattle.st_faults.proofs.Offers.{both}
 use Rattle.st_check_statements.proofs.invocations.check_invocation.Goals as goal
 
 pub returns : goal.returns

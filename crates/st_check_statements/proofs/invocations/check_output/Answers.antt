@@ -1,7 +1,7 @@
 use Rattle.std.proofs.Common.{ap}
 use Rattle.st_check_statements.specs.Statements.{Around}
 use Rattle.st_check_statements.proofs.Folds.{output_is}
-use Rattle.st_check_expressions.proofs.Offers.{both}
+use Rattle.st_faults.proofs.Offers.{both}
 use Rattle.st_check_statements.proofs.invocations.check_output.Goals as goal
 
 pub returns : goal.returns

@@ -1,7 +1,7 @@
 use Rattle.st_types.specs.Scopes.{scope_at}
 use Rattle.st_check_expressions.specs.Walk.{known_argument}
 use Rattle.st_check_statements.specs.Invocations.{pin_faults}
-use Rattle.st_check_statements.proofs.Offers.{known_turn}
+use Rattle.st_faults.proofs.Offers.{known_turn}
 use Rattle.st_check_statements.proofs.invocations.check_pins.Goals as goal
 
 pub arguments-preserved : goal.arguments-preserved

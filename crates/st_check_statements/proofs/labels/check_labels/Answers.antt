@@ -1,5 +1,5 @@
 use Rattle.st_check_statements.specs.Statements.{label_faults}
-use Rattle.st_check_statements.proofs.Offers.{turn}
+use Rattle.st_faults.proofs.Offers.{turn}
 use Rattle.st_check_statements.proofs.labels.check_labels.Goals as goal
 
 pub labels-preserved : goal.labels-preserved

@@ -2,8 +2,7 @@ use Rattle.std.proofs.Common.{ap}
 use Rattle.st_types.specs.Scopes.{scope_at}
 use Rattle.st_check_statements.specs.Statements.{Around, element_faults, part_faults, statement_faults}
 use Rattle.st_check_statements.proofs.Folds.{case_is, element_is, for_is, if_is, repeat_is}
-use Rattle.st_check_expressions.proofs.Offers.{both, three}
-use Rattle.st_check_statements.proofs.Offers.{known_turn}
+use Rattle.st_faults.proofs.Offers.{both, known_turn, three}
 use Rattle.st_check_statements.proofs.statements.+check.Goals as goal
 
 pub check_statements-statements-preserved : goal.check_statements-statements-preserved

@@ -1,6 +1,6 @@
 use Rattle.st_types.specs.Scopes.{scope_at}
 use Rattle.st_check_units.specs.Charts.{association_faults}
-use Rattle.st_check_units.proofs.Offers.{turn}
+use Rattle.st_faults.proofs.Offers.{turn}
 use Rattle.st_check_units.proofs.associations.check_associations.Goals as goal
 
 pub loop-association-preserved : goal.loop-association-preserved

@@ -1,6 +1,6 @@
 use Rattle.st_types.specs.Scopes.{scope_at}
 use Rattle.st_check_units.specs.Charts.{element_faults}
-use Rattle.st_check_units.proofs.Offers.{turn}
+use Rattle.st_faults.proofs.Offers.{turn}
 use Rattle.st_check_units.proofs.charts.check_elements.Goals as goal
 
 pub loop-element-preserved : goal.loop-element-preserved

@@ -1,7 +1,7 @@
 use Rattle.st_types.specs.Names.{units_of}
 use Rattle.st_types.specs.Inside.{declared_by}
 use Rattle.st_check_units.specs.Declarations.{block_faults}
-use Rattle.st_check_units.proofs.Offers.{turn}
+use Rattle.st_faults.proofs.Offers.{turn}
 use Rattle.st_check_units.proofs.declarations.check_blocks.Goals as goal
 
 pub loop-block-preserved : goal.loop-block-preserved

@@ -1,6 +1,6 @@
 use Rattle.st_types.specs.Names.{units_of}
 use Rattle.st_check_units.specs.Declarations.{declaration_faults}
-use Rattle.st_check_units.proofs.Offers.{turn}
+use Rattle.st_faults.proofs.Offers.{turn}
 use Rattle.st_check_units.proofs.declarations.check_declarations.Goals as goal
 
 pub loop-declaration-preserved : goal.loop-declaration-preserved

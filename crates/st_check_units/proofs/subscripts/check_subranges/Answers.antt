@@ -1,5 +1,5 @@
 use Rattle.st_check_units.specs.Subscripts.{subrange_faults}
-use Rattle.st_check_units.proofs.Offers.{turn_at}
+use Rattle.st_faults.proofs.Offers.{turn_at}
 use Rattle.st_check_units.proofs.subscripts.check_subranges.Goals as goal
 
 pub loop-range-preserved : goal.loop-range-preserved

@@ -1,4 +1,4 @@
-use Rattle.std.proofs.Common.{ap, sym, ◌∙◌}
+use Rattle.std.proofs.Common.{ap, ◌∙◌}
 use Rattle.st_types.specs.Names.{unit_by, units_of}
 use Rattle.st_check_units.specs.Declarations.{optional_as_type}
 use Rattle.st_check_units.proofs.type_uses.named_as_type.Goals as goal

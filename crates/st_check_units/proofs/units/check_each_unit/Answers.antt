@@ -1,6 +1,6 @@
 use Rattle.std.proofs.Common.{ap, ◌∙◌}
 use Rattle.st_types.specs.Names.{units_of}
-use Rattle.st_check_units.proofs.Offers.{turn}
+use Rattle.st_faults.proofs.Offers.{turn}
 use Rattle.st_check_units.proofs.TextUnits.{unit_at_faults, unit_done, units_done}
 use Rattle.st_check_units.proofs.units.check_each_unit.Goals as goal
 

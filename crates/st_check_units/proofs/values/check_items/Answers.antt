@@ -1,5 +1,5 @@
 use Rattle.st_check_units.specs.Declarations.{item_faults}
-use Rattle.st_check_units.proofs.Offers.{turn}
+use Rattle.st_faults.proofs.Offers.{turn}
 use Rattle.st_check_units.proofs.values.check_items.Goals as goal
 
 pub loop-item-preserved : goal.loop-item-preserved
