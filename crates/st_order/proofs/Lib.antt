@@ -1,5 +1,5 @@
-mod Lists
-mod GraphLemmas
+pub mod Lists
+pub mod GraphLemmas
 mod Marks
 mod Walking
 mod Visits

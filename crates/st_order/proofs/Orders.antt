@@ -1,14 +1,14 @@
 -- Orders of all rows.
-use Rattle.std.proofs.Common.{◌≡◌, ◌≢◌, ℕ, suc, ◌≤◌, List, [], ◌∷◌, ◌++◌, get_or, take, drop, ap, sym, ◌∙◌, subst, arith, append_assoc, inl, inr}
+use Rattle.std.proofs.Common.{◌≡◌, ◌≢◌, ℕ, suc, List, ◌∷◌, ◌++◌, length, get_or, take, drop, ap, sym, ◌∙◌, subst, arith, append_assoc, inl, inr}
 use Rattle.std.specs.Prelude.{◌↔◌}
-use Rattle.std.specs.List.{All, AllPairs, Contains}
+use Rattle.std.specs.List.{AllPairs, Contains}
 use Rattle.std.proofs.lemmas.List.{get_or_default}
-use Rattle.std.proofs.lemmas.List.Elements.{All-contains, Contains-append_left, Contains-push, Contains-push_cases}
-use Rattle.st_order.specs.Graphs.{Graph, Refers, Reaches, direct, onward, IsBefore, IsOrder, IsFirstToReturn}
+use Rattle.std.proofs.lemmas.List.Elements.{Contains-append_left, Contains-push, Contains-push_cases}
+use Rattle.st_order.specs.Graphs.{Graph, Refers, Reaches, direct, onward, IsBefore, IsOrder}
 use Rattle.st_order.specs.Laws.{NoneReachesItself, ReachedIsBefore, ReferencesAreBefore}
 use Rattle.st_order.specs.Walks.{IsPostorder}
 use Rattle.st_order.proofs.GraphLemmas.{reaches_row}
-use Rattle.st_order.proofs.Lists.{Contains-nil, once_only, split_at, split_place}
+use Rattle.st_order.proofs.Lists.{once_only, split_at, split_place}
 
 -- where no row reaches itself, what a row refers to stands before it
 pub postorder_is_order : (graph : Graph) (order : List ℕ) → IsPostorder graph order → ((a : ℕ) → Reaches graph a a → ⊥) → IsOrder graph order
@@ -25,17 +25,8 @@ postorder_is_order graph order postorder none = record {
   ];
 }
 
--- the least of the rows that reach themselves
-pub least_is_first : (graph : Graph) (rows : List ℕ) (a b : ℕ) → ((c : ℕ) → Contains rows c ↔ Reaches graph c c) → Contains rows a
-    → All (λ c. a ≤ c) rows → a ≡ b → IsFirstToReturn graph b
-least_is_first graph rows a b cyclic has least same = subst (IsFirstToReturn graph) same (record {
-  row = reaches_row graph a a ((cyclic a).0 has);
-  returns = (cyclic a).0 has;
-  first = λ c lt h. absurd (omega (arith, lt, All-contains (λ d. a ≤ d) rows c least ((cyclic c).1 h)));
-})
-
-pub none_returns : (graph : Graph) (rows : List ℕ) → ((a : ℕ) → Contains rows a ↔ Reaches graph a a) → rows ≡ [] → (a : ℕ) → Reaches graph a a → ⊥
-none_returns graph rows cyclic none a h = Contains-nil a (subst (λ xs. Contains xs a) none ((cyclic a).1 h))
+pub none_returns : (graph : Graph) (rows : List ℕ) → ((a : ℕ) → Contains rows a ↔ Reaches graph a a) → length rows ≡ 0 → (a : ℕ) → Reaches graph a a → ⊥
+none_returns graph rows cyclic none a h = let w : Contains rows a = (cyclic a).1 h in omega (arith, w.1, none)
 
 -- ---- what follows of an order
 

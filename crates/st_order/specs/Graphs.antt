@@ -1,5 +1,5 @@
 -- Graphs, whose rows are numbered from 0 and refer to rows.
-use Rattle.std.specs.Prelude.{ℕ, ◌≡◌, ◌≢◌, ◌<◌, List, [], ◌∷◌, ◌++◌, length, slice_index_or}
+use Rattle.std.specs.Prelude.{ℕ, ◌≡◌, ◌≢◌, ◌↔◌, ◌<◌, List, [], ◌∷◌, ◌++◌, length, slice_index_or}
 use Rattle.std.specs.List.{All, AllPairs, Contains}
 
 -- for each row the rows that it refers to
@@ -38,8 +38,7 @@ pub record IsOrder (graph : Graph) (order : List ℕ) : Type 0 where
   pub once : AllPairs (λ a b. a ≢ b) order
   pub after : (a b : ℕ) → Refers graph a b → IsBefore order b a
 
--- the row reaches itself, and none before it does
-pub record IsFirstToReturn (graph : Graph) (a : ℕ) : Type 0 where
-  pub row : IsRow graph a
-  pub returns : Reaches graph a a
-  pub first : (b : ℕ) → b < a → Reaches graph b b → ⊥
+-- these rows reach themselves, and no others do, and there is one
+pub record AreCyclic (graph : Graph) (rows : List ℕ) : Type 0 where
+  pub cyclic : (a : ℕ) → Contains rows a ↔ Reaches graph a a
+  pub some : rows ≢ []

@@ -1,4 +1,4 @@
-//! The rows of a graph in an order in which each stands after all that it refers to, or the first row that reaches itself.
+//! The rows of a graph in an order in which each stands after all that it refers to, or the rows that reach themselves.
 #![tactic(auto)]
 
 mod cycles;

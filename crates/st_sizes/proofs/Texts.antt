@@ -1,14 +1,13 @@
 -- How long the texts of numbers are.
-use Rattle.std.proofs.Common.{◌≡◌, ℕ, zero, suc, ◌+◌, ◌/◌, ◌%◌, ◌^◌, ◌≤◌, ◌<◌, ℤ, pos, negsuc, ◌+ℤ◌, ◌-ℤ◌, FitsSigned, w64, [], ◌∷◌, map, length, refl, ap, sym, ◌∙◌, arith, ◌⊎◌, inl, inr, length-append, subst}
-use Rattle.std.specs.Prelude.{max, min, false}
-use Rattle.std.specs.Int.Signed.{lt_z}
+use Rattle.std.proofs.Common.{◌≡◌, ℕ, zero, suc, ◌+◌, ◌/◌, ◌%◌, ◌^◌, ◌≤◌, ◌<◌, ℤ, pos, negsuc, ◌+ℤ◌, ◌-ℤ◌, [], ◌∷◌, map, length, refl, ap, sym, ◌∙◌, arith, ◌⊎◌, inl, inr, length-append, subst}
+use Rattle.std.specs.Prelude.{max, min, Bool, false, true}
 use Rattle.std.specs.Fmt.{decimal, signed_decimal}
-use Rattle.std.proofs.lemmas.Fmt.{decimal_digit, decimal_step_wide, length-decimal-le}
+use Rattle.std.proofs.lemmas.Fmt.{decimal_digit, decimal_step_wide, length-decimal-le_wide}
 use Rattle.st_sizes.specs.Sizes.{AreChoices, largest}
 use Rattle.st_sizes.specs.declared.size.Choices.{Choices}
 use Rattle.std.proofs.lemmas.Int.{ints}
-use Rattle.std.specs.Int.RustNames.{unsigned_abs}
-use Rattle.st_sizes.specs.Subscripts.{next, numbers, texts_between, values_from}
+use Rattle.st_sizes.specs.Subscripts.{next, numbers, texts_between, value_of, values_from}
+use Rattle.st_sizes.specs.declared.subrange.Number.{Number}
 
 -- of a number of one digit
 pub short : (n : ℕ) → n < 10 → length (decimal n) ≡ 1
@@ -100,34 +99,42 @@ last_is (suc n) z = last_is n (next z) ∙ ap (λ y. y +ℤ pos n) (next_is z) �
 
 -- ---- the texts of a subscript
 
-apart : (lower upper : ℤ) → lt_z upper lower ≡ false → upper -ℤ lower ≡ pos (unsigned_abs (upper -ℤ lower))
-apart lower upper h = by (upper -ℤ lower) (grind (arith, ints)) where
-  by : (d : ℤ) → lt_z d (pos 0) ≡ false → d ≡ pos (unsigned_abs d)
-  by (pos n) h = refl
-  by (negsuc n) h = absurd cc
+pub near : (n : Number) → n.magnitude < 2 ^ 128 → IsNear (value_of n)
+near n small = by n.is_negative n.magnitude (omega (arith, small)) where
+  by : (is_negative : Bool) (m : ℕ) → m < 10 ^ 64 → IsNear (value_of (record { is_negative = is_negative; magnitude = m }))
+  by false m h = h
+  by true zero h = h
+  by true (suc m) h = h
 
-pub ordered : (lower upper : ℤ) (n : ℕ) → IsNear lower → IsNear upper → upper -ℤ lower ≡ pos n → (length (texts_between lower upper) ≡ n + 1) × (largest (texts_between lower upper) ≡ max (text_len lower) (text_len upper))
-ordered lower upper n one other is =
-    let at : last n lower ≡ upper = last_is n lower ∙ omega (arith, ints, is) in
-    let values : values_from (upper -ℤ lower) ≡ suc n = ap values_from is ∙ add_one n in (
-      ap (λ k. length (map text_len (numbers k lower))) values ∙ count (suc n) lower ∙ sym (add_one n),
-      ap (λ k. largest (map text_len (numbers k lower))) values ∙ ends n lower one (subst IsNear (sym at) other) ∙ ap (λ z. max (text_len lower) (text_len z)) at,
-    ) where
-      add_one : (n : ℕ) → n + 1 ≡ suc n
-      add_one n = omega arith
+-- so many numbers on from the lower one is the upper one
+pub ordered : (lower upper : ℤ) → IsNear lower → IsNear upper → 0 < values_from (upper -ℤ lower) → largest (texts_between lower upper) ≡ max (text_len lower) (text_len upper)
+ordered lower upper one other some = by (upper -ℤ lower) refl some where
+  by : (d : ℤ) → d ≡ upper -ℤ lower → 0 < values_from d → largest (map text_len (numbers (values_from d) lower)) ≡ max (text_len lower) (text_len upper)
+  by (pos n) is some =
+      let at : last n lower ≡ upper = last_is n lower ∙ omega (arith, ints, is) in
+      ap (λ k. largest (map text_len (numbers k lower))) (add_one n) ∙ ends n lower one (subst IsNear (sym at) other) ∙ ap (λ z. max (text_len lower) (text_len z)) at where
+        add_one : (n : ℕ) → n + 1 ≡ suc n
+        add_one n = omega arith
+  by (negsuc n) is some = absurd (omega (arith, some))
 
-pub near : (z : ℤ) → FitsSigned w64 z → IsNear z
-near (pos n) h = omega (arith, h.sfits)
-near (negsuc n) h = omega (arith, h.sfits)
+counted : (lower upper : ℤ) → length (texts_between lower upper) ≡ values_from (upper -ℤ lower)
+counted lower upper = count (values_from (upper -ℤ lower)) lower
 
-pub texts_of : (a : Choices) (lower upper : ℤ) (gap : ℕ) → lt_z upper lower ≡ false → IsNear lower → IsNear upper
-    → gap ≡ unsigned_abs (upper -ℤ lower) → a.count ≡ min (gap + 1) 1000000 → a.longest ≡ max (text_len lower) (text_len upper) → max (text_len lower) (text_len upper) ≤ 1000000
-    → AreChoices a (texts_between lower upper)
-texts_of a lower upper gap order one other is count longest small =
-    let w = ordered lower upper gap one other (apart lower upper order ∙ ap pos (sym is)) in record {
-      count = omega (arith, count, w.0);
-      longest = omega (arith, longest, w.1, small);
-    }
+none_between : (lower upper : ℤ) → values_from (upper -ℤ lower) ≡ 0 → largest (texts_between lower upper) ≡ 0
+none_between lower upper none = ap (λ n. largest (map text_len (numbers n lower))) none
+
+pub no_texts : (a : Choices) (lower upper : ℤ) → a.count ≡ min (values_from (upper -ℤ lower)) 1000000 → a.count ≡ 0 → a.longest ≡ 0 → AreChoices a (texts_between lower upper)
+no_texts a lower upper is none longest = record {
+  count = omega (arith, is, counted lower upper);
+  longest = omega (arith, longest, none_between lower upper (omega (arith, is, none)));
+}
+
+pub texts_of : (a : Choices) (lower upper : ℤ) → IsNear lower → IsNear upper → a.count ≡ min (values_from (upper -ℤ lower)) 1000000 → 0 < a.count
+    → a.longest ≡ max (text_len lower) (text_len upper) → max (text_len lower) (text_len upper) ≤ 1000000 → AreChoices a (texts_between lower upper)
+texts_of a lower upper one other is some longest small = record {
+  count = omega (arith, is, counted lower upper);
+  longest = omega (arith, longest, small, ordered lower upper one other (omega (arith, is, some)));
+}
 
 -- ---- digits, counted
 
@@ -136,15 +143,15 @@ pub record Counted (number rest digits : ℕ) : Type 0 where
   pub all : length (decimal number) + 1 ≡ length (decimal rest) + digits
   pub less : rest ≤ number
 
-pub counted_one : (number rest digits : ℕ) → number < 2 ^ 64 → 10 ≤ rest → Counted number rest digits → Counted number (rest / 10) (digits + 1)
+pub counted_one : (number rest digits : ℕ) → number < 2 ^ 128 → 10 ≤ rest → Counted number rest digits → Counted number (rest / 10) (digits + 1)
 counted_one number rest digits small many c = record {
   all = omega (arith, c.all, longer_by_one rest many (omega (arith, small, c.less)));
   less = omega (arith, c.less);
 }
 
-pub few_counted : (number rest digits : ℕ) → number < 2 ^ 64 → 10 ≤ rest → Counted number rest digits → digits + 1 < 2 ^ 64
+pub few_counted : (number rest digits : ℕ) → number < 2 ^ 128 → 10 ≤ rest → Counted number rest digits → digits + 1 < 2 ^ 64
 few_counted number rest digits small many c =
-    omega (arith, c.all, length-decimal-le 20 number (omega arith) (omega (arith, small)) small)
+    omega (arith, c.all, length-decimal-le_wide 39 number (omega arith) (omega (arith, small)) (omega (arith, small)))
 
 pub all_counted : (number rest digits : ℕ) → rest < 10 → Counted number rest digits → digits ≡ length (decimal number)
 all_counted number rest digits few c = omega (arith, c.all, short rest few)

@@ -1,6 +1,14 @@
 -- The texts of an array's subscripts, as paths show them.
-use Rattle.std.specs.Prelude.{ℕ, zero, suc, ◌+◌, ℤ, pos, negsuc, ◌-ℤ◌, List, [], ◌∷◌, map, length}
+use Rattle.std.specs.Prelude.{ℕ, zero, suc, ◌+◌, ℤ, pos, negsuc, ◌-ℤ◌, List, [], ◌∷◌, map, length, if◌then◌else◌}
 use Rattle.std.specs.Fmt.{signed_decimal}
+use Rattle.st_sizes.specs.declared.subrange.Number.{Number}
+
+abbrev pub below_zero : ℕ → ℤ
+below_zero zero = pos 0
+below_zero (suc n) = negsuc n
+
+abbrev pub value_of : Number → ℤ
+value_of n = if n.is_negative then below_zero n.magnitude else pos n.magnitude
 
 abbrev pub next : ℤ → ℤ
 next (pos n) = pos (n + 1)

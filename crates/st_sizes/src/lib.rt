@@ -5,3 +5,4 @@ mod size;
 mod subrange;
 
 pub use size::{Choices, MOST, Size};
+pub use subrange::Number;

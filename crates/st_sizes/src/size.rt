@@ -95,13 +95,13 @@ impl Size {
 }
 
 impl Choices {
-    /// Of one empty text.
-    pub fn one() -> Choices
-        ensures { AreChoices result (0 ∷ []) }
+    /// Of one text of so many bytes.
+    pub fn of_text(bytes: u64) -> Choices
+        ensures { AreChoices result (bytes ∷ []) }
     {
         Choices {
             count: 1,
-            longest: 0,
+            longest: at_most(bytes),
         }
     }
 

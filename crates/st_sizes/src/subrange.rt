@@ -1,42 +1,80 @@
 //! The texts of subscripts.
-ghost use Rattle.std.specs.Prelude.{◌≡◌, ◌≤◌, length};
+ghost use Rattle.std.specs.Prelude.{◌≡◌, ◌≤◌, ◌+◌, ◌-◌, ◌-ℤ◌, length, min};
 ghost use Rattle.std.specs.Fmt.{decimal, signed_decimal};
 ghost use Rattle.st_sizes.specs.Sizes.{AreChoices};
-ghost use Rattle.st_sizes.specs.Subscripts.{texts_between};
+ghost use Rattle.st_sizes.specs.Subscripts.{texts_between, value_of, values_from};
 
-use crate::size::{Choices, at_most, larger};
+use crate::size::{Choices, MOST, larger};
+
+/// A whole number, by its sign and its magnitude. Both signs of zero mean zero.
+#[derive(Clone, Copy, Debug, PartialEq, Eq)]
+pub struct Number {
+    pub is_negative: bool,
+    /// How far from zero it is.
+    pub magnitude: u128,
+}
 
 impl Choices {
     /// The texts of all numbers from the lower bound to the upper one.
-    pub fn of_subrange(lower: i64, upper: i64) -> Choices
-        ensures { AreChoices result (texts_between lower upper) }
+    pub fn of_subrange(lower: Number, upper: Number) -> Choices
+        ensures { AreChoices result (texts_between (value_of lower) (value_of upper)) }
     {
-        if upper < lower {
-            return Choices {
-                count: 0,
-                longest: 0,
-            };
-        }
+        let count = numbers_between(lower, upper);
         Choices {
-            count: at_most(upper.abs_diff(lower).saturating_add(1)),
-            longest: larger(text_len(lower), text_len(upper)),
+            count,
+            longest: if count == 0 {
+                0
+            } else {
+                larger(text_len(lower), text_len(upper))
+            },
         }
     }
 }
 
-/// How many bytes the text of a number has.
-fn text_len(number: i64) -> u64
-    ensures len { result ≡ length (signed_decimal number) }
-    ensures few { result ≤ 21 }
+/// How many numbers there are from the lower bound to the upper one. It stops at 1,000,000.
+fn numbers_between(lower: Number, upper: Number) -> u64
+    ensures { result ≡ min (values_from (value_of upper -ℤ value_of lower)) 1000000 }
 {
-    let digits = decimal_len(number.unsigned_abs());
-    if number < 0 { digits + 1 } else { digits }
+    match (lower.is_negative, upper.is_negative) {
+        (false, false) => count_from(lower.magnitude, upper.magnitude),
+        (true, true) => count_from(upper.magnitude, lower.magnitude),
+        (true, false) => count_from(0, lower.magnitude.saturating_add(upper.magnitude)),
+        (false, true) => count_from(lower.magnitude.saturating_add(upper.magnitude), 0),
+    }
+}
+
+/// How many numbers there are from the least to the greatest. It stops at 1,000,000.
+fn count_from(least: u128, greatest: u128) -> u64
+    ensures { result ≡ min (greatest + 1 - least) 1000000 }
+{
+    if greatest < least {
+        return 0;
+    }
+    let gap = greatest - least;
+    if gap < u128::from(MOST) {
+        gap as u64 + 1
+    } else {
+        MOST
+    }
+}
+
+/// How many bytes the text of a number has.
+fn text_len(number: Number) -> u64
+    ensures len { result ≡ length (signed_decimal (value_of number)) }
+    ensures few { result ≤ 40 }
+{
+    let digits = decimal_len(number.magnitude);
+    if number.is_negative && number.magnitude > 0 {
+        digits + 1
+    } else {
+        digits
+    }
 }
 
 /// How many digits a number has.
-fn decimal_len(number: u64) -> u64
+fn decimal_len(number: u128) -> u64
     ensures len { result ≡ length (decimal number) }
-    ensures few { result ≤ 20 }
+    ensures few { result ≤ 39 }
 {
     let mut rest = number;
     let mut digits = 1;

@@ -1,5 +1,5 @@
 use Rattle.std.proofs.Common.{arith}
-use Rattle.std.proofs.lemmas.Fmt.{length-decimal-le}
+use Rattle.std.proofs.lemmas.Fmt.{length-decimal-le_wide}
 use Rattle.st_sizes.proofs.Texts.{all_counted, counted_one, few_counted}
 use Rattle.st_sizes.proofs.subrange.decimal_len.Goals as goal
 
@@ -14,4 +14,4 @@ returns-clause-len c = all_counted c.args.number c.digits.rest c.digits.digits (
 
 pub returns-clause-few : goal.returns-clause-few
 returns-clause-few c =
-    omega (arith, all_counted c.args.number c.digits.rest c.digits.digits (omega (arith, c.digits-test.false)) c.digits.invariant, length-decimal-le 20 c.args.number (omega arith) (omega (arith, c.ranges.number.fits)) c.ranges.number.fits)
+    omega (arith, all_counted c.args.number c.digits.rest c.digits.digits (omega (arith, c.digits-test.false)) c.digits.invariant, length-decimal-le_wide 39 c.args.number (omega arith) (omega (arith, c.ranges.number.fits)) (omega (arith, c.ranges.number.fits)))

@@ -1,10 +1,13 @@
-use Rattle.std.proofs.Common.{arith}
-use Rattle.std.proofs.lemmas.Int.{to_z-of_z}
-use Rattle.st_sizes.proofs.Texts.{near, texts_of}
+use Rattle.std.proofs.Common.{refl, arith}
+use Rattle.st_sizes.specs.Subscripts.{value_of}
+use Rattle.st_sizes.proofs.Texts.{near, no_texts, texts_of}
 use Rattle.st_sizes.proofs.size.Choices.of_subrange.Goals as goal
 
-pub returns : goal.returns
-returns c =
-    texts_of _ c.args.lower c.args.upper c.abs_diff.result (grind (arith, to_z-of_z, c.if-upper-lower.false)) (near c.args.lower c.ranges.lower) (near c.args.upper c.ranges.upper) (grind (arith, to_z-of_z, c.abs_diff.ensures))
-    (omega (arith, c.at_most.ensures, c.saturating_add.ensures)) (grind (arith, to_z-of_z, c.larger.ensures, c.text_len.ensures.len, c.text_len-2.ensures.len))
-    (grind (arith, to_z-of_z, c.text_len.ensures.len, c.text_len.ensures.few, c.text_len-2.ensures.len, c.text_len-2.ensures.few))
+pub returns-then-count-eq0 : goal.returns-then-count-eq0
+returns-then-count-eq0 c = no_texts _ (value_of c.args.lower) (value_of c.args.upper) c.numbers_between-count.ensures (omega (arith, c.if-count-eq0.true)) refl
+
+pub returns-else-count-eq0 : goal.returns-else-count-eq0
+returns-else-count-eq0 c =
+    texts_of _ (value_of c.args.lower) (value_of c.args.upper) (near c.args.lower (omega (arith, c.well_formed))) (near c.args.upper (omega (arith, c.well_formed))) c.numbers_between-count.ensures (omega (arith, c.if-count-eq0.false))
+    (omega (arith, c.larger.ensures, c.text_len.ensures.len, c.text_len-else-count-eq0.ensures.len))
+    (omega (arith, c.text_len.ensures.len, c.text_len.ensures.few, c.text_len-else-count-eq0.ensures.len, c.text_len-else-count-eq0.ensures.few))

@@ -1,0 +1,7 @@
+mod Checked
+mod Cyclic
+mod Deciding
+mod Firsts
+mod Kept
+mod Named
+mod Passing

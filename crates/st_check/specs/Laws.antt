@@ -1,0 +1,34 @@
+-- What follows of the definitions of the checks.
+use Rattle.std.specs.Prelude.{◌≡◌, ℕ, ◌⊎◌, List}
+use Rattle.st_tree.specs.declared.tree.unit.Unit.{Unit as Section}
+use Rattle.st_faults.specs.declared.fault.Fault.{Fault}
+use Rattle.st_types.specs.Names.{units_of}
+use Rattle.st_order.specs.Graphs.{Reaches}
+use Rattle.st_references.specs.References.{graph_of}
+use Rattle.st_check.specs.Faults.{HasNoProgram, IsAccepted, IsFirst}
+use Rattle.st_check.specs.Programs.{IsChecked, ProgramView, text_of}
+
+-- a text is accepted, or has a first fault, or no fault and no such program
+abbrev pub IsDecided : Type 0
+IsDecided = (text : List Section) (main : List ℕ)
+    → ((number : ℕ) × IsAccepted text main number) ⊎ (((f : Fault) × IsFirst text main f) ⊎ HasNoProgram text main)
+
+abbrev pub FirstIsNotAccepted : Type 0
+FirstIsNotAccepted = (text : List Section) (main : List ℕ) (f : Fault) (number : ℕ) → IsFirst text main f → IsAccepted text main number → ⊥
+
+abbrev pub MissingIsNotAccepted : Type 0
+MissingIsNotAccepted = (text : List Section) (main : List ℕ) (number : ℕ) → HasNoProgram text main → IsAccepted text main number → ⊥
+
+abbrev pub MissingIsNotFirst : Type 0
+MissingIsNotFirst = (text : List Section) (main : List ℕ) (f : Fault) → HasNoProgram text main → IsFirst text main f → ⊥
+
+abbrev pub AcceptedOnce : Type 0
+AcceptedOnce = (text : List Section) (main : List ℕ) (number other : ℕ) → IsAccepted text main number → IsAccepted text main other → number ≡ other
+
+-- two first faults stand at one token and break one rule
+abbrev pub FirstIsOne : Type 0
+FirstIsOne = (text : List Section) (main : List ℕ) (f g : Fault) → IsFirst text main f → IsFirst text main g
+    → (f.position.number ≡ g.position.number) × (f.rule ≡ g.rule)
+
+abbrev pub HasNoRecursion : Type 0
+HasNoRecursion = (program : ProgramView) (unit : ℕ) → IsChecked program → Reaches (graph_of (units_of (text_of program))) unit unit → ⊥

@@ -1,0 +1,102 @@
+//! The check of a text.
+ghost use Rattle.std.specs.Prelude.{◌≡◌, ◌<◌, All, IfErr, IfOk, length};
+ghost use Rattle.st_check.specs.Answers.{Explains};
+ghost use Rattle.st_check.specs.Faults.{IsAccepted, is_main, program_named};
+ghost use Rattle.st_check.specs.Programs.{IsOrdered, IsProgram, main_of, text_of};
+ghost use Rattle.st_check.specs.Recursions.{ExplainsUnits, recursions};
+ghost use Rattle.st_faults.specs.Faults.{offer_all};
+ghost use Rattle.st_types.specs.Inside.{named_by};
+ghost use Rattle.st_types.specs.Names.{units_of};
+
+use crate::fault::CheckFault;
+use crate::program::Program;
+use st_check_units::check_units;
+use st_faults::{Fault, FirstFault, Rule};
+use st_names::is_same_name;
+use st_order::{OrderFault, order};
+use st_program_sizes::is_too_large;
+use st_references::references;
+use st_scopes::Tables;
+use st_tree::tree::Unit;
+use st_types::{NamedUnit, UnitKind};
+use std::alloc::Global;
+
+/// The text as its first program of this name, ignoring case, or its first fault, in time linear in the text.
+///
+/// Faults come in the order of their tokens, and at one token in that of the rules' numbers. The size of the program
+/// is asked where there is no other fault, and whether there is a program where there is none at all.
+pub fn check(alloc: Global, units: Vec<Unit>, main: &[u8]) -> Result<Program, CheckFault>
+    ensures text { IfOk result (λ program. text_of program ≡ units.items) }
+    ensures accepted { IfOk result (λ program. IsAccepted units.items main.now (main_of program)) }
+    ensures fault { IfErr result (Explains units.items main.now) }
+{
+    let (number, order) = checked(alloc, &units, main)?;
+    Ok(Program::new(units, number, order))
+}
+
+/// The number of the program of this name, and an order of the units.
+fn checked(alloc: Global, text: &[Unit], main: &[u8]) -> Result<(usize, Vec<usize>), CheckFault>
+    ensures program { IfOk result (λ found. IsProgram text.now found.0 found.1.items) }
+    ensures accepted { IfOk result (λ found. IsAccepted text.now main.now found.0) }
+    ensures fault { IfErr result (Explains text.now main.now) }
+{
+    let tables = Tables::new(alloc, text)?;
+    let order = ordered(alloc, &tables)?;
+    let Some(number) = program_named(&tables, main) else {
+        return Err(CheckFault::NoProgram);
+    };
+    if is_too_large(alloc, &tables, &order, number)? {
+        let position = tables.unit(number).name.position;
+        let rule = Rule::LimitPassed;
+        return Err(CheckFault::of(Fault { position, rule }));
+    }
+    Ok((number, order))
+}
+
+/// The units in an order in which each stands after all that it contains and calls, where none of them has a fault.
+fn ordered(alloc: Global, tables: &Tables<'_>) -> Result<Vec<usize>, CheckFault>
+    ensures order { IfOk result (λ order. IsOrdered tables.now order.items) }
+    ensures fault { IfErr result (ExplainsUnits tables.now) }
+{
+    let mut first = FirstFault::new();
+    check_units(alloc, tables, &mut first)?;
+    let graph = references(alloc, tables)?;
+    match order(alloc, &graph) {
+        Ok(order) => match first.get() {
+            None => Ok(order),
+            Some(fault) => Err(CheckFault::of(fault)),
+        },
+        Err(OrderFault::Cyclic(numbers)) => {
+            offer_recursions(tables, &numbers, &mut first);
+            Err(CheckFault::of(first.get().unwrap()))
+        }
+        Err(OrderFault::Memory) => Err(CheckFault::Memory),
+    }
+}
+
+/// Offers that each of the units of these numbers contains or calls itself.
+#[tactic(auto, unfolding(st_faults::specs::Faults::offer_all))]
+fn offer_recursions(tables: &Tables<'_>, numbers: &[usize], first: &mut FirstFault)
+    requires { All (λ number. number < length (units_of tables.now)) numbers.now }
+    ensures { first.new ≡ offer_all first.old (recursions (units_of tables.now) numbers.now) }
+{
+    for number in numbers {
+        let position = tables.unit(*number).name.position;
+        first.offer(position, Rule::Recursion);
+    }
+}
+
+/// The number of the first program of this name, ignoring case.
+fn program_named(tables: &Tables<'_>, name: &[u8]) -> Option<usize>
+    ensures { result ≡ program_named (units_of tables.now) name.now }
+{
+    let units = tables.units();
+    units.iter().position(|unit| is_main(unit, name))
+}
+
+/// Whether the unit is a program of this name, ignoring case.
+fn is_main(unit: &NamedUnit<'_>, name: &[u8]) -> bool
+    ensures { result ≡ is_main name.now (named_by unit.now) }
+{
+    matches!(unit.kind, UnitKind::Program(_)) && is_same_name(name, unit.name.spelling.as_slice())
+}

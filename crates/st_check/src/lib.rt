@@ -1,0 +1,12 @@
+//! The checks: a text that is in the grammar is a program, or has a first fault.
+#![tactic(auto)]
+
+mod checks;
+mod fault;
+mod laws;
+mod program;
+
+pub use checks::check;
+pub use fault::CheckFault;
+pub use laws::{checked_program_has_no_recursion, text_has_one_answer};
+pub use program::Program;

@@ -1,0 +1,13 @@
+use Rattle.std.proofs.Common.{[], ◌∷◌, ap, arith, subst, ◌∙◌}
+use Rattle.std.specs.List.{fold}
+use Rattle.std.proofs.lemmas.List.{take_all}
+use Rattle.st_sizes.specs.Sizes.{AreChoices, pairs}
+use Rattle.st_leaves.proofs.SubscriptTexts.{all_chosen, with_subscript}
+use Rattle.st_leaves.proofs.array.element_texts.Goals as goal
+
+pub returns : goal.returns
+returns c =
+    subst (AreChoices c.times-2.result)
+    (ap (λ rs. pairs (fold with_subscript (0 ∷ []) rs) (1 ∷ [])) (take_all c.subscripts.range-index c.args.subscripts.now c.subscripts-test.false)
+    ∙ all_chosen c.args.subscripts.now (grind (arith, c.if-is_empty.false, c.is_empty.ensures, c.if-is_empty.ensures)))
+    (c.times-2.ensures _ _ c.subscripts.invariant c.of_text-separator.ensures)

@@ -1,0 +1,62 @@
+-- What a chart keeps of itself (2.6): leaves whose names can't be written in a program, but for the flag and the time of a step.
+use Rattle.std.specs.Prelude.{ℕ, Bool, false, ◌&&◌, not, List, [], ◌∷◌, ◌++◌, codes, Option, Some, None, if◌then◌else◌}
+use Rattle.std.specs.List.{flat_map, list_any}
+use Rattle.st_values.specs.Words.{is_word}
+use Rattle.st_values.specs.declared.elem.Elem.{Elem}
+use Rattle.st_values.specs.declared.elem.Elem.TheVariants as elems
+use Rattle.st_tree.specs.declared.tree.unit.ActionQualifier.{ActionQualifier}
+use Rattle.st_tree.specs.declared.tree.unit.Association.{Association}
+use Rattle.st_tree.specs.declared.tree.unit.ChartElement.{ChartElement}
+use Rattle.st_tree.specs.declared.tree.unit.Step.{Step}
+use Rattle.st_types.specs.Names.{steps_in}
+
+-- a leaf below some part: the rest of its path as it is shown, and its type
+pub record LeafBelow : Type 0 where
+  pub path : List ℕ
+  pub elem : Elem
+
+-- below `.` and a name
+abbrev pub named : List ℕ → Elem → LeafBelow
+named name elem = record { path = codes "." ++ name; elem = elem }
+
+abbrev pub below : List ℕ → List LeafBelow → List LeafBelow
+below text [] = []
+below text (l ∷ ls) = record { path = text ++ l.path; elem = l.elem } ∷ below text ls
+
+abbrev pub has_qualifier : List ℕ → Option ActionQualifier → Bool
+has_qualifier letter None = false
+has_qualifier letter (Some q) = is_word letter q.name.spelling
+
+-- associated with the qualifier P (2.6.4.4)
+abbrev pub is_pulse : Association → Bool
+is_pulse a = has_qualifier (codes "P") a.qualifier
+
+-- associated with the qualifier S
+abbrev pub is_stored : Association → Bool
+is_stored a = has_qualifier (codes "S") a.qualifier
+
+-- of a step: whether it is active, for how long, and since when; and whether its pulses were given, where it has any
+abbrev pub step_leaves : Step → List LeafBelow
+step_leaves s =
+    below (codes "." ++ s.name.spelling)
+    (named (codes "X") elems.Bool ∷ named (codes "T") elems.Time ∷ named (codes "$M") elems.Time
+    ∷ (if list_any is_pulse s.associations then named (codes "$P") elems.Bool ∷ [] else []))
+
+-- the names that some association has with the qualifier S, each once, in the order of the first
+abbrev pub stored_names : List (List ℕ) → List Association → List (List ℕ)
+stored_names others [] = []
+stored_names others (a ∷ more) =
+    if is_stored a && not (list_any (is_word a.name.spelling) others) then a.name.spelling ∷ stored_names (a.name.spelling ∷ others) more
+    else stored_names others more
+
+abbrev pub stored_leaves : List (List ℕ) → List LeafBelow
+stored_leaves names = flat_map (λ name. below (codes "." ++ name) (named (codes "$S") elems.Bool ∷ [])) names
+
+-- whether the chart has begun, then its steps, then its stored names
+abbrev pub all_leaves : List Step → List LeafBelow
+all_leaves steps = named (codes "$CHART") elems.Bool ∷ flat_map step_leaves steps ++ stored_leaves (stored_names [] (flat_map (λ s. s.associations) steps))
+
+-- of the elements of a chart; without any there is no chart
+abbrev pub chart_leaves : List ChartElement → List LeafBelow
+chart_leaves [] = []
+chart_leaves elements = all_leaves (flat_map steps_in elements)

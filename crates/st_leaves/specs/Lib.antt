@@ -1,0 +1,6 @@
+pub mod Charts
+pub mod Compositions
+pub mod Inside
+pub mod Leaves
+pub mod Limits
+pub mod Steps

@@ -1,0 +1,65 @@
+//! How large the leaves of charts are (2.6).
+ghost use Rattle.std.specs.Prelude.{◌≡◌, IfOk};
+ghost use Rattle.std.specs.List.{list_any};
+ghost use Rattle.st_sizes.specs.Sizes.{IsSize};
+ghost use Rattle.st_leaves.specs.Charts.{chart_leaves, is_pulse, step_leaves};
+ghost use Rattle.st_leaves.specs.Limits.{sizes_of};
+ghost use Rattle.st_leaves.specs.Steps.{state_leaves};
+
+use crate::size::{named_leaf_size, named_size};
+use crate::stored::{StoredNames, has_qualifier};
+use st_sizes::Size;
+use st_tree::tree::{Association, ChartElement, Step};
+use st_values::Elem;
+use std::alloc::{AllocError, Global};
+
+/// Of a chart with these elements: whether it has begun, its steps, and the names that it stores. Without elements there is no
+/// chart.
+pub fn chart_size(alloc: Global, elements: &[ChartElement]) -> Result<Size, AllocError>
+    ensures { IfOk result (λ size. IsSize size (sizes_of (chart_leaves elements.now))) }
+{
+    if elements.is_empty() {
+        return Ok(Size::none());
+    }
+    let mut size = named_leaf_size(b"$CHART", Elem::Bool);
+    let mut stored = StoredNames::new(alloc);
+    'elements: for element in elements {
+        let ChartElement::Step(step) = element else {
+            continue;
+        };
+        size = size.beside(step_size(step));
+        stored.add_all(step.associations.as_slice())?;
+    }
+    Ok(size.beside(stored.size()))
+}
+
+/// Of a step.
+fn step_size(step: &Step) -> Size
+    ensures { IsSize result (sizes_of (step_leaves step.now)) }
+{
+    let state = state_size(has_pulse(step.associations.as_slice()));
+    named_size(step.name.spelling.as_slice(), state)
+}
+
+/// Of what a step keeps of itself, with or without pulses, below its name.
+fn state_size(has_pulse: bool) -> Size
+    ensures { IsSize result (sizes_of (state_leaves has_pulse)) }
+{
+    let state = named_leaf_size(b"X", Elem::Bool)
+        .beside(named_leaf_size(b"T", Elem::Time))
+        .beside(named_leaf_size(b"$M", Elem::Time));
+    if has_pulse {
+        state.beside(named_leaf_size(b"$P", Elem::Bool))
+    } else {
+        state
+    }
+}
+
+/// Whether one of these associations has the qualifier P.
+fn has_pulse(associations: &[Association]) -> bool
+    ensures { result ≡ list_any is_pulse associations.now }
+{
+    associations
+        .iter()
+        .any(|association| has_qualifier(association, b"P"))
+}

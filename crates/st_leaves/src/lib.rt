@@ -1,0 +1,15 @@
+//! The leaves of a program: which there are, in order, and how large those are that a part of it has.
+#![tactic(auto)]
+
+mod array;
+mod chart;
+mod laws;
+mod size;
+mod standard;
+mod stored;
+
+pub use array::array_size;
+pub use chart::chart_size;
+pub use laws::leaves_follow_the_composition;
+pub use size::{leaf_size, named_size};
+pub use standard::standard_size;

@@ -1,0 +1,29 @@
+//! How large the leaves of a part of a program are.
+ghost use Rattle.std.specs.Prelude.{List, [], ◌∷◌, ◌++◌, codes};
+ghost use Rattle.st_sizes.specs.Sizes.{IsSize};
+ghost use Rattle.st_leaves.specs.Charts.{LeafBelow, below, named};
+ghost use Rattle.st_leaves.specs.Limits.{sizes_of};
+
+use st_sizes::Size;
+use st_values::Elem;
+
+/// Of a variable of an elementary type: one leaf, whose path ends here.
+pub fn leaf_size(elem: Elem) -> Size
+    ensures { IsSize result (sizes_of (record { path = []; elem = elem } ∷ [])) }
+{
+    Size::of_leaf(u64::from(elem.width()))
+}
+
+/// Of a part with these leaves, below `.` and its name.
+pub fn named_size(name: &[u8], inside: Size) -> Size
+    ensures { (leaves : List LeafBelow) → IsSize inside (sizes_of leaves) → IsSize result (sizes_of (below (codes "." ++ name.now) leaves)) }
+{
+    inside.below(name.len() as u64 + 1)
+}
+
+/// Of one leaf below `.` and its name.
+pub(crate) fn named_leaf_size(name: &[u8], elem: Elem) -> Size
+    ensures { IsSize result (sizes_of (named name.now elem ∷ [])) }
+{
+    named_size(name, leaf_size(elem))
+}

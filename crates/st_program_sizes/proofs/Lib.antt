@@ -1,0 +1,9 @@
+pub mod Insides
+pub mod Lists
+pub mod Names
+pub mod Parts
+pub mod Rows
+pub mod Settled
+pub mod Tables
+pub mod Unfolding
+pub mod Whole

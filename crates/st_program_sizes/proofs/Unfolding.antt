@@ -1,0 +1,87 @@
+-- In an order of the units each type is found before the fuel ends.
+use Rattle.std.proofs.Common.{◌≡◌, ℕ, zero, suc, ◌<◌, ◌≤◌, List, length, get_or, take, Option, Some, None, refl, sym, ◌∙◌, ap, subst, arith}
+use Rattle.std.specs.List.{All, Contains, flat_map}
+use Rattle.std.proofs.Math.Seq.{take-suc}
+use Rattle.std.proofs.lemmas.List.Elements.{All-contains, All-nil, All-push, All-weaker}
+use Rattle.st_tree.specs.declared.tree.declaration.DeclaredType.TheVariants as declared_types
+use Rattle.st_tree.specs.declared.tree.declaration.Specification.TheVariants as specifications
+use Rattle.st_tree.specs.declared.tree.declaration.TypeName.{TypeName}
+use Rattle.st_order.specs.Graphs.{IsOrder}
+use Rattle.st_references.specs.References.{contained, graph_of, type_names_in, unit_types}
+use Rattle.st_types.specs.Names.{Declares, Named, unit_at}
+use Rattle.st_types.specs.Names as names
+use Rattle.st_types.specs.Types.{array_of, name_stands_for, optional_stands_for, type_at, type_named, type_within, unit_stands_for, without_instance}
+use Rattle.st_types.specs.declared.base.Base.{Base}
+use Rattle.st_program_sizes.proofs.Names.{by_name, named_by, others_unknown}
+use Rattle.st_program_sizes.proofs.Rows.{before_place, contents, order_len}
+
+-- ---- types that are looked up in two ways
+
+module _ (units : List Named) (m n : ℕ) where
+  abbrev pub AreSame : ℕ → Type 0
+  AreSame i = type_within units m i ≡ type_within units n i
+
+  name_same : (t : TypeName) → All AreSame (flat_map (contained units) (type_names_in t))
+      → name_stands_for (named_by units (type_within units m)) t ≡ name_stands_for (named_by units (type_within units n)) t
+  name_same t all =
+      by_name units (λ (f : (ℕ → Base) → Base). f (type_within units m) ≡ f (type_within units n)) refl (λ e. refl) (λ b. refl)
+      (λ i is. others_unknown units m i is ∙ sym (others_unknown units n i is)) t all
+
+  unit_same : (i : ℕ) (unit : Declares) → All AreSame (flat_map (contained units) (unit_types unit))
+      → unit_stands_for (named_by units (type_within units m)) i unit ≡ unit_stands_for (named_by units (type_within units n)) i unit
+  unit_same i (names.type (declared_types.Derived (specifications.Simple t) initial)) all = ap without_instance (name_same t all)
+  unit_same i (names.type (declared_types.Derived (specifications.Array position ranges t) initial)) all = ap (array_of i) (name_same t all)
+  unit_same i (names.type (declared_types.Structure position members)) all = refl
+  unit_same i (names.function f) all = refl
+  unit_same i (names.block b) all = refl
+  unit_same i (names.program p) all = refl
+
+  optional_same : (i : ℕ) (unit : Option Named) → ((u : Named) → unit ≡ Some u → All AreSame (contents units u))
+      → optional_stands_for (named_by units (type_within units m)) i unit ≡ optional_stands_for (named_by units (type_within units n)) i unit
+  optional_same i None all = refl
+  optional_same i (Some u) all = unit_same i u.declares (all u refl)
+
+  pub within_same : (i : ℕ) → ((u : Named) → unit_at units i ≡ Some u → All AreSame (contents units u)) → type_within units (suc m) i ≡ type_within units (suc n) i
+  unfolding type_within
+  within_same i all = optional_same i (unit_at units i) all
+
+unfolds_once : (units : List Named) (n i : ℕ) → type_within units (suc n) i ≡ optional_stands_for (named_by units (type_within units n)) i (unit_at units i)
+unfolding type_within
+unfolds_once units n i = refl
+
+-- ---- in an order
+
+-- the type takes no more than so many units
+abbrev pub IsFound : List Named → ℕ → ℕ → Type 0
+IsFound units n i = (m : ℕ) → n ≤ m → type_within units m i ≡ type_at units i
+
+module _ (units : List Named) (order : List ℕ) (ordered : IsOrder (graph_of units) order) where
+  found_next : (place : ℕ) → place < length order → All (IsFound units place) (take place order) → IsFound units (suc place) (get_or order place 0)
+  unfolding type_at
+  found_next place below all zero le = absurd (omega (arith, le))
+  found_next place below all (suc m) le =
+      within_same units m (length units) (get_or order place 0) (λ u is.
+      All-weaker (Contains (take place order)) (AreSame units m (length units)) (λ i has.
+      let known : IsFound units place i = All-contains (IsFound units place) (take place order) i all has in
+      known m (omega (arith, le)) ∙ sym (known (length units) (omega (arith, below, order_len units order ordered)))) (contents units u) (before_place units order ordered place u below is))
+
+  pub found : (place : ℕ) → place ≤ length order → All (IsFound units place) (take place order)
+  found zero le = All-nil (IsFound units zero)
+  found (suc place) le =
+      let below : place < length order = omega (arith, le) in
+      let before : All (IsFound units place) (take place order) = found place (omega (arith, le)) in
+      subst (All (IsFound units (suc place))) (sym (take-suc order place 0 below))
+      (All-push (IsFound units (suc place)) (take place order) (get_or order place 0)
+      (All-weaker (IsFound units place) (IsFound units (suc place)) (λ i known m more. known m (omega (arith, more))) (take place order) before)
+      (found_next place below before))
+
+  -- the type of a unit at a place, by the types of those that it names
+  pub unfolded : (place : ℕ) → place < length order
+      → type_at units (get_or order place 0) ≡ optional_stands_for (type_named units) (get_or order place 0) (unit_at units (get_or order place 0))
+  unfolding type_at type_named
+  unfolded place below =
+      within_same units (length units) (suc (length units)) (get_or order place 0) (λ u is.
+      All-weaker (Contains (take place order)) (AreSame units (length units) (suc (length units))) (λ i has.
+      All-contains (IsFound units place) (take place order) i (found place (omega (arith, below))) has (length units) (omega (arith, below, order_len units order ordered)))
+      (contents units u) (before_place units order ordered place u below is))
+      ∙ unfolds_once units (suc (length units)) (get_or order place 0)
