@@ -1,7 +1,7 @@
 -- What a text is loaded as.
 use Rattle.std.specs.Prelude.{ℕ, ◌≡◌, List, Result, Ok, Err}
 use Rattle.st_control.specs.Controllers.{ControllerView, first_controller}
-use Rattle.st_control.specs.Texts.{IsReadAs}
+use Rattle.st_control.specs.Readings.{IsReadAs}
 use Rattle.st_control.specs.declared.refusal.Refusal.{Refusal}
 use Rattle.st_tree.specs.declared.leaf.Leaf.{Leaf}
 

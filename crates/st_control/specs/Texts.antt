@@ -1,25 +1,18 @@
--- Texts that are programs, and why others aren't loaded.
+-- Texts that are accepted, and why others are refused.
 use Rattle.std.specs.Prelude.{ℕ, ◌≡◌, ◌⊎◌, ◌<◌, ◌≤◌, ◌^◌, List, length, Result, Ok, Err}
-use Rattle.st_control.specs.Causes.{no_such_program, too_long}
-use Rattle.st_control.specs.ThinPrograms.{IsThinProgram}
+use Rattle.std.specs.Option.{option_map_or}
+use Rattle.st_check.specs.Answers as checks
+use Rattle.st_check.specs.Answers.{line_of, rule_of}
+use Rattle.st_check.specs.Faults.{IsAccepted}
+use Rattle.st_check.specs.declared.fault.CheckFault.{CheckFault}
+use Rattle.st_control.specs.Causes.{too_long}
 use Rattle.st_control.specs.declared.refusal.Refusal.{Refusal}
 use Rattle.st_control.specs.declared.refusal.Refusal.TheVariants as refusals
-use Rattle.st_control.specs.declared.thin.fault.ThinFault.{ThinFault}
-use Rattle.st_control.specs.declared.thin.fault.ThinFault.TheVariants as thin_faults
+use Rattle.st_faults.specs.Faults.{number_of}
 use Rattle.st_syntax.specs.Grammar.Texts.{Explains, IsTextOf}
 use Rattle.st_tokens.specs.declared.fault.SyntaxFault.{SyntaxFault}
 use Rattle.st_tokens.specs.declared.fault.SyntaxFault.TheVariants as syntax_faults
-use Rattle.st_tree.specs.declared.leaf.Leaf.{Leaf}
 use Rattle.st_tree.specs.declared.tree.unit.Unit.{Unit as ProgramUnit}
-
--- the text is units, and they are the thin program of this name, with these leaves
-abbrev pub IsProgram : List ℕ → List ℕ → List Leaf → Type 0
-IsProgram text main leaves = (units : List ProgramUnit) × IsTextOf text units × IsThinProgram units main leaves
-
--- a text is the program of a name with one list of leaves at most
-abbrev pub TextsGiveOneList : Type 0
-TextsGiveOneList = (text main : List ℕ) (leaves others : List Leaf) →
-    IsProgram text main leaves → IsProgram text main others → leaves ≡ others
 
 -- ---- refusals
 
@@ -31,32 +24,40 @@ refusal_of (syntax_faults.NotInGrammar line) = refusals.S 2 line
 refusal_of (syntax_faults.TooDeep line) = refusals.S 3 line
 refusal_of syntax_faults.TooLong = too_long
 
--- how units that are no thin program are answered
-abbrev pub refusal_of_units : ThinFault → Refusal
-refusal_of_units thin_faults.Memory = refusals.M
-refusal_of_units thin_faults.NotThin = no_such_program
+-- how a fault of the rules is answered: C1 to C10 by the rule that is broken, and the line that it names
+abbrev pub refusal_of_rules : CheckFault → Refusal
+refusal_of_rules fault = option_map_or (λ rule. refusals.C (number_of rule) (line_of fault)) (rule_of fault) refusals.M
 
 -- the refusal is the answer to a fault that the text has
 abbrev pub IsFaultOf : List ℕ → Refusal → Type 0
 IsFaultOf text refusal = (fault : SyntaxFault) × (refusal ≡ refusal_of fault) × Explains fault text
 
--- the text is units, and they are no thin program of this name
-abbrev pub IsOtherText : List ℕ → List ℕ → Type 0
-IsOtherText text main = (units : List ProgramUnit) × IsTextOf text units × ((leaves : List Leaf) → ¬ IsThinProgram units main leaves)
+-- the text is units, and the refusal is the answer to a rule that they break
+abbrev pub IsFaultOfUnits : List ℕ → List ℕ → Refusal → Type 0
+IsFaultOfUnits text main refusal =
+    (units : List ProgramUnit) × IsTextOf text units × ((fault : CheckFault) × (refusal ≡ refusal_of_rules fault) × checks.Explains units main fault)
 
--- ---- what a text is read as
-
--- the leaves of its program, or why there are none
-abbrev pub Reading : Type 0
-Reading = Result (List Leaf) Refusal
-
--- a text that isn't too long is refused by a fault that it has, because it is no program of this name, or for want of memory
+-- a text that isn't too long is refused by a fault that it has, by a rule that its units break, or for want of memory
 abbrev pub IsRefusedAs : List ℕ → List ℕ → Refusal → Type 0
-IsRefusedAs text main refusal = (refusal ≡ refusals.M) ⊎ (IsFaultOf text refusal ⊎ ((refusal ≡ no_such_program) × IsOtherText text main))
+IsRefusedAs text main refusal = (refusal ≡ refusals.M) ⊎ (IsFaultOf text refusal ⊎ IsFaultOfUnits text main refusal)
 
--- A text of at most 2 ^ 20 bytes is read as the leaves of the program of this name, or refused. A longer one is refused as
+-- ---- what a text is checked as
+
+-- the units break no rule, and a program of this name, ignoring case, is among them
+abbrev pub AreAccepted : List ProgramUnit → List ℕ → Type 0
+AreAccepted units main = (number : ℕ) × IsAccepted units main number
+
+-- what the checks of a text answer: its units, or why they aren't accepted
+abbrev pub Checked : Type 0
+Checked = Result (List ProgramUnit) Refusal
+
+-- A text of at most 2 ^ 20 bytes is accepted as units that have a program of this name, or refused. A longer one is refused as
 -- too long, whatever else holds of it.
-abbrev pub IsReadAs : List ℕ → List ℕ → Reading → Type 0
-IsReadAs text main (Ok leaves) = (length text ≤ 2 ^ 20) × IsProgram text main leaves
-IsReadAs text main (Err refusal) =
+abbrev pub IsCheckedAs : List ℕ → List ℕ → Checked → Type 0
+IsCheckedAs text main (Ok units) = (length text ≤ 2 ^ 20) × IsTextOf text units × AreAccepted units main
+IsCheckedAs text main (Err refusal) =
     ((2 ^ 20 < length text) × (refusal ≡ too_long)) ⊎ ((length text ≤ 2 ^ 20) × IsRefusedAs text main refusal)
+
+-- something holds of what the text is checked as
+abbrev pub OfCheck : List ℕ → List ℕ → (Checked → Type 0) → Type 0
+OfCheck text main P = (checked : Checked) × IsCheckedAs text main checked × P checked

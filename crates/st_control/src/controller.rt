@@ -4,19 +4,19 @@ ghost use Rattle.st_control.specs.Controllers.{DropsNewest, Keeps, Takes, first_
 ghost use Rattle.st_control.specs.Loads.{IsLoaded};
 ghost use Rattle.st_control.specs.Machine.{step, undo_step};
 ghost use Rattle.st_control.specs.Machine.Command.{force, release, write};
+ghost use Rattle.st_control.specs.Readings.{IsReadAs};
 ghost use Rattle.st_control.specs.States.{IsWhole, leaf_of};
-ghost use Rattle.st_control.specs.Texts.{IsReadAs};
 ghost use Rattle.st_layout.specs.Layout.{leaf_at};
 ghost use Rattle.st_tree.specs.declared.leaf.Leaf.{Leaf};
 ghost use Rattle.st_values.specs.Values.{IsValue};
 
+use crate::check::check_program;
 use crate::record::Record;
 use crate::refusal::{NO_SUCH_PATH, NOTHING_TO_UNDO, Refusal};
 use crate::state::{State, Status};
 use crate::thin::{ThinFault, read_thin};
 use crate::undoing::revert;
 use st_layout::{Layout, Memory};
-use st_syntax::parse;
 use st_tree::Name;
 use st_values::{Elem, Value};
 use std::alloc::Global;
@@ -65,9 +65,8 @@ impl<M: Memory> Controller<M> {
     /// Loads the program of the name `main`, ignoring case, from a text: initial values, no force, moment 0, running, and
     /// nothing to undo. `limit` is the step limit of a scan, which is kept.
     ///
-    /// Refused as S1 where the text has no tokens, S2 where the tokens aren't in the grammar, S3 where more levels are open
-    /// than may be, each with a line, C10 line 0 where it is no such program, and else for want of memory alone. A text of
-    /// more than 1,048,576 bytes is refused as S4 line 1, whatever else holds of it.
+    /// Refused as `check_program` refuses it; as C10 line 0 where it is accepted, but isn't one of the programs that can be run
+    /// today; and else for want of memory alone.
     pub fn load(alloc: Global, text: &[u8], main: &[u8], limit: u32) -> Result<Self, Refusal>
         ensures ok { IfOk result (λ controller. IsLoaded text.now main.now limit controller) }
         ensures refused { IfErr result (λ refusal. IsReadAs text.now main.now (Err refusal)) }
@@ -77,8 +76,8 @@ impl<M: Memory> Controller<M> {
         ensures only { (leaves : List Leaf) → IsReadAs text.now main.now (Ok leaves)
             → MatchResult result (λ controller. controller ≡ first_controller leaves main.now limit) (λ refusal. refusal ≡ Refusal.M) }
     {
-        let units = parse(alloc, text)?;
-        let leaves = read_thin(alloc, units.as_slice(), main)?;
+        let program = check_program(alloc, text, main)?;
+        let leaves = read_thin(alloc, program.units(), main)?;
         let name = Name::of(main).ok_or(ThinFault::NotThin)?;
         match Layout::of(alloc, leaves) {
             Ok(layout) => Controller::start(alloc, layout, name, limit),

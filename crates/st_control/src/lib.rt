@@ -1,6 +1,7 @@
 //! The controller: a running program that an operator looks at and changes, and whose changes can all be taken back.
 #![tactic(auto)]
 
+mod check;
 mod controller;
 mod laws;
 mod record;
@@ -9,6 +10,7 @@ mod state;
 mod thin;
 mod undoing;
 
+pub use check::check_program;
 pub use controller::{Controller, MAX_RECORDS, Report};
 pub use laws::{
     command_changes_one_path, record_undoes_command, steps_keep_states_whole,

@@ -1,8 +1,11 @@
 //! Why a command is refused.
 ghost use Rattle.std.specs.Prelude.{◌≡◌};
-ghost use Rattle.st_control.specs.Texts.{refusal_of, refusal_of_units};
+ghost use Rattle.st_control.specs.Readings.{refusal_of_units};
+ghost use Rattle.st_control.specs.Texts.{refusal_of, refusal_of_rules};
 
 use crate::thin::ThinFault;
+use st_check::CheckFault;
+use st_faults::Rule;
 use st_tokens::SyntaxFault;
 
 /// There is no leaf with this path.
@@ -32,9 +35,9 @@ pub const NO_SUCH_LINE: u8 = 11;
 /// Why a command is refused. Of several causes the one with the lowest number is named.
 #[derive(Clone, Copy, Debug, PartialEq, Eq)]
 pub enum Refusal {
-    /// The text is no program: the number of the cause, and a line.
+    /// The text isn't in the grammar: the number of the cause, from 1 to 4, and a line.
     S { number: u8, line: u32 },
-    /// The program is at fault: the number of the cause, and a line.
+    /// The program breaks a rule: the rule's number, from 1 to 10, and a line, which is 0 where there is no such program.
     C { number: u8, line: u32 },
     /// An operator's command can't be done: the number of the cause, which is one of the constants above.
     O(u8),
@@ -56,6 +59,20 @@ impl From<SyntaxFault> for Refusal {
     }
 }
 
+impl From<CheckFault> for Refusal {
+    ghost from_gives = { λ fault refusal. refusal ≡ refusal_of_rules fault };
+
+    fn from(fault: CheckFault) -> Refusal {
+        match fault.rule() {
+            Some(rule) => Refusal::C {
+                number: rule.number(),
+                line: fault.line(),
+            },
+            None => Refusal::M,
+        }
+    }
+}
+
 impl From<ThinFault> for Refusal {
     ghost from_gives = { λ fault refusal. refusal ≡ refusal_of_units fault };
 
@@ -63,7 +80,7 @@ impl From<ThinFault> for Refusal {
         match fault {
             ThinFault::Memory => Refusal::M,
             ThinFault::NotThin => Refusal::C {
-                number: 10,
+                number: Rule::NoProgram.number(),
                 line: 0,
             },
         }

@@ -1,7 +1,7 @@
 //! Thin programs: one program whose variables are of type BOOL and INT, and which does nothing
 //! (IEC 61131-3:2003, 2.4.3 and 2.5.3).
 ghost use Rattle.std.specs.Prelude.{◌≡◌, ◌≤◌, ◌↔◌, [], IfOk, IsTrue, OnOk, Err, MatchOption, length};
-ghost use Rattle.st_control.specs.Texts.{TextsGiveOneList};
+ghost use Rattle.st_control.specs.Readings.{TextsGiveOneList};
 ghost use Rattle.st_control.specs.ThinPrograms.{IsOnlyBlock, IsThinProgram, UnitsGiveOneList};
 ghost use Rattle.st_layout.specs.Layout.{IsSound};
 

@@ -1,4 +1,5 @@
 pub mod Bytes
+pub mod Checks
 pub mod Inputs
 pub mod Lines
 pub mod Pending

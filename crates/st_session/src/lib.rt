@@ -3,6 +3,7 @@
 //! The lines come from a [`Source`] and the replies go to a [`Sink`].
 #![tactic(auto)]
 
+mod check;
 mod conversation;
 mod devices;
 mod input;
@@ -14,6 +15,7 @@ mod request;
 mod run;
 mod writer_sink;
 
+pub use check::check_text;
 pub use conversation::{Outcome, session};
 pub use devices::{DeviceFault, Sink, Source};
 pub use input::MAX_LINE_BYTES;

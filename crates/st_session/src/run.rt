@@ -18,7 +18,7 @@ use std::alloc::Global;
 /// All was accepted.
 pub const ACCEPTED: u8 = 0;
 
-/// The text is no program.
+/// The text isn't accepted.
 pub const NO_PROGRAM: u8 = 1;
 
 /// Some line was refused.
@@ -95,7 +95,7 @@ fn serve<R: Source, W: Sink>(
 
 /// Writes a refusal, and answers its status. Where there is no memory for its text, that is what is refused; a text that is
 /// too long needs none.
-fn refuse<W: Sink>(alloc: Global, refusal: Refusal, sink: &mut W) -> u8
+pub(crate) fn refuse<W: Sink>(alloc: Global, refusal: Refusal, sink: &mut W) -> u8
     requires { W.has_failed sink.old ≡ false }
     ensures all { result ≢ DEVICE_FAILED → result ≢ NO_MEMORY
         → WritesAll [] result (W.taken sink.old) (W.taken sink.new) (Err refusal) }
@@ -136,7 +136,7 @@ fn status_of(refusal: Refusal) -> u8
 }
 
 /// Writes a text and answers the status, or that a device failed.
-fn tell<W: Sink>(sink: &mut W, text: &[u8], status: u8) -> u8
+pub(crate) fn tell<W: Sink>(sink: &mut W, text: &[u8], status: u8) -> u8
     requires works { W.has_failed sink.old ≡ false }
     requires other { status ≢ DEVICE_FAILED }
     ensures all { result ≢ DEVICE_FAILED → (result ≡ status) × Appends (W.taken sink.old) (W.taken sink.new) text.now }

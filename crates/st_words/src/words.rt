@@ -3,7 +3,7 @@
 ghost use Rattle.std.specs.Prelude.{◌≡◌, ℕ, [], IfErr, IfOk, IfSome, IsNone, OnOk, map, option_map, false};
 ghost use Rattle.clap.specs.Words.{app_of, kind_of, subcommand_rows_of};
 ghost use Rattle.clap.specs.declared.builder.command.Command.TheViews.{out-Command};
-ghost use Rattle.st_words.specs.Words.{AreInOrder, HasLimit, IsFaultOf, IsLimitOf, IsOrder, IsRunnable, IsStepLimit, chosen_by, faults_of, file_app, run_app, stc_app, verb_name};
+ghost use Rattle.st_words.specs.Words.{AreInOrder, HasLimit, IsFaultOf, IsLimitOf, IsOrder, IsRunnable, IsStepLimit, check_app, chosen_by, faults_of, file_app, run_app, stc_app, verb_name};
 
 use clap::error::ErrorKind;
 use clap::{Arg, ArgMatches, Command, Error};
@@ -22,6 +22,8 @@ pub const VERSION: &str = "0.1.0";
 /// What is to be done with the source text.
 #[derive(Clone, Copy, Debug, PartialEq, Eq)]
 pub enum Verb {
+    /// Say whether the text is accepted as the main program, or why not.
+    Check,
     /// Load the main program and run a session over it.
     Run,
 }
@@ -34,7 +36,7 @@ pub struct Order<'a> {
     pub file: &'a str,
     /// The name of the main program.
     pub main: &'a str,
-    /// The step limit of a scan, from 1 to 10,000,000.
+    /// The step limit of a scan, from 1 to 10,000,000. Only `run` can be given one.
     pub steps: u32,
 }
 
@@ -63,14 +65,24 @@ pub fn read_words<'a, S: AsStr>(alloc: Global, words: &'a [S]) -> Result<Order<'
 fn stc_command<'a>(alloc: Global) -> Result<Command<'a>, AllocError>
     ensures { IfOk result (λ command. app_of command ≡ stc_app) }
 {
+    let check = check_command(alloc)?;
     let run = run_command(alloc)?;
     Command::new(alloc, "stc")
         .about("A soft controller for programs in Structured Text.")
         .version(VERSION)
         .subcommand_required(true)
         .disable_help_subcommand(true)
+        .subcommand(check)?
         .subcommand(run)?
         .bin_name("stc")
+}
+
+/// `check FILE --program N`
+fn check_command<'a>(alloc: Global) -> Result<Command<'a>, AllocError>
+    ensures app { IfOk result (λ command. app_of command ≡ check_app) }
+    ensures local { IfOk result (λ command. (out-Command command).has_globals ≡ false) }
+{
+    Ok(file_command(alloc, "check")?.about("Say whether the program is accepted, or why not."))
 }
 
 /// `run FILE --program N [--steps K]`
@@ -126,6 +138,7 @@ fn verb_named(name: &str) -> Option<Verb>
     ensures none { IsNone result → (verb : Verb) → ¬ (name.now ≡ verb_name verb) }
 {
     match name {
+        "check" => Some(Verb::Check),
         "run" => Some(Verb::Run),
         _ => None,
     }

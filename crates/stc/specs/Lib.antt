@@ -1,1 +1,2 @@
+pub mod Diagnoses
 pub mod Statuses

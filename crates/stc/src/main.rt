@@ -6,15 +6,21 @@ ghost use Rattle.std.specs.Io.KnownBytes.{Appends};
 ghost use Rattle.std.specs.IoError.{error_kind};
 ghost use Rattle.clap.specs.Words.{Text, kind_of};
 ghost use Rattle.st_control.specs.Loads.{OfLoad};
+ghost use Rattle.st_control.specs.Texts.{OfCheck};
+ghost use Rattle.st_session.specs.Checks.{TellsAll, TellsPart};
 ghost use Rattle.st_session.specs.Lines.{lines_of};
 ghost use Rattle.st_session.specs.Pending.{OnBytes, OnReading};
 ghost use Rattle.st_session.specs.Replies.{ended};
 ghost use Rattle.st_session.specs.Runs.{OfProgram, WritesAll, WritesPart, WritesRead};
-ghost use Rattle.stc.specs.Statuses.{EndsAsLoaded, EndsAsOrdered, EndsBy, EndsByWords, error_status};
+ghost use Rattle.stc.specs.Statuses.{EndsAsCheck, EndsAsChecked, EndsAsLoaded, EndsAsRun, EndsBy, EndsByWords, error_status};
 
+mod refused;
+
+use crate::refused::diagnosis;
 use clap::error::ErrorKind;
 use st_session::{
-    ACCEPTED, DEVICE_FAILED, FromReader, NO_MEMORY, NO_PROGRAM, Sink, Source, ToWriter, run_text,
+    ACCEPTED, DEVICE_FAILED, FromReader, NO_MEMORY, NO_PROGRAM, Sink, Source, ToWriter, check_text,
+    run_text,
 };
 use st_tokens::MAX_TEXT_BYTES;
 use st_words::{Order, Verb, read_words};
@@ -93,12 +99,29 @@ fn explain<R: Print + Eprint>(rt: &R, error: &clap::Error) -> u8
 ///
 /// No clause knows what the file holds. So of some text the status is its.
 fn obey<R: Files + Input + Print + Eprint + AllocGlobal>(rt: &R, order: Order<'_>) -> u8
-    ensures { EndsAsOrdered order.entry result }
+    ensures check { EndsAsCheck order.entry result }
+    ensures run { EndsAsRun order.entry result }
 {
     match read_source(rt, order.file) {
-        Ok(text) => serve(rt, order, text.as_slice()),
+        Ok(text) => answer(rt, order, text.as_slice()),
         Err(error) => explain_file(rt, order.file, &error),
     }
+}
+
+/// Does with the source text what is ordered, and says why it is refused where it is.
+fn answer<R: Input + Print + Eprint + AllocGlobal>(rt: &R, order: Order<'_>, text: &[u8]) -> u8
+    ensures check_status { order.entry.verb ≡ Verb.Check → result ≢ DEVICE_FAILED → result ≢ NO_MEMORY
+        → EndsAsChecked text.now order.entry.main.now result }
+    ensures run_status { order.entry.verb ≡ Verb.Run → result ≢ DEVICE_FAILED → result ≢ NO_MEMORY
+        → EndsAsLoaded text.now order.entry.main.now order.entry.steps result }
+{
+    let status = serve(rt, order, text);
+    if status == NO_PROGRAM
+        && let Ok(told) = diagnosis(rt.alloc(), order, text)
+    {
+        let _ = eprint!(rt; "{told}");
+    }
+    status
 }
 
 /// Says that the file can't be read, where there is memory, and answers the status.
@@ -130,6 +153,8 @@ fn read_text<R: Read + Drop>(alloc: Global, reader: R) -> io::Result<Vec<u8>>
 ///
 /// No clause knows the bytes of standard input. So of some lines the status is theirs.
 fn serve<R: Input + Print + AllocGlobal>(rt: &R, order: Order<'_>, text: &[u8]) -> u8
+    ensures check_status { order.entry.verb ≡ Verb.Check → result ≢ DEVICE_FAILED → result ≢ NO_MEMORY
+        → EndsAsChecked text.now order.entry.main.now result }
     ensures run_status { order.entry.verb ≡ Verb.Run → result ≢ DEVICE_FAILED → result ≢ NO_MEMORY
         → EndsAsLoaded text.now order.entry.main.now order.entry.steps result }
 {
@@ -140,7 +165,8 @@ fn serve<R: Input + Print + AllocGlobal>(rt: &R, order: Order<'_>, text: &[u8]) 
 
 /// Does with a source text what is ordered, on devices that haven't failed, and answers the status.
 ///
-/// Where the verb is `run`, that is what `run_text` does with the main program and under the step limit of the order.
+/// Where the verb is `check`, that is what `check_text` does with the main program of the order; and where it is `run`, what
+/// `run_text` does with it under the step limit of the order.
 fn obey_text<R: Source, W: Sink>(
     alloc: Global,
     order: Order<'_>,
@@ -151,16 +177,21 @@ fn obey_text<R: Source, W: Sink>(
     requires source { R.has_failed source.old ≡ false }
     requires sink { W.has_failed sink.old ≡ false }
 
+    // What the check answers is written, or a beginning of it where the device failed. Nothing is read.
+    ensures check_all { order.entry.verb ≡ Verb.Check → result ≢ DEVICE_FAILED → result ≢ NO_MEMORY
+        → OfCheck text.now order.entry.main.now (TellsAll result (W.taken sink.old) (W.taken sink.new)) }
+    ensures check_memory { order.entry.verb ≡ Verb.Check → result ≡ NO_MEMORY
+        → Appends (W.taken sink.old) (W.taken sink.new) (ended (codes "refused M")) }
+    ensures check_part { order.entry.verb ≡ Verb.Check → result ≡ DEVICE_FAILED
+        → OfCheck text.now order.entry.main.now (TellsPart (W.taken sink.old) (W.taken sink.new)) }
+    ensures check_source { order.entry.verb ≡ Verb.Check → source.new ≡ source.old }
+
     // The replies to all lines are written, or the refusal of the load.
     ensures run_all { order.entry.verb ≡ Verb.Run → result ≢ DEVICE_FAILED → result ≢ NO_MEMORY
         → OnBytes (R.rest source.old) (λ bytes. OfLoad text.now order.entry.main.now order.entry.steps
         (WritesAll (lines_of bytes) result (W.taken sink.old) (W.taken sink.new))) }
     ensures run_memory { order.entry.verb ≡ Verb.Run → result ≡ NO_MEMORY → Appends (W.taken sink.old) (W.taken sink.new) []
         ⊎ Appends (W.taken sink.old) (W.taken sink.new) (ended (codes "refused M")) }
-
-    // A text that is too long is refused for that alone, also where there is no memory.
-    ensures run_long { order.entry.verb ≡ Verb.Run → 2 ^ 20 < length text.now → result ≢ DEVICE_FAILED → (result ≡ NO_PROGRAM)
-        × Appends (W.taken sink.old) (W.taken sink.new) (ended (codes "refused S4 line 1")) }
 
     // A device has failed, and the run ended there. Where it is the source, the text was loaded, and of the lines that were
     // read whole none is lost.
@@ -170,10 +201,15 @@ fn obey_text<R: Source, W: Sink>(
     ensures run_read { order.entry.verb ≡ Verb.Run → R.has_failed source.new ≡ true
         → OnReading (R.rest source.old) (R.rest source.new) (λ bytes rest. OfProgram text.now order.entry.main.now
         order.entry.steps (WritesRead bytes rest (W.taken sink.old) (W.taken sink.new))) }
+
+    // A text that is too long is refused for that alone, also where there is no memory.
+    ensures long { 2 ^ 20 < length text.now → result ≢ DEVICE_FAILED → (result ≡ NO_PROGRAM)
+        × Appends (W.taken sink.old) (W.taken sink.new) (ended (codes "refused S4 line 1")) }
     ensures failed { IsTrue (R.has_failed source.new || W.has_failed sink.new) ↔ (result ≡ DEVICE_FAILED) }
 {
     let main = order.main.as_bytes();
     match order.verb {
+        Verb::Check => check_text(alloc, text, main, sink),
         Verb::Run => run_text(alloc, text, main, order.steps, source, sink),
     }
 }

@@ -1,0 +1,209 @@
+//! The tables: for each family the numbers, each with its sentence and its advice.
+ghost use Rattle.std.specs.List.{find};
+ghost use Rattle.std.specs.Prelude.{◌≡◌, ◌∷◌, [], map, option_map};
+ghost use Rattle.st_refusals.specs.Tables.{has_number, meaning, meaning_at, meaning_of, number_of, table_of};
+
+use crate::explanation::{Explanation, Family};
+
+/// A number, its sentence and its advice.
+type Row = (u8, &'static str, &'static str);
+
+/// Why a text isn't in the grammar.
+static SYNTAX: [Row; 4] = [
+    (
+        1,
+        "No word, number or symbol of the language begins here, or a comment begins here that is never closed.",
+        "Remove the character that is out of place, or close the comment with `*)`.",
+    ),
+    (
+        2,
+        "The text can't go on like this: a word or symbol is missing before this place, or this one doesn't belong here.",
+        "Compare this line and the one before it with the grammar in docs/LANGUAGE.md; often a `;` or an END_ word is missing.",
+    ),
+    (
+        3,
+        "More than 64 parentheses, brackets and statements are open inside one another here.",
+        "Work out a part of it in a statement before this one, or move it into a function.",
+    ),
+    (
+        4,
+        "The text is longer than 1,048,576 bytes.",
+        "Shorten it; blanks and comments count too.",
+    ),
+];
+
+/// Which rules of the language a text can break.
+static CHECKS: [Row; 10] = [
+    (
+        1,
+        "There is no variable, type, function, member or action of this name here.",
+        "Declare it or correct its spelling; of another block only the inputs and outputs can be seen.",
+    ),
+    (
+        2,
+        "This name stands for something else already.",
+        "Choose another name; capital and small letters are the same, and the names of standard functions and blocks are taken.",
+    ),
+    (
+        3,
+        "This isn't of the type that is wanted here, or it is something that can't stand here.",
+        "Give a value of the type that is wanted, convert it as by INT_TO_DINT, or use one element or member in place of a whole array, structure or block.",
+    ),
+    (
+        4,
+        "This number or duration is outside the range of its type, or this upper bound is below the lower bound.",
+        "Give one that is inside the range, choose a wider type, or swap the bounds.",
+    ),
+    (
+        5,
+        "This may not be assigned: it is a constant, an input, a step's flag or time, a member of an instance, or the variable of the FOR loop around it; or a FOR loop counts in what is no integer variable declared here.",
+        "Assign to another variable, give a block its inputs where it is called, as in `T1(IN := Go);`, and let each FOR loop count in an integer variable of its own.",
+    ),
+    (
+        6,
+        "This function, function block or type contains or calls itself, directly or through others.",
+        "Take out the call or the member that leads back to it; a loop often does what the call was to do.",
+    ),
+    (
+        7,
+        "This call doesn't fit what it calls, or this EXIT stands in no loop.",
+        "Give each argument once, all in order or all by name, and those of a block by name; call a function inside an expression, and a block's instance as a statement.",
+    ),
+    (
+        8,
+        "This chart has no initial step or a second one, or it names a step or a qualifier that there isn't, or a duration is missing or isn't wanted.",
+        "Give the chart one INITIAL_STEP, declare each step that it names, and write N, S, R and P without a duration, L and D with one.",
+    ),
+    (
+        9,
+        "A limit is passed: 1,000 types, functions, blocks and programs; 128 bytes for the name of one; 65,536 single variables; 524,288 bytes for their values; 255 bytes for the path of one.",
+        "Make arrays smaller, shorten names, or leave out what isn't used.",
+    ),
+    (
+        10,
+        "The text has no program of the name that was given, or what it has can't be run yet.",
+        "Give the name of one of its programs after `--program`; docs/LANGUAGE.md says what can be run today.",
+    ),
+];
+
+/// Why a line of a session isn't done.
+static COMMANDS: [Row; 13] = [
+    (
+        1,
+        "There is no variable of this path.",
+        "Write the path from the program's name on, as `Main.A`, and the element of an array as `Main.R[2]`.",
+    ),
+    (
+        2,
+        "An operator may not set this variable: the program keeps it for a chart or inside a block.",
+        "Set a variable that the program declares, or one of a block's inputs.",
+    ),
+    (
+        3,
+        "This is no value of the variable's type.",
+        "Write a value that is inside the type's range, without blanks, as `5`, `TRUE`, `16#FF` or `T#1m30s`.",
+    ),
+    (
+        4,
+        "The variable is forced, so it can't be written.",
+        "Release it first, or force it to the new value.",
+    ),
+    (
+        5,
+        "The variable isn't forced, so it can't be released.",
+        "Look at it with `show`, which says `forced` where it is.",
+    ),
+    (
+        6,
+        "256 commands can be undone already, and there is no room for another.",
+        "Undo a command first.",
+    ),
+    (
+        7,
+        "There is nothing to undo.",
+        "Go on: no command is left that could be taken back.",
+    ),
+    (
+        8,
+        "A chart that the old and the new program both have would be left without an active step.",
+        "Keep the active step in the new program, or wait until a step is active that both have.",
+    ),
+    (
+        9,
+        "The moment is before that of the last scan, or above 1,000,000,000,000,000 milliseconds.",
+        "Give a moment that isn't before the one that `status` shows.",
+    ),
+    (
+        10,
+        "The program was halted by a fault.",
+        "See the fault with `status`, then correct the program with `change` or its values with `write`, and give `reset`.",
+    ),
+    (
+        11,
+        "A session has no such line, or the text of a change isn't ended.",
+        "Write a line as docs/SESSIONS.md lists them, its first word in small letters.",
+    ),
+    (
+        12,
+        "A scan was given a value for a variable that isn't an input of the main program.",
+        "Give a scan values for the variables under VAR_INPUT alone, and set others with `write`.",
+    ),
+    (
+        13,
+        "The renames of a change don't fit the old and the new program.",
+        "Let each rename `OLD=NEW` name a path of the old program and one of the new, no path twice, and none with a `$`.",
+    ),
+];
+
+/// Why a scan ended early.
+static FAULTS: [Row; 3] = [
+    (
+        1,
+        "The scan took as many steps as one may take, and wasn't done.",
+        "Look for a loop that goes on too long, or give more steps after `--steps`.",
+    ),
+    (
+        2,
+        "A number was divided by zero.",
+        "Test the divisor before `/` or MOD, as in `IF Z <> 0 THEN`.",
+    ),
+    (
+        3,
+        "An index is outside the bounds of its array.",
+        "Test the index before it is used, or declare a larger array.",
+    ),
+];
+
+/// The explanation of a number, if the family has it.
+pub fn explanation_of(family: Family, number: u8) -> Option<Explanation>
+    ensures { option_map meaning_of result ≡ meaning_at family number }
+{
+    match family {
+        Family::Syntax => explanation_in(&SYNTAX, number),
+        Family::Check => explanation_in(&CHECKS, number),
+        Family::Operator => explanation_in(&COMMANDS, number),
+        Family::Fault => explanation_in(&FAULTS, number),
+    }
+}
+
+/// The explanation of the first row with this number.
+fn explanation_in(rows: &[Row], number: u8) -> Option<Explanation>
+    ensures { option_map meaning_of result
+        ≡ find (has_number number) (map (λ row. meaning row.0 row.1.now row.2.now) rows.now) }
+{
+    let row = rows.iter().find(|row| row.0 == number)?;
+    Some(Explanation {
+        number: row.0,
+        sentence: row.1,
+        advice: row.2,
+    })
+}
+
+/// Each family has the numbers from 1 on, each once.
+pub fn numbers_are_listed()
+    ensures syntax { map number_of (table_of Family.Syntax) ≡ 1 ∷ 2 ∷ 3 ∷ 4 ∷ [] }
+    ensures check { map number_of (table_of Family.Check) ≡ 1 ∷ 2 ∷ 3 ∷ 4 ∷ 5 ∷ 6 ∷ 7 ∷ 8 ∷ 9 ∷ 10 ∷ [] }
+    ensures operator { map number_of (table_of Family.Operator)
+        ≡ 1 ∷ 2 ∷ 3 ∷ 4 ∷ 5 ∷ 6 ∷ 7 ∷ 8 ∷ 9 ∷ 10 ∷ 11 ∷ 12 ∷ 13 ∷ [] }
+    ensures fault { map number_of (table_of Family.Fault) ≡ 1 ∷ 2 ∷ 3 ∷ [] }
+{}
