@@ -6,6 +6,8 @@
 #[cfg(test)]
 mod all_types;
 #[cfg(test)]
+mod checked_texts;
+#[cfg(test)]
 mod devices;
 #[cfg(test)]
 mod first_path;

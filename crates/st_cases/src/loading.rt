@@ -94,9 +94,31 @@ fn refuses_texts_that_are_no_tokens_or_not_in_the_grammar(rt: HostRuntime) {
     }
 }
 
+/// A refusal as C of this number, in the first line.
+fn rule(number: u8) -> Option<Refusal> {
+    Some(Refusal::C { number, line: 1 })
+}
+
+#[test]
+fn refuses_texts_that_break_a_rule(rt: HostRuntime) {
+    let texts: [(&[u8], u8); 4] = [
+        (
+            b"PROGRAM Main VAR A : INT; a : BOOL; END_VAR END_PROGRAM",
+            2,
+        ),
+        (b"PROGRAM Main VAR A : INT := TRUE; END_VAR END_PROGRAM", 3),
+        (b"PROGRAM Main VAR A : INT := 32768; END_VAR END_PROGRAM", 4),
+        (b"PROGRAM Main VAR A : BOOL := 2; END_VAR END_PROGRAM", 4),
+    ];
+    for (text, number) in texts {
+        assert_eq!(rt; refusal_of(rt.alloc(), text), rule(number));
+    }
+}
+
+/// There is no program of this name, or it is accepted and can't be run yet.
 #[test]
 fn refuses_other_programs(rt: HostRuntime) {
-    let texts: [&[u8]; 17] = [
+    let texts: [&[u8]; 13] = [
         b"",
         b"(* nothing *)",
         b"PROGRAM Other VAR END_VAR END_PROGRAM",
@@ -106,13 +128,9 @@ fn refuses_other_programs(rt: HostRuntime) {
         b"PROGRAM Main VAR END_VAR VAR END_VAR END_PROGRAM",
         b"PROGRAM Main VAR CONSTANT A : INT := 3; END_VAR END_PROGRAM",
         b"PROGRAM Main VAR END_VAR ; END_PROGRAM",
-        b"PROGRAM Main VAR A : INT := 32768; END_VAR END_PROGRAM",
         b"PROGRAM Main VAR A : INT := -1; END_VAR END_PROGRAM",
-        b"PROGRAM Main VAR A : INT := TRUE; END_VAR END_PROGRAM",
-        b"PROGRAM Main VAR A : BOOL := 2; END_VAR END_PROGRAM",
         b"PROGRAM Main VAR A : DINT; END_VAR END_PROGRAM",
         b"PROGRAM Main VAR A, B : INT; END_VAR END_PROGRAM",
-        b"PROGRAM Main VAR A : INT; a : BOOL; END_VAR END_PROGRAM",
         b"PROGRAM Main VAR A : ARRAY [0..1] OF INT; END_VAR END_PROGRAM",
     ];
     for text in texts {

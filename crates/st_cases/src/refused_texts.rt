@@ -1,4 +1,4 @@
-//! Texts that are no programs.
+//! Texts that aren't loaded: they aren't in the grammar or break a rule, or can't be run yet.
 use crate::running::{FIRST, run};
 use std::alloc::Global;
 use std::test::Fail;
@@ -9,7 +9,7 @@ struct Case {
     written: &'static [u8],
 }
 
-const CASES: [Case; 9] = [
+const CASES: [Case; 11] = [
     Case {
         text: b"(* open",
         written: b"refused S1 line 1\n",
@@ -41,6 +41,14 @@ const CASES: [Case; 9] = [
     Case {
         text: b"PROGRAM Main\nVAR A : INT := 3 B : BOOL; END_VAR\nEND_PROGRAM",
         written: b"refused S2 line 2\n",
+    },
+    Case {
+        text: b"PROGRAM Main VAR A : INT; END_VAR\nA := 40000; END_PROGRAM",
+        written: b"refused C4 line 2\n",
+    },
+    Case {
+        text: b"PROGRAM Main VAR A : INT; END_VAR\nA := 4; END_PROGRAM",
+        written: b"refused C10 line 0\n",
     },
     Case {
         text: b"",
@@ -90,10 +98,10 @@ fn in_parentheses(alloc: Global, levels: usize) -> Result<Vec<u8>, Fail> {
     Ok(text)
 }
 
-/// 64 levels are in the grammar (this body is none that a program may have yet), and a 65th is refused.
+/// 64 levels are in the grammar (though nothing declares what this body assigns to), and a 65th is refused.
 #[test]
 fn deep_texts_are_refused(rt: HostRuntime) -> Result<(), Fail> {
-    let cases: [(usize, &[u8]); 2] = [(64, b"refused C10 line 0\n"), (65, b"refused S3 line 2\n")];
+    let cases: [(usize, &[u8]); 2] = [(64, b"refused C1 line 2\n"), (65, b"refused S3 line 2\n")];
     for (levels, written) in cases {
         let text = in_parentheses(rt.alloc(), levels)?;
         let ran = run(rt.alloc(), &text, b"show Main.A\n", 4096)?;

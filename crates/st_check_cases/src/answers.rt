@@ -1,50 +1,42 @@
 //! Cases as texts, and what is answered.
 //!
 //! A case begins with a line of `#`, the answer and a remark behind `:`. The answer is `ok`, or the first fault's number and
-//! line, as `C3 2`. The lines behind it are the text, whose lines count from 1.
-use st_check_units::check_units;
-use st_faults::{Fault, FirstFault, Rule};
-use st_order::{OrderFault, order};
-use st_references::references;
+//! line, as `C3 2`, or `C10`. The lines behind it are the text, whose lines count from 1. It is checked as a program `Main`.
+use st_check::{CheckFault, check};
 use st_syntax::parse;
-use st_types::Tables;
 use std::alloc::{AllocError, Global};
 use std::process::Abort;
 use std::test::Fail;
 
-/// The first fault of a text that the grammar has, but for the size of a program.
-fn first_fault(alloc: Global, text: &[u8]) -> Result<Option<Fault>, Fail> {
+/// What is answered to a text, as a case writes it.
+fn answer_to(alloc: Global, text: &[u8]) -> Result<Vec<u8>, Fail> {
     let units = parse(alloc, text)?;
-    let tables = Tables::new(alloc, &units)?;
-    let mut first = FirstFault::new();
-    check_units(alloc, &tables, &mut first)?;
-    let graph = references(alloc, &tables)?;
-    match order(alloc, &graph) {
-        Ok(_) => {}
-        Err(OrderFault::Returns(number)) => {
-            if let Some(unit) = tables.units().get(number) {
-                first.offer(unit.name.position, Rule::Recursion);
-            }
-        }
-        Err(OrderFault::Memory) => Err(AllocError)?,
+    match check(alloc, units, b"Main") {
+        Ok(_) => Ok(vec![in alloc; b'o', b'k']?),
+        Err(fault) => refusal(alloc, fault),
     }
-    Ok(first.get())
 }
 
-/// What is answered, as a case writes it.
-fn answer_to(alloc: Global, text: &[u8]) -> Result<Vec<u8>, Fail> {
+/// A fault, as a case writes it.
+fn refusal(alloc: Global, fault: CheckFault) -> Result<Vec<u8>, Fail> {
+    let rule = fault.rule().ok_or(AllocError)?;
     let mut answer = Vec::new(alloc);
-    match first_fault(alloc, text)? {
-        None => answer.extend_from_slice(b"ok")?,
-        Some(fault) => {
-            let line = fault.position.line;
-            answer.extend_from_slice(b"C")?;
-            answer.push(b'0' + fault.rule.number())?;
-            answer.push(b' ')?;
-            answer.push(b'0' + (line % 10) as u8)?;
-        }
+    answer.push(b'C')?;
+    push_number(&mut answer, rule.number() as u32)?;
+    if fault.line() > 0 {
+        answer.push(b' ')?;
+        push_number(&mut answer, fault.line())?;
     }
     Ok(answer)
+}
+
+/// Adds a number below 100.
+fn push_number(answer: &mut Vec<u8>, number: u32) -> Result<(), AllocError> {
+    if number >= 10 {
+        answer.push(b'0' + (number / 10 % 10) as u8)?;
+    }
+    answer.push(b'0' + (number % 10) as u8)?;
+    Ok(())
 }
 
 /// What stands between `# ` and the first `:`.

@@ -16,7 +16,7 @@ TYPE Ton : INT; END_TYPE
 # C2 1: as a conversion
 FUNCTION INT_TO_DINT : DINT END_FUNCTION
 # ok: which this is none
-FUNCTION INT_TO_INT : INT END_FUNCTION
+FUNCTION INT_TO_INT : INT END_FUNCTION PROGRAM Main END_PROGRAM
 # C2 2: a function's variable named as the function
 FUNCTION F : INT VAR
 f : INT; END_VAR END_FUNCTION
@@ -66,7 +66,8 @@ PROGRAM Main VAR R : ARRAY [
 PROGRAM Main VAR R : ARRAY [0..
 9223372036854775808] OF INT; END_VAR END_PROGRAM
 # ok: bounds of any kind
-PROGRAM Main VAR R : ARRAY [-9223372036854775808..9223372036854775807, -1..-1] OF INT; END_VAR END_PROGRAM
+FUNCTION_BLOCK K VAR R : ARRAY [-9223372036854775808..9223372036854775807, -1..-1] OF INT; END_VAR END_FUNCTION_BLOCK
+PROGRAM Main END_PROGRAM
 ";
 
 const VALUES: &[u8] = b"# ok: values
@@ -125,7 +126,8 @@ fn initial_values_fit(rt: HostRuntime) -> Result<(), Fail> {
     all_are_answered(&rt, rt.alloc(), VALUES)
 }
 
-/// So many types in a row, in the second line, and a function of one more name.
+/// So many types in a row, in the second line, and a function of one more name. It has no fault but those of its units' names,
+/// and no program.
 fn types_and(alloc: Global, count: u32, name: &[u8]) -> Result<Vec<u8>, Fail> {
     let mut text = Vec::new(alloc);
     text.extend_from_slice(b"TYPE\n")?;
@@ -146,7 +148,7 @@ fn types_and(alloc: Global, count: u32, name: &[u8]) -> Result<Vec<u8>, Fail> {
 fn units_are_limited(rt: HostRuntime) -> Result<(), Fail> {
     let alloc = rt.alloc();
     let few = types_and(alloc, 999, b"F")?;
-    is_answered(&rt, alloc, b"# ok", &few)?;
+    is_answered(&rt, alloc, b"# C10", &few)?;
     let many = types_and(alloc, 1000, b"F")?;
     is_answered(&rt, alloc, b"# C9 3", &many)?;
     Ok(())
@@ -157,7 +159,7 @@ fn names_of_units_are_short(rt: HostRuntime) -> Result<(), Fail> {
     let alloc = rt.alloc();
     let mut name = Vec::from_elem(alloc, b'N', 128)?;
     let short = types_and(alloc, 0, &name)?;
-    is_answered(&rt, alloc, b"# ok", &short)?;
+    is_answered(&rt, alloc, b"# C10", &short)?;
     name.push(b'N')?;
     let long = types_and(alloc, 0, &name)?;
     is_answered(&rt, alloc, b"# C9 3", &long)?;

@@ -11,6 +11,12 @@ mod charts;
 #[cfg(test)]
 mod declarations;
 #[cfg(test)]
+mod explained;
+#[cfg(test)]
 mod expressions;
+#[cfg(test)]
+mod manual;
+#[cfg(test)]
+mod programs;
 #[cfg(test)]
 mod statements;

@@ -13,6 +13,11 @@ fn reads_an_order(rt: HostRuntime) -> Result<(), Fail> {
     assert_eq!(rt; order.steps, 100_000);
     assert_eq!(rt; DEFAULT_STEPS, 100_000);
 
+    let order = read_words(rt.alloc(), &["stc", "check", "--program", "Main", "a.st"])?;
+    assert!(rt; order.verb == Verb::Check);
+    assert_eq!(rt; order.file, "a.st");
+    assert_eq!(rt; order.main, "Main");
+
     let words = ["stc", "run", "--steps", "7", "--program=Main", "a.st"];
     let order = read_words(rt.alloc(), &words)?;
     assert_eq!(rt; order.file, "a.st");
@@ -46,6 +51,10 @@ fn refuses_faults_of_usage(rt: HostRuntime) {
         ["stc", "run", "a.st"].as_slice(),
         ["stc", "run", "a.st", "b.st", "--program", "Main"].as_slice(),
         ["stc", "run", "a.st", "--program", "Main", "--scans", "3"].as_slice(),
+        ["stc", "check", "--program", "Main"].as_slice(),
+        ["stc", "check", "a.st"].as_slice(),
+        ["stc", "check", "a.st", "b.st", "--program", "Main"].as_slice(),
+        ["stc", "check", "a.st", "--program", "Main", "--steps", "3"].as_slice(),
         ["stc", "walk", "a.st", "--program", "Main"].as_slice(),
         ["stc"].as_slice(),
     ] {
@@ -62,6 +71,8 @@ fn answers_with_help(rt: HostRuntime) {
         ["stc", "--help"].as_slice(),
         ["stc", "run", "--help"].as_slice(),
         ["stc", "run", "a.st", "-h"].as_slice(),
+        ["stc", "check", "--help"].as_slice(),
+        ["stc", "check", "-h"].as_slice(),
     ] {
         match read_words(rt.alloc(), words) {
             Ok(_) => assert!(rt; false, "{words:?} were taken"),
@@ -83,7 +94,8 @@ fn help_names_the_verbs(rt: HostRuntime) -> Result<(), Fail> {
     let (_, text) = told(rt.alloc(), &["stc", "--help"])?;
     for part in [
         "Usage: stc <COMMAND>\n",
-        "\n  run  Run a session over the program",
+        "\n  check  Say whether the program is accepted, or why not",
+        "\n  run    Run a session over the program",
         "\n  -h, --help     Print help\n",
         "\n  -V, --version  Print version\n",
     ] {
@@ -112,6 +124,20 @@ fn help_of_run_names_its_arguments(rt: HostRuntime) -> Result<(), Fail> {
 }
 
 #[test]
+fn help_of_check_names_its_arguments(rt: HostRuntime) -> Result<(), Fail> {
+    let (_, text) = told(rt.alloc(), &["stc", "check", "--help"])?;
+    for part in [
+        "Usage: stc check --program <N> <FILE>\n",
+        "\n  <FILE>  The source text\n",
+        "--program <N>  The name of the main program\n",
+    ] {
+        assert!(rt; text.as_str().contains(part), "no {part:?} in {text}");
+    }
+    assert!(rt; !text.as_str().contains("--steps"), "{text}");
+    Ok(())
+}
+
+#[test]
 fn faults_name_what_is_wrong(rt: HostRuntime) -> Result<(), Fail> {
     for (words, parts) in [
         (
@@ -121,6 +147,14 @@ fn faults_name_what_is_wrong(rt: HostRuntime) -> Result<(), Fail> {
         (
             ["stc", "run", "--program", "Main"].as_slice(),
             ["error: ", "<FILE>", "Usage: stc run "],
+        ),
+        (
+            ["stc", "check", "a.st"].as_slice(),
+            ["error: ", "--program <N>", "Usage: stc check "],
+        ),
+        (
+            ["stc", "check", "a.st", "--program", "Main", "--steps", "3"].as_slice(),
+            ["error: ", "'--steps'", "Usage: stc check "],
         ),
         (
             ["stc", "walk", "a.st", "--program", "Main"].as_slice(),
@@ -138,7 +172,7 @@ fn faults_name_what_is_wrong(rt: HostRuntime) -> Result<(), Fail> {
                 "Usage: stc ",
             ],
         ),
-        (["stc"].as_slice(), ["error: ", "subcommand", "run"]),
+        (["stc"].as_slice(), ["error: ", "subcommand", "check, run"]),
     ] {
         let (_, text) = told(rt.alloc(), words)?;
         for part in parts {
