@@ -50,6 +50,33 @@ B; A := Zzz; END_PROGRAM
 PROGRAM
 Main VAR A : ARRAY [1..65537] OF BOOL; END_VAR
 Zzz := 1; END_PROGRAM
+# C3 2: before a name that isn't there
+PROGRAM Main VAR A : INT; END_VAR
+A := TRUE;
+Zzz := 1; END_PROGRAM
+# C1 2: before a name twice
+PROGRAM Main VAR A :
+Zzz; A : INT; END_VAR END_PROGRAM
+# C1 2: before a type that doesn't fit
+PROGRAM Main VAR A : INT; END_VAR
+Zzz := 1;
+A := TRUE; END_PROGRAM
+# C1 2: before a number out of range
+PROGRAM Main VAR A : INT; END_VAR
+Zzz := 1;
+A := 40000; END_PROGRAM
+# C1 2: before what may not be assigned
+PROGRAM Main VAR CONSTANT K : INT; END_VAR
+Zzz := 1;
+K := 1; END_PROGRAM
+# C1 2: before an EXIT outside a loop
+PROGRAM Main
+Zzz := 1;
+EXIT; END_PROGRAM
+# C1 2: before a second initial step
+PROGRAM Main
+INITIAL_STEP S1: Zzz(); END_STEP
+INITIAL_STEP S2: END_STEP END_PROGRAM
 ";
 
 const SIZES: &[u8] = b"# ok: 65,536 leaves
