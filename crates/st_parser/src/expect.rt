@@ -7,7 +7,7 @@ ghost use Rattle.st_parser.specs.Reader.Parsers.{is_keyword, is_symbol, is_word,
 use crate::cursor::Cursor;
 use crate::fault::ReadFault;
 use st_tokens::{Keyword, Kind, Symbol};
-use st_tree::List;
+use st_tree::Word;
 use st_tree::tree::{Identifier, Position};
 use std::alloc::Global;
 
@@ -80,7 +80,7 @@ impl<'a> Cursor<'a> {
     {
         match self.peek() {
             Some(Kind::Word(word)) => {
-                let spelling = List::from_slice(alloc, word.bytes())?;
+                let spelling = Word::from_slice(alloc, word.bytes())?;
                 let position = self.bump();
                 Ok(Identifier { position, spelling })
             }

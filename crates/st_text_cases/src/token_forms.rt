@@ -1,4 +1,6 @@
 //! What no clause says: the line of a fault, that memory suffices, and the standard's own examples.
+ghost use Rattle.st_values.specs.Words.{AreWordBytes};
+
 use st_tokens::{Keyword, Kind, Spelling, Symbol, SyntaxFault, tokens};
 use st_values::{Elem, Value};
 use std::alloc::Global;
@@ -37,7 +39,9 @@ fn has_none(rt: &impl Abort, alloc: Global, text: &[u8], line: u32) {
     }
 }
 
-fn word(bytes: &[u8]) -> Kind<'_> {
+fn word(bytes: &[u8]) -> Kind<'_>
+    requires { AreWordBytes bytes.now }
+{
     Kind::Word(Spelling::of(bytes))
 }
 

@@ -1,6 +1,6 @@
 //! Each public call once.
 use st_tree::tree::{Call, Expression, Identifier, Position, Statement, has_call, has_exit};
-use st_tree::{Boxed, List, Name};
+use st_tree::{Boxed, List, Name, Word};
 use std::alloc::Global;
 use std::test::Fail;
 
@@ -10,7 +10,7 @@ const POSITION: Position = Position { number: 0, line: 1 };
 fn call(alloc: Global) -> Result<Expression, Fail> {
     let name = Identifier {
         position: POSITION,
-        spelling: List::from_slice(alloc, b"F")?,
+        spelling: Word::from_slice(alloc, b"F")?,
     };
     let arguments = List::new(alloc);
     Ok(Expression::Call(Call { name, arguments }))

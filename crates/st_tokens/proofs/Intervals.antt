@@ -10,8 +10,8 @@ use Rattle.st_values.specs.declared.duration.TimeUnit.{TimeUnit}
 use Rattle.st_values.specs.declared.duration.TimeUnit.TheVariants.{Days, Hours, Minutes, Seconds, Milliseconds}
 use Rattle.st_values.specs.Durations.{letters_of, milliseconds_of, units, part_number, part_letters, part_rest, sum_of, amount_read, fraction_read, last_amount_read, is_point, without_underscore, parts_read, interval_read}
 use Rattle.st_values.specs.Numbers.{are_digits, capped, digits_read}
-use Rattle.st_values.specs.Words.{after, begins_with, is_word}
-use Rattle.st_tokens.specs.Characters.{is_word_byte, AreWordBytes, BeginsWord}
+use Rattle.st_values.specs.Words.{after, begins_with, is_word, is_word_byte, AreWordBytes}
+use Rattle.st_tokens.specs.Characters.{BeginsWord}
 use Rattle.st_tokens.specs.Scanning.{run, after_run, ends_in_digit, has_fraction, fraction_of, interval_prefix, interval_rest, interval_at}
 use Rattle.st_tokens.proofs.Numbers.{Found, begins, digits_test, read_words, decimal_digit}
 use Rattle.st_tokens.proofs.Runs.{run_splits, after_run_not, run_is, words_in_run, words_append}

@@ -7,8 +7,8 @@ use Rattle.st_values.specs.declared.elem.Class.{Class}
 use Rattle.st_values.specs.declared.elem.Class.TheVariants.{Boolean, Integer, BitString, Duration}
 use Rattle.st_values.specs.Numbers.{capped, capped_signed, digits_read, negative, number_read}
 use Rattle.st_values.specs.Readings.{literal_read, signed_read}
-use Rattle.st_values.specs.Words.{is_word}
-use Rattle.st_tokens.specs.Characters.{is_word_byte, AreWordBytes, BeginsWord}
+use Rattle.st_values.specs.Words.{is_word, is_word_byte, AreWordBytes}
+use Rattle.st_tokens.specs.Characters.{BeginsWord}
 use Rattle.st_tokens.specs.Scanning.{run, after_run, base_of, digits_at, number_at, signed_at, boolean_at, literal_at, positive_found}
 use Rattle.st_tokens.specs.Words.{IsSame}
 use Rattle.st_tokens.proofs.Names.{is_name, same_name, name_word, word_words}

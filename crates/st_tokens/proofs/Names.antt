@@ -10,12 +10,12 @@ use Rattle.std.proofs.Common.{inl, inr}
 use Rattle.st_values.specs.declared.elem.Elem.{Elem}
 use Rattle.st_values.specs.declared.elem.TheConstants.Elem.{ALL}
 use Rattle.st_values.specs.declared.elem.Elem.TheVariants as elems
-use Rattle.st_values.specs.Words.{is_word}
+use Rattle.st_values.specs.Words.{is_word, is_word_byte, AreWordBytes}
 use Rattle.st_values.specs.Types.{name_of}
 use Rattle.st_tokens.specs.declared.keyword.Keyword.{Keyword}
 use Rattle.st_tokens.specs.declared.keyword.Keyword.TheVariants as keywords
 use Rattle.st_tokens.specs.declared.keyword.TheConstants.{KEYWORDS}
-use Rattle.st_tokens.specs.Characters.{begins_word, is_word_byte, AreWordBytes}
+use Rattle.st_tokens.specs.Characters.{begins_word}
 use Rattle.st_tokens.specs.Scanning.{is_clean_after, is_clean}
 use Rattle.st_tokens.specs.Words.{spelling_of, keyword_in, keyword_of, elem_of, IsSame, IsWord, IsReserved, IsUnclean}
 use Rattle.st_tokens.proofs.Cases.{by_test, both, is_equal}

@@ -7,8 +7,8 @@ use Rattle.std.proofs.lemmas.Bool.Decides.{nat_tests}
 use Rattle.std.proofs.lemmas.List.{take-append-drop}
 use Rattle.std.proofs.lemmas.Slice.Eq.{bytes_eq-Decides}
 use Rattle.st_values.specs.Numbers.{are_digits, capped, digits_read, number_read}
-use Rattle.st_values.specs.Words.{after, begins_with}
-use Rattle.st_tokens.specs.Characters.{is_word_byte, AreWordBytes, BeginsWord}
+use Rattle.st_values.specs.Words.{after, begins_with, is_word_byte, AreWordBytes}
+use Rattle.st_tokens.specs.Characters.{BeginsWord}
 use Rattle.st_tokens.specs.Scanning.{run, after_run, base_of, digits_at, number_at}
 use Rattle.st_tokens.proofs.Runs.{run_splits, run_words, after_run_not, run_is, words_in_run}
 use Rattle.st_tokens.proofs.Cases.{by_test, both, not_both, is_equal, some_parts}

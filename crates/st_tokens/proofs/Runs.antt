@@ -1,7 +1,8 @@
 -- Runs of bytes of words.
 use Rattle.std.proofs.Common.{◌≡◌, ℕ, ◌≤◌, List, [], ◌∷◌, ◌++◌, length, refl, ap, ◌∙◌, true, arith, take, drop, length-drop, ◌-◌}
 use Rattle.std.proofs.Math.Seq.{take-length}
-use Rattle.st_tokens.specs.Characters.{is_word_byte, AreWordBytes, BeginsWord}
+use Rattle.st_tokens.specs.Characters.{BeginsWord}
+use Rattle.st_values.specs.Words.{is_word_byte, AreWordBytes}
 use Rattle.st_tokens.specs.Scanning.{run, after_run}
 use Rattle.st_tokens.proofs.Cases.{by_test, not_both}
 

@@ -1,20 +1,12 @@
 -- The character set (IEC 61131-3:2003, 2.1.1) and blanks (2.1.4).
 use Rattle.std.specs.Prelude.{◌≡◌, ℕ, ◌+◌, Bool, true, ◌||◌, ◌==◌, if◌then◌else◌, List, [], ◌∷◌}
-use Rattle.std.specs.Char.{is_ascii_alphabetic, is_ascii_alphanumeric}
+use Rattle.std.specs.Char.{is_ascii_alphabetic}
 use Rattle.std.specs.Str.{byte}
+use Rattle.st_values.specs.Words.{is_word_byte}
 
 -- a word begins with a letter or `_`
 abbrev pub begins_word : ℕ → Bool
 begins_word b = is_ascii_alphabetic b || b == byte "_"
-
--- it goes on with letters, digits and `_`
-abbrev pub is_word_byte : ℕ → Bool
-is_word_byte b = is_ascii_alphanumeric b || b == byte "_"
-
--- letters, digits and `_` alone
-abbrev pub AreWordBytes : List ℕ → Type 0
-AreWordBytes [] = Unit {0}
-AreWordBytes (b ∷ bs) = (is_word_byte b ≡ true) × AreWordBytes bs
 
 -- a letter, a digit or `_` comes first
 abbrev pub BeginsWord : List ℕ → Type 0

@@ -8,14 +8,14 @@ use Rattle.st_values.specs.declared.elem.Class.TheVariants.{Boolean, Integer, Bi
 use Rattle.st_values.specs.declared.elem.Elem.{Elem}
 use Rattle.st_values.specs.Durations.{interval_read}
 use Rattle.st_values.specs.Numbers.{capped, digits_read, negative}
-use Rattle.st_values.specs.Words.{after, begins_with, is_word}
+use Rattle.st_values.specs.Words.{after, begins_with, is_word, is_word_byte}
 use Rattle.st_values.specs.Types.{class_of}
 use Rattle.st_tokens.specs.declared.keyword.Keyword.{Keyword}
 use Rattle.st_tokens.specs.declared.symbol.Symbol.{Symbol}
 use Rattle.st_tokens.specs.declared.symbol.Symbol.TheVariants as symbols
 use Rattle.st_tokens.specs.declared.token.Kind.{Kind}
 use Rattle.st_tokens.specs.declared.token.Kind.TheVariants as token_kinds
-use Rattle.st_tokens.specs.Characters.{begins_word, is_word_byte, line_end}
+use Rattle.st_tokens.specs.Characters.{begins_word, line_end}
 use Rattle.st_tokens.specs.Forms.{value, time_of}
 use Rattle.st_tokens.specs.Words.{keyword_of, elem_of}
 

@@ -4,12 +4,12 @@ use Rattle.std.specs.Char.{to_ascii_lowercase}
 use Rattle.std.specs.List.{find}
 use Rattle.st_values.specs.declared.elem.Elem.{Elem}
 use Rattle.st_values.specs.declared.elem.TheConstants.Elem.{ALL}
-use Rattle.st_values.specs.Words.{is_word}
+use Rattle.st_values.specs.Words.{is_word, AreWordBytes}
 use Rattle.st_values.specs.Types.{name_of}
 use Rattle.st_tokens.specs.declared.keyword.TheConstants.{KEYWORDS}
 use Rattle.st_tokens.specs.declared.keyword.Keyword.{Keyword}
 use Rattle.st_tokens.specs.declared.keyword.Keyword.TheVariants as keywords
-use Rattle.st_tokens.specs.Characters.{begins_word, AreWordBytes}
+use Rattle.st_tokens.specs.Characters.{begins_word}
 
 -- a reserved word in upper case
 abbrev pub spelling_of : Keyword → List ℕ

@@ -1,6 +1,7 @@
 //! Runs of letters, digits and `_` (IEC 61131-3:2003, 2.1.1 and 2.1.2).
 ghost use Rattle.std.specs.Prelude.{◌≡◌, ◌≤◌, length, take, drop};
-ghost use Rattle.st_tokens.specs.Characters.{begins_word, is_word_byte};
+ghost use Rattle.st_tokens.specs.Characters.{begins_word};
+ghost use Rattle.st_values.specs.Words.{AreWordBytes, is_word_byte};
 ghost use Rattle.st_tokens.specs.Scanning.{after_run, run};
 
 /// Tests whether a word may begin with this byte.
@@ -33,6 +34,7 @@ pub fn run_len(text: &[u8]) -> usize
 /// The bytes of a word at the start, and what stands after them.
 pub fn split_run(text: &[u8]) -> (&[u8], &[u8])
     ensures prefix { result.0.now ≡ run text.now }
+    ensures word { AreWordBytes result.0.now }
     ensures rest { result.1.now ≡ after_run text.now }
 {
     text.split_at(run_len(text))

@@ -5,7 +5,8 @@ use crate::symbol::Symbol;
 use st_values::{Elem, Value};
 use std::marker::Model;
 
-/// The bytes of a word as the text has them. They are borrowed from the text, and contracts see them as a list.
+/// The bytes of a word as the text has them: letters, digits and `_` alone. They are borrowed from the text, and contracts
+/// see them as a list.
 #[derive(Drop)]
 pub struct Spelling<'a> {
     bytes: &'a [u8],
@@ -13,17 +14,22 @@ pub struct Spelling<'a> {
 
 impl<'a> Model for Spelling<'a> {
     ghost use Rattle.std.specs.Prelude.{List, ℕ};
+    ghost use Rattle.st_values.specs.Words.{AreWordBytes};
 
     ghost Value = { List ℕ };
 
     ghost view = { λ spelling. spelling.bytes.now };
+
+    ghost invariant = { λ spelling. AreWordBytes spelling.bytes.now };
 }
 
 impl<'a> Spelling<'a> {
     ghost use Rattle.std.specs.Prelude.{◌≡◌};
+    ghost use Rattle.st_values.specs.Words.{AreWordBytes};
 
     /// The spelling that these bytes are.
     pub fn of(bytes: &'a [u8]) -> Spelling<'a>
+        requires { AreWordBytes bytes.now }
         ensures { result ≡ bytes.now }
     {
         Spelling { bytes }
@@ -31,7 +37,8 @@ impl<'a> Spelling<'a> {
 
     /// The bytes of the spelling.
     pub fn bytes(&self) -> &'a [u8]
-        ensures { result.now ≡ self.now }
+        ensures bytes { result.now ≡ self.now }
+        ensures word { AreWordBytes result.now }
     {
         self.bytes
     }

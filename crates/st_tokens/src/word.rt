@@ -2,6 +2,7 @@
 ghost use Rattle.std.specs.Prelude.{◌≡◌};
 ghost use Rattle.st_tokens.specs.Scanning.{is_clean, word_kind};
 ghost use Rattle.st_tokens.specs.Words.{elem_of};
+ghost use Rattle.st_values.specs.Words.{AreWordBytes};
 
 use crate::keyword::Keyword;
 use crate::token::{Kind, Spelling};
@@ -36,6 +37,7 @@ pub fn is_clean(word: &[u8]) -> bool
 /// The token that a whole word is.
 #[tactic(auto, unfolding(crate::specs::Scanning::word_kind))]
 pub fn word_kind<'a>(word: &'a [u8]) -> Kind<'a>
+    requires { AreWordBytes word.now }
     ensures { result ≡ word_kind word.now }
 {
     if let Some(keyword) = Keyword::of(word) {

@@ -17,6 +17,9 @@ pub enum Role {
     StepActive { begun: u32 },
     /// For how long a step has been active.
     StepTime,
+    /// Whether a step has given its pulses. `active` is the number of the leaf that tells whether the step is active, `begun`
+    /// of the one that tells whether its chart has begun.
+    StepPulsed { active: u32, begun: u32 },
 }
 
 /// A leaf: a variable of the main program, or a part of one, that holds one value of an elementary type.

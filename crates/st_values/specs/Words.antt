@@ -1,7 +1,21 @@
--- What texts begin with.
+-- Words, and what texts begin with.
+use Rattle.std.specs.Char.{is_ascii_alphanumeric, to_ascii_uppercase}
 use Rattle.std.specs.List.{starts_with}
-use Rattle.std.specs.Prelude.{ℕ, Bool, List, drop, length, nat_eq, take}
-use Rattle.std.specs.Str.{str_eq_ignore_ascii_case}
+use Rattle.std.specs.Prelude.{◌≡◌, ℕ, Bool, true, ◌||◌, ◌==◌, List, [], ◌∷◌, drop, length, map, nat_eq, take}
+use Rattle.std.specs.Str.{byte, str_eq_ignore_ascii_case}
+
+-- a word goes on with letters, digits and `_`
+abbrev pub is_word_byte : ℕ → Bool
+is_word_byte b = is_ascii_alphanumeric b || b == byte "_"
+
+-- letters, digits and `_` alone
+abbrev pub AreWordBytes : List ℕ → Type 0
+AreWordBytes [] = Unit {0}
+AreWordBytes (b ∷ bs) = (is_word_byte b ≡ true) × AreWordBytes bs
+
+-- a text in upper case
+abbrev pub raised : List ℕ → List ℕ
+raised text = map to_ascii_uppercase text
 
 abbrev pub begins_with : List ℕ → List ℕ → Bool
 begins_with start text = starts_with nat_eq text start

@@ -1,5 +1,5 @@
 //! Where a node stands, and names.
-use crate::list::List;
+use crate::word::Word;
 
 /// Where a token stands.
 #[derive(Clone, Copy, Debug, PartialEq, Eq)]
@@ -14,5 +14,5 @@ pub struct Position {
 #[derive(Drop)]
 pub struct Identifier {
     pub position: Position,
-    pub spelling: List<u8>,
+    pub spelling: Word,
 }
