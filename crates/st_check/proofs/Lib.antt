@@ -1,7 +1,16 @@
+mod Apart
 mod Checked
 mod Cyclic
 mod Deciding
+mod DistinctNames
 mod Firsts
 mod Kept
 mod Named
 mod Passing
+mod ShortRanges
+mod ShortSubscripts
+mod ShortUnits
+mod SoundLeaves
+mod Thinned
+mod UnitsApart
+mod UnitsShort

@@ -1,12 +1,18 @@
 -- What follows of the definitions of the checks.
-use Rattle.std.specs.Prelude.{◌≡◌, ℕ, ◌⊎◌, List}
+use Rattle.std.specs.Prelude.{◌≡◌, ℕ, ◌⊎◌, List, Some}
+use Rattle.std.specs.List.{All}
 use Rattle.st_tree.specs.declared.tree.unit.Unit.{Unit as Section}
 use Rattle.st_faults.specs.declared.fault.Fault.{Fault}
-use Rattle.st_types.specs.Names.{units_of}
+use Rattle.st_types.specs.Compositions.{composition_of}
+use Rattle.st_types.specs.Names.{Named, unit_at, units_of}
 use Rattle.st_order.specs.Graphs.{Reaches}
 use Rattle.st_references.specs.References.{graph_of}
+use Rattle.st_leaves.specs.Distinct.{HasDistinctNames}
+use Rattle.st_leaves.specs.LeavesIn.{leaves_of_whole}
+use Rattle.st_leaves.specs.Paths.{HasWords}
+use Rattle.st_leaves.specs.Sound.{IsSound}
 use Rattle.st_check.specs.Faults.{HasNoProgram, IsAccepted, IsFirst}
-use Rattle.st_check.specs.Programs.{IsChecked, ProgramView, text_of}
+use Rattle.st_check.specs.Programs.{IsChecked, ProgramView, leaves_of_program, main_of, text_of}
 
 -- a text is accepted, or has a first fault, or no fault and no such program
 abbrev pub IsDecided : Type 0
@@ -32,3 +38,13 @@ FirstIsOne = (text : List Section) (main : List ℕ) (f g : Fault) → IsFirst t
 
 abbrev pub HasNoRecursion : Type 0
 HasNoRecursion = (program : ProgramView) (unit : ℕ) → IsChecked program → Reaches (graph_of (units_of (text_of program))) unit unit → ⊥
+
+-- no two members and steps of one whole in a checked program have the same name
+abbrev pub CheckedHasDistinctNames : Type 0
+CheckedHasDistinctNames = (program : ProgramView) → IsChecked program → (unit : Named) → unit_at (units_of (text_of program)) (main_of program) ≡ Some unit
+    → HasDistinctNames (composition_of (units_of (text_of program)) unit.declares)
+
+-- the leaves of a checked program are sound, where the names on the ways to them are words
+abbrev pub CheckedHasSoundLeaves : Type 0
+CheckedHasSoundLeaves = (program : ProgramView) → IsChecked program → (unit : Named) → unit_at (units_of (text_of program)) (main_of program) ≡ Some unit
+    → All (λ l. HasWords l.path) (leaves_of_whole (composition_of (units_of (text_of program)) unit.declares)) → IsSound (leaves_of_program program)

@@ -1,11 +1,13 @@
 -- Checked programs.
-use Rattle.std.specs.Prelude.{◌≡◌, ℕ, true, false, List, [], length, Some}
+use Rattle.std.specs.Prelude.{◌≡◌, ℕ, true, false, List, [], length, Option, Some, None}
+use Rattle.st_tree.specs.declared.leaf.Leaf.{Leaf}
 use Rattle.st_tree.specs.declared.tree.unit.Unit.{Unit as Section}
 use Rattle.st_types.specs.Names.{Named, unit_at, units_of}
 use Rattle.st_order.specs.Graphs.{IsOrder}
 use Rattle.st_references.specs.References.{graph_of}
 use Rattle.st_leaves.specs.Leaves.{leaves_of}
 use Rattle.st_leaves.specs.Limits.{is_too_large}
+use Rattle.st_leaves.specs.Programs.{program_leaves}
 use Rattle.st_check_units.specs.Units.{node_faults}
 use Rattle.st_check.specs.Faults.{is_program}
 
@@ -38,3 +40,13 @@ pub record IsProgram (text : List Section) (main : ℕ) (order : List ℕ) : Typ
 
 abbrev pub IsChecked : ProgramView → Type 0
 IsChecked program = IsProgram (text_of program) (main_of program) (order_of program)
+
+-- ---- its leaves
+
+abbrev pub optional_leaves : List Named → Option Named → List Leaf
+optional_leaves units None = []
+optional_leaves units (Some unit) = program_leaves units unit
+
+-- the leaves of the main program
+unfoldable pub leaves_of_program : ProgramView → List Leaf
+leaves_of_program program = optional_leaves (units_of (text_of program)) (unit_at (units_of (text_of program)) (main_of program))

@@ -2,7 +2,7 @@
 ghost use Rattle.std.specs.Prelude.{◌≡◌, ◌<◌, All, IfErr, IfOk, length};
 ghost use Rattle.st_check.specs.Answers.{Explains};
 ghost use Rattle.st_check.specs.Faults.{IsAccepted, is_main, program_named};
-ghost use Rattle.st_check.specs.Programs.{IsOrdered, IsProgram, main_of, text_of};
+ghost use Rattle.st_check.specs.Programs.{IsChecked, IsOrdered, IsProgram, main_of, text_of};
 ghost use Rattle.st_check.specs.Recursions.{ExplainsUnits, recursions};
 ghost use Rattle.st_faults.specs.Faults.{offer_all};
 ghost use Rattle.st_types.specs.Inside.{named_by};
@@ -27,6 +27,7 @@ use std::alloc::Global;
 /// is asked where there is no other fault, and whether there is a program where there is none at all.
 pub fn check(alloc: Global, units: Vec<Unit>, main: &[u8]) -> Result<Program, CheckFault>
     ensures text { IfOk result (λ program. text_of program ≡ units.items) }
+    ensures checked { IfOk result (λ program. IsChecked program) }
     ensures accepted { IfOk result (λ program. IsAccepted units.items main.now (main_of program)) }
     ensures fault { IfErr result (Explains units.items main.now) }
 {

@@ -1,5 +1,5 @@
 //! Laws of checked texts.
-ghost use Rattle.st_check.specs.Laws.{AcceptedOnce, FirstIsOne, FirstIsNotAccepted, HasNoRecursion, IsDecided, MissingIsNotAccepted, MissingIsNotFirst};
+ghost use Rattle.st_check.specs.Laws.{AcceptedOnce, CheckedHasDistinctNames, CheckedHasSoundLeaves, FirstIsOne, FirstIsNotAccepted, HasNoRecursion, IsDecided, MissingIsNotAccepted, MissingIsNotFirst};
 
 /// As a program of a name, a text is accepted, or has a first fault, or has no such program: exactly one of the three. It is
 /// accepted for one number, and all first faults stand at one token and break one rule.
@@ -15,4 +15,15 @@ pub fn text_has_one_answer()
 /// No unit of a checked program contains or calls itself, directly or through others.
 pub fn checked_program_has_no_recursion()
     ensures { HasNoRecursion }
+{}
+
+/// In a checked program, no two variables and steps of one whole have the same name.
+pub fn checked_program_has_distinct_names()
+    ensures { CheckedHasDistinctNames }
+{}
+
+/// No two leaves of a checked program have the same path, each path is its shown text in upper case and has at most 255 bytes,
+/// there are at most 65536 leaves, and each begins with a value of its type.
+pub fn checked_program_has_sound_leaves()
+    ensures { CheckedHasSoundLeaves }
 {}

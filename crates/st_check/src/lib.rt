@@ -8,5 +8,8 @@ mod program;
 
 pub use checks::check;
 pub use fault::CheckFault;
-pub use laws::{checked_program_has_no_recursion, text_has_one_answer};
+pub use laws::{
+    checked_program_has_distinct_names, checked_program_has_no_recursion,
+    checked_program_has_sound_leaves, text_has_one_answer,
+};
 pub use program::Program;

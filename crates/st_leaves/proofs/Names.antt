@@ -26,7 +26,7 @@ bytes_eq_comm a b = by (bytes_eq a b) refl (bytes_eq b a) refl
     by true e false h = let k = forth a b e in cc
     by false e true h = let k = forth b a h in cc
 
-is_word_comm : (a b : List ℕ) → is_word a b ≡ is_word b a
+pub is_word_comm : (a b : List ℕ) → is_word a b ≡ is_word b a
 is_word_comm a b = bytes_eq_comm (str_to_ascii_lowercase b) (str_to_ascii_lowercase a)
 
 some_by : (b : Bool) (i : ℕ) → is_some (cond b (Some i) None) ≡ b
@@ -100,22 +100,29 @@ chosen names a stored found_it is there =
     ap (λ b. cond (b && not (list_any (is_word a.name.spelling) names)) (a.name.spelling ∷ []) []) is ∙ ap (λ b. cond (stored && not b) (a.name.spelling ∷ []) []) (sym (found a.name.spelling names) ∙ there)
 
 -- it has the qualifier, and its name isn't there
+pub chosen_new : (inside names : List (List ℕ)) (name : List ℕ) (a : Association) → inside ≡ names → name ≡ a.name.spelling → is_stored a ≡ true → is_some (first_of inside name) ≡ false
+    → stored_names names (a ∷ []) ≡ a.name.spelling ∷ []
+chosen_new inside names name a same_names same_name stored none =
+    chosen names a true false stored (ap (λ ns. is_some (first_of ns a.name.spelling)) (sym same_names) ∙ ap (λ n. is_some (first_of inside n)) (sym same_name) ∙ none)
+
 pub is_added : (inside names new : List (List ℕ)) (name : List ℕ) (a : Association) → inside ≡ names → name ≡ a.name.spelling → is_stored a ≡ true → is_some (first_of inside name) ≡ false
     → new ≡ inside ++ name ∷ [] → new ≡ names ++ stored_names names (a ∷ [])
 is_added inside names new name a same_names same_name stored none added =
     added ∙ ap (λ n. inside ++ n ∷ []) same_name ∙ ap (λ ns. ns ++ a.name.spelling ∷ []) same_names
-    ∙ ap (λ ns. names ++ ns) (sym (chosen names a true false stored (ap (λ ns. is_some (first_of ns a.name.spelling)) (sym same_names) ∙ ap (λ n. is_some (first_of inside n)) (sym same_name) ∙ none)))
+    ∙ ap (λ ns. names ++ ns) (sym (chosen_new inside names name a same_names same_name stored none))
 
 -- its name is there
-pub is_there : (inside names : List (List ℕ)) (name : List ℕ) (a : Association) → inside ≡ names → name ≡ a.name.spelling → is_stored a ≡ true → is_some (first_of inside name) ≡ true
-    → names ≡ names ++ stored_names names (a ∷ [])
-is_there inside names name a same_names same_name stored there =
-    sym (append-nil names)
-    ∙ ap (λ ns. names ++ ns) (sym (chosen names a true true stored (ap (λ ns. is_some (first_of ns a.name.spelling)) (sym same_names) ∙ ap (λ n. is_some (first_of inside n)) (sym same_name) ∙ there)))
+pub chosen_there : (inside names : List (List ℕ)) (name : List ℕ) (a : Association) → inside ≡ names → name ≡ a.name.spelling → is_stored a ≡ true → is_some (first_of inside name) ≡ true
+    → stored_names names (a ∷ []) ≡ []
+chosen_there inside names name a same_names same_name stored there =
+    chosen names a true true stored (ap (λ ns. is_some (first_of ns a.name.spelling)) (sym same_names) ∙ ap (λ n. is_some (first_of inside n)) (sym same_name) ∙ there)
 
 -- it has another qualifier, or none
-pub is_not_stored : (names : List (List ℕ)) (a : Association) → is_stored a ≡ false → names ≡ names ++ stored_names names (a ∷ [])
-is_not_stored names a other = sym (append-nil names) ∙ ap (λ ns. names ++ ns) (sym (chosen names a false (is_some (first_of names a.name.spelling)) other refl))
+pub chosen_not : (names : List (List ℕ)) (a : Association) → is_stored a ≡ false → stored_names names (a ∷ []) ≡ []
+chosen_not names a other = chosen names a false (is_some (first_of names a.name.spelling)) other refl
+
+pub none_added : (names : List (List ℕ)) (a : Association) → stored_names names (a ∷ []) ≡ [] → names ≡ names ++ stored_names names (a ∷ [])
+none_added names a none = sym (append-nil names) ∙ ap (λ ns. names ++ ns) (sym none)
 
 -- of one association more
 pub stored_step : (names now new : List (List ℕ)) (associations : List Association) (i : ℕ) (a : Association) → i < length associations → a ≡ get_or associations i a

@@ -71,7 +71,7 @@ some_decimal : (n : ℕ) → 0 < length (decimal n)
 unfolding digits
 some_decimal n = some_glyphs 63 n
 
-some_signed : (z : ℤ) → 0 < length (signed_decimal z)
+pub some_signed : (z : ℤ) → 0 < length (signed_decimal z)
 some_signed (pos n) = some_decimal n
 some_signed (negsuc n) = omega arith
 

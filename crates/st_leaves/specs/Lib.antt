@@ -1,6 +1,12 @@
 pub mod Charts
 pub mod Compositions
+pub mod Distinct
 pub mod Inside
 pub mod Leaves
+pub mod LeavesIn
 pub mod Limits
+pub mod Paths
+pub mod Places
+pub mod Programs
+pub mod Sound
 pub mod Steps

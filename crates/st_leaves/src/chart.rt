@@ -56,7 +56,7 @@ fn state_size(has_pulse: bool) -> Size
 }
 
 /// Whether one of these associations has the qualifier P.
-fn has_pulse(associations: &[Association]) -> bool
+pub fn has_pulse(associations: &[Association]) -> bool
     ensures { result ≡ list_any is_pulse associations.now }
 {
     associations

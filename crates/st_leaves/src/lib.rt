@@ -9,7 +9,11 @@ mod standard;
 mod stored;
 
 pub use array::array_size;
-pub use chart::chart_size;
-pub use laws::leaves_follow_the_composition;
+pub use chart::{chart_size, has_pulse};
+pub use laws::{
+    leaves_are_counted, leaves_begin_with_values, leaves_follow_the_composition,
+    paths_are_distinct, places_are_numbers,
+};
 pub use size::{leaf_size, named_size};
 pub use standard::standard_size;
+pub use stored::StoredNames;

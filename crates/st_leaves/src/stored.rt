@@ -1,5 +1,5 @@
 //! The names that a chart stores (2.6.4.4).
-ghost use Rattle.std.specs.Prelude.{◌≡◌, ◌++◌, ◌∷◌, [], OnOk};
+ghost use Rattle.std.specs.Prelude.{◌≡◌, ◌++◌, ◌∷◌, [], IfOk, OnOk, if◌then◌else◌};
 ghost use Rattle.st_sizes.specs.Sizes.{IsSize};
 ghost use Rattle.st_leaves.specs.Charts.{has_qualifier, stored_leaves, stored_names};
 ghost use Rattle.st_leaves.specs.Limits.{sizes_of};
@@ -14,7 +14,7 @@ use std::marker::Model;
 
 /// The names that associations with the qualifier S have, each once, and how large their leaves are.
 #[derive(Drop)]
-pub(crate) struct StoredNames<'a> {
+pub struct StoredNames<'a> {
     names: NameTable<'a>,
     size: Size,
 }
@@ -42,14 +42,14 @@ impl<'a> StoredNames<'a> {
     }
 
     /// How large their leaves are.
-    pub fn size(&self) -> Size
+    pub(crate) fn size(&self) -> Size
         ensures { IsSize result (sizes_of (stored_leaves self.now)) }
     {
         self.size
     }
 
     /// Adds the names of these associations with the qualifier S that aren't there yet.
-    pub fn add_all(&mut self, associations: &'a [Association]) -> Result<(), AllocError>
+    pub(crate) fn add_all(&mut self, associations: &'a [Association]) -> Result<(), AllocError>
         ensures { OnOk result (self.new ≡ self.old ++ stored_names self.old associations.now) }
     {
         'associations: for association in associations {
@@ -58,17 +58,20 @@ impl<'a> StoredNames<'a> {
         Ok(())
     }
 
-    /// Adds the name of this association, if it has the qualifier S and isn't there yet.
-    fn add(&mut self, association: &'a Association) -> Result<(), AllocError>
-        ensures { OnOk result (self.new ≡ self.old ++ stored_names self.old (association.now ∷ [])) }
+    /// Adds the name of this association, if it has the qualifier S and isn't there yet, and says whether it was added.
+    pub fn add(&mut self, association: &'a Association) -> Result<bool, AllocError>
+        ensures names { OnOk result (self.new ≡ self.old ++ stored_names self.old (association.now ∷ [])) }
+        ensures added { IfOk result (λ is_added. stored_names self.old (association.now ∷ []) ≡ if is_added then association.now.name.spelling ∷ [] else []) }
     {
         let name = association.name.spelling.as_slice();
         if has_qualifier(association, b"S") && self.names.find(name).is_none() {
             let flag = named_leaf_size(b"$S", Elem::Bool);
             self.names.push(name)?;
             self.size = self.size.beside(named_size(name, flag));
+            Ok(true)
+        } else {
+            Ok(false)
         }
-        Ok(())
     }
 }
 

@@ -2,7 +2,6 @@ pub mod Insides
 pub mod Lists
 pub mod Names
 pub mod Parts
-pub mod Rows
 pub mod Settled
 pub mod Tables
 pub mod Unfolding

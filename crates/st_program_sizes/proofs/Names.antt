@@ -19,7 +19,7 @@ use Rattle.st_types.specs.declared.standard.Standard.{Standard}
 use Rattle.st_types.specs.declared.standard.Standard.TheVariants as standards
 use Rattle.st_types.specs.declared.standard.StandardBlock.{StandardBlock}
 use Rattle.st_types.proofs.Units.{unit_at-past}
-use Rattle.st_program_sizes.proofs.Lists.{all_left}
+use Rattle.st_references.proofs.Lists.{all_left}
 
 -- what a name stands for, where others are looked up by `types`
 abbrev pub named_by : List Named → (ℕ → Base) → List ℕ → Base

@@ -24,9 +24,9 @@ use Rattle.st_types.specs.declared.base.Base.{Base}
 use Rattle.st_types.specs.declared.base.Base.TheVariants as bases
 use Rattle.st_types.specs.declared.standard.StandardBlock.{StandardBlock}
 use Rattle.st_program_sizes.specs.Sized.{AreSized, IsSized, type_leaves}
-use Rattle.st_program_sizes.proofs.Lists.{all_left, all_right}
+use Rattle.st_references.proofs.Lists.{all_left, all_right}
 use Rattle.st_program_sizes.proofs.Names.{of_name, of_shape}
-use Rattle.st_program_sizes.proofs.Rows.{contents, of_contents}
+use Rattle.st_references.proofs.Contents.{contents, of_contents}
 
 -- ---- types that no unit declares
 

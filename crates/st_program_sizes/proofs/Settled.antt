@@ -22,7 +22,7 @@ use Rattle.st_types.specs.declared.standard.StandardBlock.{StandardBlock}
 use Rattle.st_program_sizes.specs.Sized.{made_leaves, own_leaves, type_leaves, unit_of}
 use Rattle.st_program_sizes.proofs.Insides.{unit_same}
 use Rattle.st_program_sizes.proofs.Names.{of_name}
-use Rattle.st_program_sizes.proofs.Rows.{before_place, contents, order_len}
+use Rattle.st_references.proofs.Contents.{before_place, contents, order_len}
 use Rattle.st_program_sizes.proofs.Unfolding.{unfolded}
 
 -- The leaves of the type are found within one unit more than these, one of which declares it, where a unit does.

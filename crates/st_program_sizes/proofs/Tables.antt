@@ -14,7 +14,7 @@ use Rattle.st_types.specs.Names.{Named}
 use Rattle.st_types.specs.Types.{type_at}
 use Rattle.st_types.specs.declared.base.Base.{Base}
 use Rattle.st_program_sizes.specs.Sized.{AreSized, IsSized, own_leaves, size_at}
-use Rattle.st_program_sizes.proofs.Lists.{all_of}
+use Rattle.st_references.proofs.Lists.{all_of}
 use Rattle.st_program_sizes.proofs.Names.{past_unknown}
 use Rattle.st_program_sizes.proofs.Settled.{IsSettled, settled}
 

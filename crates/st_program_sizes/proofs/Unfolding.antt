@@ -13,7 +13,7 @@ use Rattle.st_types.specs.Names as names
 use Rattle.st_types.specs.Types.{array_of, name_stands_for, optional_stands_for, type_at, type_named, type_within, unit_stands_for, without_instance}
 use Rattle.st_types.specs.declared.base.Base.{Base}
 use Rattle.st_program_sizes.proofs.Names.{by_name, named_by, others_unknown}
-use Rattle.st_program_sizes.proofs.Rows.{before_place, contents, order_len}
+use Rattle.st_references.proofs.Contents.{before_place, contents, order_len}
 
 -- ---- types that are looked up in two ways
 

@@ -40,7 +40,7 @@ pub fn is_too_large(
 {
     let sizes = type_sizes(alloc, tables, order)?;
     let size = unit_size(alloc, tables, &sizes, unit)?;
-    Ok(exceeds(size, tables.unit(unit).name.spelling.len()))
+    Ok(exceeds(size, tables.unit(unit).name.spelling.as_slice().len()))
 }
 
 /// Whether leaves of this size are too many or too large, or the path of one is too long with a name of so many bytes before

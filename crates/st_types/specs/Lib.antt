@@ -1,4 +1,5 @@
 pub mod Compositions
+pub mod Initials
 pub mod Inputs
 pub mod Inside
 pub mod Links

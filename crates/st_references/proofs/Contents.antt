@@ -8,7 +8,7 @@ use Rattle.st_references.specs.Calls.{unit_calls}
 use Rattle.st_references.specs.References.{called, contained, graph_of, references, unit_types}
 use Rattle.st_references.proofs.Units.{made_of_unit}
 use Rattle.st_types.specs.Names.{Named, unit_at}
-use Rattle.st_program_sizes.proofs.Lists.{all_left, all_of, few}
+use Rattle.st_references.proofs.Lists.{all_left, all_of, few}
 
 -- the units that this one contains
 abbrev pub contents : List Named → Named → List ℕ
