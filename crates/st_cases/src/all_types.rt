@@ -1,12 +1,7 @@
 //! Values of all fourteen types, written and shown, up to the bounds of each.
-ghost use Rattle.std.specs.Prelude.{IfOk};
-ghost use Rattle.st_layout.specs.Layout.{IsSound};
-
-use st_control::Controller;
-use st_layout::{Cells, Layout};
-use st_session::{Bytes, Outcome, Sheet, session};
-use st_tree::{Leaf, List, Name, Role};
-use st_values::{Elem, Value};
+use crate::running::run;
+use st_session::LINE_REFUSED;
+use st_values::Elem;
 use std::alloc::{AllocError, Global};
 use std::test::Fail;
 
@@ -166,28 +161,6 @@ const CASES: [Case; 14] = [
     },
 ];
 
-/// The leaf `Main.V` of a type, alone.
-fn only_leaf(alloc: Global, elem: Elem) -> Result<List<Leaf>, AllocError>
-    ensures { IfOk result (λ leaves. IsSound leaves) }
-{
-    let mut items = Vec::new(alloc);
-    items.push(Leaf {
-        path: List {
-            items: Vec::from_slice(alloc, b"MAIN.V")?,
-        },
-        shown: List {
-            items: Vec::from_slice(alloc, b"Main.V")?,
-        },
-        spine: List {
-            items: Vec::new(alloc),
-        },
-        elem,
-        initial: Value { elem, bits: 0 },
-        role: Role::Plain,
-    })?;
-    Ok(List { items })
-}
-
 /// The parts of a text, one after another.
 fn joined(alloc: Global, parts: &[&[u8]]) -> Result<Vec<u8>, AllocError> {
     let mut text = Vec::new(alloc);
@@ -236,21 +209,28 @@ fn written_of(alloc: Global, case: &Case) -> Result<Vec<u8>, AllocError> {
     )
 }
 
+/// A program with one variable of a type.
+fn program_of(alloc: Global, case: &Case) -> Result<Vec<u8>, AllocError> {
+    joined(
+        alloc,
+        &[
+            b"PROGRAM Main VAR V : ",
+            case.elem.name(),
+            b"; END_VAR END_PROGRAM",
+        ],
+    )
+}
+
 #[test]
 fn values_are_written_and_shown(rt: HostRuntime) -> Result<(), Fail> {
     let alloc = rt.alloc();
     for case in &CASES {
-        let layout = Layout::of(alloc, only_leaf(alloc, case.elem)?)?;
-        let name = Name::of(b"Main").ok_or("a short name")?;
-        let started = Controller::<Cells>::start(alloc, layout, name, 1);
-        let mut controller = started.ok().ok_or("a controller")?;
+        let program = program_of(alloc, case)?;
         let lines = session_of(alloc, case)?;
-        let mut source = Bytes::new(&lines, 5, 1 << 40);
-        let mut sink = Sheet::new(alloc, 7, 1 << 40);
-        let outcome = session(alloc, &mut controller, &mut source, &mut sink);
+        let ran = run(alloc, &program, &lines, 5)?;
         let written = written_of(alloc, case)?;
-        assert_eq!(rt; outcome, Outcome::Refused);
-        assert_eq!(rt; sink.written(), written.as_slice());
+        assert_eq!(rt; ran.status, LINE_REFUSED);
+        assert_eq!(rt; ran.written.as_slice(), written.as_slice());
     }
     Ok(())
 }

@@ -14,6 +14,8 @@ mod first_path;
 #[cfg(test)]
 mod force_release_status;
 #[cfg(test)]
+mod layouts;
+#[cfg(test)]
 mod loading;
 #[cfg(test)]
 mod memory;

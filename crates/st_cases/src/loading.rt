@@ -115,23 +115,14 @@ fn refuses_texts_that_break_a_rule(rt: HostRuntime) {
     }
 }
 
-/// There is no program of this name, or it is accepted and can't be run yet.
+/// There is no program of this name.
 #[test]
-fn refuses_other_programs(rt: HostRuntime) {
-    let texts: [&[u8]; 13] = [
+fn refuses_texts_without_the_program(rt: HostRuntime) {
+    let texts: [&[u8]; 4] = [
         b"",
         b"(* nothing *)",
         b"PROGRAM Other VAR END_VAR END_PROGRAM",
-        b"PROGRAM Main END_PROGRAM",
-        b"PROGRAM Main VAR END_VAR END_PROGRAM PROGRAM B VAR END_VAR END_PROGRAM",
         b"FUNCTION_BLOCK Main VAR END_VAR END_FUNCTION_BLOCK",
-        b"PROGRAM Main VAR END_VAR VAR END_VAR END_PROGRAM",
-        b"PROGRAM Main VAR CONSTANT A : INT := 3; END_VAR END_PROGRAM",
-        b"PROGRAM Main VAR END_VAR ; END_PROGRAM",
-        b"PROGRAM Main VAR A : INT := -1; END_VAR END_PROGRAM",
-        b"PROGRAM Main VAR A : DINT; END_VAR END_PROGRAM",
-        b"PROGRAM Main VAR A, B : INT; END_VAR END_PROGRAM",
-        b"PROGRAM Main VAR A : ARRAY [0..1] OF INT; END_VAR END_PROGRAM",
     ];
     for text in texts {
         let refusal = refusal_of(rt.alloc(), text);
@@ -142,5 +133,23 @@ fn refuses_other_programs(rt: HostRuntime) {
                 line: 0
             })
         );
+    }
+}
+
+#[test]
+fn loads_programs_of_each_form(rt: HostRuntime) {
+    let texts: [&[u8]; 9] = [
+        b"PROGRAM Main END_PROGRAM",
+        b"PROGRAM Main VAR END_VAR END_PROGRAM PROGRAM B VAR END_VAR END_PROGRAM",
+        b"PROGRAM Main VAR END_VAR VAR END_VAR END_PROGRAM",
+        b"PROGRAM Main VAR CONSTANT A : INT := 3; END_VAR END_PROGRAM",
+        b"PROGRAM Main VAR END_VAR ; END_PROGRAM",
+        b"PROGRAM Main VAR A : INT := -1; END_VAR END_PROGRAM",
+        b"PROGRAM Main VAR A : DINT; END_VAR END_PROGRAM",
+        b"PROGRAM Main VAR A, B : INT; END_VAR END_PROGRAM",
+        b"PROGRAM Main VAR A : ARRAY [0..1] OF INT; END_VAR END_PROGRAM",
+    ];
+    for text in texts {
+        assert!(rt; refusal_of(rt.alloc(), text).is_none());
     }
 }

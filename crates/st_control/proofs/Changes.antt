@@ -7,10 +7,11 @@ use Rattle.st_control.specs.Causes.{no_such_path}
 use Rattle.st_control.specs.Laws.{Changes, ChangesOnePath, is_same_path}
 use Rattle.st_control.specs.Machine.{Cause, Machine, accept, accept_at, force_causes, is_full, leaf_unless, release_causes, step, unless, write_causes}
 use Rattle.st_control.specs.Machine.Command.{force, release, write}
-use Rattle.st_control.specs.States.{IsWhole, StateView, forced, leaf_of, released, written}
+use Rattle.st_control.specs.States.{IsWhole, StateView, forced, leaf_of, leaves_of, released, written}
 use Rattle.st_layout.proofs.Maps.{mark_changes_one_force, set_changes_one_value}
 use Rattle.st_layout.proofs.Paths.{number-Some}
-use Rattle.st_layout.specs.Layout.{leaf_at, raised}
+use Rattle.st_layout.specs.Layout.{leaf_at}
+use Rattle.st_values.specs.Words.{raised}
 use Rattle.st_layout.specs.Laws.{is_forced, value_of}
 use Rattle.st_layout.specs.Memory.{with_force, with_value}
 use Rattle.st_values.specs.declared.value.Value.{Value}
@@ -73,35 +74,35 @@ release_accepts path m next accepted =
     accepts_by m next path (λ leaf. released m.state leaf) (release_causes m.state (is_full m)) (leaf_unless m.state path (release_causes m.state (is_full m))) refl accepted
 
 -- the path of the leaf that was found is the command's
-same_path : (s : StateView) (path other : List ℕ) (leaf : ℕ) → leaf_of s path ≡ Some leaf → bytes_eq (raised other) (leaf_at s.leaves leaf).path ≡ is_same_path other path
-same_path s path other leaf found = ap (bytes_eq (raised other)) (number-Some s.leaves path leaf found).1
+same_path : (s : StateView) (path other : List ℕ) (leaf : ℕ) → leaf_of s path ≡ Some leaf → bytes_eq (raised other) (leaf_at (leaves_of s) leaf).path ≡ is_same_path other path
+same_path s path other leaf found = ap (bytes_eq (raised other)) (number-Some (leaves_of s) path leaf found).1
 
 -- one value is set at the path of the leaf that was found
 gets_value : (s : StateView) (path : List ℕ) (value : Value) (leaf : ℕ) → IsWhole s → leaf_of s path ≡ Some leaf
-    → (other : List ℕ) → value_of s.leaves (with_value s.content leaf value) other ≡ (if is_same_path other path then Some value else value_of s.leaves s.content other)
+    → (other : List ℕ) → value_of (leaves_of s) (with_value s.content leaf value) other ≡ (if is_same_path other path then Some value else value_of (leaves_of s) s.content other)
 gets_value s path value leaf whole found other =
-    subst (λ (b : Bool). value_of s.leaves (with_value s.content leaf value) other ≡ (if b then Some value else value_of s.leaves s.content other))
+    subst (λ (b : Bool). value_of (leaves_of s) (with_value s.content leaf value) other ≡ (if b then Some value else value_of (leaves_of s) s.content other))
     (same_path s path other leaf found)
-    (set_changes_one_value s.leaves s.content leaf value other whole.sound whole.fits (number-Some s.leaves path leaf found).0).0
+    (set_changes_one_value (leaves_of s) s.content leaf value other whole.sound whole.fits (number-Some (leaves_of s) path leaf found).0).0
 
 -- one mark is set at the path of the leaf that was found
 gets_force : (s : StateView) (path : List ℕ) (on : Bool) (leaf : ℕ) → IsWhole s → leaf_of s path ≡ Some leaf
-    → (other : List ℕ) → is_forced s.leaves (with_force s.content leaf on) other ≡ (if is_same_path other path then on else is_forced s.leaves s.content other)
+    → (other : List ℕ) → is_forced (leaves_of s) (with_force s.content leaf on) other ≡ (if is_same_path other path then on else is_forced (leaves_of s) s.content other)
 gets_force s path on leaf whole found other =
-    subst (λ (b : Bool). is_forced s.leaves (with_force s.content leaf on) other ≡ (if b then on else is_forced s.leaves s.content other))
+    subst (λ (b : Bool). is_forced (leaves_of s) (with_force s.content leaf on) other ≡ (if b then on else is_forced (leaves_of s) s.content other))
     (same_path s path other leaf found)
-    (mark_changes_one_force s.leaves s.content leaf on other whole.sound whole.fits (number-Some s.leaves path leaf found).0).0
+    (mark_changes_one_force (leaves_of s) s.content leaf on other whole.sound whole.fits (number-Some (leaves_of s) path leaf found).0).0
 
 pub changes_one_path : ChangesOnePath
 changes_one_path (write path value) m next whole accepted =
     let a = write_accepts path value m next accepted in
     subst (λ (s : StateView). Changes (write path value) m.state s) a.next_is
-    (gets_value m.state path value a.leaf whole a.found, λ other. refl, record { leaves = refl; now = refl; status = refl })
+    (gets_value m.state path value a.leaf whole a.found, λ other. refl, record { program = refl; now = refl; status = refl })
 changes_one_path (force path value) m next whole accepted =
     let a = force_accepts path value m next accepted in
     subst (λ (s : StateView). Changes (force path value) m.state s) a.next_is
-    (gets_value m.state path value a.leaf whole a.found, gets_force m.state path true a.leaf whole a.found, record { leaves = refl; now = refl; status = refl })
+    (gets_value m.state path value a.leaf whole a.found, gets_force m.state path true a.leaf whole a.found, record { program = refl; now = refl; status = refl })
 changes_one_path (release path) m next whole accepted =
     let a = release_accepts path m next accepted in
     subst (λ (s : StateView). Changes (release path) m.state s) a.next_is
-    (λ other. refl, gets_force m.state path false a.leaf whole a.found, record { leaves = refl; now = refl; status = refl })
+    (λ other. refl, gets_force m.state path false a.leaf whole a.found, record { program = refl; now = refl; status = refl })

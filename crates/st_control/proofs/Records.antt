@@ -8,7 +8,7 @@ use Rattle.st_control.specs.Controllers.{force_record, leaf_at_path, release_rec
 use Rattle.st_control.specs.Laws.{RecordFits, RecordUndoesCommand, StepsKeepWhole}
 use Rattle.st_control.specs.Machine.{force_causes, is_value_of, leaf_to_force}
 use Rattle.st_control.specs.Machine.Command.{force, release, write}
-use Rattle.st_control.specs.States.{FitsRecord, IsOpenAt, IsWhole, StateView, forced, leaf_of, released, undone, written}
+use Rattle.st_control.specs.States.{FitsRecord, IsOpenAt, IsWhole, StateView, forced, leaf_of, leaves_of, released, undone, written}
 use Rattle.st_control.specs.declared.record.Record.TheVariants.{Force, Release, Write}
 use Rattle.st_control.proofs.Changes.{force_accepts, found_at, release_accepts, write_accepts}
 use Rattle.st_control.proofs.Open.{mark_keeps_open}
@@ -63,27 +63,27 @@ record_undoes (release path) m next accepted =
 -- ---- where it fits
 
 -- the value of a leaf of a whole state is one of the leaf's type
-value_at-fits : (s : StateView) (leaf : ℕ) → IsWhole s → leaf < length s.leaves → IsValueAt s.leaves leaf (value_at s.content.values leaf)
-value_at-fits s leaf whole below = value_fits s.leaves s.content.values leaf whole.fits.types below
+value_at-fits : (s : StateView) (leaf : ℕ) → IsWhole s → leaf < length (leaves_of s) → IsValueAt (leaves_of s) leaf (value_at s.content.values leaf)
+value_at-fits s leaf whole below = value_fits (leaves_of s) s.content.values leaf whole.fits.types below
 
 pub record_fits : RecordFits
 record_fits (write path value) m next whole accepted =
     let a = write_accepts path value m next accepted in
-    let below = (number-Some m.state.leaves path a.leaf a.found).0 in
+    let below = (number-Some (leaves_of m.state) path a.leaf a.found).0 in
     subst (λ s. FitsRecord s (write_record m.state path)) a.next_is
     (subst (FitsRecord (written m.state a.leaf value)) (write_record-is m.state path a.leaf a.found)
-    (below, not-false (is_open (leaf_at m.state.leaves a.leaf).role) a.allowed.0, value_at-fits m.state a.leaf whole below))
+    (below, not-false (is_open (leaf_at (leaves_of m.state) a.leaf).role) a.allowed.0, value_at-fits m.state a.leaf whole below))
 record_fits (force path value) m next whole accepted =
     let a = force_accepts path value m next accepted in
-    let below = (number-Some m.state.leaves path a.leaf a.found).0 in
+    let below = (number-Some (leaves_of m.state) path a.leaf a.found).0 in
     subst (λ s. FitsRecord s (force_record m.state path)) a.next_is
     (subst (FitsRecord (forced m.state a.leaf value)) (force_record-is m.state path a.leaf a.found)
-    (below, not-false (is_open (leaf_at m.state.leaves a.leaf).role) a.allowed.0, value_at-fits m.state a.leaf whole below))
+    (below, not-false (is_open (leaf_at (leaves_of m.state) a.leaf).role) a.allowed.0, value_at-fits m.state a.leaf whole below))
 record_fits (release path) m next whole accepted =
     let a = release_accepts path m next accepted in
     subst (λ s. FitsRecord s (release_record m.state path)) a.next_is
     (subst (FitsRecord (released m.state a.leaf)) (release_record-is m.state path a.leaf a.found)
-    ((number-Some m.state.leaves path a.leaf a.found).0, whole.forces a.leaf (not-false (forced_at m.state.content.forced a.leaf) a.allowed.0)))
+    ((number-Some (leaves_of m.state) path a.leaf a.found).0, whole.forces a.leaf (not-false (forced_at m.state.content.forced a.leaf) a.allowed.0)))
 
 -- ---- whole states
 
@@ -130,28 +130,28 @@ whole_after (write path value) m next whole accepted =
     let a = write_accepts path value m next accepted in
     subst IsWhole a.next_is (record {
       sound = whole.sound;
-      fits = with_value_fits m.state.leaves m.state.content a.leaf value whole.fits
-          (takes_value m.state.leaves a.leaf value (not-false (is_value_of (leaf_at m.state.leaves a.leaf) value) a.allowed.1.0));
+      fits = with_value_fits (leaves_of m.state) m.state.content a.leaf value whole.fits
+          (takes_value (leaves_of m.state) a.leaf value (not-false (is_value_of (leaf_at (leaves_of m.state) a.leaf) value) a.allowed.1.0));
       forces = whole.forces;
       moment = whole.moment;
     })
 whole_after (force path value) m next whole accepted =
     let a = force_accepts path value m next accepted in
-    let here : IsOpenAt m.state.leaves a.leaf = not-false (is_open (leaf_at m.state.leaves a.leaf).role) a.allowed.0 in
-    let valued = with_value_fits m.state.leaves m.state.content a.leaf value whole.fits
-    (takes_value m.state.leaves a.leaf value (not-false (is_value_of (leaf_at m.state.leaves a.leaf) value) a.allowed.1.0)) in
+    let here : IsOpenAt (leaves_of m.state) a.leaf = not-false (is_open (leaf_at (leaves_of m.state) a.leaf).role) a.allowed.0 in
+    let valued = with_value_fits (leaves_of m.state) m.state.content a.leaf value whole.fits
+    (takes_value (leaves_of m.state) a.leaf value (not-false (is_value_of (leaf_at (leaves_of m.state) a.leaf) value) a.allowed.1.0)) in
     subst IsWhole a.next_is (record {
       sound = whole.sound;
       fits = record { types = valued.types; values = valued.values; forced = length-set m.state.content.forced a.leaf true ∙ valued.forced };
-      forces = mark_keeps_open m.state.leaves m.state.content.forced a.leaf true whole.forces here;
+      forces = mark_keeps_open (leaves_of m.state) m.state.content.forced a.leaf true whole.forces here;
       moment = whole.moment;
     })
 whole_after (release path) m next whole accepted =
     let a = release_accepts path m next accepted in
-    let here : IsOpenAt m.state.leaves a.leaf = whole.forces a.leaf (not-false (forced_at m.state.content.forced a.leaf) a.allowed.0) in
+    let here : IsOpenAt (leaves_of m.state) a.leaf = whole.forces a.leaf (not-false (forced_at m.state.content.forced a.leaf) a.allowed.0) in
     subst IsWhole a.next_is (record {
       sound = whole.sound;
       fits = record { types = whole.fits.types; values = whole.fits.values; forced = length-set m.state.content.forced a.leaf false ∙ whole.fits.forced };
-      forces = mark_keeps_open m.state.leaves m.state.content.forced a.leaf false whole.forces here;
+      forces = mark_keeps_open (leaves_of m.state) m.state.content.forced a.leaf false whole.forces here;
       moment = whole.moment;
     })

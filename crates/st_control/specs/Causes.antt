@@ -42,7 +42,3 @@ no_such_line = 11
 -- the text is longer than a text may be
 abbrev pub too_long : Refusal
 too_long = refusals.S 4 1
-
--- the text is no program of the name
-abbrev pub no_such_program : Refusal
-no_such_program = refusals.C 10 0

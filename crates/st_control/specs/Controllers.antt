@@ -1,5 +1,6 @@
 -- What contracts see of a controller, and the machine that it stands for.
 use Rattle.std.specs.Prelude.{ℕ, ◌≡◌, Bool, List, [], ◌∷◌, ◌++◌, reverse, count_by, unwrap_or, Option, Some, None, Result, Ok, Err, IsOk}
+use Rattle.st_check.specs.Programs.{ProgramView}
 use Rattle.st_control.specs.Causes.{no_such_path}
 use Rattle.st_control.specs.Machine.{Command, Machine}
 use Rattle.st_control.specs.Machine.Command.{force, release, write}
@@ -9,7 +10,6 @@ use Rattle.st_control.specs.declared.record.Record.TheVariants.{Force, Release, 
 use Rattle.st_control.specs.declared.refusal.Refusal.{Refusal}
 use Rattle.st_control.specs.declared.refusal.Refusal.TheVariants as refusals
 use Rattle.st_layout.specs.Memory.{value_at, forced_at}
-use Rattle.st_tree.specs.declared.leaf.Leaf.{Leaf}
 use Rattle.st_values.specs.declared.value.Value.{Value}
 
 -- a controller: its state, the records of the commands that can be undone, the oldest first, the name of the main
@@ -20,9 +20,9 @@ pub record ControllerView : Type 0 where
   pub main : List ℕ
   pub limit : ℕ
 
--- a controller that was just started: its leaves have their initial values, and nothing else is there yet
-abbrev pub first_controller : List Leaf → List ℕ → ℕ → ControllerView
-first_controller leaves main limit = record { state = first_state leaves; records = []; main = main; limit = limit }
+-- a controller that was just started: its program's leaves have their initial values, and nothing else is there yet
+abbrev pub first_controller : ProgramView → List ℕ → ℕ → ControllerView
+first_controller program main limit = record { state = first_state program; records = []; main = main; limit = limit }
 
 -- the states that undoing the records gives, one after another, from the newest record on
 abbrev pub states_before : StateView → List Record → List StateView

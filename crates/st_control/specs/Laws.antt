@@ -4,9 +4,9 @@ use Rattle.std.specs.Str.{bytes_eq}
 use Rattle.st_control.specs.Controllers.{record_of}
 use Rattle.st_control.specs.Machine.{Command, Machine, after_all, after_undos, passed, step}
 use Rattle.st_control.specs.Machine.Command.{force, release, write}
-use Rattle.st_control.specs.States.{FitsRecord, IsWhole, StateView, undone}
+use Rattle.st_control.specs.States.{FitsRecord, IsWhole, StateView, leaves_of, undone}
 use Rattle.st_layout.specs.Laws.{is_forced, value_of}
-use Rattle.st_layout.specs.Layout.{raised}
+use Rattle.st_values.specs.Words.{raised}
 use Rattle.st_values.specs.declared.value.Value.{Value}
 
 -- Whatever commands are given, refused ones between them included, as many undos as were accepted give back the machine
@@ -22,10 +22,10 @@ GoesThroughStates = (commands : List Command) (m : Machine) → (after_all comma
 
 -- the value at a path of a state, and whether the path is forced
 abbrev pub value_in : StateView → List ℕ → Option Value
-value_in s path = value_of s.leaves s.content path
+value_in s path = value_of (leaves_of s) s.content path
 
 abbrev pub is_forced_in : StateView → List ℕ → Bool
-is_forced_in s path = is_forced s.leaves s.content path
+is_forced_in s path = is_forced (leaves_of s) s.content path
 
 -- the two paths are one, ignoring case
 abbrev pub is_same_path : List ℕ → List ℕ → Bool
@@ -33,7 +33,7 @@ is_same_path path other = bytes_eq (raised path) (raised other)
 
 -- the program, the moment and the status stay
 pub record KeepsProgram (old new : StateView) : Type 0 where
-  pub leaves : new.leaves ≡ old.leaves
+  pub program : new.program ≡ old.program
   pub now : new.now ≡ old.now
   pub status : new.status ≡ old.status
 

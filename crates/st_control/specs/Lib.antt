@@ -3,8 +3,5 @@ pub mod Controllers
 pub mod Laws
 pub mod Loads
 pub mod Machine
-pub mod Readings
 pub mod States
 pub mod Texts
-pub mod ThinLists
-pub mod ThinPrograms

@@ -4,7 +4,7 @@ use Rattle.std.specs.Prelude.{ℕ, zero, suc, Bool, not, ◌&&◌, if◌then◌e
 use Rattle.std.specs.Option.{option_map_or}
 use Rattle.std.specs.Result.{result_unwrap_or}
 use Rattle.st_control.specs.Causes.{is_forced, no_such_path, not_forced, not_of_type, not_open, nothing_to_undo, undo_full}
-use Rattle.st_control.specs.States.{StateView, leaf_of, written, forced, released}
+use Rattle.st_control.specs.States.{StateView, leaf_of, leaves_of, written, forced, released}
 use Rattle.st_layout.specs.Layout.{leaf_at, is_open}
 use Rattle.st_layout.specs.Memory.{forced_at}
 use Rattle.st_values.specs.Types.{is_same}
@@ -44,16 +44,16 @@ is_value_of leaf value = is_same value.elem leaf.elem && is_value value
 -- the causes at a leaf that is there, in the order of their numbers
 abbrev pub write_causes : StateView → Bool → Value → ℕ → List Cause
 write_causes s full value leaf =
-    (not_open, not (is_open (leaf_at s.leaves leaf).role))
-    ∷ (not_of_type, not (is_value_of (leaf_at s.leaves leaf) value))
+    (not_open, not (is_open (leaf_at (leaves_of s) leaf).role))
+    ∷ (not_of_type, not (is_value_of (leaf_at (leaves_of s) leaf) value))
     ∷ (is_forced, forced_at s.content.forced leaf)
     ∷ (undo_full, full)
     ∷ []
 
 abbrev pub force_causes : StateView → Bool → Value → ℕ → List Cause
 force_causes s full value leaf =
-    (not_open, not (is_open (leaf_at s.leaves leaf).role))
-    ∷ (not_of_type, not (is_value_of (leaf_at s.leaves leaf) value))
+    (not_open, not (is_open (leaf_at (leaves_of s) leaf).role))
+    ∷ (not_of_type, not (is_value_of (leaf_at (leaves_of s) leaf) value))
     ∷ (undo_full, full)
     ∷ []
 

@@ -1,20 +1,26 @@
 -- The state of a controller, and what commands make of it.
 use Rattle.std.specs.Prelude.{ℕ, ℤ, pos, ◌≡◌, ◌<◌, ◌≤ℤ◌, ◌^◌, Bool, true, false, List, Option, length}
+use Rattle.st_check.specs.Programs.{ProgramView, leaves_of_program}
 use Rattle.st_control.specs.declared.record.Record.{Record}
 use Rattle.st_control.specs.declared.record.Record.TheVariants.{Write, Force, Release}
 use Rattle.st_control.specs.declared.state.Status.{Status}
 use Rattle.st_control.specs.declared.state.Status.TheVariants.{Running}
-use Rattle.st_layout.specs.Layout.{IsSound, IsValueAt, is_open, leaf_at, number_of}
+use Rattle.st_leaves.specs.Sound.{IsSound}
+use Rattle.st_layout.specs.Layout.{IsValueAt, is_open, leaf_at, number_of}
 use Rattle.st_layout.specs.Memory.{Content, Fits, forced_at, initial_content, with_value, with_force}
 use Rattle.st_tree.specs.declared.leaf.Leaf.{Leaf}
 use Rattle.st_values.specs.declared.value.Value.{Value}
 
--- a state: the leaves of the program, the value of each and whether it is forced, the moment and the status
+-- a state: the program, the value of each of its leaves and whether it is forced, the moment and the status
 pub record StateView : Type 0 where
-  pub leaves : List Leaf
+  pub program : ProgramView
   pub content : Content
   pub now : ℤ
   pub status : Status
+
+-- the leaves of a state's program
+abbrev pub leaves_of : StateView → List Leaf
+leaves_of s = leaves_of_program s.program
 
 -- an operator may write and force the leaf of this number
 abbrev pub IsOpenAt : List Leaf → ℕ → Type 0
@@ -32,22 +38,22 @@ pub record IsMoment (now : ℤ) : Type 0 where
 -- What each state of a controller keeps: its leaves are those of a layout, it has one value of the right type for each,
 -- only open leaves are forced, and its moment is one.
 pub record IsWhole (s : StateView) : Type 0 where
-  pub sound : IsSound s.leaves
-  pub fits : Fits s.leaves s.content
-  pub forces : ForcesAreOpen s.leaves s.content.forced
+  pub sound : IsSound (leaves_of s)
+  pub fits : Fits (leaves_of s) s.content
+  pub forces : ForcesAreOpen (leaves_of s) s.content.forced
   pub moment : IsMoment s.now
 
 -- the state that a program begins with: initial values, no force, moment 0, running
-abbrev pub first_state : List Leaf → StateView
-first_state leaves = record { leaves = leaves; content = initial_content leaves; now = pos 0; status = Running }
+abbrev pub first_state : ProgramView → StateView
+first_state program = record { program = program; content = initial_content (leaves_of_program program); now = pos 0; status = Running }
 
 -- the number of the leaf with this path, ignoring case
 abbrev pub leaf_of : StateView → List ℕ → Option ℕ
-leaf_of s path = number_of s.leaves path
+leaf_of s path = number_of (leaves_of s) path
 
 -- the same state with other values and forces
 abbrev pub with_content : StateView → Content → StateView
-with_content s content = record { leaves = s.leaves; content = content; now = s.now; status = s.status }
+with_content s content = record { program = s.program; content = content; now = s.now; status = s.status }
 
 -- after a write the leaf has the value
 abbrev pub written : StateView → ℕ → Value → StateView
@@ -69,6 +75,6 @@ undone s (Release leaf) = with_content s (with_force s.content leaf true)
 
 -- the record can be one of a command that left this state: its leaf is there and open, and the value is one of the leaf's type
 abbrev pub FitsRecord : StateView → Record → Type 0
-FitsRecord s (Write leaf old) = (leaf < length s.leaves) × IsOpenAt s.leaves leaf × IsValueAt s.leaves leaf old
-FitsRecord s (Force leaf old was) = (leaf < length s.leaves) × IsOpenAt s.leaves leaf × IsValueAt s.leaves leaf old
-FitsRecord s (Release leaf) = (leaf < length s.leaves) × IsOpenAt s.leaves leaf
+FitsRecord s (Write leaf old) = (leaf < length (leaves_of s)) × IsOpenAt (leaves_of s) leaf × IsValueAt (leaves_of s) leaf old
+FitsRecord s (Force leaf old was) = (leaf < length (leaves_of s)) × IsOpenAt (leaves_of s) leaf × IsValueAt (leaves_of s) leaf old
+FitsRecord s (Release leaf) = (leaf < length (leaves_of s)) × IsOpenAt (leaves_of s) leaf

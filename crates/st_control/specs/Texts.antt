@@ -1,9 +1,10 @@
 -- Texts that are accepted, and why others are refused.
-use Rattle.std.specs.Prelude.{ℕ, ◌≡◌, ◌⊎◌, ◌<◌, ◌≤◌, ◌^◌, List, length, Result, Ok, Err}
+use Rattle.std.specs.Prelude.{ℕ, ◌≡◌, ◌⊎◌, ◌<◌, ◌≤◌, ◌^◌, List, length, Result, Some, Ok, Err}
 use Rattle.std.specs.Option.{option_map_or}
 use Rattle.st_check.specs.Answers as checks
 use Rattle.st_check.specs.Answers.{line_of, rule_of}
-use Rattle.st_check.specs.Faults.{IsAccepted}
+use Rattle.st_check.specs.Faults.{IsAccepted, program_named}
+use Rattle.st_check.specs.Programs.{IsChecked, ProgramView, leaves_of_program, main_of, text_of}
 use Rattle.st_check.specs.declared.fault.CheckFault.{CheckFault}
 use Rattle.st_control.specs.Causes.{too_long}
 use Rattle.st_control.specs.declared.refusal.Refusal.{Refusal}
@@ -13,6 +14,7 @@ use Rattle.st_syntax.specs.Grammar.Texts.{Explains, IsTextOf}
 use Rattle.st_tokens.specs.declared.fault.SyntaxFault.{SyntaxFault}
 use Rattle.st_tokens.specs.declared.fault.SyntaxFault.TheVariants as syntax_faults
 use Rattle.st_tree.specs.declared.tree.unit.Unit.{Unit as ProgramUnit}
+use Rattle.st_types.specs.Names.{units_of}
 
 -- ---- refusals
 
@@ -61,3 +63,22 @@ IsCheckedAs text main (Err refusal) =
 -- something holds of what the text is checked as
 abbrev pub OfCheck : List ℕ → List ℕ → (Checked → Type 0) → Type 0
 OfCheck text main P = (checked : Checked) × IsCheckedAs text main checked × P checked
+
+-- ---- the programs of a text
+
+-- The program is one that the text is checked as: it has the text's units, its main program is the first of this name,
+-- ignoring case, and its order is one in which they can be taken.
+pub record IsProgramOf (text main : List ℕ) (program : ProgramView) : Type 0 where
+  pub accepted : IsCheckedAs text main (Ok (text_of program))
+  pub checked : IsChecked program
+  pub named : program_named (units_of (text_of program)) main ≡ Some (main_of program)
+
+-- All programs that a text is checked as have the same units, the same main program and the same leaves.
+pub record AreAlike (program other : ProgramView) : Type 0 where
+  pub units : text_of program ≡ text_of other
+  pub main : main_of program ≡ main_of other
+  pub leaves : leaves_of_program program ≡ leaves_of_program other
+
+abbrev pub TextsGiveOneList : Type 0
+TextsGiveOneList = (text main : List ℕ) (program other : ProgramView) →
+    IsProgramOf text main program → IsProgramOf text main other → AreAlike program other

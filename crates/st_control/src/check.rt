@@ -1,7 +1,7 @@
 //! Texts that are checked: they are in the grammar, and break no rule.
 ghost use Rattle.std.specs.Prelude.{◌≡◌, ◌<◌, ◌^◌, Err, IfErr, IfOk, List, MatchResult, Ok, length};
 ghost use Rattle.st_check.specs.Programs.{text_of};
-ghost use Rattle.st_control.specs.Texts.{IsCheckedAs};
+ghost use Rattle.st_control.specs.Texts.{IsCheckedAs, IsProgramOf, TextsGiveOneList};
 ghost use Rattle.st_tree.specs.declared.tree.unit.Unit.{Unit as ProgramUnit};
 
 use crate::refusal::Refusal;
@@ -17,7 +17,7 @@ use std::alloc::Global;
 /// the first token where one is broken, and there the one with the lowest number. C10 line 0 where none is broken, but
 /// there is no such program. Each has the line of its token. M where memory ran out.
 pub fn check_program(alloc: Global, text: &[u8], main: &[u8]) -> Result<Program, Refusal>
-    ensures ok { IfOk result (λ program. IsCheckedAs text.now main.now (Ok (text_of program))) }
+    ensures ok { IfOk result (λ program. IsProgramOf text.now main.now program) }
     ensures refused { IfErr result (λ refusal. IsCheckedAs text.now main.now (Err refusal)) }
     ensures long { 2 ^ 20 < length text.now → result ≡ Err (Refusal.S 4 1) }
 
@@ -28,3 +28,9 @@ pub fn check_program(alloc: Global, text: &[u8], main: &[u8]) -> Result<Program,
     let units = parse(alloc, text)?;
     Ok(check(alloc, units, main)?)
 }
+
+/// All programs that a text is checked as have the same units, the same main program and the same leaves. A law, with nothing
+/// to run.
+pub fn texts_give_one_list()
+    ensures { TextsGiveOneList }
+{}

@@ -4,22 +4,22 @@ ghost use Rattle.st_control.specs.Controllers.{DropsNewest, Keeps, Takes, first_
 ghost use Rattle.st_control.specs.Loads.{IsLoaded};
 ghost use Rattle.st_control.specs.Machine.{step, undo_step};
 ghost use Rattle.st_control.specs.Machine.Command.{force, release, write};
-ghost use Rattle.st_control.specs.Readings.{IsReadAs};
-ghost use Rattle.st_control.specs.States.{IsWhole, leaf_of};
+ghost use Rattle.st_control.specs.States.{IsWhole, leaf_of, leaves_of};
+ghost use Rattle.st_control.specs.Texts.{IsCheckedAs};
 ghost use Rattle.st_layout.specs.Layout.{leaf_at};
-ghost use Rattle.st_tree.specs.declared.leaf.Leaf.{Leaf};
+ghost use Rattle.st_check.specs.Programs.{text_of};
+ghost use Rattle.st_tree.specs.declared.tree.unit.Unit.{Unit as ProgramUnit};
 ghost use Rattle.st_values.specs.Values.{IsValue};
 
-use crate::check::check_program;
+use crate::image::Image;
 use crate::record::Record;
 use crate::refusal::{NO_SUCH_PATH, NOTHING_TO_UNDO, Refusal};
 use crate::state::{State, Status};
-use crate::thin::{ThinFault, read_thin};
 use crate::undoing::revert;
-use st_layout::{Layout, Memory};
+use st_layout::Memory;
 use st_tree::Name;
 use st_values::{Elem, Value};
-use std::alloc::Global;
+use std::alloc::{AllocError, Global};
 use std::marker::Model;
 
 /// How many commands can be undone.
@@ -52,9 +52,14 @@ pub struct Controller<M: Memory> {
 
 impl<M: Memory> Model for Controller<M> {
     ghost use Rattle.std.specs.Prelude.{◌≤◌, vec_capacity, vec_len};
+    ghost use Rattle.std.specs.Coded.{codes};
     ghost use Rattle.st_control.specs.Controllers.{ControllerView, IsCoherent};
+    ghost use Rattle.st_tree.specs.contracts.tree.expression.Expression as expression;
+    ghost use Rattle.st_tree.specs.contracts.tree.statement.Statement as statement;
 
     ghost Value = { ControllerView };
+
+    ghost coded = { Prim.hlevel (codes, statement.the_row.coded, expression.the_row.coded) };
 
     ghost view = { λ c. record { state = c.state; records = c.records.items; main = c.main; limit = c.limit } };
 
@@ -65,46 +70,37 @@ impl<M: Memory> Controller<M> {
     /// Loads the program of the name `main`, ignoring case, from a text: initial values, no force, moment 0, running, and
     /// nothing to undo. `limit` is the step limit of a scan, which is kept.
     ///
-    /// Refused as `check_program` refuses it; as C10 line 0 where it is accepted, but isn't one of the programs that can be run
-    /// today; and else for want of memory alone.
+    /// Refused as `check_program` refuses it, and else for want of memory alone.
     pub fn load(alloc: Global, text: &[u8], main: &[u8], limit: u32) -> Result<Self, Refusal>
         ensures ok { IfOk result (λ controller. IsLoaded text.now main.now limit controller) }
-        ensures refused { IfErr result (λ refusal. IsReadAs text.now main.now (Err refusal)) }
+        ensures refused { IfErr result (λ refusal. IsCheckedAs text.now main.now (Err refusal)) }
         ensures long { 2 ^ 20 < length text.now → result ≡ Err (Refusal.S 4 1) }
 
-        // A text that is read as a program is loaded as it, unless memory runs out.
-        ensures only { (leaves : List Leaf) → IsReadAs text.now main.now (Ok leaves)
-            → MatchResult result (λ controller. controller ≡ first_controller leaves main.now limit) (λ refusal. refusal ≡ Refusal.M) }
+        // A text that is accepted is loaded with its units, unless memory runs out.
+        ensures only { (units : List ProgramUnit) → IsCheckedAs text.now main.now (Ok units)
+            → MatchResult result (λ controller. text_of controller.state.program ≡ units) (λ refusal. refusal ≡ Refusal.M) }
     {
-        let program = check_program(alloc, text, main)?;
-        let leaves = read_thin(alloc, program.units(), main)?;
-        let name = Name::of(main).ok_or(ThinFault::NotThin)?;
-        match Layout::of(alloc, leaves) {
-            Ok(layout) => Controller::start(alloc, layout, name, limit),
-            Err(_) => Err(Refusal::M),
-        }
+        let image = Image::load(alloc, text, main)?;
+        let name = Name::of(main).unwrap();
+        Ok(Controller::start(alloc, image, name, limit)?)
     }
 
-    /// A controller of a program with these leaves: initial values, no force, moment 0, running, and nothing to undo.
+    /// A controller of a program: initial values, no force, moment 0, running, and nothing to undo.
     ///
     /// Room for all its records is made here. It is refused for want of memory alone.
-    pub fn start(alloc: Global, layout: Layout, main: Name, limit: u32) -> Result<Self, Refusal>
-        ensures ok { IfOk result (λ controller. controller ≡ first_controller layout main limit) }
-        ensures err { IfErr result (λ refusal. refusal ≡ Refusal.M) }
+    fn start(alloc: Global, image: Image, main: Name, limit: u32) -> Result<Self, AllocError>
+        ensures { IfOk result (λ controller. controller ≡ first_controller image main limit) }
     {
-        let Ok(memory) = M::fresh(alloc, &layout) else {
-            return Err(Refusal::M);
-        };
-        let Ok(records) = Vec::with_capacity(alloc, MAX_RECORDS) else {
-            return Err(Refusal::M);
+        let memory = M::fresh(alloc, image.layout())?;
+        let records = Vec::with_capacity(alloc, MAX_RECORDS)?;
+        let state = State {
+            image,
+            memory,
+            now: 0,
+            status: Status::Running,
         };
         Ok(Controller {
-            state: State {
-                layout,
-                memory,
-                now: 0,
-                status: Status::Running,
-            },
+            state,
             records,
             main,
             limit,
@@ -114,26 +110,26 @@ impl<M: Memory> Controller<M> {
     /// The number of the leaf with this path, ignoring case.
     pub fn find(&self, path: &[u8]) -> Option<u32>
         ensures value { result ≡ leaf_of self.now.state path.now }
-        ensures below { IfSome result (λ leaf. leaf < length self.now.state.leaves) }
+        ensures below { IfSome result (λ leaf. leaf < length (leaves_of self.now.state)) }
     {
-        self.state.layout.leaf(path)
+        self.state.image.layout().leaf(path)
     }
 
     /// The path of a leaf, spelled as the program declares it.
     pub fn shown(&self, leaf: u32) -> &[u8]
-        requires { leaf < length self.now.state.leaves }
-        ensures value { result.now ≡ (leaf_at self.now.state.leaves leaf).shown }
+        requires { leaf < length (leaves_of self.now.state) }
+        ensures value { result.now ≡ (leaf_at (leaves_of self.now.state) leaf).shown }
         ensures short { length result.now ≤ 255 }
     {
-        self.state.layout.at(leaf).shown.items.as_slice()
+        self.state.image.layout().at(leaf).shown.items.as_slice()
     }
 
     /// The type of a leaf.
     pub fn elem(&self, leaf: u32) -> Elem
-        requires { leaf < length self.now.state.leaves }
-        ensures { result ≡ (leaf_at self.now.state.leaves leaf).elem }
+        requires { leaf < length (leaves_of self.now.state) }
+        ensures { result ≡ (leaf_at (leaves_of self.now.state) leaf).elem }
     {
-        self.state.layout.at(leaf).elem
+        self.state.image.layout().at(leaf).elem
     }
 
     /// The value of the leaf with this path, and whether it is forced. Refused as O1 where there is no such path.
@@ -141,7 +137,7 @@ impl<M: Memory> Controller<M> {
         ensures value { result ≡ shown_to self.now.state (leaf_of self.now.state path.now) }
         ensures in_range { IfOk result (λ shown. IsValue shown.0) }
     {
-        let layout = &self.state.layout;
+        let layout = self.state.image.layout();
         match layout.leaf(path) {
             Some(leaf) => Ok((
                 self.state.memory.get(layout, leaf),

@@ -3,15 +3,16 @@
 
 mod check;
 mod controller;
+mod image;
 mod laws;
 mod record;
 mod refusal;
 mod state;
-mod thin;
 mod undoing;
 
-pub use check::check_program;
+pub use check::{check_program, texts_give_one_list};
 pub use controller::{Controller, MAX_RECORDS, Report};
+pub use image::Image;
 pub use laws::{
     command_changes_one_path, record_undoes_command, steps_keep_states_whole,
     undos_give_back_states,
@@ -22,5 +23,4 @@ pub use refusal::{
     Refusal, UNDO_FULL,
 };
 pub use state::{RunFault, RunFaultKind, State, Status};
-pub use thin::{texts_give_one_list, units_give_one_list};
 pub use undoing::revert;

@@ -1,12 +1,11 @@
 //! Why a command is refused.
 ghost use Rattle.std.specs.Prelude.{◌≡◌};
-ghost use Rattle.st_control.specs.Readings.{refusal_of_units};
 ghost use Rattle.st_control.specs.Texts.{refusal_of, refusal_of_rules};
+ghost use Rattle.st_control.specs.declared.refusal.Refusal.TheVariants as refusals;
 
-use crate::thin::ThinFault;
 use st_check::CheckFault;
-use st_faults::Rule;
 use st_tokens::SyntaxFault;
+use std::alloc::AllocError;
 
 /// There is no leaf with this path.
 pub const NO_SUCH_PATH: u8 = 1;
@@ -73,16 +72,10 @@ impl From<CheckFault> for Refusal {
     }
 }
 
-impl From<ThinFault> for Refusal {
-    ghost from_gives = { λ fault refusal. refusal ≡ refusal_of_units fault };
+impl From<AllocError> for Refusal {
+    ghost from_gives = { λ _ refusal. refusal ≡ refusals.M };
 
-    fn from(fault: ThinFault) -> Refusal {
-        match fault {
-            ThinFault::Memory => Refusal::M,
-            ThinFault::NotThin => Refusal::C {
-                number: Rule::NoProgram.number(),
-                line: 0,
-            },
-        }
+    fn from(_: AllocError) -> Refusal {
+        Refusal::M
     }
 }

@@ -1,12 +1,14 @@
 //! The state of a controller.
 ghost use Rattle.std.specs.Prelude.{◌≡◌, ◌<◌, IfOk, IsTrue, OnOk, count_by, false, true, length};
 ghost use Rattle.st_control.specs.Machine.{is_value_of};
-ghost use Rattle.st_layout.specs.Layout.{IsValueAt, IsValueOf, is_open};
+ghost use Rattle.st_leaves.specs.Sound.{IsValueOf};
+ghost use Rattle.st_layout.specs.Layout.{IsValueAt, is_open};
 ghost use Rattle.st_layout.specs.Memory.{forced_at, value_at};
 
+use crate::image::Image;
 use crate::record::Record;
 use crate::refusal::{IS_FORCED, NO_SUCH_PATH, NOT_FORCED, NOT_OF_TYPE, NOT_OPEN, UNDO_FULL};
-use st_layout::{Layout, Memory};
+use st_layout::Memory;
 use st_tree::{Leaf, Name, Role};
 use st_values::{Value, is_value};
 use std::marker::Model;
@@ -42,12 +44,12 @@ pub enum Status {
     Halted(RunFault),
 }
 
-/// The state of a controller: its program's leaves, their values, which of them are forced, the moment and the status.
+/// The state of a controller: its program, the values of the leaves, which of them are forced, the moment and the status.
 #[derive(Drop)]
 pub struct State<M: Memory> {
-    /// The leaves of the program that runs.
-    pub layout: Layout,
-    /// Their values, and which of them are forced.
+    /// The program that runs, and the layout of its leaves.
+    pub image: Image,
+    /// The values of the leaves, and which of them are forced.
     pub memory: M,
     /// The moment of the last scan, in milliseconds.
     pub now: i64,
@@ -56,38 +58,44 @@ pub struct State<M: Memory> {
 }
 
 impl<M: Memory> Model for State<M> {
+    ghost use Rattle.std.specs.Coded.{codes};
+    ghost use Rattle.st_check.specs.Programs.{leaves_of_program};
     ghost use Rattle.st_control.specs.States.{ForcesAreOpen, IsMoment, StateView};
+    ghost use Rattle.st_tree.specs.contracts.tree.expression.Expression as expression;
+    ghost use Rattle.st_tree.specs.contracts.tree.statement.Statement as statement;
 
     ghost Value = { StateView };
 
-    ghost view = { λ s. record { leaves = s.layout; content = M.content s.layout s.memory; now = s.now; status = s.status } };
+    ghost coded = { Prim.hlevel (codes, statement.the_row.coded, expression.the_row.coded) };
 
-    ghost invariant = { λ s. M.IsOver s.layout s.memory × ForcesAreOpen s.layout (M.content s.layout s.memory).forced × IsMoment s.now };
+    ghost view = { λ s. record { program = s.image; content = M.content (leaves_of_program s.image) s.memory; now = s.now; status = s.status } };
+
+    ghost invariant = { λ s. M.IsOver (leaves_of_program s.image) s.memory × ForcesAreOpen (leaves_of_program s.image) (M.content (leaves_of_program s.image) s.memory).forced × IsMoment s.now };
 }
 
 impl<M: Memory> State<M> {
-    ghost use Rattle.st_control.specs.States.{FitsRecord, IsOpenAt, IsWhole, forced, leaf_of, released, undone, written};
+    ghost use Rattle.st_control.specs.States.{FitsRecord, IsOpenAt, IsWhole, forced, leaf_of, leaves_of, released, undone, written};
     ghost use Rattle.st_control.specs.Machine.{leaf_to_force, leaf_to_release, leaf_to_write};
 
     /// The leaf that a write would set, or the number of its refusal.
     pub(crate) fn leaf_to_write(&self, full: bool, path: &[u8], value: Value) -> Result<u32, u8>
         ensures value { result ≡ leaf_to_write self.entry.now full path.now value }
-        ensures below { IfOk result (λ leaf. leaf < length self.entry.now.leaves) }
-        ensures opens { IfOk result (λ leaf. IsOpenAt self.entry.now.leaves leaf) }
-        ensures fits { IfOk result (λ leaf. IsValueAt self.entry.now.leaves leaf value) }
+        ensures below { IfOk result (λ leaf. leaf < length (leaves_of self.entry.now)) }
+        ensures opens { IfOk result (λ leaf. IsOpenAt (leaves_of self.entry.now) leaf) }
+        ensures fits { IfOk result (λ leaf. IsValueAt (leaves_of self.entry.now) leaf value) }
         ensures not_full { OnOk result (full ≡ false) }
     {
-        let Some(leaf) = self.layout.leaf(path) else {
+        let Some(leaf) = self.image.layout().leaf(path) else {
             return Err(NO_SUCH_PATH);
         };
-        let declared = self.layout.at(leaf);
+        let declared = self.image.layout().at(leaf);
         if !is_open(declared.role) {
             return Err(NOT_OPEN);
         }
         if !is_value_of(declared, value) {
             return Err(NOT_OF_TYPE);
         }
-        if self.memory.forced(&self.layout, leaf) {
+        if self.memory.forced(self.image.layout(), leaf) {
             return Err(IS_FORCED);
         }
         if full { Err(UNDO_FULL) } else { Ok(leaf) }
@@ -96,15 +104,15 @@ impl<M: Memory> State<M> {
     /// The leaf that a force would set, or the number of its refusal.
     pub(crate) fn leaf_to_force(&self, full: bool, path: &[u8], value: Value) -> Result<u32, u8>
         ensures value { result ≡ leaf_to_force self.entry.now full path.now value }
-        ensures below { IfOk result (λ leaf. leaf < length self.entry.now.leaves) }
-        ensures opens { IfOk result (λ leaf. IsOpenAt self.entry.now.leaves leaf) }
-        ensures fits { IfOk result (λ leaf. IsValueAt self.entry.now.leaves leaf value) }
+        ensures below { IfOk result (λ leaf. leaf < length (leaves_of self.entry.now)) }
+        ensures opens { IfOk result (λ leaf. IsOpenAt (leaves_of self.entry.now) leaf) }
+        ensures fits { IfOk result (λ leaf. IsValueAt (leaves_of self.entry.now) leaf value) }
         ensures not_full { OnOk result (full ≡ false) }
     {
-        let Some(leaf) = self.layout.leaf(path) else {
+        let Some(leaf) = self.image.layout().leaf(path) else {
             return Err(NO_SUCH_PATH);
         };
-        let declared = self.layout.at(leaf);
+        let declared = self.image.layout().at(leaf);
         if !is_open(declared.role) {
             return Err(NOT_OPEN);
         }
@@ -117,14 +125,14 @@ impl<M: Memory> State<M> {
     /// The leaf that a release would let go, or the number of its refusal.
     pub(crate) fn leaf_to_release(&self, full: bool, path: &[u8]) -> Result<u32, u8>
         ensures value { result ≡ leaf_to_release self.entry.now full path.now }
-        ensures below { IfOk result (λ leaf. leaf < length self.entry.now.leaves) }
+        ensures below { IfOk result (λ leaf. leaf < length (leaves_of self.entry.now)) }
         ensures forced { IfOk result (λ leaf. forced_at self.entry.now.content.forced leaf ≡ true) }
         ensures not_full { OnOk result (full ≡ false) }
     {
-        let Some(leaf) = self.layout.leaf(path) else {
+        let Some(leaf) = self.image.layout().leaf(path) else {
             return Err(NO_SUCH_PATH);
         };
-        if !self.memory.forced(&self.layout, leaf) {
+        if !self.memory.forced(self.image.layout(), leaf) {
             return Err(NOT_FORCED);
         }
         if full { Err(UNDO_FULL) } else { Ok(leaf) }
@@ -133,48 +141,48 @@ impl<M: Memory> State<M> {
     /// Sets the value of a leaf, and answers what undoes it.
     #[tactic(auto, using(crate::proofs::Undone::undone_written))]
     pub(crate) fn write(&mut self, leaf: u32, value: Value) -> Record
-        requires below { leaf < length self.old.leaves }
-        requires opens { IsOpenAt self.old.leaves leaf }
-        requires fits { IsValueAt self.old.leaves leaf value }
+        requires below { leaf < length (leaves_of self.old) }
+        requires opens { IsOpenAt (leaves_of self.old) leaf }
+        requires fits { IsValueAt (leaves_of self.old) leaf value }
         ensures record { result ≡ Record.Write leaf (value_at self.old.content.values leaf) }
         ensures new { self.new ≡ written self.old leaf value }
         ensures back { undone self.new result ≡ self.old }
         ensures fitting { FitsRecord self.new result }
     {
-        let old = self.memory.get(&self.layout, leaf);
-        self.memory.set(&self.layout, leaf, value);
+        let old = self.memory.get(self.image.layout(), leaf);
+        self.memory.set(self.image.layout(), leaf, value);
         Record::Write { leaf, old }
     }
 
     /// Sets the value of a leaf and forces it, and answers what undoes it.
     #[tactic(auto, using(crate::proofs::Undone::undone_forced))]
     pub(crate) fn force(&mut self, leaf: u32, value: Value) -> Record
-        requires below { leaf < length self.old.leaves }
-        requires opens { IsOpenAt self.old.leaves leaf }
-        requires fits { IsValueAt self.old.leaves leaf value }
+        requires below { leaf < length (leaves_of self.old) }
+        requires opens { IsOpenAt (leaves_of self.old) leaf }
+        requires fits { IsValueAt (leaves_of self.old) leaf value }
         ensures record { result ≡ Record.Force leaf (value_at self.old.content.values leaf) (forced_at self.old.content.forced leaf) }
         ensures new { self.new ≡ forced self.old leaf value }
         ensures back { undone self.new result ≡ self.old }
         ensures fitting { FitsRecord self.new result }
     {
-        let old = self.memory.get(&self.layout, leaf);
-        let was = self.memory.forced(&self.layout, leaf);
-        self.memory.set(&self.layout, leaf, value);
-        self.memory.mark(&self.layout, leaf, true);
+        let old = self.memory.get(self.image.layout(), leaf);
+        let was = self.memory.forced(self.image.layout(), leaf);
+        self.memory.set(self.image.layout(), leaf, value);
+        self.memory.mark(self.image.layout(), leaf, true);
         Record::Force { leaf, old, was }
     }
 
     /// Lets go of a leaf that is forced, and answers what undoes it.
     #[tactic(auto, using(crate::proofs::Undone::undone_released))]
     pub(crate) fn release(&mut self, leaf: u32) -> Record
-        requires below { leaf < length self.old.leaves }
+        requires below { leaf < length (leaves_of self.old) }
         requires forced { forced_at self.old.content.forced leaf ≡ true }
         ensures record { result ≡ Record.Release leaf }
         ensures new { self.new ≡ released self.old leaf }
         ensures back { undone self.new result ≡ self.old }
         ensures fitting { FitsRecord self.new result }
     {
-        self.memory.mark(&self.layout, leaf, false);
+        self.memory.mark(self.image.layout(), leaf, false);
         Record::Release { leaf }
     }
 
@@ -184,8 +192,8 @@ impl<M: Memory> State<M> {
         ensures whole { IsWhole self.entry.now }
     {
         let mut count = 0;
-        for leaf in 0..self.layout.len() {
-            if self.memory.forced(&self.layout, leaf) {
+        for leaf in 0..self.image.layout().len() {
+            if self.memory.forced(self.image.layout(), leaf) {
                 count += 1;
             }
         }

@@ -15,14 +15,14 @@ pub fn revert<M: Memory>(_alloc: Global, state: &mut State<M>, newest: Record) -
 {
     match newest {
         Record::Write { leaf, old } => {
-            state.memory.set(&state.layout, leaf, old);
+            state.memory.set(state.image.layout(), leaf, old);
         }
         Record::Force { leaf, old, was } => {
-            state.memory.set(&state.layout, leaf, old);
-            state.memory.mark(&state.layout, leaf, was);
+            state.memory.set(state.image.layout(), leaf, old);
+            state.memory.mark(state.image.layout(), leaf, was);
         }
         Record::Release { leaf } => {
-            state.memory.mark(&state.layout, leaf, true);
+            state.memory.mark(state.image.layout(), leaf, true);
         }
     }
     Ok(())

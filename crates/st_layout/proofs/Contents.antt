@@ -4,7 +4,8 @@ use Rattle.std.specs.List.{All}
 use Rattle.std.proofs.lemmas.List.{length-set}
 use Rattle.st_tree.specs.declared.leaf.Leaf.{Leaf}
 use Rattle.st_values.specs.declared.value.Value.{Value}
-use Rattle.st_layout.specs.Layout.{IsValueOf, IsValueAt}
+use Rattle.st_leaves.specs.Sound.{IsValueOf}
+use Rattle.st_layout.specs.Layout.{IsValueAt}
 use Rattle.st_layout.specs.Memory.{AreValues, Content, Fits, value_at, with_value}
 
 -- the value of a leaf is one of its type

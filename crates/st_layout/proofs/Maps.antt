@@ -9,7 +9,9 @@ use Rattle.std.proofs.lemmas.Bool.Decides.{nat_tests}
 use Rattle.st_tree.specs.declared.leaf.Leaf.{Leaf}
 use Rattle.st_values.specs.declared.value.Value.{Value}
 use Rattle.st_layout.specs.Laws.{HasLeavesValues, MarkChangesOneForce, PathsDetermineContent, SetChangesOneValue, is_path_of}
-use Rattle.st_layout.specs.Layout.{IsSound, IsValueAt, leaf_at, no_leaf, no_value, number_of, paths_of, raised}
+use Rattle.st_leaves.specs.Sound.{IsSound}
+use Rattle.st_layout.specs.Layout.{IsValueAt, leaf_at, no_leaf, no_value, number_of, paths_of}
+use Rattle.st_values.specs.Words.{raised}
 use Rattle.st_layout.specs.Memory.{Content, forced_at, value_at, with_force, with_value}
 use Rattle.st_layout.proofs.Contents.{value_fits}
 use Rattle.st_layout.proofs.Paths.{number-None, number-Some, number-listed}

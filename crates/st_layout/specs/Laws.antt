@@ -6,7 +6,9 @@ use Rattle.std.specs.Str.{bytes_eq}
 use Rattle.st_values.specs.Types.{width_of}
 use Rattle.st_tree.specs.declared.leaf.Leaf.{Leaf}
 use Rattle.st_values.specs.declared.value.Value.{Value}
-use Rattle.st_layout.specs.Layout.{IsSound, IsValueAt, leaf_at, number_of, offset_of, paths_of, raised, total_width}
+use Rattle.st_leaves.specs.Sound.{IsSound}
+use Rattle.st_layout.specs.Layout.{IsValueAt, leaf_at, number_of, offset_of, paths_of, total_width}
+use Rattle.st_values.specs.Words.{raised}
 use Rattle.st_layout.specs.Memory.{Content, Fits, forced_at, value_at, with_force, with_value}
 
 -- no leaf begins before the end of one that comes earlier

@@ -1,11 +1,11 @@
 -- Layouts, as contracts see them: lists of leaves.
-use Rattle.std.specs.Prelude.{ℕ, pos, ◌≡◌, ◌≢◌, ◌≤◌, Bool, true, false, List, [], map, length, get_or, take, Option}
-use Rattle.std.specs.Char.{to_ascii_uppercase}
-use Rattle.std.specs.List.{All, AllPairs, position, sum_by}
+use Rattle.std.specs.Prelude.{ℕ, pos, Bool, true, false, List, [], map, get_or, take, Option}
+use Rattle.std.specs.List.{position, sum_by}
 use Rattle.std.specs.Str.{bytes_eq}
 use Rattle.st_values.specs.Types.{width_of}
-use Rattle.st_values.specs.Values.{IsValue}
+use Rattle.st_values.specs.Words.{raised}
 use Rattle.st_values.specs.declared.elem.Elem.TheVariants as elems
+use Rattle.st_leaves.specs.Sound.{IsValueOf}
 use Rattle.st_tree.specs.declared.leaf.Leaf.{Leaf}
 use Rattle.st_tree.specs.declared.leaf.Role.{Role}
 use Rattle.st_tree.specs.declared.leaf.Role.TheVariants.{Plain, ProcessInput, Hidden}
@@ -22,10 +22,6 @@ no_leaf = record { path = []; shown = []; spine = []; elem = elems.Bool; initial
 -- the leaf of this number
 abbrev pub leaf_at : List Leaf → ℕ → Leaf
 leaf_at leaves i = get_or leaves i no_leaf
-
--- a path in upper case
-abbrev pub raised : List ℕ → List ℕ
-raised path = map to_ascii_uppercase path
 
 -- the leaves' paths, in order
 abbrev pub paths_of : List Leaf → List (List ℕ)
@@ -49,20 +45,6 @@ is_open Plain = true
 is_open ProcessInput = true
 is_open _ = false
 
--- the value is one of the leaf's type
-pub record IsValueOf (leaf : Leaf) (value : Value) : Type 0 where
-  pub elem : value.elem ≡ leaf.elem
-  pub in_range : IsValue value
-
 -- the value is one of the type of the leaf of this number
 abbrev pub IsValueAt : List Leaf → ℕ → Value → Type 0
 IsValueAt leaves i value = IsValueOf (leaf_at leaves i) value
-
--- What each layout keeps: no two leaves have the same path, each path is its shown text in upper case and has at most 255
--- bytes, there are at most 65536 leaves, and each begins with a value of its type.
-pub record IsSound (leaves : List Leaf) : Type 0 where
-  pub distinct : AllPairs (λ leaf other. leaf.path ≢ other.path) leaves
-  pub shown : All (λ leaf. leaf.path ≡ raised leaf.shown) leaves
-  pub short : All (λ leaf. length leaf.path ≤ 255) leaves
-  pub few : length leaves ≤ 65536
-  pub initial : All (λ leaf. IsValueOf leaf leaf.initial) leaves

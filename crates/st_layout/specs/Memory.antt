@@ -1,7 +1,8 @@
 -- What a memory holds.
 use Rattle.std.specs.Prelude.{ℕ, ◌≡◌, Bool, false, List, map, length, get_or, set, replicate}
 use Rattle.std.specs.List.{AllZip}
-use Rattle.st_layout.specs.Layout.{IsValueOf, no_value}
+use Rattle.st_leaves.specs.Sound.{IsValueOf}
+use Rattle.st_layout.specs.Layout.{no_value}
 use Rattle.st_tree.specs.declared.leaf.Leaf.{Leaf}
 use Rattle.st_values.specs.declared.value.Value.{Value}
 

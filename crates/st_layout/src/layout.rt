@@ -1,26 +1,24 @@
 //! Layouts: the leaves of a program by number and by path.
-ghost use Rattle.std.specs.Prelude.{◌≡◌, ◌≤◌, ◌<◌, ◌+◌, ◌↔◌, EachIndex, IfOk, IfSome, IsSome, length, map, slice_index, take};
-ghost use Rattle.std.specs.List.{Contains, position};
-ghost use Rattle.std.specs.Str.{bytes_eq};
-ghost use Rattle.st_layout.specs.Layout.{IsSound, IsValueOf, leaf_at, number_of, offset_of, paths_of, raised, total_width};
+ghost use Rattle.std.specs.Prelude.{◌≡◌, ◌≤◌, ◌<◌, ◌+◌, ◌↔◌, EachIndex, IfOk, IfSome, IsSome, length, slice_index};
+ghost use Rattle.std.specs.List.{Contains};
+ghost use Rattle.st_check.specs.Programs.{leaves_of_program};
+ghost use Rattle.st_leaves.specs.Sound.{IsSound, IsValueOf};
+ghost use Rattle.st_layout.specs.Layout.{leaf_at, number_of, offset_of, paths_of, total_width};
+ghost use Rattle.st_values.specs.Words.{raised};
 
+use crate::table::{Entry, place_of, table_of};
 use indexmap::IndexSet;
-use st_tree::{Leaf, List};
+use st_check::Program;
+use st_listing::leaves_of;
+use st_tree::Leaf;
 use std::alloc::{AllocError, Global};
 use std::marker::Model;
 
-/// How many bytes a path may have.
-pub const MAX_PATH_BYTES: usize = 255;
-
-/// How many leaves a program may have.
-pub const MAX_LEAVES: usize = 65_536;
-
-/// The leaves of a program, which are numbered from 0 in order, and a table of their paths.
+/// The leaves of a program, which are numbered from 0 in order and looked up by their paths.
 #[derive(Drop)]
 pub struct Layout {
-    leaves: Vec<Leaf>,
-    /// The leaves' paths, in order.
-    names: IndexSet<Vec<u8>>,
+    /// The leaves, in order.
+    leaves: IndexSet<Entry>,
     /// The place of each leaf in bytes, and the end of the last one.
     offsets: Vec<u32>,
 }
@@ -38,19 +36,14 @@ impl Model for Layout {
 }
 
 impl Layout {
-    /// The layout of these leaves.
-    pub fn of(alloc: Global, leaves: List<Leaf>) -> Result<Layout, AllocError>
-        requires { IsSound leaves }
-        ensures { IfOk result (λ layout. layout ≡ leaves) }
+    /// The layout of a program's leaves. It is refused for want of memory alone.
+    pub fn of(alloc: Global, program: &Program) -> Result<Layout, AllocError>
+        ensures { IfOk result (λ layout. layout ≡ leaves_of_program program.now) }
     {
-        let leaves = leaves.items;
-        let names = names_of(alloc, &leaves)?;
+        let leaves = leaves_of(alloc, program)?;
         let offsets = offsets_of(alloc, &leaves)?;
-        Ok(Layout {
-            leaves,
-            names,
-            offsets,
-        })
+        let leaves = table_of(alloc, leaves)?;
+        Ok(Layout { leaves, offsets })
     }
 
     /// How many leaves there are.
@@ -83,7 +76,8 @@ impl Layout {
         ensures short { length result.now.shown ≤ 255 }
         ensures initial { IsValueOf result.now result.now.initial }
     {
-        &self.leaves[leaf as usize]
+        let entry = &self.leaves.as_slice()[leaf as usize];
+        &entry.leaf
     }
 
     /// The number of the leaf with this path, ignoring case. There is none exactly where no leaf has the path.
@@ -93,29 +87,11 @@ impl Layout {
         ensures found { IfSome result (λ i. (leaf_at self.now i).path ≡ raised path.now) }
         ensures listed { IsSome result ↔ Contains (paths_of self.now) (raised path.now) }
     {
-        let names = &self.names;
-        if path.len() > MAX_PATH_BYTES {
-            return None;
-        }
-        let buffer = raised(path);
-        match place_of(names, &buffer[..path.len()]) {
+        match place_of(&self.leaves, path) {
             Some(place) => Some(place as u32),
             None => None,
         }
     }
-}
-
-/// The table of the leaves' paths.
-fn names_of(alloc: Global, leaves: &[Leaf]) -> Result<IndexSet<Vec<u8>>, AllocError>
-    requires { IsSound leaves.now }
-    ensures { IfOk result (λ names. map (λ path. path.items) names.keys ≡ paths_of leaves.now) }
-{
-    let mut names = IndexSet::new(alloc);
-    for leaf in leaves {
-        let path = Vec::from_slice(alloc, leaf.path.items.as_slice())?;
-        names.insert(path)?;
-    }
-    Ok(names)
 }
 
 /// The place of each leaf, and the end of the last one.
@@ -132,26 +108,4 @@ fn offsets_of(alloc: Global, leaves: &[Leaf]) -> Result<Vec<u32>, AllocError>
         offsets.push(end)?;
     }
     Ok(offsets)
-}
-
-/// The place of a path in the table.
-fn place_of(names: &IndexSet<Vec<u8>>, path: &[u8]) -> Option<usize>
-    ensures { result ≡ position (λ name. bytes_eq path.now name.items) names.now.keys }
-{
-    match names.get_full(path) {
-        Some((place, _)) => Some(place),
-        None => None,
-    }
-}
-
-/// The path in upper case, and zeros after it.
-fn raised(path: &[u8]) -> [u8; MAX_PATH_BYTES]
-    requires { length path.now ≤ 255 }
-    ensures { take (length path.now) result ≡ raised path.now }
-{
-    let mut bytes = [0; MAX_PATH_BYTES];
-    for (i, byte) in path.iter().enumerate() {
-        bytes[i] = byte.to_ascii_uppercase();
-    }
-    bytes
 }

@@ -5,8 +5,9 @@ mod cells;
 mod laws;
 mod layout;
 mod memory;
+mod table;
 
 pub use cells::Cells;
 pub use laws::{content_is_a_map, places_follow};
-pub use layout::{Layout, MAX_LEAVES, MAX_PATH_BYTES};
+pub use layout::Layout;
 pub use memory::Memory;

@@ -81,8 +81,8 @@ static CHECKS: [Row; 10] = [
     ),
     (
         10,
-        "The text has no program of the name that was given, or what it has can't be run yet.",
-        "Give the name of one of its programs after `--program`; docs/LANGUAGE.md says what can be run today.",
+        "The text has no program of the name that was given.",
+        "Give the name of one of its programs after `--program`.",
     ),
 ];
 

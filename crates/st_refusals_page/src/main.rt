@@ -12,7 +12,8 @@ const HEAD: &str = "\
 # Refusals and faults
 
 Scripts read a number, as in `refused C4 line 3`; this page says what each number means and what to do about it. Where
-`./stc check` or `./stc run` refuses a text, standard error says the same beside that line, with the line of the text:
+`./stc check`, `./stc layout` or `./stc run` refuses a text, standard error says the same beside that line, with the line of the
+text:
 ";
 
 /// What stands between that message and the families.

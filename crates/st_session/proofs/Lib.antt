@@ -1,4 +1,5 @@
 pub mod LineLemmas
+pub mod Listings
 pub mod RunLemmas
 pub mod ServeLemmas
 pub mod StepLemmas

@@ -7,11 +7,11 @@ use Rattle.st_control.specs.Causes.{too_long}
 use Rattle.st_control.specs.Controllers.{ControllerView, machine_of}
 use Rattle.st_control.specs.Loads.{OfLoad}
 use Rattle.st_control.specs.Machine.{Machine}
-use Rattle.st_control.specs.Readings.{IsReadAs}
 use Rattle.st_control.specs.Texts.{IsCheckedAs, OfCheck}
 use Rattle.st_control.specs.declared.refusal.Refusal.{Refusal}
 use Rattle.st_control.specs.declared.refusal.Refusal.TheVariants as refusals
 use Rattle.st_session.specs.Checks.{TellsPart}
+use Rattle.st_session.specs.Layouts.{ListsPart, OfLayout}
 use Rattle.st_session.specs.Lines.{lines_of}
 use Rattle.st_session.specs.Pending.{OnBytes, OnReading}
 use Rattle.st_session.specs.Replies.{ended, refusal_text}
@@ -20,15 +20,10 @@ use Rattle.st_session.specs.Sessions.{AnswersAll, AnswersRead, StopsIn}
 use Rattle.st_session.proofs.RunLemmas.{take-StopsIn}
 use Rattle.st_session.proofs.TakingLemmas.{OnBytes-all, OnBytes-then, OnReading-then}
 
--- a text that is too long is refused for that, by the checks
+-- a text that is too long is refused for that
 pub long_checked : (text main : List ℕ) (refusal : Refusal) → IsCheckedAs text main (Err refusal) → 2 ^ 20 < length text → refusal ≡ too_long
 long_checked text main refusal (inl is) long = is.1
 long_checked text main refusal (inr short) long = absurd (omega (arith, short.0, long))
-
--- and by the load
-pub is_too_long : (text main : List ℕ) (refusal : Refusal) → IsReadAs text main (Err refusal) → 2 ^ 20 < length text → refusal ≡ too_long
-is_too_long text main refusal (inl checked) long = long_checked text main refusal checked long
-is_too_long text main refusal (inr (is, (units, accepted, other))) long = absurd (omega (arith, accepted.0, long))
 
 -- its text
 too_long_text : refusal_text too_long ≡ codes "refused S4 line 1"
@@ -53,18 +48,14 @@ short_checked : (text main : List ℕ) (refusal : Refusal) → IsCheckedAs text 
 short_checked text main refusal (inl long) other = absurd (other long.1)
 short_checked text main refusal (inr short) other = inr (short.0, inl refl)
 
-short_text : (text main : List ℕ) (refusal : Refusal) → IsReadAs text main (Err refusal) → refusal ≢ too_long → IsReadAs text main (Err refusals.M)
-short_text text main refusal (inl checked) other = inl (short_checked text main refusal checked other)
-short_text text main refusal (inr (is, (units, accepted, thin))) other = inl (inr (accepted.0, inl refl))
-
 -- a refusal was cut, or that of want of memory
-pub WritesPart-refused : (text main : List ℕ) (limit : ℕ) (refusal : Refusal) (known before now : Option (List ℕ)) → IsReadAs text main (Err refusal)
+pub WritesPart-refused : (text main : List ℕ) (limit : ℕ) (refusal : Refusal) (known before now : Option (List ℕ)) → IsCheckedAs text main (Err refusal)
     → WritesPart [] before now (Err refusal) ⊎ ((refusal ≢ too_long) × WritesPart [] before now (Err refusals.M))
     → OnBytes known (λ bytes. OfLoad text main limit (WritesPart (lines_of bytes) before now))
 WritesPart-refused text main limit refusal known before now refuses (inl part) =
     OnBytes-all known (λ bytes. OfLoad text main limit (WritesPart (lines_of bytes) before now)) (λ bytes. (Err refusal, refuses, part))
 WritesPart-refused text main limit refusal known before now refuses (inr part) =
-    OnBytes-all known (λ bytes. OfLoad text main limit (WritesPart (lines_of bytes) before now)) (λ bytes. (Err refusals.M, short_text text main refusal refuses part.0, part.1))
+    OnBytes-all known (λ bytes. OfLoad text main limit (WritesPart (lines_of bytes) before now)) (λ bytes. (Err refusals.M, short_checked text main refusal refuses part.0, part.1))
 
 -- the same of a check
 pub TellsPart-refused : (text main : List ℕ) (refusal : Refusal) (before now : Option (List ℕ)) → IsCheckedAs text main (Err refusal)
@@ -72,6 +63,13 @@ pub TellsPart-refused : (text main : List ℕ) (refusal : Refusal) (before now :
     → OfCheck text main (TellsPart before now)
 TellsPart-refused text main refusal before now refuses (inl part) = (Err refusal, refuses, part)
 TellsPart-refused text main refusal before now refuses (inr part) = (Err refusals.M, short_checked text main refusal refuses part.0, part.1)
+
+-- the same of a layout
+pub ListsPart-refused : (text main : List ℕ) (refusal : Refusal) (before now : Option (List ℕ)) → IsCheckedAs text main (Err refusal)
+    → WritesPart [] before now (Err refusal) ⊎ ((refusal ≢ too_long) × WritesPart [] before now (Err refusals.M))
+    → OfLayout text main (ListsPart before now)
+ListsPart-refused text main refusal before now refuses (inl part) = (Err refusal, refuses, part)
+ListsPart-refused text main refusal before now refuses (inr part) = (Err refusals.M, short_checked text main refusal refuses part.0, part.1)
 
 -- ---- what a session's answers are for a run
 

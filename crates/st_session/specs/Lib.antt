@@ -1,7 +1,9 @@
 pub mod Bytes
 pub mod Checks
 pub mod Inputs
+pub mod Layouts
 pub mod Lines
+pub mod Listings
 pub mod Pending
 pub mod Replies
 pub mod Requests

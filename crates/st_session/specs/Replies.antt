@@ -5,7 +5,7 @@ use Rattle.std.specs.Option.{option_map_or}
 use Rattle.st_control.specs.Causes.{no_such_line, no_such_path}
 use Rattle.st_control.specs.Controllers.{force_count}
 use Rattle.st_control.specs.Machine.{Command, Machine, step, undo_step}
-use Rattle.st_control.specs.States.{StateView, leaf_of}
+use Rattle.st_control.specs.States.{StateView, leaf_of, leaves_of}
 use Rattle.st_control.specs.declared.refusal.Refusal.{Refusal}
 use Rattle.st_control.specs.declared.refusal.Refusal.TheVariants as refusals
 use Rattle.st_control.specs.declared.state.RunFaultKind.{RunFaultKind}
@@ -69,7 +69,7 @@ value_of_none = record { elem = elems.Bool; bits = pos 2 }
 -- the value that a text is for the leaf with this path: a text that is no value of the leaf's type counts as one of none
 abbrev pub value_given : StateView → List ℕ → List ℕ → Value
 value_given s path given =
-    option_map_or (λ leaf. unwrap_or (reads (leaf_at s.leaves leaf).elem given) value_of_none) (leaf_of s path) value_of_none
+    option_map_or (λ leaf. unwrap_or (reads (leaf_at (leaves_of s) leaf).elem given) value_of_none) (leaf_of s path) value_of_none
 
 -- ---- what a line does
 
@@ -94,7 +94,7 @@ stepped m (Err number) = refuses m (refusals.O number)
 abbrev pub shown : Machine → Option ℕ → Turn
 shown m None = refuses m (refusals.O no_such_path)
 shown m (Some leaf) =
-    told m (shown_text (leaf_at m.state.leaves leaf).shown (value_at m.state.content.values leaf) (forced_at m.state.content.forced leaf))
+    told m (shown_text (leaf_at (leaves_of m.state) leaf).shown (value_at m.state.content.values leaf) (forced_at m.state.content.forced leaf))
 
 -- what a request does: nothing is also replied nothing
 abbrev pub answer : RequestView → Machine → Turn

@@ -17,7 +17,7 @@ use Rattle.st_words.proofs.Valued.{AsksValue, asks_help, asks_one, found_holds, 
 use Rattle.st_words.specs.Words.{AreInOrder, HasLimit, IsLimitOf, IsOrder, IsRunnable, chosen_by, faults_of, is_taken, limit_of, stc_app, verb_name}
 use Rattle.st_words.specs.declared.words.Order.{Order}
 use Rattle.st_words.specs.declared.words.Verb.{Verb}
-use Rattle.st_words.specs.declared.words.Verb.TheVariants.{Check, Run}
+use Rattle.st_words.specs.declared.words.Verb.TheVariants.{Check, Layout, Run}
 
 -- ---- the command that was built, and its matches
 
@@ -102,12 +102,20 @@ subcommands_serve = (
   },
   (
     record {
-      verb = Run;
+      verb = Layout;
       name = refl;
-      asks = (asks_one _ refl refl, (asks_one _ refl refl, (asks_one _ refl refl, (asks_help _ refl, tt))));
+      asks = (asks_one _ refl refl, (asks_one _ refl refl, (asks_help _ refl, tt)));
       requires = λ rows e. let p = both (is_given (codes "FILE") rows) _ e in (p.0, (both (is_given (codes "program") rows) _ p.1).0);
     },
-    tt,
+    (
+      record {
+        verb = Run;
+        name = refl;
+        asks = (asks_one _ refl refl, (asks_one _ refl refl, (asks_one _ refl refl, (asks_help _ refl, tt))));
+        requires = λ rows e. let p = both (is_given (codes "FILE") rows) _ e in (p.0, (both (is_given (codes "program") rows) _ p.1).0);
+      },
+      tt,
+    ),
   ),
 )
 

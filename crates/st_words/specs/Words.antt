@@ -5,7 +5,7 @@ use Rattle.clap.specs.Words.{App, HasKind, Kinds, Row, Rule, Text, fault_of, fir
 use Rattle.clap.specs.declared.error.Error.{Error}
 use Rattle.clap.specs.declared.error.kind.ErrorKind.TheVariants as error_kinds
 use Rattle.st_words.specs.declared.words.Verb.{Verb}
-use Rattle.st_words.specs.declared.words.Verb.TheVariants.{Check, Run}
+use Rattle.st_words.specs.declared.words.Verb.TheVariants.{Check, Layout, Run}
 use Rattle.st_words.specs.declared.words.Order.{Order}
 
 -- FILE, which is required
@@ -28,6 +28,10 @@ file_app name = with_rule (with_rule (new_app name) file_rule) program_rule
 abbrev pub check_app : App
 check_app = file_app (codes "check")
 
+-- `layout FILE --program N`
+abbrev pub layout_app : App
+layout_app = file_app (codes "layout")
+
 -- `run FILE --program N [--steps K]`
 abbrev pub run_app : App
 run_app = with_rule (file_app (codes "run")) steps_rule
@@ -39,13 +43,18 @@ stc_top = record {
   subs = [];
 }
 
+-- with what says something of a text alone
+abbrev pub text_app : App
+text_app = with_subcommand (with_subcommand stc_top check_app.top) layout_app.top
+
 -- the whole command line
 abbrev pub stc_app : App
-stc_app = with_subcommand (with_subcommand stc_top check_app.top) run_app.top
+stc_app = with_subcommand text_app run_app.top
 
 -- the subcommand of each verb
 abbrev pub verb_name : Verb → Text
 verb_name Check = codes "check"
+verb_name Layout = codes "layout"
 verb_name Run = codes "run"
 
 -- the text writes this number, from 1 to 10,000,000, in decimal

@@ -3,7 +3,7 @@
 ghost use Rattle.std.specs.Prelude.{◌≡◌, ℕ, [], IfErr, IfOk, IfSome, IsNone, OnOk, map, option_map, false};
 ghost use Rattle.clap.specs.Words.{app_of, kind_of, subcommand_rows_of};
 ghost use Rattle.clap.specs.declared.builder.command.Command.TheViews.{out-Command};
-ghost use Rattle.st_words.specs.Words.{AreInOrder, HasLimit, IsFaultOf, IsLimitOf, IsOrder, IsRunnable, IsStepLimit, check_app, chosen_by, faults_of, file_app, run_app, stc_app, verb_name};
+ghost use Rattle.st_words.specs.Words.{AreInOrder, HasLimit, IsFaultOf, IsLimitOf, IsOrder, IsRunnable, IsStepLimit, check_app, chosen_by, faults_of, file_app, layout_app, run_app, stc_app, text_app, verb_name};
 
 use clap::error::ErrorKind;
 use clap::{Arg, ArgMatches, Command, Error};
@@ -17,13 +17,15 @@ pub const MAX_STEPS: u32 = 10_000_000;
 pub const DEFAULT_STEPS: u32 = 100_000;
 
 /// The program's version, which `--version` prints after its name.
-pub const VERSION: &str = "0.1.0";
+pub const VERSION: &str = "0.2.0";
 
 /// What is to be done with the source text.
 #[derive(Clone, Copy, Debug, PartialEq, Eq)]
 pub enum Verb {
     /// Say whether the text is accepted as the main program, or why not.
     Check,
+    /// List the leaves of the main program, or say why the text isn't accepted.
+    Layout,
     /// Load the main program and run a session over it.
     Run,
 }
@@ -65,16 +67,24 @@ pub fn read_words<'a, S: AsStr>(alloc: Global, words: &'a [S]) -> Result<Order<'
 fn stc_command<'a>(alloc: Global) -> Result<Command<'a>, AllocError>
     ensures { IfOk result (λ command. app_of command ≡ stc_app) }
 {
-    let check = check_command(alloc)?;
     let run = run_command(alloc)?;
+    text_command(alloc)?.subcommand(run)?.bin_name("stc")
+}
+
+/// The program's own settings, and the subcommands that say something of a text alone.
+fn text_command<'a>(alloc: Global) -> Result<Command<'a>, AllocError>
+    ensures app { IfOk result (λ command. app_of command ≡ text_app) }
+    ensures local { IfOk result (λ command. (out-Command command).has_globals ≡ false) }
+{
+    let check = check_command(alloc)?;
+    let layout = layout_command(alloc)?;
     Command::new(alloc, "stc")
         .about("A soft controller for programs in Structured Text.")
         .version(VERSION)
         .subcommand_required(true)
         .disable_help_subcommand(true)
         .subcommand(check)?
-        .subcommand(run)?
-        .bin_name("stc")
+        .subcommand(layout)
 }
 
 /// `check FILE --program N`
@@ -83,6 +93,16 @@ fn check_command<'a>(alloc: Global) -> Result<Command<'a>, AllocError>
     ensures local { IfOk result (λ command. (out-Command command).has_globals ≡ false) }
 {
     Ok(file_command(alloc, "check")?.about("Say whether the program is accepted, or why not."))
+}
+
+/// `layout FILE --program N`
+fn layout_command<'a>(alloc: Global) -> Result<Command<'a>, AllocError>
+    ensures app { IfOk result (λ command. app_of command ≡ layout_app) }
+    ensures local { IfOk result (λ command. (out-Command command).has_globals ≡ false) }
+{
+    Ok(file_command(alloc, "layout")?.about(
+        "List the program's leaves, each with its place, its width and its type.",
+    ))
 }
 
 /// `run FILE --program N [--steps K]`
@@ -139,6 +159,7 @@ fn verb_named(name: &str) -> Option<Verb>
 {
     match name {
         "check" => Some(Verb::Check),
+        "layout" => Some(Verb::Layout),
         "run" => Some(Verb::Run),
         _ => None,
     }

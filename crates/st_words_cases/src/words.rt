@@ -18,6 +18,11 @@ fn reads_an_order(rt: HostRuntime) -> Result<(), Fail> {
     assert_eq!(rt; order.file, "a.st");
     assert_eq!(rt; order.main, "Main");
 
+    let order = read_words(rt.alloc(), &["stc", "layout", "a.st", "--program", "Main"])?;
+    assert!(rt; order.verb == Verb::Layout);
+    assert_eq!(rt; order.file, "a.st");
+    assert_eq!(rt; order.main, "Main");
+
     let words = ["stc", "run", "--steps", "7", "--program=Main", "a.st"];
     let order = read_words(rt.alloc(), &words)?;
     assert_eq!(rt; order.file, "a.st");
@@ -55,6 +60,9 @@ fn refuses_faults_of_usage(rt: HostRuntime) {
         ["stc", "check", "a.st"].as_slice(),
         ["stc", "check", "a.st", "b.st", "--program", "Main"].as_slice(),
         ["stc", "check", "a.st", "--program", "Main", "--steps", "3"].as_slice(),
+        ["stc", "layout", "--program", "Main"].as_slice(),
+        ["stc", "layout", "a.st"].as_slice(),
+        ["stc", "layout", "a.st", "--program", "Main", "--steps", "3"].as_slice(),
         ["stc", "walk", "a.st", "--program", "Main"].as_slice(),
         ["stc"].as_slice(),
     ] {
@@ -94,8 +102,9 @@ fn help_names_the_verbs(rt: HostRuntime) -> Result<(), Fail> {
     let (_, text) = told(rt.alloc(), &["stc", "--help"])?;
     for part in [
         "Usage: stc <COMMAND>\n",
-        "\n  check  Say whether the program is accepted, or why not",
-        "\n  run    Run a session over the program",
+        "\n  check   Say whether the program is accepted, or why not",
+        "\n  layout  List the program's leaves, each with its place, its width and its type",
+        "\n  run     Run a session over the program",
         "\n  -h, --help     Print help\n",
         "\n  -V, --version  Print version\n",
     ] {
@@ -124,16 +133,21 @@ fn help_of_run_names_its_arguments(rt: HostRuntime) -> Result<(), Fail> {
 }
 
 #[test]
-fn help_of_check_names_its_arguments(rt: HostRuntime) -> Result<(), Fail> {
-    let (_, text) = told(rt.alloc(), &["stc", "check", "--help"])?;
-    for part in [
-        "Usage: stc check --program <N> <FILE>\n",
-        "\n  <FILE>  The source text\n",
-        "--program <N>  The name of the main program\n",
+fn help_of_check_and_layout_names_their_arguments(rt: HostRuntime) -> Result<(), Fail> {
+    for (verb, usage) in [
+        ("check", "Usage: stc check --program <N> <FILE>\n"),
+        ("layout", "Usage: stc layout --program <N> <FILE>\n"),
     ] {
-        assert!(rt; text.as_str().contains(part), "no {part:?} in {text}");
+        let (_, text) = told(rt.alloc(), &["stc", verb, "--help"])?;
+        for part in [
+            usage,
+            "\n  <FILE>  The source text\n",
+            "--program <N>  The name of the main program\n",
+        ] {
+            assert!(rt; text.as_str().contains(part), "no {part:?} in {text}");
+        }
+        assert!(rt; !text.as_str().contains("--steps"), "{text}");
     }
-    assert!(rt; !text.as_str().contains("--steps"), "{text}");
     Ok(())
 }
 
@@ -172,7 +186,10 @@ fn faults_name_what_is_wrong(rt: HostRuntime) -> Result<(), Fail> {
                 "Usage: stc ",
             ],
         ),
-        (["stc"].as_slice(), ["error: ", "subcommand", "check, run"]),
+        (
+            ["stc"].as_slice(),
+            ["error: ", "subcommand", "check, layout, run"],
+        ),
     ] {
         let (_, text) = told(rt.alloc(), words)?;
         for part in parts {
@@ -187,8 +204,8 @@ fn answers_with_the_version(rt: HostRuntime) -> Result<(), Fail> {
     for flag in ["--version", "-V"] {
         let (kind, text) = told(rt.alloc(), &["stc", flag])?;
         assert!(rt; kind == ErrorKind::DisplayVersion, "{flag}");
-        assert_eq!(rt; text.as_str(), "stc 0.1.0\n");
+        assert_eq!(rt; text.as_str(), "stc 0.2.0\n");
     }
-    assert_eq!(rt; VERSION, "0.1.0");
+    assert_eq!(rt; VERSION, "0.2.0");
     Ok(())
 }

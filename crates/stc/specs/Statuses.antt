@@ -8,11 +8,12 @@ use Rattle.clap.specs.declared.error.kind.ErrorKind.TheVariants as error_kinds
 use Rattle.st_control.specs.Loads.{OfLoad}
 use Rattle.st_control.specs.Texts.{OfCheck}
 use Rattle.st_session.specs.Checks.{check_status}
+use Rattle.st_session.specs.Layouts.{OfLayout, layout_status}
 use Rattle.st_session.specs.Lines.{Line}
 use Rattle.st_session.specs.Runs.{status_of}
 use Rattle.st_words.specs.Words.{AreInOrder, HasLimit, IsOrder, chosen_by, faults_of, limit_of}
 use Rattle.st_words.specs.declared.words.Order.{Order}
-use Rattle.st_words.specs.declared.words.Verb.TheVariants.{Check, Run}
+use Rattle.st_words.specs.declared.words.Verb.TheVariants.{Check, Layout, Run}
 
 -- 5 where memory ran out, 0 where help or the version was asked for, and 2 where the words are at fault; or 4 where what the
 -- user is to read couldn't be written
@@ -30,6 +31,10 @@ EndsByOneOf faults status = (status ≡ 5) ⊎ ((fault : ErrorKind) × IsAmong f
 abbrev pub EndsAsChecked : List ℕ → List ℕ → ℕ → Type 0
 EndsAsChecked text main status = OfCheck text main (λ checked. status ≡ check_status checked)
 
+-- the text is laid out as the program of this name, and the status is that of the answer
+abbrev pub EndsAsLaidOut : List ℕ → List ℕ → ℕ → Type 0
+EndsAsLaidOut text main status = OfLayout text main (λ laid. status ≡ layout_status laid)
+
 -- the text is loaded under this name and limit, and of some lines the status is theirs
 abbrev pub EndsAsLoaded : List ℕ → List ℕ → ℕ → ℕ → Type 0
 EndsAsLoaded text main limit status = OfLoad text main limit (λ loaded. (lines : List Line) × (status ≡ status_of loaded lines))
@@ -38,6 +43,11 @@ EndsAsLoaded text main limit status = OfLoad text main limit (λ loaded. (lines 
 -- order says
 abbrev pub EndsAsCheck : Order → ℕ → Type 0
 EndsAsCheck order status = order.verb ≡ Check → status ≢ 4 → status ≢ 5 → (text : List ℕ) × EndsAsChecked text order.main.now status
+
+-- where the order is to lay out: memory ran out, or the file couldn't be read or a device failed, or some text is laid out as the
+-- order says
+abbrev pub EndsAsLayout : Order → ℕ → Type 0
+EndsAsLayout order status = order.verb ≡ Layout → status ≢ 4 → status ≢ 5 → (text : List ℕ) × EndsAsLaidOut text order.main.now status
 
 -- where the order is to run: memory ran out, or the file couldn't be read or a device failed, or some text is loaded as the
 -- order says, and of some lines the status is theirs
@@ -48,7 +58,7 @@ EndsAsRun order status = order.verb ≡ Run → status ≢ 4 → status ≢ 5 �
 pub record EndsByWords (words : List Text) (status : ℕ) : Type 0 where
   pub fault : faults_of words ≢ [] → EndsByOneOf (faults_of words) status
   pub limit : faults_of words ≡ [] → ¬ HasLimit (limit_of (chosen_by words)) → EndsByOneOf (error_kinds.ValueValidation ∷ []) status
-  pub order : AreInOrder words → status ≢ 5 → (given : Order) × IsOrder given (chosen_by words) × EndsAsCheck given status × EndsAsRun given status
+  pub order : AreInOrder words → status ≢ 5 → (given : Order) × IsOrder given (chosen_by words) × EndsAsCheck given status × EndsAsLayout given status × EndsAsRun given status
 
 -- 5 where memory ran out, and else the status of another error
 abbrev pub error_status : IoErrorKind → ℕ → ℕ

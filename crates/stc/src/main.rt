@@ -8,11 +8,12 @@ ghost use Rattle.clap.specs.Words.{Text, kind_of};
 ghost use Rattle.st_control.specs.Loads.{OfLoad};
 ghost use Rattle.st_control.specs.Texts.{OfCheck};
 ghost use Rattle.st_session.specs.Checks.{TellsAll, TellsPart};
+ghost use Rattle.st_session.specs.Layouts.{ListsAll, ListsPart, OfLayout};
 ghost use Rattle.st_session.specs.Lines.{lines_of};
 ghost use Rattle.st_session.specs.Pending.{OnBytes, OnReading};
 ghost use Rattle.st_session.specs.Replies.{ended};
 ghost use Rattle.st_session.specs.Runs.{OfProgram, WritesAll, WritesPart, WritesRead};
-ghost use Rattle.stc.specs.Statuses.{EndsAsCheck, EndsAsChecked, EndsAsLoaded, EndsAsRun, EndsBy, EndsByWords, error_status};
+ghost use Rattle.stc.specs.Statuses.{EndsAsCheck, EndsAsChecked, EndsAsLaidOut, EndsAsLayout, EndsAsLoaded, EndsAsRun, EndsBy, EndsByWords, error_status};
 
 mod refused;
 
@@ -20,7 +21,7 @@ use crate::refused::diagnosis;
 use clap::error::ErrorKind;
 use st_session::{
     ACCEPTED, DEVICE_FAILED, FromReader, NO_MEMORY, NO_PROGRAM, Sink, Source, ToWriter, check_text,
-    run_text,
+    layout_text, run_text,
 };
 use st_tokens::MAX_TEXT_BYTES;
 use st_words::{Order, Verb, read_words};
@@ -100,6 +101,7 @@ fn explain<R: Print + Eprint>(rt: &R, error: &clap::Error) -> u8
 /// No clause knows what the file holds. So of some text the status is its.
 fn obey<R: Files + Input + Print + Eprint + AllocGlobal>(rt: &R, order: Order<'_>) -> u8
     ensures check { EndsAsCheck order.entry result }
+    ensures layout { EndsAsLayout order.entry result }
     ensures run { EndsAsRun order.entry result }
 {
     match read_source(rt, order.file) {
@@ -112,6 +114,8 @@ fn obey<R: Files + Input + Print + Eprint + AllocGlobal>(rt: &R, order: Order<'_
 fn answer<R: Input + Print + Eprint + AllocGlobal>(rt: &R, order: Order<'_>, text: &[u8]) -> u8
     ensures check_status { order.entry.verb ≡ Verb.Check → result ≢ DEVICE_FAILED → result ≢ NO_MEMORY
         → EndsAsChecked text.now order.entry.main.now result }
+    ensures layout_status { order.entry.verb ≡ Verb.Layout → result ≢ DEVICE_FAILED → result ≢ NO_MEMORY
+        → EndsAsLaidOut text.now order.entry.main.now result }
     ensures run_status { order.entry.verb ≡ Verb.Run → result ≢ DEVICE_FAILED → result ≢ NO_MEMORY
         → EndsAsLoaded text.now order.entry.main.now order.entry.steps result }
 {
@@ -155,6 +159,8 @@ fn read_text<R: Read + Drop>(alloc: Global, reader: R) -> io::Result<Vec<u8>>
 fn serve<R: Input + Print + AllocGlobal>(rt: &R, order: Order<'_>, text: &[u8]) -> u8
     ensures check_status { order.entry.verb ≡ Verb.Check → result ≢ DEVICE_FAILED → result ≢ NO_MEMORY
         → EndsAsChecked text.now order.entry.main.now result }
+    ensures layout_status { order.entry.verb ≡ Verb.Layout → result ≢ DEVICE_FAILED → result ≢ NO_MEMORY
+        → EndsAsLaidOut text.now order.entry.main.now result }
     ensures run_status { order.entry.verb ≡ Verb.Run → result ≢ DEVICE_FAILED → result ≢ NO_MEMORY
         → EndsAsLoaded text.now order.entry.main.now order.entry.steps result }
 {
@@ -165,8 +171,8 @@ fn serve<R: Input + Print + AllocGlobal>(rt: &R, order: Order<'_>, text: &[u8]) 
 
 /// Does with a source text what is ordered, on devices that haven't failed, and answers the status.
 ///
-/// Where the verb is `check`, that is what `check_text` does with the main program of the order; and where it is `run`, what
-/// `run_text` does with it under the step limit of the order.
+/// Where the verb is `check`, that is what `check_text` does with the main program of the order; where it is `layout`, what
+/// `layout_text` does with it; and where it is `run`, what `run_text` does with it under the step limit of the order.
 fn obey_text<R: Source, W: Sink>(
     alloc: Global,
     order: Order<'_>,
@@ -185,6 +191,15 @@ fn obey_text<R: Source, W: Sink>(
     ensures check_part { order.entry.verb ≡ Verb.Check → result ≡ DEVICE_FAILED
         → OfCheck text.now order.entry.main.now (TellsPart (W.taken sink.old) (W.taken sink.new)) }
     ensures check_source { order.entry.verb ≡ Verb.Check → source.new ≡ source.old }
+
+    // The lines of all leaves are written, or the refusal, or a beginning of that where the device failed. Nothing is read.
+    ensures layout_all { order.entry.verb ≡ Verb.Layout → result ≢ DEVICE_FAILED → result ≢ NO_MEMORY
+        → OfLayout text.now order.entry.main.now (ListsAll result (W.taken sink.old) (W.taken sink.new)) }
+    ensures layout_memory { order.entry.verb ≡ Verb.Layout → result ≡ NO_MEMORY
+        → Appends (W.taken sink.old) (W.taken sink.new) (ended (codes "refused M")) }
+    ensures layout_part { order.entry.verb ≡ Verb.Layout → result ≡ DEVICE_FAILED
+        → OfLayout text.now order.entry.main.now (ListsPart (W.taken sink.old) (W.taken sink.new)) }
+    ensures layout_source { order.entry.verb ≡ Verb.Layout → source.new ≡ source.old }
 
     // The replies to all lines are written, or the refusal of the load.
     ensures run_all { order.entry.verb ≡ Verb.Run → result ≢ DEVICE_FAILED → result ≢ NO_MEMORY
@@ -210,6 +225,7 @@ fn obey_text<R: Source, W: Sink>(
     let main = order.main.as_bytes();
     match order.verb {
         Verb::Check => check_text(alloc, text, main, sink),
+        Verb::Layout => layout_text(alloc, text, main, sink),
         Verb::Run => run_text(alloc, text, main, order.steps, source, sink),
     }
 }

@@ -3,9 +3,10 @@ ghost use Rattle.std.specs.Prelude.{◌≡◌, IfOk};
 ghost use Rattle.std.specs.String.{string_bytes};
 ghost use Rattle.st_control.specs.Loads.{OfLoad};
 ghost use Rattle.st_control.specs.Texts.{OfCheck};
+ghost use Rattle.st_session.specs.Layouts.{OfLayout};
 ghost use Rattle.stc.specs.Diagnoses.{diagnosis_of, told_of};
 
-use st_control::{Controller, Refusal, check_program};
+use st_control::{Controller, Image, Refusal, check_program};
 use st_layout::Cells;
 use st_refusals::{Family, message};
 use st_words::{Order, Verb};
@@ -16,12 +17,15 @@ use std::alloc::{AllocError, Global};
 pub fn diagnosis(alloc: Global, order: Order<'_>, text: &[u8]) -> Result<String, AllocError>
     ensures check { order.entry.verb ≡ Verb.Check → IfOk result (λ told.
         OfCheck text.now order.entry.main.now (λ checked. string_bytes told ≡ told_of order.entry.file.now text.now checked)) }
+    ensures layout { order.entry.verb ≡ Verb.Layout → IfOk result (λ told.
+        OfLayout text.now order.entry.main.now (λ laid. string_bytes told ≡ told_of order.entry.file.now text.now laid)) }
     ensures run { order.entry.verb ≡ Verb.Run → IfOk result (λ told.
         OfLoad text.now order.entry.main.now order.entry.steps (λ loaded. string_bytes told ≡ told_of order.entry.file.now text.now loaded)) }
 {
     let main = order.main.as_bytes();
     match order.verb {
         Verb::Check => check_diagnosis(alloc, order.file, text, main),
+        Verb::Layout => layout_diagnosis(alloc, order.file, text, main),
         Verb::Run => run_diagnosis(alloc, order.file, text, main, order.steps),
     }
 }
@@ -37,6 +41,21 @@ fn check_diagnosis(
 {
     match check_program(alloc, text, main) {
         Ok(_program) => Ok(String::new(alloc)),
+        Err(refusal) => diagnosis_of(alloc, file, text, refusal),
+    }
+}
+
+/// What a person is told of a text that is to be laid out.
+fn layout_diagnosis(
+    alloc: Global,
+    file: &str,
+    text: &[u8],
+    main: &[u8],
+) -> Result<String, AllocError>
+    ensures { IfOk result (λ told. OfLayout text.now main.now (λ laid. string_bytes told ≡ told_of file.now text.now laid)) }
+{
+    match Image::load(alloc, text, main) {
+        Ok(_image) => Ok(String::new(alloc)),
         Err(refusal) => diagnosis_of(alloc, file, text, refusal),
     }
 }

@@ -8,7 +8,7 @@ pub returns-in-Ok : goal.returns-in-Ok
 returns-in-Ok g c = record {
   fault = λ some. absurd (some c.in-Ok.ensures.faultless);
   limit = λ none unlimited. absurd (unlimited (order_has_limit c.in-Ok.order (chosen_by (map g.S.AsStr.text c.args.words.now)) c.in-Ok.ensures.order));
-  order = λ in_order memory. (c.in-Ok.order, c.in-Ok.ensures.order, c.obey.ensures.check, c.obey.ensures.run);
+  order = λ in_order memory. (c.in-Ok.order, c.in-Ok.ensures.order, c.obey.ensures.check, c.obey.ensures.layout, c.obey.ensures.run);
 }
 
 pub returns-in-Err : goal.returns-in-Err

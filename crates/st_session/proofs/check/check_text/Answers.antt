@@ -3,10 +3,10 @@ use Rattle.st_session.proofs.ServeLemmas.{TellsPart-refused, long_checked, long_
 use Rattle.st_session.proofs.check.check_text.Goals as goal
 
 pub returns-in-Ok-clause-all : goal.returns-in-Ok-clause-all
-returns-in-Ok-clause-all g c = λ works memory. (Ok c.in-Ok._program.0, c.in-Ok.ensures.ok, c.tell.ensures.all works)
+returns-in-Ok-clause-all g c = λ works memory. (Ok c.in-Ok._program.0, c.in-Ok.ensures.ok.accepted, c.tell.ensures.all works)
 
 pub returns-in-Ok-clause-part : goal.returns-in-Ok-clause-part
-returns-in-Ok-clause-part g c = λ failed. (Ok c.in-Ok._program.0, c.in-Ok.ensures.ok, c.tell.ensures.part failed)
+returns-in-Ok-clause-part g c = λ failed. (Ok c.in-Ok._program.0, c.in-Ok.ensures.ok.accepted, c.tell.ensures.part failed)
 
 pub returns-in-Err-clause-all : goal.returns-in-Err-clause-all
 returns-in-Err-clause-all g c = λ works memory. (Err c.in-Err.refusal, c.in-Err.ensures.refused, c.refuse.ensures.all works memory)

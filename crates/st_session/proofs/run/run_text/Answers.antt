@@ -2,7 +2,7 @@ use Rattle.std.specs.Prelude.{Err}
 use Rattle.st_control.specs.Loads.{OfLoad}
 use Rattle.st_session.specs.Lines.{lines_of}
 use Rattle.st_session.specs.Runs.{WritesAll}
-use Rattle.st_session.proofs.ServeLemmas.{WritesPart-refused, is_too_long, long_written}
+use Rattle.st_session.proofs.ServeLemmas.{WritesPart-refused, long_checked, long_written}
 use Rattle.st_session.proofs.TakingLemmas.{OnBytes-all}
 use Rattle.st_session.proofs.run.run_text.Goals as goal
 
@@ -15,7 +15,7 @@ returns-in-Err-clause-all g c = λ works memory.
 
 pub returns-in-Err-clause-long : goal.returns-in-Err-clause-long
 returns-in-Err-clause-long g c = λ long works.
-    let is = is_too_long c.args.text.now c.args.main.now c.in-Err.refusal c.in-Err.ensures.refused long in
+    let is = long_checked c.args.text.now c.args.main.now c.in-Err.refusal c.in-Err.ensures.refused long in
     long_written c.in-Err.refusal c.refuse.result (g.W.Sink.taken c.args.sink.now) (g.W.Sink.taken c.refuse.new.sink) is
     (c.refuse.ensures.all works (λ memory. (c.refuse.ensures.memory memory).0 is))
 

@@ -1,0 +1,135 @@
+-- The variables of a program, listed one after the other, and then its chart.
+use Rattle.std.proofs.Common.{◌≡◌, ℕ, suc, ◌+◌, ◌<◌, ◌≤◌, Bool, true, false, List, [], ◌∷◌, ◌++◌, Some, Result, Ok, Err, OnOk, codes, drop, get_or, length, map, refl, ap, sym, ◌∙◌, subst, arith, length-append}
+use Rattle.std.proofs.lemmas.List.{drop_all, drop_more, length-map}
+use Rattle.std.proofs.lemmas.List.Elements.{All-cons, All-head, All-tail}
+use Rattle.st_values.specs.Words.{AreWordBytes}
+use Rattle.st_tree.specs.declared.tree.declaration.DeclaredType.TheVariants as declared_types
+use Rattle.st_tree.specs.declared.tree.declaration.VarKind.{VarKind}
+use Rattle.st_tree.specs.declared.tree.declaration.VarKind.TheVariants as var_kinds
+use Rattle.st_tree.specs.declared.tree.unit.ChartElement.{ChartElement}
+use Rattle.st_types.specs.Compositions.{composition_of, is_constant}
+use Rattle.st_types.specs.Inside.{declared_by, named_by}
+use Rattle.st_types.specs.declared.unit.NamedUnit.{NamedUnit}
+use Rattle.st_types.specs.Names.{Declared, Declares, Named, chart_in, unit_at}
+use Rattle.st_types.specs.Names as names
+use Rattle.st_leaves.specs.LeavesIn.{LeafIn, as_input, leaves_of_whole, used_as, within}
+use Rattle.st_leaves.specs.LeavesIn as leaves
+use Rattle.st_leaves.specs.Paths.{HasWords, field}
+use Rattle.st_scopes.specs.Declarations.{names_at, names_in, seen}
+use Rattle.st_scopes.specs.declared.declaration.Declared.{Declared as Row}
+use Rattle.st_listing.specs.Kinds.{is_input}
+use Rattle.st_listing.specs.Listings.{AreWays, ListingView, as_inputs, inside, listed, outside}
+use Rattle.st_listing.specs.Walks.{declared_leaves, variable_leaves}
+use Rattle.st_listing.proofs.Listings.{length_listed, length_used, length_within, listed_inputs, listed_twice, listed_within, ways_append, ways_none, ways_within}
+use Rattle.st_listing.proofs.ProgramLeaves.{same_unit}
+use Rattle.st_listing.proofs.Walks.{constant_variable, names_of_unit, other_variable, variables_more}
+
+abbrev pub program : List ℕ
+program = codes "PROGRAM"
+
+-- ---- one variable
+
+same_view : (s : ListingView) → s.is_input ≡ false → as_inputs s false ≡ s
+same_view s off = ap (λ b. record { leaves = s.leaves; text = s.text; spine = s.spine; is_input = b }) (sym off)
+
+no_inputs : (s : ListingView) (ls : List LeafIn) → s.is_input ≡ false → as_inputs (listed (as_inputs s false) ls) false ≡ listed s ls
+no_inputs s ls off = ap (λ v. as_inputs (listed v ls) false) (same_view s off) ∙ same_view (listed s ls) off
+
+used_listed : (kind : VarKind) (s : ListingView) (ls : List LeafIn) → s.is_input ≡ false → as_inputs (listed (as_inputs s (is_input kind)) ls) false ≡ listed s (used_as kind ls)
+used_listed var_kinds.Input s ls off = listed_inputs s ls off
+used_listed var_kinds.Internal s ls off = no_inputs s ls off
+used_listed var_kinds.Constant s ls off = no_inputs s ls off
+used_listed var_kinds.Output s ls off = no_inputs s ls off
+
+ways_used : (kind : VarKind) (ls : List LeafIn) → AreWays ls → AreWays (used_as kind ls)
+ways_used var_kinds.Input [] ways = ways_none
+ways_used var_kinds.Input (l ∷ ls) ways =
+    All-cons (λ l. HasWords l.path) (record { path = l.path; spine = l.spine; initial = l.initial; use' = as_input l.use' }) (used_as var_kinds.Input ls) (All-head (λ l. HasWords l.path) l ls ways)
+    (ways_used var_kinds.Input ls (All-tail (λ l. HasWords l.path) l ls ways))
+ways_used var_kinds.Internal ls ways = ways
+ways_used var_kinds.Constant ls ways = ways
+ways_used var_kinds.Output ls ways = ways
+
+module _ (units : List Named) (depth : ℕ) (v : Declared) (other : is_constant v.kind ≡ false) where
+  pub variable_listed : (s entered used inner back new : ListingView) (name : List ℕ) (mark : ℕ) (b : Bool) → s.is_input ≡ false → b ≡ is_input v.kind → mark ≡ length s.text → name ≡ v.name.spelling
+      → entered ≡ inside s (field name) program → used ≡ as_inputs entered b → inner ≡ listed used (declared_leaves units depth v) → back ≡ as_inputs inner false → new ≡ outside back mark
+      → new ≡ listed s (variable_leaves units depth program (v ∷ []))
+  variable_listed s entered used inner back new name mark b off kind marked named enters uses lists goes_back leaves_it =
+      let ls = declared_leaves units depth v in
+      let inputs : inner ≡ listed (as_inputs (inside s (field name) program) (is_input v.kind)) ls =
+      lists ∙ ap (λ x. listed x ls) (uses ∙ ap (as_inputs entered) kind ∙ ap (λ x. as_inputs x (is_input v.kind)) enters) in
+      let all : back ≡ listed (inside s (field name) program) (used_as v.kind ls) = goes_back ∙ ap (λ x. as_inputs x false) inputs ∙ used_listed v.kind (inside s (field name) program) ls off in
+      leaves_it ∙ ap (outside back) marked ∙ ap (λ x. outside x (length s.text)) all ∙ listed_within s (field name) program (used_as v.kind ls)
+      ∙ ap (λ n. listed s (within (field n) program (used_as v.kind ls))) named ∙ ap (listed s) (sym (other_variable units depth program v other))
+
+  pub variable_room : (s entered used : ListingView) (name : List ℕ) (b : Bool) → entered ≡ inside s (field name) program → used ≡ as_inputs entered b
+      → length s.leaves + length (variable_leaves units depth program (v ∷ [])) ≤ 65536 → length used.leaves + length (declared_leaves units depth v) ≤ 65536
+  variable_room s entered used name b enters uses room =
+      let ls = declared_leaves units depth v in
+      let count : length (variable_leaves units depth program (v ∷ [])) ≡ length ls =
+      ap length (other_variable units depth program v other) ∙ length_within (field v.name.spelling) program (used_as v.kind ls) ∙ length_used v.kind ls in
+      let same : length used.leaves ≡ length s.leaves = ap (λ (x : ListingView). length x.leaves) uses ∙ ap (λ (x : ListingView). length x.leaves) enters in
+      omega (arith, count, same, room)
+
+  pub variable_ways : (name : List ℕ) → name ≡ v.name.spelling → AreWordBytes name → AreWays (declared_leaves units depth v) → AreWays (variable_leaves units depth program (v ∷ []))
+  variable_ways name named word ways =
+      subst AreWays (sym (other_variable units depth program v other))
+      (ways_within (field v.name.spelling) program (used_as v.kind (declared_leaves units depth v)) (subst AreWordBytes named word) (ways_used v.kind (declared_leaves units depth v) ways))
+
+pub constant_ways : (units : List Named) (depth : ℕ) (v : Declared) → is_constant v.kind ≡ true → AreWays (variable_leaves units depth program (v ∷ []))
+constant_ways units depth v is = subst AreWays (sym (constant_variable units depth program v is)) ways_none
+
+-- ---- one after the other
+
+drop_one : {X : Type 0} (xs : List X) (i : ℕ) (x : X) → i < length xs → get_or xs i x ≡ x → drop i xs ≡ x ∷ drop (i + 1) xs
+drop_one xs i x within at = drop_more xs i x within ∙ ap (λ y. y ∷ drop (i + 1) xs) at
+
+pub variables_left : (units : List Named) (depth : ℕ) (rows : List Row) (i : ℕ) (row : Row) → i < length rows → row ≡ get_or rows i row
+    → variable_leaves units depth program (map seen (drop i rows)) ≡ variable_leaves units depth program (seen row ∷ []) ++ variable_leaves units depth program (map seen (drop (i + 1) rows))
+variables_left units depth rows i row within at =
+    ap (λ rs. variable_leaves units depth program (map seen rs)) (drop_one rows i row within (sym at)) ∙ variables_more units depth program (seen row) (map seen (drop (i + 1) rows))
+
+pub variables_end : (units : List Named) (depth : ℕ) (rows : List Row) (i : ℕ) → length rows ≤ i → variable_leaves units depth program (map seen (drop i rows)) ≡ []
+variables_end units depth rows i above = ap (λ rs. variable_leaves units depth program (map seen rs)) (drop_all i rows above)
+
+pub all_ways : (left whole : List LeafIn) → left ≡ [] → (AreWays left → AreWays whole) → AreWays whole
+all_ways left whole none each = each (subst AreWays (sym none) ways_none)
+
+-- ---- the program
+
+pub program_split : (units : List Named) (depth i : ℕ) (u : Named) (vs : List Declared) (elements : List ChartElement) → unit_at units i ≡ Some u → depth ≡ length units + 1 → vs ≡ names_at units i → elements ≡ chart_in u.declares
+    → leaves_of_whole (composition_of units u.declares) ≡ variable_leaves units depth program vs ++ leaves.chart_in program elements
+unfolding composition_of
+program_split units depth i u vs elements at deep vs_are elements_are =
+    by u.declares ∙ ap (λ n. variable_leaves units n program (names_in u.declares) ++ leaves.chart_in program (chart_in u.declares)) (omega (arith, deep))
+    ∙ ap (λ ds. variable_leaves units depth program ds ++ leaves.chart_in program (chart_in u.declares)) (sym (vs_are ∙ names_of_unit units i u at))
+    ∙ ap (λ es. variable_leaves units depth program vs ++ leaves.chart_in program es) (sym elements_are) where
+      by : (d : Declares) → leaves_of_whole (composition_of units d) ≡ variable_leaves units (suc (length units)) program (names_in d) ++ leaves.chart_in program (chart_in d)
+      by (names.type (declared_types.Structure position members)) = refl
+      by (names.type (declared_types.Derived specification initial)) = refl
+      by (names.function f) = refl
+      by (names.block b) = refl
+      by (names.program p) = refl
+
+pub program_parts : (units : List Named) (rows : List NamedUnit) (i : ℕ) (read : NamedUnit) (u : Named) (vs : List Declared) (elements : List ChartElement) → map named_by rows ≡ units → Some (named_by read) ≡ unit_at units i → unit_at units i ≡ Some u
+    → vs ≡ names_at units i → elements ≡ chart_in (declared_by read.kind) → leaves_of_whole (composition_of units u.declares) ≡ variable_leaves units (length rows + 1) program vs ++ leaves.chart_in program elements
+program_parts units rows i read u vs elements are read_at at vs_are elements_are =
+    program_split units (length rows + 1) i u vs elements at (ap (λ n. n + 1) (sym (length-map rows named_by) ∙ ap length are)) vs_are
+    (elements_are ∙ ap (λ (v : Named). chart_in v.declares) (same_unit (named_by read) u (read_at ∙ at)))
+
+pub first_room : (s : ListingView) (a b whole : List LeafIn) → whole ≡ a ++ b → length s.leaves + length whole ≤ 65536 → length s.leaves + length a ≤ 65536
+first_room s a b whole split room = let parts = ap length split ∙ length-append a b in omega (arith, parts, room)
+
+pub second_room : (s now : ListingView) (a b whole : List LeafIn) → whole ≡ a ++ b → now ≡ listed s a → length s.leaves + length whole ≤ 65536 → length now.leaves + length b ≤ 65536
+second_room s now a b whole split is room =
+    let parts = ap length split ∙ length-append a b in
+    let count = ap (λ (v : ListingView). length v.leaves) is ∙ length_listed s a in
+    omega (arith, parts, count, room)
+
+pub both_listed : {E : Type 0} (r : Result (Unit {0}) E) (s now new : ListingView) (a b whole : List LeafIn) → whole ≡ a ++ b → now ≡ listed s a → OnOk r (new ≡ listed now b) → OnOk r (new ≡ listed s whole)
+both_listed (Err e) s now new a b whole split first second = tt
+both_listed (Ok t) s now new a b whole split first second = second ∙ ap (λ v. listed v b) first ∙ listed_twice s a b ∙ ap (listed s) (sym split)
+
+pub both_ways : {E : Type 0} (r : Result (Unit {0}) E) (a b whole : List LeafIn) → whole ≡ a ++ b → AreWays a → OnOk r (AreWays b) → OnOk r (AreWays whole)
+both_ways (Err e) a b whole split first second = tt
+both_ways (Ok t) a b whole split first second = subst AreWays (sym split) (ways_append a b first second)

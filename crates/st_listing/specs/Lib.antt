@@ -1,0 +1,5 @@
+pub mod Choices
+pub mod Kinds
+pub mod Listings
+pub mod Uses
+pub mod Walks

@@ -1,0 +1,65 @@
+-- What a walk through what variables consist of lists.
+use Rattle.std.specs.Prelude.{◌≡◌, ℕ, List, Option, Some, map}
+use Rattle.std.specs.Option.{option_copied}
+use Rattle.st_values.specs.Words.{raised}
+use Rattle.st_values.specs.declared.elem.Elem.{Elem}
+use Rattle.st_values.specs.declared.value.Value.{Value}
+use Rattle.st_tree.specs.declared.leaf.Leaf.{Leaf}
+use Rattle.st_tree.specs.declared.tree.constant.Constant.{Constant}
+use Rattle.st_tree.specs.declared.tree.declaration.Initial.{Initial}
+use Rattle.st_tree.specs.declared.tree.declaration.Initial.TheVariants as initials
+use Rattle.st_types.specs.Compositions.{composition_within, declared_composition, members_by, optional_composition, started}
+use Rattle.st_types.specs.Names.{Declared, Named, unit_at, units_of}
+use Rattle.st_types.specs.Initials.{unit_element_initial, value_written, zero_of}
+use Rattle.st_types.specs.Compositions.{elements_composition}
+use Rattle.st_types.specs.Types.{elements_in, type_at}
+use Rattle.st_types.specs.declared.base.Base.TheVariants as bases
+use Rattle.st_leaves.specs.LeavesIn.{LeafIn, leaves_in, members_in, variables_in}
+use Rattle.st_initials.specs.Tables.{AreInitials}
+use Rattle.st_program_sizes.specs.Sized.{IsSized}
+use Rattle.st_listing.specs.declared.walk.Part.{Part}
+use Rattle.st_listing.specs.declared.walk.Walk.{Walk}
+
+-- the units of the text that is walked through
+abbrev pub units_in : Walk → List Named
+units_in walk = units_of walk.tables.now
+
+-- the tables have the initial values of the text, the names of its units in upper case, and the sizes of its types
+pub record IsWalk (walk : Walk) : Type 0 where
+  pub initials : AreInitials (units_in walk) walk.initials.now
+  pub names : walk.names.now ≡ map (λ u. raised u.name.spelling) (units_in walk)
+  pub sizes : (i : ℕ) → IsSized (units_in walk) walk.sizes.now (type_at (units_in walk) i)
+
+-- of a value of this type, where this is written
+abbrev pub started_value : Elem → Option Initial → Value
+started_value e (Some (initials.Constant c)) = value_written e c
+started_value e _ = zero_of e
+
+-- a leaf that begins so
+abbrev pub begins_with : Constant → Leaf → Leaf
+begins_with c l = record { path = l.path; shown = l.shown; spine = l.spine; elem = l.elem; initial = value_written l.elem c; role = l.role }
+
+-- of what has this base, through at most so many units, and begins so
+abbrev pub part_leaves : List Named → Part → List LeafIn
+part_leaves units part = leaves_in (started (option_copied part.initial) (composition_within units part.depth part.base))
+
+-- of what has an array type
+abbrev pub array_leaves : List Named → ℕ → ℕ → Option Initial → List LeafIn
+array_leaves units depth unit initial =
+    leaves_in (started initial (elements_composition (composition_within units depth) (unit_element_initial units (unit_at units unit)) (elements_in units (bases.Array unit))))
+
+-- of what has a structure or a function block as its type
+abbrev pub unit_leaves : List Named → ℕ → ℕ → List LeafIn
+unit_leaves units depth unit = leaves_in (optional_composition units (composition_within units depth) (unit_at units unit))
+
+-- of a declared name
+abbrev pub declared_leaves : List Named → ℕ → Declared → List LeafIn
+declared_leaves units depth v = leaves_in (declared_composition units (composition_within units depth) v)
+
+-- of members of a whole of this name
+abbrev pub member_leaves : List Named → ℕ → List ℕ → List Declared → List LeafIn
+member_leaves units depth name vs = members_in name (members_by units (composition_within units depth) vs)
+
+-- of the variables of the program
+abbrev pub variable_leaves : List Named → ℕ → List ℕ → List Declared → List LeafIn
+variable_leaves units depth name vs = variables_in name (members_by units (composition_within units depth) vs)

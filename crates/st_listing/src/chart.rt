@@ -1,0 +1,176 @@
+//! The leaves of charts (2.6).
+ghost use Rattle.std.specs.List.{flat_map};
+ghost use Rattle.std.specs.Prelude.{◌≡◌, ◌+◌, ◌≤◌, ◌++◌, [], ◌∷◌, OnOk, length};
+ghost use Rattle.st_types.specs.Names.{steps_in};
+ghost use Rattle.st_leaves.specs.Charts.{stored_names};
+ghost use Rattle.st_leaves.specs.LeavesIn.{all_steps_in, chart_in, state_in, step_in, stored_in};
+ghost use Rattle.st_listing.specs.Listings.{AreWays, associations_in, listed};
+
+use crate::leaf_use::LeafUse;
+use crate::listing::Listing;
+use crate::values::{truth, zero_of};
+use st_leaves::{StoredNames, has_pulse};
+use st_tree::tree::{Association, ChartElement, Step};
+use st_values::Elem;
+use std::alloc::{AllocError, Global};
+
+impl<'a> Listing<'a> {
+    /// Lists the chart of a unit of that name: whether it has begun, its steps, and the names that it stores. Without elements
+    /// there is no chart.
+    pub fn list_chart(
+        &mut self,
+        alloc: Global,
+        of: &'a [u8],
+        elements: &[ChartElement],
+    ) -> Result<(), AllocError>
+        requires room { length self.old.leaves + length (chart_in of.now elements.now) ≤ 65536 }
+        ensures listed { OnOk result (self.new ≡ listed self.old (chart_in of.now elements.now)) }
+        ensures ways { OnOk result (AreWays (chart_in of.now elements.now)) }
+    {
+        if elements.is_empty() {
+            return Ok(());
+        }
+        self.put_kept(alloc, b"CHART", of, truth(false), LeafUse::Begun)?;
+        self.list_steps(alloc, of, elements)?;
+        self.list_stored(alloc, of, elements)?;
+        Ok(())
+    }
+
+    /// Lists the steps among these elements. The leaf before the first tells whether the chart has begun.
+    fn list_steps(
+        &mut self,
+        alloc: Global,
+        of: &'a [u8],
+        elements: &[ChartElement],
+    ) -> Result<(), AllocError>
+        requires room { length self.old.leaves + length (all_steps_in of.now 1 (flat_map steps_in elements.now)) ≤ 65536 }
+        requires begun { 1 ≤ length self.old.leaves }
+        ensures listed { OnOk result (self.new ≡ listed self.old (all_steps_in of.now 1 (flat_map steps_in elements.now))) }
+        ensures ways { OnOk result (AreWays (all_steps_in of.now 1 (flat_map steps_in elements.now))) }
+    {
+        let first = self.count();
+        'elements: for element in elements {
+            let ChartElement::Step(step) = element else {
+                continue;
+            };
+            let back = (self.count() - first + 1) as u32;
+            self.list_step(alloc, of, back, step)?;
+        }
+        Ok(())
+    }
+
+    /// Lists a step. The leaf that tells whether its chart has begun stands so many leaves before its first one.
+    fn list_step(
+        &mut self,
+        alloc: Global,
+        of: &'a [u8],
+        back: u32,
+        step: &Step,
+    ) -> Result<(), AllocError>
+        requires room { length self.old.leaves + length (step_in of.now back step.now) ≤ 65536 }
+        requires back { back ≤ length self.old.leaves }
+        ensures listed { OnOk result (self.new ≡ listed self.old (step_in of.now back step.now)) }
+        ensures ways { OnOk result (AreWays (step_in of.now back step.now)) }
+    {
+        let has_pulse = has_pulse(step.associations.as_slice());
+        let mark = self.mark();
+        self.enter(step.name.spelling.letters(), of)?;
+        self.list_state(alloc, back, step.is_initial, has_pulse)?;
+        self.leave(mark);
+        Ok(())
+    }
+
+    /// Lists whether a step is active, for how long, since when, and, where it has pulses, whether it has given them.
+    fn list_state(
+        &mut self,
+        alloc: Global,
+        back: u32,
+        is_initial: bool,
+        has_pulse: bool,
+    ) -> Result<(), AllocError>
+        requires room { length self.old.leaves + length (state_in back is_initial has_pulse) ≤ 65536 }
+        requires back { back ≤ length self.old.leaves }
+        ensures { OnOk result (self.new ≡ listed self.old (state_in back is_initial has_pulse)) }
+    {
+        let step = b"step";
+        self.put(alloc, b"X", step, truth(is_initial), LeafUse::Active(back))?;
+        self.put(alloc, b"T", step, zero_of(Elem::Time), LeafUse::Elapsed)?;
+        self.put_kept(alloc, b"M", step, zero_of(Elem::Time), LeafUse::Hidden)?;
+        if has_pulse {
+            let pulsed = LeafUse::Pulsed(3, back + 3);
+            self.put_kept(alloc, b"P", step, truth(false), pulsed)?;
+        }
+        Ok(())
+    }
+
+    /// Lists the names that the steps among these elements store.
+    fn list_stored(
+        &mut self,
+        alloc: Global,
+        of: &'a [u8],
+        elements: &[ChartElement],
+    ) -> Result<(), AllocError>
+        requires room { length self.old.leaves + length (stored_names [] (associations_in elements.now)) ≤ 65536 }
+        ensures listed { OnOk result (self.new ≡ listed self.old (flat_map (stored_in of.now) (stored_names [] (associations_in elements.now)))) }
+        ensures ways { OnOk result (AreWays (flat_map (stored_in of.now) (stored_names [] (associations_in elements.now)))) }
+    {
+        let mut stored = StoredNames::new(alloc);
+        'elements: for element in elements {
+            let ChartElement::Step(step) = element else {
+                continue;
+            };
+            self.list_stored_by(alloc, of, &mut stored, step.associations.as_slice())?;
+        }
+        Ok(())
+    }
+
+    /// Lists the names that these associations store and that aren't among the others, and puts them there.
+    fn list_stored_by<'b>(
+        &mut self,
+        alloc: Global,
+        of: &'a [u8],
+        stored: &mut StoredNames<'b>,
+        associations: &'b [Association],
+    ) -> Result<(), AllocError>
+        requires room { length self.old.leaves + length (stored_names stored.old associations.now) ≤ 65536 }
+        ensures stored { OnOk result (stored.new ≡ stored.old ++ stored_names stored.old associations.now) }
+        ensures listed { OnOk result (self.new ≡ listed self.old (flat_map (stored_in of.now) (stored_names stored.old associations.now))) }
+        ensures ways { OnOk result (AreWays (flat_map (stored_in of.now) (stored_names stored.old associations.now))) }
+    {
+        'associations: for association in associations {
+            self.list_stored_name(alloc, of, stored, association)?;
+        }
+        Ok(())
+    }
+
+    /// Lists the name of this association, if it has the qualifier S and isn't among the others, and puts it there.
+    fn list_stored_name<'b>(
+        &mut self,
+        alloc: Global,
+        of: &'a [u8],
+        stored: &mut StoredNames<'b>,
+        association: &'b Association,
+    ) -> Result<(), AllocError>
+        requires room { length self.old.leaves + length (stored_names stored.old (association.now ∷ [])) ≤ 65536 }
+        ensures stored { OnOk result (stored.new ≡ stored.old ++ stored_names stored.old (association.now ∷ [])) }
+        ensures listed { OnOk result (self.new ≡ listed self.old (flat_map (stored_in of.now) (stored_names stored.old (association.now ∷ [])))) }
+        ensures ways { OnOk result (AreWays (flat_map (stored_in of.now) (stored_names stored.old (association.now ∷ [])))) }
+    {
+        if stored.add(association)? {
+            self.list_action(alloc, of, association.name.spelling.letters())?;
+        }
+        Ok(())
+    }
+
+    /// Lists whether what has this name is stored.
+    fn list_action(&mut self, alloc: Global, of: &'a [u8], name: &[u8]) -> Result<(), AllocError>
+        requires room { length self.old.leaves + 1 ≤ 65536 }
+        ensures { OnOk result (self.new ≡ listed self.old (stored_in of.now name.now)) }
+    {
+        let mark = self.mark();
+        self.enter(name, of)?;
+        self.put_kept(alloc, b"S", b"action", truth(false), LeafUse::Hidden)?;
+        self.leave(mark);
+        Ok(())
+    }
+}

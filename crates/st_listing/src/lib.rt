@@ -1,0 +1,15 @@
+//! The leaves of a program, listed.
+#![tactic(auto)]
+
+mod block;
+mod chart;
+mod empty;
+mod leaf_use;
+mod leaves;
+mod listing;
+mod program;
+mod subscripts;
+mod values;
+mod walk;
+
+pub use leaves::leaves_of;

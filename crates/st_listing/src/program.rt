@@ -1,0 +1,90 @@
+//! The leaves of a program's variables and of its chart.
+ghost use Rattle.std.specs.Prelude.{◌≡◌, ◌+◌, ◌≤◌, ◌<◌, ◌∷◌, [], OnOk, Some, codes, false, length, map};
+ghost use Rattle.st_leaves.specs.LeavesIn.{leaves_of_whole};
+ghost use Rattle.st_listing.specs.Listings.{AreWays, listed};
+ghost use Rattle.st_listing.specs.Walks.{IsWalk, units_in, variable_leaves};
+ghost use Rattle.st_scopes.specs.Declarations.{seen};
+ghost use Rattle.st_listing.specs.Kinds.{is_input};
+ghost use Rattle.st_types.specs.Compositions.{composition_of, is_constant};
+ghost use Rattle.st_types.specs.Names.{Named, unit_at};
+
+use crate::listing::Listing;
+use crate::walk::{Walk, chart_of};
+use st_scopes::Declared;
+use st_tree::tree::VarKind;
+use std::alloc::AllocError;
+
+impl<'a, 't> Walk<'a, 't> {
+    /// Lists a program, which is the unit of this number: its variables, and then its chart.
+    pub fn list_program(self, unit: usize, listing: &mut Listing<'t>) -> Result<(), AllocError>
+        requires walk { IsWalk self }
+        requires unit { unit < length (units_in self) }
+        requires input { listing.old.is_input ≡ false }
+        requires room { (u : Named) → unit_at (units_in self) unit ≡ Some u → length listing.old.leaves + length (leaves_of_whole (composition_of (units_in self) u.declares)) ≤ 65536 }
+        ensures listed { (u : Named) → unit_at (units_in self.entry) unit ≡ Some u → OnOk result (listing.new ≡ listed listing.old (leaves_of_whole (composition_of (units_in self.entry) u.declares))) }
+        ensures ways { (u : Named) → unit_at (units_in self.entry) unit ≡ Some u → OnOk result (AreWays (leaves_of_whole (composition_of (units_in self.entry) u.declares))) }
+    {
+        let program = self.tables.unit(unit);
+        let depth = self.tables.units().len() + 1;
+        self.list_variables(depth, self.tables.declared(unit), listing)?;
+        listing.list_chart(self.alloc, b"PROGRAM", chart_of(program.kind))
+    }
+
+    /// Lists variables of the program, in order.
+    fn list_variables(
+        self,
+        depth: usize,
+        variables: &[Declared<'a>],
+        listing: &mut Listing<'t>,
+    ) -> Result<(), AllocError>
+        requires walk { IsWalk self }
+        requires input { listing.old.is_input ≡ false }
+        requires room { length listing.old.leaves + length (variable_leaves (units_in self) depth (codes "PROGRAM") (map seen variables.now)) ≤ 65536 }
+        ensures listed { OnOk result (listing.new ≡ listed listing.old (variable_leaves (units_in self.entry) depth (codes "PROGRAM") (map seen variables.now))) }
+        ensures ways { OnOk result (AreWays (variable_leaves (units_in self.entry) depth (codes "PROGRAM") (map seen variables.now))) }
+    {
+        'each: for variable in variables {
+            self.list_variable(depth, variable, listing)?;
+        }
+        Ok(())
+    }
+
+    /// Lists a variable of the program. A constant has no leaf, and those of an input may be set from outside.
+    fn list_variable(
+        self,
+        depth: usize,
+        variable: &Declared<'a>,
+        listing: &mut Listing<'t>,
+    ) -> Result<(), AllocError>
+        requires walk { IsWalk self }
+        requires input { listing.old.is_input ≡ false }
+        requires room { length listing.old.leaves + length (variable_leaves (units_in self) depth (codes "PROGRAM") (seen variable.now ∷ [])) ≤ 65536 }
+        ensures listed { OnOk result (listing.new ≡ listed listing.old (variable_leaves (units_in self.entry) depth (codes "PROGRAM") (seen variable.now ∷ []))) }
+        ensures ways { OnOk result (AreWays (variable_leaves (units_in self.entry) depth (codes "PROGRAM") (seen variable.now ∷ []))) }
+    {
+        if is_constant(variable.kind) {
+            return Ok(());
+        }
+        let mark = listing.mark();
+        listing.enter(variable.name.spelling.letters(), b"PROGRAM")?;
+        listing.set_input(is_input(variable.kind));
+        self.list_declared(depth, variable, listing)?;
+        listing.set_input(false);
+        listing.leave(mark);
+        Ok(())
+    }
+}
+
+/// Whether a declared name is a constant.
+fn is_constant(kind: VarKind) -> bool
+    ensures { result ≡ is_constant kind }
+{
+    matches!(kind, VarKind::Constant)
+}
+
+/// Whether a declared name is an input.
+fn is_input(kind: VarKind) -> bool
+    ensures { result ≡ is_input kind }
+{
+    matches!(kind, VarKind::Input)
+}

@@ -1,0 +1,38 @@
+//! Values with which leaves begin.
+ghost use Rattle.std.specs.Prelude.{◌≡◌};
+ghost use Rattle.std.specs.Option.{option_copied};
+ghost use Rattle.st_types.specs.Compositions.{elementary, started};
+ghost use Rattle.st_types.specs.Initials.{zero_of};
+ghost use Rattle.st_listing.specs.Walks.{started_value};
+ghost use Rattle.st_leaves.specs.LeavesIn.{truth};
+
+use st_initials::value_written;
+use st_tree::tree::Initial;
+use st_values::{Elem, Value};
+
+/// The value of a type where none is written.
+pub(crate) fn zero_of(elem: Elem) -> Value
+    ensures { result ≡ zero_of elem }
+{
+    Value { elem, bits: 0 }
+}
+
+/// Of BOOL.
+pub(crate) fn truth(is_true: bool) -> Value
+    ensures { result ≡ truth is_true }
+{
+    Value {
+        elem: Elem::Bool,
+        bits: i128::from(is_true),
+    }
+}
+
+/// With what a value of this type begins: with the one that is written, or else with that of the type.
+pub(crate) fn started_value(elem: Elem, initial: Option<&Initial>) -> Value
+    ensures { result ≡ started_value elem (option_copied initial.entry) }
+{
+    match initial {
+        Some(Initial::Constant(constant)) => value_written(elem, constant),
+        Some(Initial::Array(..)) | None => zero_of(elem),
+    }
+}
