@@ -5,9 +5,13 @@ mod cells;
 mod laws;
 mod layout;
 mod memory;
+mod renames;
+mod saved;
 mod table;
 
 pub use cells::Cells;
 pub use laws::{content_is_a_map, places_follow};
 pub use layout::Layout;
 pub use memory::Memory;
+pub use renames::Rename;
+pub use saved::Saved;
