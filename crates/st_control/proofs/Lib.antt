@@ -1,6 +1,8 @@
-pub mod Changes
+pub mod Causes
+pub mod ChangeSteps
 pub mod Histories
 pub mod Names
+pub mod OnePath
 pub mod Open
 pub mod Records
 pub mod Steps

@@ -1,8 +1,8 @@
 //! The controller.
 ghost use Rattle.std.specs.Prelude.{◌≡◌, ◌+◌, ◌<◌, ◌≤◌, ◌^◌, ◌++◌, ◌∷◌, [], Err, IfErr, IfOk, IfSome, List, MatchResult, Ok, OnOk, length, vec_capacity, vec_len};
-ghost use Rattle.st_control.specs.Controllers.{DropsNewest, Keeps, Takes, first_controller, force_count, machine_of, record_of, shown_to};
+ghost use Rattle.st_control.specs.Controllers.{DropsNewest, Keeps, Takes, TakesUndo, first_controller, force_count, machine_of, record_of, shown_to};
 ghost use Rattle.st_control.specs.Loads.{IsLoaded};
-ghost use Rattle.st_control.specs.Machine.{step, undo_step};
+ghost use Rattle.st_control.specs.Machine.{step};
 ghost use Rattle.st_control.specs.Machine.Command.{force, release, write};
 ghost use Rattle.st_control.specs.States.{IsWhole, leaf_of, leaves_of};
 ghost use Rattle.st_control.specs.Texts.{IsCheckedAs};
@@ -157,7 +157,7 @@ impl<M: Memory> Controller<M> {
     {
         let full = self.records.len() >= MAX_RECORDS;
         match self.state.leaf_to_write(full, path, value) {
-            Err(number) => Err(Refusal::O(number)),
+            Err(refusal) => Err(refusal),
             Ok(leaf) => {
                 let newest = self.state.write(leaf, value);
                 keep(&mut self.records, newest);
@@ -176,7 +176,7 @@ impl<M: Memory> Controller<M> {
     {
         let full = self.records.len() >= MAX_RECORDS;
         match self.state.leaf_to_force(full, path, value) {
-            Err(number) => Err(Refusal::O(number)),
+            Err(refusal) => Err(refusal),
             Ok(leaf) => {
                 let newest = self.state.force(leaf, value);
                 keep(&mut self.records, newest);
@@ -194,7 +194,7 @@ impl<M: Memory> Controller<M> {
     {
         let full = self.records.len() >= MAX_RECORDS;
         match self.state.leaf_to_release(full, path) {
-            Err(number) => Err(Refusal::O(number)),
+            Err(refusal) => Err(refusal),
             Ok(leaf) => {
                 let newest = self.state.release(leaf);
                 keep(&mut self.records, newest);
@@ -203,11 +203,12 @@ impl<M: Memory> Controller<M> {
         }
     }
 
-    /// Takes back the newest command that isn't undone. It leaves no record itself, and is never refused for want of memory.
+    /// Takes back the newest command that isn't undone. It leaves no record itself.
     ///
-    /// Refused as O7 where there is nothing to undo.
+    /// Refused as O7 where there is nothing to undo, and for want of memory where the command is an online change; then a
+    /// later undo can succeed.
     pub fn undo(&mut self, alloc: Global) -> Result<(), Refusal>
-        ensures step { Takes (undo_step (machine_of self.old)) self.old result self.new }
+        ensures step { TakesUndo self.old result self.new }
         ensures record { OnOk result (DropsNewest self.old self.new) }
     {
         let Some(newest) = self.records.pop() else {
