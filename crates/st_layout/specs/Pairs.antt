@@ -57,9 +57,13 @@ abbrev pub pairs_between : List Leaf → List Leaf → List Rename → Pairs
 pairs_between old new renames = record { targets = targets_of old new renames; sources = sources_of (targets_of old new renames) (length new) }
 
 -- how many leaves are kept, how many old ones are dropped, and how many new ones are fresh
-abbrev pub kept_count, dropped_count, fresh_count : Pairs → ℕ
+abbrev pub kept_count : Pairs → ℕ
 kept_count pairs = count_by is_some pairs.targets
+
+abbrev pub dropped_count : Pairs → ℕ
 dropped_count pairs = count_by (λ target. not (is_some target)) pairs.targets
+
+abbrev pub fresh_count : Pairs → ℕ
 fresh_count pairs = count_by (λ source. not (is_some source)) pairs.sources
 
 -- ---- when renames give no pairs (O13)
