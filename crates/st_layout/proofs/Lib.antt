@@ -1,4 +1,11 @@
+pub mod ByPath
 pub mod Contents
 pub mod Maps
+pub mod Moving
+pub mod OpenForces
+pub mod Pairings
 pub mod Paths
 pub mod Places
+pub mod Returning
+pub mod Saving
+pub mod ValueBytes
