@@ -85,7 +85,7 @@ module _ (variables : List (List ℕ)) (chart : List ChartElement) where
 
 module _ (units : List Named) (inside : Base → Composition) where
   one_more : (is_left_out : Bool) (name : List ℕ) (c : Composition) (v : Declared) (ms : Members) (ns : List (List ℕ)) → ns ≡ member_names ms
-      → cond is_left_out ns (name ∷ ns) ≡ member_names (cond is_left_out ms (member name v.kind c ms))
+      → cond is_left_out [] (name ∷ []) ++ ns ≡ member_names (cond is_left_out ms (member name v.kind c ms))
   one_more true name c v ms ns same = same
   one_more false name c v ms ns same = ap (λ more. name ∷ more) same
 

@@ -57,10 +57,12 @@ abbrev pub as_declared : List (List ℕ) → List ℕ → List ℕ
 as_declared [] name = name
 as_declared (d ∷ declared) name = if is_word d name then d else as_declared declared name
 
--- the names of these variables, but for constants, which can't be stored
+-- the name of a variable, if it can be stored: a constant can't
+abbrev pub storable : Declared → List (List ℕ)
+storable v = if is_constant v.kind then [] else v.name.spelling ∷ []
+
 abbrev pub variable_names : List Declared → List (List ℕ)
-variable_names [] = []
-variable_names (v ∷ vs) = if is_constant v.kind then variable_names vs else v.name.spelling ∷ variable_names vs
+variable_names variables = flat_map storable variables
 
 abbrev pub action_names : List ChartElement → List (List ℕ)
 action_names elements = map (λ a. a.name.spelling) (flat_map actions_in elements)

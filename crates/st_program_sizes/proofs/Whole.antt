@@ -44,7 +44,8 @@ module _ (units : List Named) where
       → IsSize size (sizes_of (array_leaves e.subscripts (type_leaves units e.element))) → IsSize size (sizes_of (own_leaves units i))
   array_sized i e size is sized = subst (λ elements. IsSize size (sizes_of (made_leaves units elements (unit_at units i)))) (sym is) sized
 
-there : (units : List Named) (i : ℕ) → i < length units → (u : Named) × (unit_at units i ≡ Some u)
+-- each number below that of units is one of a unit
+pub there : (units : List Named) (i : ℕ) → i < length units → (u : Named) × (unit_at units i ≡ Some u)
 there [] i below = absurd (omega (arith, below))
 there (u ∷ us) zero below = (u, refl)
 there (u ∷ us) (suc i) below = there us i (omega (arith, below))
