@@ -74,7 +74,7 @@ has_leaves_values leaves content path fits = by (number_of leaves path) refl
         let at = number-Some leaves path i is in
         ((λ _. (number-listed leaves path (Some i) (sym is)).0 refl, λ _. refl), value_fits leaves content.values i fits.types at.0)
 
-raised-raised : (path : List ℕ) → raised (raised path) ≡ raised path
+pub raised-raised : (path : List ℕ) → raised (raised path) ≡ raised path
 raised-raised [] = refl
 raised-raised (byte ∷ path) =
     let once : to_ascii_uppercase (to_ascii_uppercase byte) ≡ to_ascii_uppercase byte = grind (arith, nat_tests) in
