@@ -89,15 +89,15 @@ in_front path end below ends =
 
 -- a part in upper case that a path in upper case is in is the front of its length
 module _ (path : List ℕ) (upper : raised path ≡ path) where
-  front_is : (part : List ℕ) → is_in (raised part) path ≡ true → take (length part) path ≡ raised part
+  pub front_is : (part : List ℕ) → is_in (raised part) path ≡ true → take (length part) path ≡ raised part
   front_is part is = rw (length-map part to_ascii_uppercase) at ((front_of (raised part) path is).front)
 
-  raised_front : (end : ℕ) → raised (take end path) ≡ take end path
+  pub raised_front : (end : ℕ) → raised (take end path) ≡ take end path
   raised_front end = sym (take-map to_ascii_uppercase end path) ∙ ap (take end) upper
 
   -- a part of this length is the front that is looked up
-  looked_up : (part : List ℕ) (end : ℕ) → is_in (raised part) path ≡ true → length part ≡ end → raised part ≡ raised (take end path)
+  pub looked_up : (part : List ℕ) (end : ℕ) → is_in (raised part) path ≡ true → length part ≡ end → raised part ≡ raised (take end path)
   looked_up part end is long = sym (front_is part is) ∙ (ap (λ (n : ℕ). take n path) long ∙ sym (raised_front end))
 
-  ends_there : (part : List ℕ) (end : ℕ) → is_in (raised part) path ≡ true → length part ≡ end → begins_part (drop end path) ≡ true
+  pub ends_there : (part : List ℕ) (end : ℕ) → is_in (raised part) path ≡ true → length part ≡ end → begins_part (drop end path) ≡ true
   ends_there part end is long = rw (length-map part to_ascii_uppercase, long) at ((front_of (raised part) path is).ends)

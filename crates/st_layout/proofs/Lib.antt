@@ -1,6 +1,10 @@
 pub mod Contents
+pub mod Filled
 pub mod Fronts
+pub mod Longest
 pub mod Maps
 pub mod Pairings
 pub mod Paths
 pub mod Places
+pub mod Spines
+pub mod Twice

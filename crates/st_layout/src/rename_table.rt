@@ -2,6 +2,7 @@
 ghost use Rattle.std.specs.Prelude.{◌≡◌, ◌≤◌, ◌||◌, false, IfOk, IfSome, OnOk, length, map, true};
 ghost use Rattle.std.specs.Option.{option_copied};
 ghost use Rattle.st_layout.specs.Pairs.{has_dollar, names_hidden, names_nothing, renames_twice};
+ghost use Rattle.st_layout.specs.Parts.{names_unfilled};
 ghost use Rattle.st_layout.specs.Renames.{longest, renames_over};
 ghost use Rattle.st_values.specs.Words.{raised};
 
@@ -124,23 +125,34 @@ fn names_nothing(
     old: &Layout,
     new: &Layout,
     renames: &[Rename],
-    parts: &NameTable,
+    olds: &NameTable,
 ) -> Result<bool, AllocError>
-    requires { parts.now ≡ map (λ rename. rename.old) renames.now }
+    requires { olds.now ≡ map (λ rename. rename.old) renames.now }
     ensures { IfOk result (λ nothing. nothing ≡ names_nothing old.now new.now renames.now) }
 {
     if renames.is_empty() {
         return Ok(false);
     }
     let news = new_parts(alloc, renames)?;
-    let filled = filled_parts(alloc, old, parts)?;
+    let olds_filled = filled_parts(alloc, old, olds)?;
     let news_filled = filled_parts(alloc, new, &news)?;
-    for rename in renames {
-        let named = is_filled(&filled, parts, rename.old.as_slice())
-            && is_filled(&news_filled, &news, rename.new.as_slice());
-        if !named {
-            return Ok(true);
-        }
-    }
-    Ok(false)
+    Ok(names_unfilled(renames, olds, &olds_filled, &news, &news_filled))
+}
+
+/// Tests whether a part is named that isn't marked.
+fn names_unfilled(
+    renames: &[Rename],
+    olds: &NameTable,
+    olds_filled: &[bool],
+    news: &NameTable,
+    news_filled: &[bool],
+) -> bool
+    requires olds { length olds_filled.now ≡ length olds.now }
+    requires news { length news_filled.now ≡ length news.now }
+    ensures { result ≡ names_unfilled renames.now olds.now olds_filled.now news.now news_filled.now }
+{
+    renames.iter().any(|rename| {
+        !is_filled(olds_filled, olds, rename.old.as_slice())
+            || !is_filled(news_filled, news, rename.new.as_slice())
+    })
 }
