@@ -1,3 +1,4 @@
+pub mod Charts
 pub mod Contents
 pub mod Filled
 pub mod Fronts
@@ -6,5 +7,6 @@ pub mod Maps
 pub mod Pairings
 pub mod Paths
 pub mod Places
+pub mod Renamed
 pub mod Spines
 pub mod Twice

@@ -1,6 +1,8 @@
 //! Which leaf takes the place of which.
 ghost use Rattle.std.specs.Prelude.{◌≡◌, ◌≤◌, ◌<◌, ◌++◌, All, false, IfOk, IfSome, OnOk, drop, length, true};
 ghost use Rattle.st_layout.specs.Pairs.{chart_of, is_same_number, leaves_chart, number_at, shares_target, some_leaves_chart, sources_of, target_of, targets_of};
+ghost use Rattle.st_layout.specs.Layout.{number_of};
+ghost use Rattle.st_layout.specs.Renames.{renamed};
 ghost use Rattle.st_values.specs.Words.{raised};
 
 use crate::alike::are_alike;
@@ -18,12 +20,15 @@ pub fn targets_of(
     new: &Layout,
     renames: &RenameTable,
 ) -> Result<Vec<Option<u32>>, AllocError>
-    ensures { IfOk result (λ targets. targets.items ≡ targets_of old.now new.now renames.now) }
+    ensures targets { IfOk result (λ targets. targets.items ≡ targets_of old.now new.now renames.now) }
+    ensures count { IfOk result (λ targets. length targets.items ≡ length old.now) }
+    ensures few { IfOk result (λ targets. length targets.items ≤ 65536) }
+    ensures below { IfOk result (λ targets. All (λ target. IfSome target (λ number. number < length new.now)) targets.items) }
 {
     let mut targets = Vec::with_capacity(alloc, old.len() as usize)?;
-    let mut renamed = Vec::new(alloc);
+    let mut buffer = Vec::new(alloc);
     for leaf in 0..old.len() {
-        let target = target_of(new, renames, old.at(leaf), &mut renamed)?;
+        let target = target_of(new, renames, old.at(leaf), &mut buffer)?;
         targets.push(target)?;
     }
     Ok(targets)
@@ -34,33 +39,47 @@ fn target_of(
     new: &Layout,
     renames: &RenameTable,
     leaf: &Leaf,
-    renamed: &mut Vec<u8>,
+    buffer: &mut Vec<u8>,
 ) -> Result<Option<u32>, AllocError>
     requires { raised leaf.now.path ≡ leaf.now.path }
     ensures { IfOk result (λ target. target ≡ target_of renames.now new.now leaf.now) }
 {
-    let path = leaf.path.as_slice();
-    let number = match renames.longest_over(path) {
-        Some(rename) => {
-            write_renamed(renamed, rename, path)?;
-            new.leaf(renamed)
-        }
-        None => new.leaf(path),
+    let Some(number) = renamed_leaf(new, renames, leaf.path.as_slice(), buffer)? else {
+        return Ok(None);
     };
-    match number {
-        Some(number) if are_alike(leaf, new.at(number)) => Ok(Some(number)),
-        _ => Ok(None),
+    if are_alike(leaf, new.at(number)) {
+        Ok(Some(number))
+    } else {
+        Ok(None)
     }
 }
 
-/// Writes a path with the new part in the place of the old one.
-fn write_renamed(renamed: &mut Vec<u8>, rename: &Rename, path: &[u8]) -> Result<(), AllocError>
-    requires { length rename.now.old ≤ length path.now }
-    ensures { OnOk result (renamed.new.items ≡ rename.now.new ++ drop (length rename.now.old) path.now) }
+/// The number of the leaf with the path that a path in upper case gets. It is written into the buffer, if it is another.
+fn renamed_leaf(
+    new: &Layout,
+    renames: &RenameTable,
+    path: &[u8],
+    buffer: &mut Vec<u8>,
+) -> Result<Option<u32>, AllocError>
+    requires { raised path.now ≡ path.now }
+    ensures value { IfOk result (λ number. number ≡ number_of new.now (renamed renames.now path.now)) }
+    ensures below { IfOk result (λ number. IfSome number (λ j. j < length new.now)) }
 {
-    renamed.clear();
-    renamed.extend_from_slice(rename.new.as_slice())?;
-    renamed.extend_from_slice(&path[rename.old.len()..])?;
+    let Some(rename) = renames.longest_over(path) else {
+        return Ok(new.leaf(path));
+    };
+    write_renamed(buffer, rename, path)?;
+    Ok(new.leaf(buffer))
+}
+
+/// Writes a path with the new part in the place of the old one.
+fn write_renamed(buffer: &mut Vec<u8>, rename: &Rename, path: &[u8]) -> Result<(), AllocError>
+    requires { length rename.now.old ≤ length path.now }
+    ensures { OnOk result (buffer.new.items ≡ rename.now.new ++ drop (length rename.now.old) path.now) }
+{
+    buffer.clear();
+    buffer.extend_from_slice(rename.new.as_slice())?;
+    buffer.extend_from_slice(&path[rename.old.len()..])?;
     Ok(())
 }
 
@@ -73,6 +92,7 @@ pub fn sources_of(
     requires few { length targets.now ≤ 65536 }
     requires below { All (λ target. IfSome target (λ number. number < count)) targets.now }
     ensures ok { IfOk result (λ sources. sources.items ≡ sources_of targets.now count) }
+    ensures count { IfOk result (λ sources. length sources.items ≡ count) }
     ensures apart { OnOk result (shares_target targets.now ≡ false) }
     ensures shared { result ≡ Err PlanFault.NotPaired → shares_target targets.now ≡ true }
 {
