@@ -95,8 +95,8 @@ pub filled_more : (leaves : List Leaf) (parts : List (List ℕ)) (path : List �
 filled_more leaves parts path i old new below is are by = record {
   count = by.count;
   marked = λ part k there.
-  let more = list_any_more (λ leaf. is_in (raised part) leaf.path) leaves i no_leaf below in
-  by.marked part k there ∙ (ap (λ (b : Bool). b || is_in (raised part) path) (are.marked part k there) ∙ (ap (λ (p : List ℕ). list_any (λ leaf. is_in (raised part) leaf.path) (take i leaves) || is_in (raised part) p) is ∙ sym more));
+      let more = list_any_more (λ leaf. is_in (raised part) leaf.path) leaves i no_leaf below in
+      by.marked part k there ∙ (ap (λ (b : Bool). b || is_in (raised part) path) (are.marked part k there) ∙ (ap (λ (p : List ℕ). list_any (λ leaf. is_in (raised part) leaf.path) (take i leaves) || is_in (raised part) p) is ∙ sym more));
 }
 
 -- tests that agree at each element find one alike
@@ -117,8 +117,8 @@ module _ (old new : List Leaf) (renames : List Rename) (olds_filled news_filled 
 
   pub unfilled-told : AreFilled old olds olds_filled → AreFilled new news news_filled → names_unfilled renames olds olds_filled news news_filled ≡ names_nothing old new renames
   unfilled-told olds_are news_are = list_any_alike (λ rename. not (is_filled olds_filled olds rename.old) || not (is_filled news_filled news rename.new)) (λ rename. is_no_part old rename.old || is_no_part new rename.new) renames no_rename (λ k below.
-    let old_part : get_or olds k [] ≡ (rename_at renames k).old = get_or-map (λ (rename : Rename). rename.old) renames k no_rename [] below in
-    let new_part : get_or news k [] ≡ (rename_at renames k).new = get_or-map (λ (rename : Rename). rename.new) renames k no_rename [] below in
-    let old_told = rw old_part at (is_filled-told old olds olds_filled k olds_are (omega (arith, below, length-map renames (λ (rename : Rename). rename.old)))) in
-    let new_told = rw new_part at (is_filled-told new news news_filled k news_are (omega (arith, below, length-map renames (λ (rename : Rename). rename.new)))) in
-    rw (old_told, new_told, not_not (is_no_part old (rename_at renames k).old), not_not (is_no_part new (rename_at renames k).new)) refl)
+      let old_part : get_or olds k [] ≡ (rename_at renames k).old = get_or-map (λ (rename : Rename). rename.old) renames k no_rename [] below in
+      let new_part : get_or news k [] ≡ (rename_at renames k).new = get_or-map (λ (rename : Rename). rename.new) renames k no_rename [] below in
+      let old_told = rw old_part at (is_filled-told old olds olds_filled k olds_are (omega (arith, below, length-map renames (λ (rename : Rename). rename.old)))) in
+      let new_told = rw new_part at (is_filled-told new news news_filled k news_are (omega (arith, below, length-map renames (λ (rename : Rename). rename.new)))) in
+      rw (old_told, new_told, not_not (is_no_part old (rename_at renames k).old), not_not (is_no_part new (rename_at renames k).new)) refl)

@@ -5,6 +5,7 @@ pub mod Fronts
 pub mod Longest
 pub mod Maps
 pub mod Pairings
+pub mod PairPaths
 pub mod Paths
 pub mod Places
 pub mod Renamed

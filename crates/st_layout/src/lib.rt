@@ -16,7 +16,7 @@ mod saved;
 mod table;
 
 pub use cells::Cells;
-pub use laws::{content_is_a_map, places_follow};
+pub use laws::{content_is_a_map, pairs_are_one_to_one, places_follow};
 pub use layout::Layout;
 pub use memory::Memory;
 pub use plan::Plan;

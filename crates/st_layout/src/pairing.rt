@@ -128,7 +128,10 @@ fn leaves_chart(new: &Layout, targets: &[Option<u32>], leaf: &Leaf, target: Opti
     ensures { result ≡ leaves_chart new.now targets.now leaf.now target }
 {
     match (chart_of(leaf.role), target) {
-        (Some(begun), Some(number)) => !is_same_number(number_at(targets, begun), chart_of(new.at(number).role)),
+        (Some(begun), Some(number)) => !is_same_number(
+            number_at(targets, begun),
+            chart_of(new.at(number).role),
+        ),
         _ => false,
     }
 }
@@ -148,7 +151,11 @@ fn number_at(numbers: &[Option<u32>], place: u32) -> Option<u32>
     ensures { result ≡ number_at numbers.now place }
 {
     let place = place as usize;
-    if place < numbers.len() { numbers[place] } else { None }
+    if place < numbers.len() {
+        numbers[place]
+    } else {
+        None
+    }
 }
 
 /// Tests whether both are there, and the same.

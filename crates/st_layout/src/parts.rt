@@ -19,7 +19,11 @@ pub fn begins_part(rest: &[u8]) -> bool
 }
 
 /// Of each of these parts, whether a leaf is in it. Where a part stands there twice, the first is told.
-pub fn filled_parts(alloc: Global, layout: &Layout, parts: &NameTable) -> Result<Vec<bool>, AllocError>
+pub fn filled_parts(
+    alloc: Global,
+    layout: &Layout,
+    parts: &NameTable,
+) -> Result<Vec<bool>, AllocError>
     ensures { IfOk result (λ filled. AreFilled layout.now parts.now filled.items) }
 {
     let mut filled = Vec::from_elem(alloc, false, parts.len())?;

@@ -32,7 +32,12 @@ impl Model for Plan {
 impl Plan {
     /// The plan of a change from an old program to a new one. It is refused for want of memory, or where the renames give no
     /// pairs.
-    pub fn between(alloc: Global, old: &Layout, new: &Layout, renames: &[Rename]) -> Result<Plan, PlanFault>
+    pub fn between(
+        alloc: Global,
+        old: &Layout,
+        new: &Layout,
+        renames: &[Rename],
+    ) -> Result<Plan, PlanFault>
         ensures ok { IfOk result (λ plan. plan ≡ pairs_between old.now new.now renames.now) }
         ensures pairable { OnOk result (is_pairable old.now new.now renames.now ≡ true) }
         ensures not_paired { result ≡ Err PlanFault.NotPaired → is_pairable old.now new.now renames.now ≡ false }
@@ -66,20 +71,29 @@ impl Plan {
     pub fn kept(&self) -> u32
         ensures { result ≡ kept_count self.now }
     {
-        self.targets.iter().filter(|target| target.is_some()).count() as u32
+        self.targets
+            .iter()
+            .filter(|target| target.is_some())
+            .count() as u32
     }
 
     /// How many old leaves are dropped.
     pub fn dropped(&self) -> u32
         ensures { result ≡ dropped_count self.now }
     {
-        self.targets.iter().filter(|target| target.is_none()).count() as u32
+        self.targets
+            .iter()
+            .filter(|target| target.is_none())
+            .count() as u32
     }
 
     /// How many new leaves take no other's place.
     pub fn fresh(&self) -> u32
         ensures { result ≡ fresh_count self.now }
     {
-        self.sources.iter().filter(|source| source.is_none()).count() as u32
+        self.sources
+            .iter()
+            .filter(|source| source.is_none())
+            .count() as u32
     }
 }

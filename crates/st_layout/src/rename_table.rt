@@ -79,9 +79,8 @@ impl<'a> RenameTable<'a> {
 fn names_hidden(renames: &[Rename]) -> bool
     ensures { result ≡ names_hidden renames.now }
 {
-    renames
-        .iter()
-        .any(|rename| has_dollar(rename.old.as_slice()) || has_dollar(rename.new.as_slice()))
+    renames.iter().any(|rename| has_dollar(rename.old.as_slice())
+        || has_dollar(rename.new.as_slice()))
 }
 
 /// Tests whether there is a `$`.

@@ -1,4 +1,4 @@
-use Rattle.std.proofs.Common.{refl, ℕ, ◌≡◌, ◌∙◌, Bool, List, is_some, length, map, take, sym, ap, arith}
+use Rattle.std.proofs.Common.{refl, ◌≡◌, ◌∙◌, is_some, take, sym, ap, arith}
 use Rattle.std.proofs.lemmas.List.{get_or_read, map_more}
 use Rattle.st_names.specs.Tables.{first_of}
 use Rattle.st_layout.specs.declared.renames.Rename.{Rename}

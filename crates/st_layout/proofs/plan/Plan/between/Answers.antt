@@ -1,5 +1,5 @@
-use Rattle.std.proofs.Common.{ℕ, ◌≡◌, ◌∙◌, List, Option, false, ap, arith}
-use Rattle.st_layout.specs.Pairs.{shares_target, sources_of, targets_of}
+use Rattle.std.proofs.Common.{◌≡◌, ◌∙◌, List, false, ap, arith}
+use Rattle.st_layout.specs.Pairs.{shares_target, targets_of}
 use Rattle.st_layout.specs.declared.renames.Rename.{Rename}
 use Rattle.st_layout.proofs.Pairings.{pairing_made}
 use Rattle.st_layout.proofs.plan.Plan.between.Goals as goal
