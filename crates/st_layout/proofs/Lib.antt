@@ -1,4 +1,13 @@
+pub mod Charts
 pub mod Contents
+pub mod Filled
+pub mod Fronts
+pub mod Longest
 pub mod Maps
+pub mod Pairings
+pub mod PairPaths
 pub mod Paths
 pub mod Places
+pub mod Renamed
+pub mod Spines
+pub mod Twice
