@@ -15,14 +15,10 @@ use Rattle.st_tree.specs.declared.leaf.Role.TheVariants.{StepActive, StepPulsed}
 use Rattle.st_leaves.specs.Sound.{IsValueOf}
 use Rattle.st_layout.specs.Layout.{leaf_at, no_leaf, no_value}
 use Rattle.st_layout.specs.Memory.{AreValues, Content, Fits, forced_at, value_at}
-use Rattle.st_layout.specs.Moves.{fresh_value, moved, moved_force, moved_value, truth}
+use Rattle.st_layout.specs.Moves.{fresh_value, moved, moved_force, moved_pair, moved_value, truth}
 use Rattle.st_layout.specs.Pairs.{IsPairing, Pairs, number_at}
 use Rattle.st_layout.proofs.Contents.{value_fits}
 use Rattle.st_layout.proofs.Pairings.{pair_of_source}
-
--- what becomes of a new leaf, with the leaf whose place it takes
-abbrev pub moved_pair : List (Option ℕ) → List Value → Leaf × Option ℕ → Value
-moved_pair sources values pair = moved_value sources values pair.0 pair.1
 
 pub length-pairs : (new : List Leaf) (sources : List (Option ℕ)) → length sources ≡ length new → length (zip new sources) ≡ length new
 length-pairs new sources count = omega (arith, length-zip new sources, count)

@@ -12,7 +12,7 @@ use Rattle.st_layout.specs.Moves.{moved, moved_force, saved, saved_forced, unmov
 use Rattle.st_layout.specs.Pairs.{number_at}
 use Rattle.st_layout.proofs.Moving.{length-moved_forced, moved_force_at}
 use Rattle.st_layout.proofs.Pairings.{pair_of_source, pair_of_target}
-use Rattle.st_layout.proofs.Returning.{force_back, length-unmoved_forced, unmoved_force_at}
+use Rattle.st_layout.proofs.GivenBack.{force_back, length-unmoved_forced, unmoved_force_at}
 
 -- a leaf that is forced stands in the list
 pub forced_within : (forced : List Bool) (i : ℕ) → forced_at forced i ≡ true → i < length forced

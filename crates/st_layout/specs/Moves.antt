@@ -1,5 +1,5 @@
 -- What an online change makes of what a memory holds, what it saves, and what gives the old content back.
-use Rattle.std.specs.Prelude.{ℕ, suc, pos, ◌≡◌, ◌≤◌, Bool, false, ◌&&◌, ◌==◌, if◌then◌else◌, List, [], ◌∷◌, ◌++◌, map, length, drop, Option, Some, None}
+use Rattle.std.specs.Prelude.{ℕ, suc, pos, ◌≡◌, ◌<◌, ◌≤◌, Bool, false, ◌&&◌, ◌==◌, if◌then◌else◌, List, [], ◌∷◌, ◌++◌, map, length, drop, Option, Some, None}
 use Rattle.std.specs.List.{list_any, zip}
 use Rattle.std.specs.Option.{is_some, option_map_or}
 use Rattle.std.specs.Ordering.{int_eq}
@@ -13,6 +13,10 @@ use Rattle.st_values.specs.declared.value.Value.{Value}
 use Rattle.st_tree.specs.declared.leaf.Leaf.{Leaf}
 use Rattle.st_tree.specs.declared.leaf.Role.{Role}
 use Rattle.st_tree.specs.declared.leaf.Role.TheVariants.{StepActive, StepPulsed}
+
+-- the numbers in the list are below this one
+abbrev pub AreBelow : List (Option ℕ) → ℕ → Type 0
+AreBelow numbers count = (i j : ℕ) → number_at numbers i ≡ Some j → j < count
 
 -- ---- what a change makes of a content
 
@@ -39,13 +43,16 @@ fresh_value sources values leaf _ = leaf.initial
 abbrev pub moved_value : List (Option ℕ) → List Value → Leaf → Option ℕ → Value
 moved_value sources values leaf source = option_map_or (value_at values) source (fresh_value sources values leaf leaf.role)
 
+abbrev pub moved_pair : List (Option ℕ) → List Value → Leaf × Option ℕ → Value
+moved_pair sources values pair = moved_value sources values pair.0 pair.1
+
 -- and is forced where that one was
 abbrev pub moved_force : List Bool → Option ℕ → Bool
 moved_force forced source = option_map_or (forced_at forced) source false
 
 unfoldable pub moved : List Leaf → Pairs → Content → Content
 moved new pairs content = record {
-  values = map (λ (pair : Leaf × Option ℕ). moved_value pairs.sources content.values pair.0 pair.1) (zip new pairs.sources);
+  values = map (moved_pair pairs.sources content.values) (zip new pairs.sources);
   forced = map (moved_force content.forced) pairs.sources;
 }
 

@@ -34,7 +34,7 @@ saved_rest : (leaf : Leaf) (value : Value) (rest : List ℕ) → IsValueOf leaf 
 saved_rest leaf value rest fits = drop_at (value_bytes value) rest (width_of leaf.elem) (width_of_saved leaf value fits)
 
 -- what is saved of values of the leaves' types holds such values
-pub saved_holds : (leaves : List Leaf) (targets : List (Option ℕ)) (values : List Value) → length targets ≡ length leaves → AreValues leaves values → HoldsValues leaves targets (saved_bytes targets values)
+saved_holds : (leaves : List Leaf) (targets : List (Option ℕ)) (values : List Value) → length targets ≡ length leaves → AreValues leaves values → HoldsValues leaves targets (saved_bytes targets values)
 saved_holds [] [] values count fit = refl
 saved_holds [] (target ∷ targets) [] count fit = refl
 saved_holds [] (target ∷ targets) (value ∷ values) count fit = absurd fit
@@ -162,6 +162,10 @@ module _ (old new : List Leaf) (pairs : Pairs) (pairing : IsPairing old new pair
   }
 
   module _ (content : Content) (fits : Fits old content) where
+    pub saved_content_holds : HoldsValues old pairs.targets (saved pairs content).bytes
+    unfolding saved
+    saved_content_holds = saved_holds old pairs.targets content.values pairing.targets fits.types
+
     -- a leaf that is kept has its value where it went
     kept_value : (i j : ℕ) → number_at pairs.targets i ≡ Some j → value_at (moved new pairs content).values j ≡ value_at content.values i
     kept_value i j is =
