@@ -43,12 +43,12 @@ fn carried_value(plan: &Plan, new: &Layout, values: &[Value], leaf: u32) -> Valu
 {
     match plan.source(leaf) {
         Some(source) => values[source as usize],
-        None => first_value(plan, new, values, new.at(leaf)),
+        None => fresh_value(plan, new, values, new.at(leaf)),
     }
 }
 
 /// The first value of a new leaf that takes no other's place.
-fn first_value(plan: &Plan, new: &Layout, values: &[Value], leaf: &Leaf) -> Value
+fn fresh_value(plan: &Plan, new: &Layout, values: &[Value], leaf: &Leaf) -> Value
     requires count { length plan.now.sources ≡ length new.now }
     requires below { AreBelow plan.now.sources (length values.now) }
     ensures { result ≡ fresh_value plan.now.sources values.now leaf.now leaf.now.role }
@@ -149,7 +149,7 @@ pub fn dropped_bytes(
 {
     let mut bytes = Vec::new(alloc);
     for leaf in 0..old.len() {
-        if plan.target(leaf).is_none() {
+        if is_dropped(plan, leaf) {
             push_value(&mut bytes, values[leaf as usize])?;
         }
     }
@@ -184,5 +184,13 @@ fn drops_force(plan: &Plan, forced: &[bool], leaf: u32) -> bool
     requires forced { leaf < length forced.now }
     ensures { result ≡ (forced_at forced.now leaf && is_none (number_at plan.now.targets leaf)) }
 {
-    forced[leaf as usize] && plan.target(leaf).is_none()
+    forced[leaf as usize] && is_dropped(plan, leaf)
+}
+
+/// Tests whether no new leaf takes the place of this old one.
+pub fn is_dropped(plan: &Plan, leaf: u32) -> bool
+    requires { leaf < length plan.now.targets }
+    ensures { result ≡ is_none (number_at plan.now.targets leaf) }
+{
+    plan.target(leaf).is_none()
 }

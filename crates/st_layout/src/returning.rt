@@ -5,6 +5,7 @@ ghost use Rattle.st_layout.specs.Moves.{AreBelow, HoldsValues, moved_force, unmo
 ghost use Rattle.st_layout.specs.Pairs.{number_at};
 
 use crate::bytes::{first_value, width};
+use crate::carrying::is_dropped;
 use crate::layout::Layout;
 use crate::plan::Plan;
 use st_values::Value;
@@ -56,7 +57,7 @@ pub fn returned_forces(
 {
     let mut returned = kept_forces(alloc, plan, old, forced)?;
     for number in numbers {
-        if is_dropped(plan, old, *number) {
+        if names_dropped(plan, old, *number) {
             returned[*number as usize] = true;
         }
     }
@@ -94,9 +95,9 @@ fn kept_force(plan: &Plan, forced: &[bool], leaf: u32) -> bool
 }
 
 /// Tests whether this is the number of a leaf that was dropped.
-fn is_dropped(plan: &Plan, old: &Layout, number: u32) -> bool
+fn names_dropped(plan: &Plan, old: &Layout, number: u32) -> bool
     requires { length plan.now.targets ≡ length old.now }
     ensures { result ≡ (nat_lt number (length old.now) && is_none (number_at plan.now.targets number)) }
 {
-    number < old.len() && plan.target(number).is_none()
+    number < old.len() && is_dropped(plan, number)
 }
