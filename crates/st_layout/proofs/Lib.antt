@@ -4,7 +4,7 @@ pub mod GivenBack
 pub mod Maps
 pub mod Moving
 pub mod OpenForces
-pub mod Pairings
+pub mod Paired
 pub mod Paths
 pub mod Places
 pub mod Saving

@@ -1,4 +1,4 @@
--- What a pairing says of the leaves of its pairs.
+-- What a pairing says of the two leaves of a pair.
 use Rattle.std.proofs.Common.{ℕ, zero, suc, ◌≡◌, ◌<◌, ◌&&◌, Bool, true, false, List, [], ◌∷◌, length, get_or, Option, Some, refl, sym, ◌∙◌, ap, arith}
 use Rattle.std.proofs.lemmas.Bool.{and_parts, eqb-true}
 use Rattle.std.specs.Cmp.Lexicographic.{pointwise}
