@@ -2,7 +2,7 @@
 use Rattle.std.proofs.Common.{inl, inr, ℕ, ◌≡◌, ◌≢◌, ◌+◌, ◌<◌, ◌≤◌, Bool, true, false, not, ◌&&◌, ◌||◌, ltb, List, [], ◌∷◌, suc, length, map, get_or, set, take, drop, Option, Some, None, refl, sym, ◌∙◌, ap, arith}
 use Rattle.std.specs.Char.{to_ascii_uppercase}
 use Rattle.std.specs.List.{list_any}
-use Rattle.std.proofs.lemmas.Bool.{and_left, and_right, both_ways, cases_eq, lt-ltb, or_right}
+use Rattle.std.proofs.lemmas.Bool.{and_right, both_ways, cases_eq, lt-ltb, or_right}
 use Rattle.std.proofs.lemmas.Bool.Decides.{nat_tests}
 use Rattle.std.proofs.lemmas.List.Folds.{list_any_more}
 use Rattle.std.proofs.lemmas.List.{get_or-map, get_or-set_other, get_or-set_same, length-map, length-take}
@@ -14,7 +14,7 @@ use Rattle.st_layout.specs.Pairs.{is_no_part, names_nothing}
 use Rattle.st_layout.specs.Parts.{AreFilled, IsFilledBy, is_filled, names_unfilled}
 use Rattle.st_layout.specs.Renames.{begins_part, is_in}
 use Rattle.st_layout.specs.declared.renames.Rename.{Rename}
-use Rattle.st_layout.proofs.Fronts.{IsFirst, ends_there, first-None, first-Some, first-same, front_of, in_front, is_in_below, looked_up, no_rename, raised_front, rename_at}
+use Rattle.st_layout.proofs.Fronts.{ends_there, first-None, first-Some, first-same, front_of, in_front, is_in_below, looked_up, no_rename, raised_front, rename_at}
 
 -- ---- one path
 

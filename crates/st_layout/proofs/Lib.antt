@@ -8,9 +8,9 @@ pub mod Longest
 pub mod Maps
 pub mod Moving
 pub mod OpenForces
-pub mod PairPaths
 pub mod Paired
 pub mod Pairings
+pub mod PairPaths
 pub mod Paths
 pub mod Places
 pub mod Renamed

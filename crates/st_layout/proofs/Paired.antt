@@ -1,5 +1,5 @@
 -- What a pairing says of the two leaves of a pair.
-use Rattle.std.proofs.Common.{ℕ, zero, suc, ◌≡◌, ◌<◌, ◌&&◌, Bool, true, false, List, [], ◌∷◌, length, get_or, Option, Some, refl, sym, ◌∙◌, ap, arith}
+use Rattle.std.proofs.Common.{ℕ, ◌≡◌, ◌<◌, ◌&&◌, Bool, true, false, List, [], ◌∷◌, length, get_or, Some, refl, sym, ◌∙◌, ap, arith}
 use Rattle.std.proofs.lemmas.Bool.{and_parts, eqb-true}
 use Rattle.std.specs.Cmp.Lexicographic.{pointwise}
 use Rattle.std.specs.Str.{bytes_eq}
@@ -10,12 +10,7 @@ use Rattle.st_tree.specs.declared.leaf.Leaf.{Leaf}
 use Rattle.st_layout.specs.Layout.{is_open, leaf_at}
 use Rattle.st_layout.specs.Moves.{AreBelow}
 use Rattle.st_layout.specs.Pairs.{IsPairing, Pairs, are_alike, are_both, number_at}
-
--- a number stands within its list
-pub number_within : (numbers : List (Option ℕ)) (i j : ℕ) → number_at numbers i ≡ Some j → i < length numbers
-number_within [] i j is = cc
-number_within (number ∷ numbers) zero j is = omega arith
-number_within (number ∷ numbers) (suc i) j is = let within = number_within numbers i j is in omega (arith, within)
+use Rattle.st_layout.proofs.Pairings.{number_within}
 
 elems_by_place : List Elem
 elems_by_place = elems.Bool ∷ elems.Sint ∷ elems.Int ∷ elems.Dint ∷ elems.Lint ∷ elems.Usint ∷ elems.Uint ∷ elems.Udint ∷ elems.Ulint ∷ elems.Byte ∷ elems.Word ∷ elems.Dword ∷ elems.Lword ∷ elems.Time ∷ []

@@ -63,6 +63,8 @@ PathsDetermineContent = (leaves : List Leaf) (content other : Content) → IsSou
     ((path : List ℕ) → value_of leaves content path ≡ value_of leaves other path) →
     ((path : List ℕ) → is_forced leaves content path ≡ is_forced leaves other path) → content ≡ other
 
+-- ---- which leaves an online change pairs
+
 -- Renames that are accepted pair the leaves one to one, and only leaves that are alike.
 abbrev pub PairsAreOneToOne : Type 0
 PairsAreOneToOne = (old new : List Leaf) (renames : List Rename) → is_pairable old new renames ≡ true → IsPairing old new (pairs_between old new renames)
