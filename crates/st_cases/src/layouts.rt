@@ -155,7 +155,23 @@ END_PROGRAM
 21 8 TIME Main.S2.T
 29 8 TIME Main.S2.$M
 37 1 BOOL Main.B.$S
-38 1 BOOL Main.A.$S";
+38 1 BOOL Main.A.$S
+# a function's variables have no leaves, and a program that isn't run has none
+FUNCTION Sq : INT VAR_INPUT X : INT; END_VAR VAR Y : DINT; END_VAR Sq := X * X; END_FUNCTION
+PROGRAM Other VAR Z : INT; END_VAR END_PROGRAM
+PROGRAM Main VAR A : INT; T1 : TP; END_VAR
+T1(IN := TRUE, PT := T#0ms);
+A := Sq(3);
+IF T1.Q THEN A := A + 1; END_IF; END_PROGRAM
+=
+0 2 INT Main.A
+2 1 BOOL Main.T1.IN
+3 8 TIME Main.T1.PT
+11 1 BOOL Main.T1.Q
+12 8 TIME Main.T1.ET
+20 1 BOOL Main.T1.$M
+21 1 BOOL Main.T1.$RUN
+22 8 TIME Main.T1.$START";
 
 /// Programs whose statements are not run, and what an operator does with their leaves.
 const SESSIONS: &[u8] =
@@ -243,7 +259,33 @@ END_PROGRAM
 ? write Main.Lamp.$S TRUE
 = refused O2
 ? write Main.Lamp TRUE
-= ok";
+= ok
+# outputs of an instance, and of one in it, are written, forced and undone as all others
+FUNCTION_BLOCK Valve VAR_INPUT Open : BOOL; END_VAR VAR_OUTPUT Travel : TIME := T#2s; END_VAR VAR Run : TON; END_VAR
+Run(IN := Open, PT := T#1s); END_FUNCTION_BLOCK
+PROGRAM Main VAR Left, Right : Valve; END_VAR Left(Open := TRUE); END_PROGRAM
+? write Main.Right.Travel T#3s
+= ok
+? force main.right.run.q TRUE
+= ok
+? write Main.Right.Run.Q FALSE
+= refused O4
+? show Main.Right.Run.Q
+= Main.Right.Run.Q = TRUE forced
+? show Main.Left.Travel
+= Main.Left.Travel = T#2000ms
+? status
+= running 0 forces 1 undo 2
+? undo
+= ok
+? show Main.Right.Run.Q
+= Main.Right.Run.Q = FALSE
+? undo
+= ok
+? show Main.Right.Travel
+= Main.Right.Travel = T#2000ms
+? undo
+= refused O7";
 
 /// A case as it is read so far.
 #[derive(Drop)]
@@ -335,7 +377,7 @@ fn status_of(replies: &[u8]) -> u8 {
 #[test]
 fn leaves_are_listed(rt: HostRuntime) -> Result<(), Fail> {
     let cases = cases_of(rt.alloc(), LAYOUTS)?;
-    assert_eq!(rt; cases.len(), 10);
+    assert_eq!(rt; cases.len(), 11);
     for case in &cases {
         let told = lay_out(rt.alloc(), &case.program)?;
         assert_eq!(rt; told.written.as_slice(), case.wanted.as_slice());
@@ -347,7 +389,7 @@ fn leaves_are_listed(rt: HostRuntime) -> Result<(), Fail> {
 #[test]
 fn leaves_are_shown_written_and_forced(rt: HostRuntime) -> Result<(), Fail> {
     let cases = cases_of(rt.alloc(), SESSIONS)?;
-    assert_eq!(rt; cases.len(), 3);
+    assert_eq!(rt; cases.len(), 4);
     for case in &cases {
         let ran = run(rt.alloc(), &case.program, &case.session, 4096)?;
         assert_eq!(rt; ran.written.as_slice(), case.wanted.as_slice());
