@@ -23,3 +23,5 @@ mod memory;
 mod refused_texts;
 #[cfg(test)]
 mod running;
+#[cfg(test)]
+mod tables;
