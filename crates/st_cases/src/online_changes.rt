@@ -1,7 +1,12 @@
 //! Online changes, and their undo, in sessions.
 use crate::running::{FIRST, run};
 use crate::tables::{cases_of, status_of};
+use st_control::{Controller, Refusal};
+use st_layout::{Cells, Rename};
 use st_session::LINE_REFUSED;
+use st_tree::List;
+use st_values::{Elem, Value};
+use std::alloc::{AllocError, Global};
 use std::test::Fail;
 
 /// Sessions in which the program is replaced, and what is replied.
@@ -515,4 +520,110 @@ fn refused_changes_leave_everything(rt: HostRuntime) -> Result<(), Fail> {
     assert_eq!(rt; ran.written.as_slice(), written.as_slice());
     assert_eq!(rt; ran.status, LINE_REFUSED);
     Ok(())
+}
+
+/// A program whose change drops, keeps and adds leaves.
+const BEFORE: &[u8] = b"PROGRAM Main VAR A : INT := 3; B : BOOL; C : DINT := 4; END_VAR END_PROGRAM";
+
+const AFTER: &[u8] = b"PROGRAM Main VAR X : INT; B : BOOL; C : INT; D : TIME; END_VAR END_PROGRAM";
+
+/// The number of a value, and whether it is forced; nothing where there is no such leaf.
+fn number_at(controller: &Controller<Cells>, path: &[u8]) -> Option<(i128, bool)> {
+    match controller.get(path) {
+        Ok((value, forced)) => Some((value.bits, forced)),
+        Err(_) => None,
+    }
+}
+
+/// Whether the first program stands, as the commands before the change left it.
+fn is_as_before(controller: &Controller<Cells>) -> bool {
+    number_at(controller, b"Main.A") == Some((9, true))
+        && number_at(controller, b"Main.B") == Some((0, false))
+        && number_at(controller, b"Main.C") == Some((5, true))
+        && number_at(controller, b"Main.X").is_none()
+        && controller.status().undo == 2
+}
+
+/// Whether the second program stands, as the change left it.
+fn is_changed(controller: &Controller<Cells>) -> bool {
+    number_at(controller, b"Main.X") == Some((9, true))
+        && number_at(controller, b"Main.B") == Some((0, false))
+        && number_at(controller, b"Main.C") == Some((0, false))
+        && number_at(controller, b"Main.A").is_none()
+        && controller.status().undo == 3
+}
+
+/// The rename of A to X, if there is memory for it.
+fn renames_of_a(alloc: Global) -> Result<Vec<Rename>, AllocError> {
+    let mut renames = Vec::new(alloc);
+    renames.push(Rename {
+        old: List::from_slice(alloc, b"Main.A")?,
+        new: List::from_slice(alloc, b"main.x")?,
+    })?;
+    Ok(renames)
+}
+
+/// A change that is refused for want of memory leaves everything, and can be tried again.
+fn change_twice(rt: &HostRuntime, controller: &mut Controller<Cells>) -> bool {
+    let alloc = rt.alloc();
+    for _ in 0..2 {
+        let Ok(renames) = renames_of_a(alloc) else {
+            continue;
+        };
+        match controller.change_named(alloc, AFTER, renames) {
+            Ok(counts) => {
+                assert_eq!(rt; (counts.kept, counts.dropped, counts.fresh), (2, 1, 2));
+                return true;
+            }
+            Err(refusal) => {
+                assert_eq!(rt; refusal, Refusal::M);
+                assert!(rt; is_as_before(controller));
+            }
+        }
+    }
+    false
+}
+
+/// An undo of a change that is refused for want of memory leaves everything, and can be tried again.
+fn undo_twice(rt: &HostRuntime, controller: &mut Controller<Cells>) -> bool {
+    for _ in 0..2 {
+        match controller.undo(rt.alloc()) {
+            Ok(()) => return true,
+            Err(refusal) => {
+                assert_eq!(rt; refusal, Refusal::M);
+                assert!(rt; is_changed(controller));
+            }
+        }
+    }
+    false
+}
+
+/// `tools/refuse-allocations` refuses each allocation of this test in turn.
+#[test]
+fn refused_memory(rt: HostRuntime) {
+    let loaded: Result<Controller<Cells>, Refusal> = Controller::load(
+        rt.alloc(),
+        BEFORE,
+        b"Main",
+        1,
+    );
+    let Ok(mut controller) = loaded else {
+        assert!(rt; matches!(loaded.err(), Some(Refusal::M)));
+        return;
+    };
+    let nine = Value {
+        elem: Elem::Int,
+        bits: 9,
+    };
+    let five = Value {
+        elem: Elem::Dint,
+        bits: 5,
+    };
+    assert!(rt; controller.force(b"Main.A", nine).is_ok());
+    assert!(rt; controller.force(b"Main.C", five).is_ok());
+    assert!(rt; is_as_before(&controller));
+    assert!(rt; change_twice(&rt, &mut controller));
+    assert!(rt; is_changed(&controller));
+    assert!(rt; undo_twice(&rt, &mut controller));
+    assert!(rt; is_as_before(&controller));
 }
