@@ -155,7 +155,58 @@ END_PROGRAM
 21 8 TIME Main.S2.T
 29 8 TIME Main.S2.$M
 37 1 BOOL Main.B.$S
-38 1 BOOL Main.A.$S";
+38 1 BOOL Main.A.$S
+# stored names as their variables and actions are declared, however an association spells them
+PROGRAM Main VAR Lamp : BOOL; END_VAR
+INITIAL_STEP S1: HORN(S); LAMP(S); END_STEP
+STEP S2: lamp(S); horn(R); bELL(s); END_STEP
+TRANSITION FROM S1 TO S2 := TRUE; END_TRANSITION
+ACTION Horn: Lamp := FALSE; END_ACTION
+ACTION Bell: Lamp := TRUE; END_ACTION
+END_PROGRAM
+=
+0 1 BOOL Main.Lamp
+1 1 BOOL Main.$CHART
+2 1 BOOL Main.S1.X
+3 8 TIME Main.S1.T
+11 8 TIME Main.S1.$M
+19 1 BOOL Main.S2.X
+20 8 TIME Main.S2.T
+28 8 TIME Main.S2.$M
+36 1 BOOL Main.Horn.$S
+37 1 BOOL Main.Lamp.$S
+38 1 BOOL Main.Bell.$S
+# those of an instance as its function block declares them, behind a constant and a unit that stores nothing
+TYPE T : INT; END_TYPE
+FUNCTION_BLOCK Gate VAR CONSTANT K : BOOL := TRUE; END_VAR VAR_OUTPUT Open : BOOL; END_VAR
+INITIAL_STEP S1: SHUT(S); OPEN(S); END_STEP
+ACTION Shut: OPEN := FALSE; END_ACTION
+END_FUNCTION_BLOCK
+PROGRAM Main VAR open : BOOL; G, H : GATE; shut : BOOL; END_VAR
+INITIAL_STEP S1: Open(S); END_STEP
+END_PROGRAM
+=
+0 1 BOOL Main.open
+1 1 BOOL Main.G.Open
+2 1 BOOL Main.G.$CHART
+3 1 BOOL Main.G.S1.X
+4 8 TIME Main.G.S1.T
+12 8 TIME Main.G.S1.$M
+20 1 BOOL Main.G.Shut.$S
+21 1 BOOL Main.G.Open.$S
+22 1 BOOL Main.H.Open
+23 1 BOOL Main.H.$CHART
+24 1 BOOL Main.H.S1.X
+25 8 TIME Main.H.S1.T
+33 8 TIME Main.H.S1.$M
+41 1 BOOL Main.H.Shut.$S
+42 1 BOOL Main.H.Open.$S
+43 1 BOOL Main.shut
+44 1 BOOL Main.$CHART
+45 1 BOOL Main.S1.X
+46 8 TIME Main.S1.T
+54 8 TIME Main.S1.$M
+62 1 BOOL Main.open.$S";
 
 /// Programs whose statements are not run, and what an operator does with their leaves.
 const SESSIONS: &[u8] =
@@ -214,7 +265,7 @@ PROGRAM Main VAR R : ARRAY [1..2] OF INT; END_VAR VAR CONSTANT K : INT := 1; END
 = refused O1
 # what a block and a chart keep for themselves is shown, and not written
 PROGRAM Main VAR T1 : TON; Lamp : BOOL; END_VAR
-INITIAL_STEP S1: Lamp(S); END_STEP
+INITIAL_STEP S1: LAMP(S); END_STEP
 STEP S2: Lamp(P); END_STEP
 TRANSITION FROM S1 TO S2 := TRUE; END_TRANSITION
 END_PROGRAM
@@ -240,6 +291,8 @@ END_PROGRAM
 = refused O2
 ? write Main.S2.$P TRUE
 = refused O2
+? show main.LAMP.$s
+= Main.Lamp.$S = FALSE
 ? write Main.Lamp.$S TRUE
 = refused O2
 ? write Main.Lamp TRUE
@@ -335,7 +388,7 @@ fn status_of(replies: &[u8]) -> u8 {
 #[test]
 fn leaves_are_listed(rt: HostRuntime) -> Result<(), Fail> {
     let cases = cases_of(rt.alloc(), LAYOUTS)?;
-    assert_eq!(rt; cases.len(), 10);
+    assert_eq!(rt; cases.len(), 12);
     for case in &cases {
         let told = lay_out(rt.alloc(), &case.program)?;
         assert_eq!(rt; told.written.as_slice(), case.wanted.as_slice());

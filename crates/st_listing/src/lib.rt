@@ -9,6 +9,8 @@ mod leaves;
 mod listing;
 mod program;
 mod rows;
+mod spellings;
+mod stored;
 mod subscripts;
 mod values;
 mod walk;

@@ -4,7 +4,7 @@ ghost use Rattle.st_leaves.specs.LeavesIn.{leaves_of_whole};
 ghost use Rattle.st_listing.specs.Listings.{AreWays, listed};
 ghost use Rattle.st_listing.specs.Walks.{IsWalk, units_in, variable_leaves};
 ghost use Rattle.st_listing.specs.Kinds.{is_input};
-ghost use Rattle.st_types.specs.Compositions.{composition_of};
+ghost use Rattle.st_types.specs.Compositions.{composition_of, is_constant};
 ghost use Rattle.st_types.specs.Names.{Named, unit_at};
 
 use crate::listing::Listing;
@@ -24,9 +24,11 @@ impl<'a, 't> Walk<'a, 't> {
         ensures ways { (u : Named) → unit_at (units_in self.entry) unit ≡ Some u → OnOk result (AreWays (leaves_of_whole (composition_of (units_in self.entry) u.declares))) }
     {
         let program = self.tables.unit(unit);
+        let elements = chart_of(program.kind);
+        let stored = self.stored[unit].as_slice();
         let depth = self.tables.units().len() + 1;
         self.list_variables(depth, self.rows[unit].as_slice(), listing)?;
-        listing.list_chart(self.alloc, b"PROGRAM", chart_of(program.kind))
+        listing.list_chart(self.alloc, b"PROGRAM", elements, stored)
     }
 
     /// Lists variables of the program, in order.
@@ -71,6 +73,13 @@ impl<'a, 't> Walk<'a, 't> {
         listing.leave(mark);
         Ok(())
     }
+}
+
+/// Whether a declared name is a constant.
+pub(crate) fn is_constant(kind: VarKind) -> bool
+    ensures { result ≡ is_constant kind }
+{
+    matches!(kind, VarKind::Constant)
 }
 
 /// Whether a declared name is an input.

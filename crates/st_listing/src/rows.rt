@@ -11,6 +11,7 @@ ghost use Rattle.st_types.specs.Names.{declared_in, units_of, variables_of};
 ghost use Rattle.st_types.specs.Types.{type_at};
 
 use crate::empty::is_empty;
+use crate::program::is_constant;
 use st_initials::{Written, written};
 use st_scopes::Tables;
 use st_sizes::Size;
@@ -201,13 +202,6 @@ impl<'a, 't> Sieve<'a, 't> {
         }
         add_names(self.alloc, kind, declaration, rows)
     }
-}
-
-/// Whether a declared name is a constant.
-fn is_constant(kind: VarKind) -> bool
-    ensures { result ≡ is_constant kind }
-{
-    matches!(kind, VarKind::Constant)
 }
 
 /// Adds all names of a declaration.

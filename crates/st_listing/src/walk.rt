@@ -20,8 +20,8 @@ use crate::subscripts::Subscripts;
 use crate::values::started_value;
 use st_initials::{FirstValues, Initials, Written};
 use st_scopes::Tables;
-use st_tree::List;
 use st_tree::tree::{Body, ChartElement, Constant, Subrange};
+use st_tree::{List, Word};
 use st_types::{Base, UnitKind};
 use std::alloc::{AllocError, Global};
 
@@ -45,6 +45,8 @@ pub(crate) struct Walk<'a, 't> {
     pub names: &'t [List<u8>],
     /// The declared names that are listed, by the numbers of the units.
     pub rows: &'t [List<Row<'a>>],
+    /// The names that the charts of the units store.
+    pub stored: &'t [Vec<&'a Word>],
 }
 
 impl<'a, 't> Walk<'a, 't> {
@@ -168,9 +170,10 @@ impl<'a, 't> Walk<'a, 't> {
             return Ok(());
         }
         let name = self.names[unit].as_slice();
+        let stored = self.stored[unit].as_slice();
         let elements = chart_of(self.tables.unit(unit).kind);
         self.list_members(depth, name, self.rows[unit].as_slice(), listing)?;
-        listing.list_chart(self.alloc, name, elements)
+        listing.list_chart(self.alloc, name, elements, stored)
     }
 
     /// Lists members of a whole of that name, in order.
