@@ -1,5 +1,6 @@
 pub mod Causes
 pub mod ChangeSteps
+pub mod Charts
 pub mod Histories
 pub mod Names
 pub mod OnePath

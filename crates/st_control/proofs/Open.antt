@@ -2,8 +2,9 @@
 use Rattle.std.proofs.Common.{ℕ, ◌≡◌, Bool, true, false, inl, inr, List, zero, suc, length, set, replicate, pos, subst, sym, ◌∙◌, arith}
 use Rattle.std.proofs.lemmas.Bool.Decides.{eqb_tells}
 use Rattle.std.proofs.lemmas.List.{get_or-set_other}
-use Rattle.st_control.specs.States.{ForcesAreOpen, IsMoment, IsOpenAt}
-use Rattle.st_layout.specs.Memory.{forced_at}
+use Rattle.st_control.specs.States.{IsMoment}
+use Rattle.st_layout.specs.Layout.{IsOpenAt}
+use Rattle.st_layout.specs.Memory.{ForcesAreOpen, forced_at}
 use Rattle.st_tree.specs.declared.leaf.Leaf.{Leaf}
 
 -- an open leaf may be forced or let go

@@ -8,14 +8,14 @@ use Rattle.st_control.specs.Controllers.{force_record, leaf_at_path, release_rec
 use Rattle.st_control.specs.Laws.{RecordFits, RecordUndoesCommand, StepsKeepWhole}
 use Rattle.st_control.specs.Machine.{force_causes, is_value_of, leaf_to_force}
 use Rattle.st_control.specs.Machine.Command.{change, force, release, write}
-use Rattle.st_control.specs.States.{FitsRecord, IsOpenAt, IsWhole, StateView, forced, leaf_of, leaves_of, released, undone, written}
+use Rattle.st_control.specs.States.{FitsRecord, IsWhole, StateView, forced, leaf_of, leaves_of, released, undone, written}
 use Rattle.st_control.specs.declared.record.Record.TheVariants.{Force, Release, Write}
 use Rattle.st_control.proofs.OnePath.{force_accepts, found_at, release_accepts, write_accepts}
 use Rattle.st_control.proofs.Open.{mark_keeps_open}
 use Rattle.st_control.proofs.Undone.{undone_forced, undone_released, undone_written}
 use Rattle.st_layout.proofs.Contents.{value_fits, with_value_fits}
 use Rattle.st_layout.proofs.Paths.{number-Some}
-use Rattle.st_layout.specs.Layout.{IsValueAt, is_open, leaf_at}
+use Rattle.st_layout.specs.Layout.{IsOpenAt, IsValueAt, is_open, leaf_at}
 use Rattle.st_layout.specs.Memory.{forced_at, value_at}
 use Rattle.st_tree.specs.declared.leaf.Leaf.{Leaf}
 use Rattle.st_values.specs.Types.{is_same, place_of}

@@ -1,4 +1,14 @@
-//! Online changes.
+//! Online changes: their renames in upper case, their counts, the charts that they would stop, and what they make of a state.
+ghost use Rattle.std.specs.Prelude.{◌≡◌, ◌<◌, ◌&&◌, ◌||◌, ℕ, IfOk, false, length, not, replicate};
+ghost use Rattle.st_control.specs.Changes.{AreMarks, active_chart, counts_of_pairs, is_chart, is_kept, loses_active_step, mark_at, raised_renames};
+ghost use Rattle.st_layout.specs.Layout.{leaf_at};
+ghost use Rattle.st_layout.specs.Pairs.{is_number};
+ghost use Rattle.st_values.specs.Words.{raised};
+
+
+use st_layout::{Layout, Memory, Plan, Rename};
+use st_tree::{List, Role};
+use std::alloc::{AllocError, Global};
 
 /// What an online change kept, dropped and added.
 #[derive(Clone, Copy, Debug, PartialEq, Eq)]
@@ -9,4 +19,119 @@ pub struct Counts {
     pub dropped: u32,
     /// How many leaves of the new program took no other's place.
     pub fresh: u32,
+}
+
+impl Counts {
+    /// The counts of a plan.
+    pub(crate) fn of(plan: &Plan) -> Counts
+        ensures { result ≡ counts_of_pairs plan.now }
+    {
+        Counts {
+            kept: plan.kept(),
+            dropped: plan.dropped(),
+            fresh: plan.fresh(),
+        }
+    }
+}
+
+/// Puts the paths of renames in upper case.
+pub(crate) fn raise_renames(renames: &mut [Rename])
+    ensures { renames.new ≡ raised_renames renames.old }
+{
+    for rename in renames.iter_mut() {
+        raise(&mut rename.old);
+        raise(&mut rename.new);
+    }
+}
+
+/// Puts a text in upper case.
+fn raise(text: &mut List<u8>)
+    ensures { text.new ≡ raised text.old }
+{
+    text.items.as_mut_slice().make_ascii_uppercase();
+}
+
+/// Tests whether a chart is kept that would keep no active step.
+pub(crate) fn loses_active_step<M: Memory>(alloc: Global, memory: &M, old: &Layout, plan: &Plan) -> Result<bool, AllocError>
+    requires over { M.IsOver old.now memory.now }
+    requires targets { length plan.now.targets ≡ length old.now }
+    ensures { IfOk result (λ loses. loses ≡ loses_active_step old.now plan.now.targets (M.content old.now memory.now).values) }
+{
+    let keeps = charts_with_steps(alloc, memory, old, plan)?;
+    for leaf in 0..old.len() {
+        if stops(old, plan, &keeps, leaf) {
+            return Ok(true);
+        }
+    }
+    Ok(false)
+}
+
+/// Tests whether this old leaf is the `$CHART` of a chart that is kept and isn't marked.
+fn stops(old: &Layout, plan: &Plan, keeps: &[bool], leaf: u32) -> bool
+    requires below { leaf < length old.now }
+    requires targets { length plan.now.targets ≡ length old.now }
+    requires marks { length keeps.now ≡ length old.now }
+    ensures { result ≡ (is_kept plan.now.targets leaf && (is_chart (leaf_at old.now leaf).role && not (mark_at keeps.now leaf))) }
+{
+    plan.target(leaf).is_some() && is_chart(old.at(leaf).role) && !keeps[leaf as usize]
+}
+
+/// A mark for each old leaf: whether it is the `$CHART` of a chart that keeps an active step.
+fn charts_with_steps<M: Memory>(alloc: Global, memory: &M, old: &Layout, plan: &Plan) -> Result<Vec<bool>, AllocError>
+    requires over { M.IsOver old.now memory.now }
+    requires targets { length plan.now.targets ≡ length old.now }
+    ensures { IfOk result (λ keeps. AreMarks old.now plan.now.targets (M.content old.now memory.now).values (length old.now) keeps.items) }
+{
+    let mut keeps = no_marks(alloc, old.len())?;
+    for leaf in 0..old.len() {
+        let chart = active_chart(memory, old, plan, leaf);
+        set_mark(&mut keeps, chart);
+    }
+    Ok(keeps)
+}
+
+/// So many marks, none of them set.
+fn no_marks(alloc: Global, count: u32) -> Result<Vec<bool>, AllocError>
+    ensures { IfOk result (λ marks. marks.items ≡ replicate count false) }
+{
+    let mut marks = Vec::new(alloc);
+    for _mark in 0..count {
+        marks.push(false)?;
+    }
+    Ok(marks)
+}
+
+/// Sets the mark of this number, if there is one.
+fn set_mark(marks: &mut [bool], number: Option<u32>)
+    ensures { (k : ℕ) → k < length marks.old → mark_at marks.new k ≡ (mark_at marks.old k || is_number k number) }
+{
+    if let Some(number) = number {
+        let place = number as usize;
+        if place < marks.len() {
+            marks[place] = true;
+        }
+    }
+}
+
+/// The number of the `$CHART` of the chart of this step, where the step is kept and active.
+fn active_chart<M: Memory>(memory: &M, old: &Layout, plan: &Plan, leaf: u32) -> Option<u32>
+    requires over { M.IsOver old.now memory.now }
+    requires below { leaf < length old.now }
+    requires targets { length plan.now.targets ≡ length old.now }
+    ensures { result ≡ active_chart old.now plan.now.targets (M.content old.now memory.now).values leaf }
+{
+    if plan.target(leaf).is_none() {
+        return None;
+    }
+    match old.at(leaf).role {
+        Role::StepActive { begun } if memory.get(old, leaf).bits == 1 => Some(begun),
+        _ => None,
+    }
+}
+
+/// Tests whether a leaf of this role tells whether a chart has begun.
+fn is_chart(role: Role) -> bool
+    ensures { result ≡ is_chart role }
+{
+    matches!(role, Role::ChartBegun)
 }
