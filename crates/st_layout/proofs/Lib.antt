@@ -1,11 +1,12 @@
 pub mod ByPath
 pub mod Contents
+pub mod GivenBack
 pub mod Maps
 pub mod Moving
 pub mod OpenForces
 pub mod Pairings
 pub mod Paths
 pub mod Places
-pub mod Returning
 pub mod Saving
+pub mod Steps
 pub mod ValueBytes

@@ -8,6 +8,7 @@ use Rattle.st_values.specs.declared.elem.Elem.{Elem}
 use Rattle.st_values.specs.declared.elem.Elem.TheVariants as elems
 use Rattle.st_tree.specs.declared.leaf.Leaf.{Leaf}
 use Rattle.st_layout.specs.Layout.{is_open, leaf_at}
+use Rattle.st_layout.specs.Moves.{AreBelow}
 use Rattle.st_layout.specs.Pairs.{IsPairing, Pairs, are_alike, are_both, number_at}
 
 -- a number stands within its list
@@ -83,3 +84,10 @@ module _ (old new : List Leaf) (pairs : Pairs) (pairing : IsPairing old new pair
 
   pub pair_of_source : (i j : ℕ) → number_at pairs.sources j ≡ Some i → IsPair old new pairs i j
   pair_of_source i j source = pair_of_target i j ((pairing.one_to_one i j).1 source)
+
+-- a target is the number of a new leaf, and a source that of an old one
+pub targets_below : (old new : List Leaf) (pairs : Pairs) (count : ℕ) → IsPairing old new pairs → count ≡ length new → AreBelow pairs.targets count
+targets_below old new pairs count pairing same i j target = omega (arith, (pair_of_target old new pairs pairing i j target).new_below, same)
+
+pub sources_below : (old new : List Leaf) (pairs : Pairs) (count : ℕ) → IsPairing old new pairs → count ≡ length old → AreBelow pairs.sources count
+sources_below old new pairs count pairing same j i source = omega (arith, (pair_of_source old new pairs pairing i j source).old_below, same)

@@ -2,12 +2,14 @@
 #![tactic(auto)]
 
 mod bytes;
+mod carrying;
 mod cells;
 mod laws;
 mod layout;
 mod memory;
 mod plan;
 mod renames;
+mod returning;
 mod saved;
 mod table;
 
@@ -17,7 +19,7 @@ pub use laws::{
     forces_stay_open, places_follow,
 };
 pub use layout::Layout;
-pub use memory::Memory;
+pub use memory::{Memory, carry_over};
 pub use plan::Plan;
 pub use renames::Rename;
 pub use saved::Saved;
