@@ -1,5 +1,5 @@
 -- Charts of which no active step is kept.
-use Rattle.std.proofs.Common.{ℕ, ◌≡◌, ◌+◌, ◌<◌, ◌&&◌, ◌||◌, Bool, true, false, not, List, [], ◌∷◌, ◌++◌, length, get_or, map, Option, refl, sym, ◌∙◌, ap, arith, zero-add}
+use Rattle.std.proofs.Common.{ℕ, ◌≡◌, ◌+◌, ◌<◌, ◌&&◌, ◌||◌, Bool, true, false, not, List, [], ◌∷◌, length, map, Option, refl, sym, ◌∙◌, ap, arith, zero-add}
 use Rattle.std.specs.List.{list_any, range_with_len}
 use Rattle.std.proofs.lemmas.List.Folds.{list_any-append, list_any_at}
 use Rattle.std.proofs.lemmas.List.FromFn.{get_or-range_with_len, length-range_with_len, map-range_with_len_more}
@@ -36,10 +36,12 @@ module _ (old : List Leaf) (targets : List (Option ℕ)) (values : List Value) w
         ∙ sym (any_more (λ i. is_number k (active_chart old targets values i)) n);
   }
 
-  -- a leaf that stops its chart, as the marks say
-  pub stops_by_marks : (keeps : List Bool) (i : ℕ) → AreMarks old targets values (length old) keeps → i < length old
-      → (is_kept targets i && (is_chart (leaf_at old i).role && not (mark_at keeps i))) ≡ stops old targets values i
-  stops_by_marks keeps i are below = ap (λ (keeping : Bool). is_kept targets i && (is_chart (leaf_at old i).role && not keeping)) (are.marked i below)
+  -- whether a leaf stops its chart, as the marks tell it
+  pub stops_told : (keeps marks : List Bool) (i : ℕ) (told : Bool) → marks ≡ keeps → AreMarks old targets values (length old) keeps → i < length old
+      → told ≡ (is_kept targets i && (is_chart (leaf_at old i).role && not (mark_at marks i))) → stops old targets values i ≡ told
+  stops_told keeps marks i told same are below is =
+      let test : Bool → Bool = λ keeping. is_kept targets i && (is_chart (leaf_at old i).role && not keeping) in
+      sym (is ∙ ap (λ (them : List Bool). test (mark_at them i)) same ∙ ap test (are.marked i below))
 
   -- one is enough
   pub stops_one : (i : ℕ) → i < length old → stops old targets values i ≡ true → loses_active_step old targets values ≡ true

@@ -1,5 +1,5 @@
 -- The state of a controller, and what commands make of it.
-use Rattle.std.specs.Prelude.{ℕ, ℤ, pos, ◌≡◌, ◌<◌, ◌≤ℤ◌, ◌^◌, Bool, true, false, List, Option, length}
+use Rattle.std.specs.Prelude.{ℕ, ℤ, pos, ◌≡◌, ◌<◌, ◌≤ℤ◌, ◌^◌, true, false, List, Option, length}
 use Rattle.std.specs.List.{All}
 use Rattle.st_check.specs.Programs.{ProgramView, leaves_of_program}
 use Rattle.st_control.specs.declared.record.Record.{Record}

@@ -5,7 +5,6 @@ ghost use Rattle.st_layout.specs.Layout.{leaf_at};
 ghost use Rattle.st_layout.specs.Pairs.{is_number};
 ghost use Rattle.st_values.specs.Words.{raised};
 
-
 use st_layout::{Layout, Memory, Plan, Rename};
 use st_tree::{List, Role};
 use std::alloc::{AllocError, Global};
@@ -52,7 +51,12 @@ fn raise(text: &mut List<u8>)
 }
 
 /// Tests whether a chart is kept that would keep no active step.
-pub(crate) fn loses_active_step<M: Memory>(alloc: Global, memory: &M, old: &Layout, plan: &Plan) -> Result<bool, AllocError>
+pub(crate) fn loses_active_step<M: Memory>(
+    alloc: Global,
+    memory: &M,
+    old: &Layout,
+    plan: &Plan,
+) -> Result<bool, AllocError>
     requires over { M.IsOver old.now memory.now }
     requires targets { length plan.now.targets ≡ length old.now }
     ensures { IfOk result (λ loses. loses ≡ loses_active_step old.now plan.now.targets (M.content old.now memory.now).values) }
@@ -77,7 +81,12 @@ fn stops(old: &Layout, plan: &Plan, keeps: &[bool], leaf: u32) -> bool
 }
 
 /// A mark for each old leaf: whether it is the `$CHART` of a chart that keeps an active step.
-fn charts_with_steps<M: Memory>(alloc: Global, memory: &M, old: &Layout, plan: &Plan) -> Result<Vec<bool>, AllocError>
+fn charts_with_steps<M: Memory>(
+    alloc: Global,
+    memory: &M,
+    old: &Layout,
+    plan: &Plan,
+) -> Result<Vec<bool>, AllocError>
     requires over { M.IsOver old.now memory.now }
     requires targets { length plan.now.targets ≡ length old.now }
     ensures { IfOk result (λ keeps. AreMarks old.now plan.now.targets (M.content old.now memory.now).values (length old.now) keeps.items) }
@@ -102,8 +111,9 @@ fn no_marks(alloc: Global, count: u32) -> Result<Vec<bool>, AllocError>
 }
 
 /// Sets the mark of this number, if there is one.
-fn set_mark(marks: &mut [bool], number: Option<u32>)
-    ensures { (k : ℕ) → k < length marks.old → mark_at marks.new k ≡ (mark_at marks.old k || is_number k number) }
+fn set_mark(marks: &mut Vec<bool>, number: Option<u32>)
+    ensures long { length marks.new.items ≡ length marks.old.items }
+    ensures marks { (k : ℕ) → k < length marks.old.items → mark_at marks.new.items k ≡ (mark_at marks.old.items k || is_number k number) }
 {
     if let Some(number) = number {
         let place = number as usize;

@@ -221,7 +221,12 @@ impl<M: Memory> Controller<M> {
     /// Refused as `check_program` refuses the text, O6 where the undo list is full, O13 where the renames give no pairs, O8
     /// where a chart that both programs have would keep no active step, and for want of memory. What is refused keeps nothing
     /// that it made.
-    pub fn change_named(&mut self, alloc: Global, text: &[u8], renames: Vec<Rename>) -> Result<Counts, Refusal>
+    pub fn change_named(
+        &mut self,
+        alloc: Global,
+        text: &[u8],
+        renames: Vec<Rename>,
+    ) -> Result<Counts, Refusal>
         ensures step { TakesChange text.now renames.items self.old result self.new }
         ensures counts { IfOk result (λ counts. counts ≡ counts_of self.old.state renames.items self.new.state.program) }
         ensures record { OnOk result (Keeps self.old self.new (change_record self.old.state renames.items self.new.state.program)) }

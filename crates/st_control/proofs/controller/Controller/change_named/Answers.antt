@@ -11,7 +11,8 @@ pub returns-clause-step : goal.returns-clause-step
 returns-clause-step g c =
     let text = c.args.text.now in
     let refused : IsCheckedAs text c.bytes.result.now (Err refusals.M) =
-        memory_refuses text c.bytes.result.now (text_of c.in_ok-_image._image) c.in_ok-_image.ensures.ok.accepted in
-    (Err refusals.M,
-    subst (λ (main : List ℕ). IsCheckedAs text main (Err refusals.M)) (c.bytes.ensures.bytes ∙ ap (λ (it : ControllerView). it.main) c.self.view_is) refused,
-    (refl, refl))
+    memory_refuses text c.bytes.result.now (text_of c.in_ok-_image._image) c.in_ok-_image.ensures.ok.accepted in (
+      Err refusals.M,
+      subst (λ (main : List ℕ). IsCheckedAs text main (Err refusals.M)) (c.bytes.ensures.bytes ∙ ap (λ (it : ControllerView). it.main) c.self.view_is) refused,
+      (refl, refl),
+    )
