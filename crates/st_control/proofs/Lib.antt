@@ -5,6 +5,7 @@ pub mod Histories
 pub mod Names
 pub mod OnePath
 pub mod Open
+pub mod RaisedRenames
 pub mod Records
 pub mod Steps
 pub mod Texts

@@ -1,13 +1,22 @@
 //! Online changes: their renames in upper case, their counts, the charts that they would stop, and what they make of a state.
-ghost use Rattle.std.specs.Prelude.{◌≡◌, ◌<◌, ◌&&◌, ◌||◌, ℕ, IfOk, false, length, not, replicate};
-ghost use Rattle.st_control.specs.Changes.{AreMarks, active_chart, counts_of_pairs, is_chart, is_kept, loses_active_step, mark_at, raised_renames};
+ghost use Rattle.std.specs.Prelude.{◌≡◌, ◌<◌, ◌&&◌, ◌||◌, ℕ, IfOk, OnErr, OnOk, false, length, not, replicate, true};
+ghost use Rattle.st_check.specs.Programs.{leaves_of_program};
+ghost use Rattle.st_control.specs.Changes.{AreMarks, active_chart, changed, counts_of_pairs, gives_pairs, is_chart, is_kept, loses_active_step, mark_at, pairs_of, raised_renames};
+ghost use Rattle.st_control.specs.Machine.{Heeds, change_causes};
+ghost use Rattle.st_control.specs.States.{FitsRecord, leaves_of, undone};
 ghost use Rattle.st_layout.specs.Layout.{leaf_at};
-ghost use Rattle.st_layout.specs.Pairs.{is_number};
+ghost use Rattle.st_layout.specs.Moves.{saved};
+ghost use Rattle.st_layout.specs.Pairs.{IsPairing, is_number};
 ghost use Rattle.st_values.specs.Words.{raised};
 
-use st_layout::{Layout, Memory, Plan, Rename};
+use crate::image::Image;
+use crate::record::Record;
+use crate::refusal::{NO_ACTIVE_STEP, Refusal, UNDO_FULL};
+use crate::state::State;
+use st_layout::{Layout, Memory, Plan, Rename, carry_over};
 use st_tree::{List, Role};
 use std::alloc::{AllocError, Global};
+use std::mem;
 
 /// What an online change kept, dropped and added.
 #[derive(Clone, Copy, Debug, PartialEq, Eq)]
@@ -33,8 +42,54 @@ impl Counts {
     }
 }
 
+impl<M: Memory> State<M> {
+    /// The plan of an online change to a program, or why it is refused.
+    pub(crate) fn plan_of_change(&self, alloc: Global, full: bool, image: &Image, renames: &[Rename]) -> Result<Plan, Refusal>
+        ensures plan { IfOk result (λ plan. plan ≡ pairs_of self.entry.now renames.now image.now) }
+        ensures pairable { OnOk result (gives_pairs self.entry.now renames.now image.now ≡ true) }
+        ensures pairing { IfOk result (λ plan. IsPairing (leaves_of self.entry.now) (leaves_of_program image.now) plan) }
+        ensures not_full { OnOk result (full ≡ false) }
+        ensures causes { Heeds (change_causes self.entry.now full renames.now image.now) result }
+    {
+        if full {
+            return Err(Refusal::O(UNDO_FULL));
+        }
+        let plan = Plan::between(alloc, self.image.layout(), image.layout(), renames)?;
+        if loses_active_step(alloc, &self.memory, self.image.layout(), &plan)? {
+            return Err(Refusal::O(NO_ACTIVE_STEP));
+        }
+        Ok(plan)
+    }
+
+    /// Goes over to another program by a plan, and answers what undoes it. It is refused for want of memory alone, and then
+    /// all is as before.
+    pub(crate) fn change(&mut self, alloc: Global, plan: &Plan, image: Image, renames: List<Rename>) -> Result<Record, AllocError>
+        requires plan { plan.now ≡ pairs_of self.old renames image }
+        requires pairable { gives_pairs self.old renames image ≡ true }
+        requires pairing { IsPairing (leaves_of self.old) (leaves_of_program image) plan.now }
+        ensures record { IfOk result (λ newest. newest ≡ Record.Change self.old.program (saved (pairs_of self.old renames image) self.old.content) renames) }
+        ensures new { OnOk result (self.new ≡ changed self.old renames image) }
+        ensures back { IfOk result (λ newest. undone self.new newest ≡ self.old) }
+        ensures fitting { IfOk result (λ newest. FitsRecord self.new newest) }
+        ensures err { OnErr result (self.new ≡ self.old) }
+    {
+        let saved = carry_over(alloc, &mut self.memory, plan, self.image.layout(), image.layout())?;
+        let old = mem::replace(&mut self.image, image);
+        Ok(Record::Change { old, saved, renames })
+    }
+}
+
+/// The renames, with their paths in upper case.
+pub(crate) fn raised(renames: Vec<Rename>) -> List<Rename>
+    ensures { result ≡ raised_renames renames.items }
+{
+    let mut items = renames;
+    raise_renames(items.as_mut_slice());
+    List { items }
+}
+
 /// Puts the paths of renames in upper case.
-pub(crate) fn raise_renames(renames: &mut [Rename])
+fn raise_renames(renames: &mut [Rename])
     ensures { renames.new ≡ raised_renames renames.old }
 {
     for rename in renames.iter_mut() {
