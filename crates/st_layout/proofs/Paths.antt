@@ -32,7 +32,7 @@ unfolding number_of
 number_is leaves path = sym (position-map (λ (leaf : Leaf). leaf.path) (bytes_eq (raised path)) leaves)
 
 -- where no place is found, each element fails the test
-position-None : {X : Type 0} (test : X → Bool) (xs : List X) (k : ℕ) (d : X) → position test xs ≡ None → k < length xs → test (get_or xs k d) ≡ false
+pub position-None : {X : Type 0} (test : X → Bool) (xs : List X) (k : ℕ) (d : X) → position test xs ≡ None → k < length xs → test (get_or xs k d) ≡ false
 position-None test xs k d none below = fails_before_first test xs k d (by (ltb (position_or_len test xs) (length xs)) refl none)
   where
     by : (found : Bool) → ltb (position_or_len test xs) (length xs) ≡ found → cond found (Some (position_or_len test xs)) None ≡ None → k < position_or_len test xs

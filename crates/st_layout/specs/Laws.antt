@@ -1,5 +1,5 @@
 -- What follows of layouts and of what memories hold.
-use Rattle.std.specs.Prelude.{ℕ, pos, ◌≡◌, ◌+◌, ◌<◌, ◌≤◌, ◌↔◌, Bool, false, if◌then◌else◌, List, length, Option, Some, None, IsSome, IsSomeAnd, IfSome, IsTrue}
+use Rattle.std.specs.Prelude.{ℕ, pos, ◌≡◌, ◌+◌, ◌<◌, ◌≤◌, ◌↔◌, Bool, true, false, if◌then◌else◌, List, length, Option, Some, None, IsSome, IsSomeAnd, IfSome, IsTrue}
 use Rattle.std.specs.List.{All, AllPairs, Contains, filter, flat_map, range_with_len, sum_by}
 use Rattle.std.specs.Option.{is_none, option_map, option_map_or}
 use Rattle.std.specs.Str.{bytes_eq}
@@ -14,7 +14,9 @@ use Rattle.st_layout.specs.Bytes.{value_bytes}
 use Rattle.st_layout.specs.Layout.{IsOpenAt, IsValueAt, leaf_at, number_of, offset_of, paths_of, total_width}
 use Rattle.st_layout.specs.Memory.{Content, Fits, ForcesAreOpen, forced_at, value_at, with_force, with_value}
 use Rattle.st_layout.specs.Moves.{HoldsValues, moved, saved, truth, unmoved}
-use Rattle.st_layout.specs.Pairs.{IsPairing, Pairs, number_at}
+use Rattle.st_layout.specs.Pairs.{IsPairing, Pairs, are_alike, is_pairable, number_at, pairs_between}
+use Rattle.st_layout.specs.Renames.{renamed}
+use Rattle.st_layout.specs.declared.renames.Rename.{Rename}
 use Rattle.st_layout.specs.declared.saved.Saved.{Saved}
 
 -- no leaf begins before the end of one that comes earlier
@@ -60,6 +62,18 @@ abbrev pub PathsDetermineContent : Type 0
 PathsDetermineContent = (leaves : List Leaf) (content other : Content) → IsSound leaves → Fits leaves content → Fits leaves other →
     ((path : List ℕ) → value_of leaves content path ≡ value_of leaves other path) →
     ((path : List ℕ) → is_forced leaves content path ≡ is_forced leaves other path) → content ≡ other
+
+-- ---- which leaves an online change pairs
+
+-- Renames that are accepted pair the leaves one to one, and only leaves that are alike.
+abbrev pub PairsAreOneToOne : Type 0
+PairsAreOneToOne = (old new : List Leaf) (renames : List Rename) → is_pairable old new renames ≡ true → IsPairing old new (pairs_between old new renames)
+
+-- An old leaf and a new one are a pair exactly where the new one has the renamed path of the old one, and they are alike.
+abbrev pub PairsAreByPath : Type 0
+PairsAreByPath = (old new : List Leaf) (renames : List Rename) (i j : ℕ) → IsSound old → IsSound new → i < length old → j < length new →
+    (number_at (pairs_between old new renames).targets i ≡ Some j)
+    ↔ (((leaf_at new j).path ≡ renamed renames (leaf_at old i).path) × (are_alike (leaf_at old i) (leaf_at new j) ≡ true))
 
 -- ---- what an online change carries and saves, and what gives it back
 

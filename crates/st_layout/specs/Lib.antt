@@ -5,4 +5,5 @@ pub mod Layout
 pub mod Memory
 pub mod Moves
 pub mod Pairs
+pub mod Parts
 pub mod Renames

@@ -1,5 +1,5 @@
 //! Laws of layouts and of what memories hold.
-ghost use Rattle.st_layout.specs.Laws.{HasLeavesValues, LastPlaceEnds, MarkChangesOneForce, PathsDetermineContent, PlacesAreApart, SetChangesOneValue};
+ghost use Rattle.st_layout.specs.Laws.{HasLeavesValues, LastPlaceEnds, MarkChangesOneForce, PairsAreByPath, PairsAreOneToOne, PathsDetermineContent, PlacesAreApart, SetChangesOneValue};
 ghost use Rattle.st_layout.specs.Laws.{BackUndoesCarry, CarriedFits, CarriedForcesAreOpen, ReturnedFits, ReturnedForcesAreOpen, SavedForcesAreOpen, SavedForcesAscend, SavedHoldsValues, SavesDroppedForces, SavesDroppedValues, SavesTheirWidths};
 ghost use Rattle.st_layout.specs.Laws.{FreshLeafIsInitial, FreshLeafIsNotForced, FreshPulseFollowsStep, FreshStepIsInactive, KeptForceStays, KeptValueStays};
 
@@ -16,6 +16,13 @@ pub fn content_is_a_map()
     ensures set { SetChangesOneValue }
     ensures mark { MarkChangesOneForce }
     ensures whole { PathsDetermineContent }
+{}
+
+/// Renames that are accepted pair the leaves of two programs one to one: each old leaf with the new one that has its renamed
+/// path, where the two are alike.
+pub fn pairs_are_one_to_one()
+    ensures one_to_one { PairsAreOneToOne }
+    ensures by_path { PairsAreByPath }
 {}
 
 /// What gives an old content back undoes what an online change made of it, exactly, and needs nothing but what the change
