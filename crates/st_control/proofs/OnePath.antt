@@ -1,13 +1,16 @@
--- What an accepted command changes.
-use Rattle.std.proofs.Common.{ℕ, Bool, true, false, ◌≡◌, List, [], ◌∷◌, refl, sym, ap, subst}
-use Rattle.std.specs.Prelude.{Err, None, Ok, Option, Result, Some, cond, if◌then◌else◌}
+-- What a command that is accepted at one leaf changes.
+use Rattle.std.proofs.Common.{ℕ, Bool, true, false, ◌≡◌, List, refl, sym, ap, subst}
+use Rattle.std.specs.Prelude.{Err, None, Ok, Option, Result, Some, if◌then◌else◌}
 use Rattle.std.specs.Option.{option_map_or}
 use Rattle.std.specs.Str.{bytes_eq}
 use Rattle.st_control.specs.Causes.{no_such_path}
 use Rattle.st_control.specs.Laws.{Changes, ChangesOnePath, is_same_path}
 use Rattle.st_control.specs.Machine.{Cause, Machine, accept, accept_at, force_causes, is_full, leaf_unless, release_causes, step, unless, write_causes}
-use Rattle.st_control.specs.Machine.Command.{force, release, write}
+use Rattle.st_control.specs.Machine.Command.{change, force, release, write}
 use Rattle.st_control.specs.States.{IsWhole, StateView, forced, leaf_of, leaves_of, released, written}
+use Rattle.st_control.specs.declared.refusal.Refusal.{Refusal}
+use Rattle.st_control.proofs.Causes.{NoneHolds, unless_allows, unless_gives}
+use Rattle.st_control.proofs.ChangeSteps.{change_accepts}
 use Rattle.st_layout.proofs.Maps.{mark_changes_one_force, set_changes_one_value}
 use Rattle.st_layout.proofs.Paths.{number-Some}
 use Rattle.st_layout.specs.Layout.{leaf_at}
@@ -15,26 +18,6 @@ use Rattle.st_values.specs.Words.{raised}
 use Rattle.st_layout.specs.Laws.{is_forced, value_of}
 use Rattle.st_layout.specs.Memory.{with_force, with_value}
 use Rattle.st_values.specs.declared.value.Value.{Value}
-
--- what isn't refused is the result
-unless_gives : (causes : List Cause) (result other : ℕ) → unless causes result ≡ Ok other → result ≡ other
-unless_gives [] result other h = cc
-unless_gives (cause ∷ causes) result other h =
-    elim cause.1 as (λ b. cond b (Err cause.0) (unless causes result) ≡ Ok other → result ≡ other)
-    [ true ↦ λ refused. cc | false ↦ λ passes. unless_gives causes result other passes ] h
-
--- no cause holds
-abbrev pub NoneHolds : List Cause → Type 0
-NoneHolds [] = Unit {0}
-NoneHolds (cause ∷ causes) = (cause.1 ≡ false) × NoneHolds causes
-
--- what isn't refused has no cause
-unless_allows : (causes : List Cause) (result other : ℕ) → unless causes result ≡ Ok other → NoneHolds causes
-unless_allows [] result other h = tt
-unless_allows (cause ∷ causes) result other h = by cause.1 refl h (unless_allows causes result other) where
-  by : (b : Bool) → cause.1 ≡ b → cond b (Err cause.0) (unless causes result) ≡ Ok other → (unless causes result ≡ Ok other → NoneHolds causes) → NoneHolds (cause ∷ causes)
-  by true is refused later = absurd (cc)
-  by false is passes later = (is, later passes)
 
 -- a leaf is found only at the path
 pub found_at : (place : Option ℕ) (causes : ℕ → List Cause) (leaf : ℕ) → option_map_or (λ i. unless (causes i) i) place (Err no_such_path) ≡ Ok leaf → place ≡ Some leaf
@@ -46,20 +29,20 @@ allowed_at None causes leaf h = absurd (cc)
 allowed_at (Some i) causes leaf h = subst (λ it. NoneHolds (causes it)) (unless_gives (causes i) i leaf h) (unless_allows (causes i) i leaf h)
 
 -- an accepted command changed the leaf that has its path, where no cause holds
-pub record Accepts (m next : Machine) (path : List ℕ) (change : ℕ → StateView) (causes : ℕ → List Cause) : Type 0 where
+pub record Accepts (m next : Machine) (path : List ℕ) (new : ℕ → StateView) (causes : ℕ → List Cause) : Type 0 where
   pub leaf : ℕ
   pub found : leaf_of m.state path ≡ Some leaf
   pub allowed : NoneHolds (causes leaf)
-  pub next_is : change leaf ≡ next.state
+  pub next_is : new leaf ≡ next.state
 
-accepts_by : (m next : Machine) (path : List ℕ) (change : ℕ → StateView) (causes : ℕ → List Cause) (leaf : Result ℕ ℕ) → leaf ≡ leaf_unless m.state path causes → accept_at m change leaf ≡ Ok next → Accepts m next path change causes
-accepts_by m next path change causes (Ok leaf) is h = record {
+accepts_by : (m next : Machine) (path : List ℕ) (new : ℕ → StateView) (causes : ℕ → List Cause) (leaf : Result ℕ Refusal) → leaf ≡ leaf_unless m.state path causes → accept_at m new leaf ≡ Ok next → Accepts m next path new causes
+accepts_by m next path new causes (Ok leaf) is h = record {
   leaf = leaf;
   found = found_at (leaf_of m.state path) causes leaf (sym is);
   allowed = allowed_at (leaf_of m.state path) causes leaf (sym is);
-  next_is = let same : accept m (change leaf) ≡ next = cc in ap (λ (n : Machine). n.state) same;
+  next_is = let same : accept m false (new leaf) ≡ next = cc in ap (λ (n : Machine). n.state) same;
 }
-accepts_by m next path change causes (Err number) is h = cc
+accepts_by m next path new causes (Err refusal) is h = cc
 
 pub write_accepts : (path : List ℕ) (value : Value) (m next : Machine) → step (write path value) m ≡ Ok next → Accepts m next path (λ leaf. written m.state leaf value) (write_causes m.state (is_full m) value)
 write_accepts path value m next accepted =
@@ -106,3 +89,6 @@ changes_one_path (release path) m next whole accepted =
     let a = release_accepts path m next accepted in
     subst (λ (s : StateView). Changes (release path) m.state s) a.next_is
     (λ other. refl, gets_force m.state path false a.leaf whole a.found, record { program = refl; now = refl; status = refl })
+changes_one_path (change renames read) m next whole accepted =
+    let a = change_accepts renames read m next accepted in
+    (a.program, a.read_is, sym a.next_is)
