@@ -2,7 +2,7 @@
 use Rattle.std.proofs.Common.{inl, inr, ℕ, ◌≡◌, ◌≢◌, ◌+◌, ◌<◌, ◌≤◌, Bool, true, false, not, ◌&&◌, ◌||◌, ltb, List, [], ◌∷◌, suc, length, map, get_or, set, take, drop, Option, Some, None, refl, sym, ◌∙◌, ap, arith}
 use Rattle.std.specs.Char.{to_ascii_uppercase}
 use Rattle.std.specs.List.{list_any}
-use Rattle.std.proofs.lemmas.Bool.{and_left, and_right, both_ways, cases_eq, lt-ltb, or_right}
+use Rattle.std.proofs.lemmas.Bool.{both_ways, cases_eq, lt-ltb, or_right}
 use Rattle.std.proofs.lemmas.Bool.Decides.{nat_tests}
 use Rattle.std.proofs.lemmas.List.Folds.{list_any_more}
 use Rattle.std.proofs.lemmas.List.{get_or-map, get_or-set_other, get_or-set_same, length-map, length-take}
@@ -14,7 +14,7 @@ use Rattle.st_layout.specs.Pairs.{is_no_part, names_nothing}
 use Rattle.st_layout.specs.Parts.{AreFilled, IsFilledBy, is_filled, names_unfilled}
 use Rattle.st_layout.specs.Renames.{begins_part, is_in}
 use Rattle.st_layout.specs.declared.renames.Rename.{Rename}
-use Rattle.st_layout.proofs.Fronts.{IsFirst, ends_there, first-None, first-Some, first-same, front_of, in_front, is_in_below, looked_up, no_rename, raised_front, rename_at}
+use Rattle.st_layout.proofs.Fronts.{ends_there, first-None, first-Some, first-same, front_of, in_front, is_in_below, looked_up, no_rename, raised_front, rename_at}
 
 -- ---- one path
 
@@ -25,9 +25,6 @@ below_same path part end apart = by (is_in part path) refl
     by : (is : Bool) → is_in part path ≡ is → (is && ltb (length part) (end + 1)) ≡ (is && ltb (length part) end)
     by false fails = refl
     by true is = let other = apart is in grind (arith, nat_tests)
-
-pub below_none : (path part : List ℕ) → is_in_below 0 part path ≡ false
-below_none path part = and_right (is_in part path) (ltb (length part) 0) (grind (arith, nat_tests))
 
 pub below_all : (path part : List ℕ) (end : ℕ) → length path < end → is_in_below end part path ≡ is_in part path
 below_all path part end past = by (is_in part path) refl

@@ -3,13 +3,13 @@ use Rattle.std.proofs.Common.{ℕ, zero, suc, ◌≡◌, ◌≢◌, ◌+◌, ◌
 use Rattle.std.specs.Char.{to_ascii_uppercase}
 use Rattle.std.specs.List.{filter}
 use Rattle.std.specs.Option.{option_map_or}
-use Rattle.std.proofs.lemmas.Bool.{both_ways, cases_eq, false_from_ne_true, le-ltb, lt-ltb}
+use Rattle.std.proofs.lemmas.Bool.{both_ways, false_from_ne_true, le-ltb, lt-ltb}
 use Rattle.std.proofs.lemmas.List.{get_or-map, length-map, length-take}
 use Rattle.st_names.specs.Tables.{first_of}
 use Rattle.st_values.specs.Words.{raised}
 use Rattle.st_layout.specs.Renames.{begins_part, is_in, longest, renames_over}
 use Rattle.st_layout.specs.declared.renames.Rename.{Rename}
-use Rattle.st_layout.proofs.Fronts.{ends_there, first-None, first-Some, front_of, in_front, looked_up, no_rename, raised_front, rename_at}
+use Rattle.st_layout.proofs.Fronts.{ends_there, first-None, first-Some, in_front, looked_up, no_rename, raised_front, rename_at}
 
 abbrev longer : Rename → Rename → Rename
 longer rename other = cond (nat_lt (length rename.old) (length other.old)) other rename

@@ -1,7 +1,7 @@
 //! Which leaf takes the place of which.
 ghost use Rattle.std.specs.Prelude.{◌≡◌, ◌≤◌, ◌<◌, ◌++◌, All, false, IfOk, IfSome, OnOk, drop, length, true};
-ghost use Rattle.st_layout.specs.Pairs.{chart_of, is_same_number, leaves_chart, number_at, shares_target, some_leaves_chart, sources_of, target_of, targets_of};
 ghost use Rattle.st_layout.specs.Layout.{number_of};
+ghost use Rattle.st_layout.specs.Pairs.{chart_of, is_same_number, leaves_chart, number_at, shares_target, some_leaves_chart, sources_of, target_of, targets_of};
 ghost use Rattle.st_layout.specs.Renames.{renamed};
 ghost use Rattle.st_values.specs.Words.{raised};
 

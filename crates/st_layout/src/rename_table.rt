@@ -1,7 +1,7 @@
 //! Renames that name parts, in a table by their old parts.
-ghost use Rattle.std.specs.Prelude.{◌≡◌, ◌≤◌, ◌||◌, false, IfOk, IfSome, OnOk, length, map, true};
+ghost use Rattle.std.specs.Prelude.{◌≡◌, ◌≤◌, false, IfOk, IfSome, OnOk, length, map, true};
 ghost use Rattle.std.specs.Option.{option_copied};
-ghost use Rattle.st_layout.specs.Pairs.{has_dollar, names_hidden, names_nothing, renames_twice};
+ghost use Rattle.st_layout.specs.Pairs.{has_dollar, names_hidden, names_nothing, names_wrongly, renames_twice};
 ghost use Rattle.st_layout.specs.Parts.{names_unfilled};
 ghost use Rattle.st_layout.specs.Renames.{longest, renames_over};
 ghost use Rattle.st_values.specs.Words.{raised};
@@ -42,8 +42,8 @@ impl<'a> RenameTable<'a> {
         renames: &'a [Rename],
     ) -> Result<RenameTable<'a>, PlanFault>
         ensures ok { IfOk result (λ table. table ≡ renames.now) }
-        ensures accepted { OnOk result ((names_nothing old.now new.now renames.now || (names_hidden renames.now || renames_twice renames.now)) ≡ false) }
-        ensures refused { result ≡ Err PlanFault.NotPaired → (names_nothing old.now new.now renames.now || (names_hidden renames.now || renames_twice renames.now)) ≡ true }
+        ensures accepted { OnOk result (names_wrongly old.now new.now renames.now ≡ false) }
+        ensures refused { result ≡ Err PlanFault.NotPaired → names_wrongly old.now new.now renames.now ≡ true }
     {
         if names_hidden(renames) {
             return Err(PlanFault::NotPaired);
