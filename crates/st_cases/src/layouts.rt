@@ -1,10 +1,7 @@
 //! Layouts of whole texts, and sessions over their leaves.
-//!
-//! A table of cases is one text. A case begins with a line of `#` and a remark, behind which the lines of the program stand.
-//! In a table of layouts a line of `=` follows, and then the lines that have to be written. In a table of sessions lines of `?`
-//! and `=` follow: what an operator types, and what is replied.
 use crate::running::run;
-use st_session::{ACCEPTED, DEVICE_FAILED, LINE_REFUSED, NO_PROGRAM, Sheet, Sink, layout_text};
+use crate::tables::{cases_of, status_of};
+use st_session::{ACCEPTED, DEVICE_FAILED, NO_PROGRAM, Sheet, Sink, layout_text};
 use std::alloc::{AllocError, Global};
 use std::process::Abort;
 use std::test::Fail;
@@ -155,7 +152,74 @@ END_PROGRAM
 21 8 TIME Main.S2.T
 29 8 TIME Main.S2.$M
 37 1 BOOL Main.B.$S
-38 1 BOOL Main.A.$S";
+38 1 BOOL Main.A.$S
+# stored names as their variables and actions are declared, however an association spells them
+PROGRAM Main VAR Lamp : BOOL; END_VAR
+INITIAL_STEP S1: HORN(S); LAMP(S); END_STEP
+STEP S2: lamp(S); horn(R); bELL(s); END_STEP
+TRANSITION FROM S1 TO S2 := TRUE; END_TRANSITION
+ACTION Horn: Lamp := FALSE; END_ACTION
+ACTION Bell: Lamp := TRUE; END_ACTION
+END_PROGRAM
+=
+0 1 BOOL Main.Lamp
+1 1 BOOL Main.$CHART
+2 1 BOOL Main.S1.X
+3 8 TIME Main.S1.T
+11 8 TIME Main.S1.$M
+19 1 BOOL Main.S2.X
+20 8 TIME Main.S2.T
+28 8 TIME Main.S2.$M
+36 1 BOOL Main.Horn.$S
+37 1 BOOL Main.Lamp.$S
+38 1 BOOL Main.Bell.$S
+# those of an instance as its function block declares them, behind a constant and a unit that stores nothing
+TYPE T : INT; END_TYPE
+FUNCTION_BLOCK Gate VAR CONSTANT K : BOOL := TRUE; END_VAR VAR_OUTPUT Open : BOOL; END_VAR
+INITIAL_STEP S1: SHUT(S); OPEN(S); END_STEP
+ACTION Shut: OPEN := FALSE; END_ACTION
+END_FUNCTION_BLOCK
+PROGRAM Main VAR open : BOOL; G, H : GATE; shut : BOOL; END_VAR
+INITIAL_STEP S1: Open(S); END_STEP
+END_PROGRAM
+=
+0 1 BOOL Main.open
+1 1 BOOL Main.G.Open
+2 1 BOOL Main.G.$CHART
+3 1 BOOL Main.G.S1.X
+4 8 TIME Main.G.S1.T
+12 8 TIME Main.G.S1.$M
+20 1 BOOL Main.G.Shut.$S
+21 1 BOOL Main.G.Open.$S
+22 1 BOOL Main.H.Open
+23 1 BOOL Main.H.$CHART
+24 1 BOOL Main.H.S1.X
+25 8 TIME Main.H.S1.T
+33 8 TIME Main.H.S1.$M
+41 1 BOOL Main.H.Shut.$S
+42 1 BOOL Main.H.Open.$S
+43 1 BOOL Main.shut
+44 1 BOOL Main.$CHART
+45 1 BOOL Main.S1.X
+46 8 TIME Main.S1.T
+54 8 TIME Main.S1.$M
+62 1 BOOL Main.open.$S
+# a function's variables have no leaves, and a program that isn't run has none
+FUNCTION Sq : INT VAR_INPUT X : INT; END_VAR VAR Y : DINT; END_VAR Sq := X * X; END_FUNCTION
+PROGRAM Other VAR Z : INT; END_VAR END_PROGRAM
+PROGRAM Main VAR A : INT; T1 : TP; END_VAR
+T1(IN := TRUE, PT := T#0ms);
+A := Sq(3);
+IF T1.Q THEN A := A + 1; END_IF; END_PROGRAM
+=
+0 2 INT Main.A
+2 1 BOOL Main.T1.IN
+3 8 TIME Main.T1.PT
+11 1 BOOL Main.T1.Q
+12 8 TIME Main.T1.ET
+20 1 BOOL Main.T1.$M
+21 1 BOOL Main.T1.$RUN
+22 8 TIME Main.T1.$START";
 
 /// Programs whose statements are not run, and what an operator does with their leaves.
 const SESSIONS: &[u8] =
@@ -214,7 +278,7 @@ PROGRAM Main VAR R : ARRAY [1..2] OF INT; END_VAR VAR CONSTANT K : INT := 1; END
 = refused O1
 # what a block and a chart keep for themselves is shown, and not written
 PROGRAM Main VAR T1 : TON; Lamp : BOOL; END_VAR
-INITIAL_STEP S1: Lamp(S); END_STEP
+INITIAL_STEP S1: LAMP(S); END_STEP
 STEP S2: Lamp(P); END_STEP
 TRANSITION FROM S1 TO S2 := TRUE; END_TRANSITION
 END_PROGRAM
@@ -240,75 +304,38 @@ END_PROGRAM
 = refused O2
 ? write Main.S2.$P TRUE
 = refused O2
+? show main.LAMP.$s
+= Main.Lamp.$S = FALSE
 ? write Main.Lamp.$S TRUE
 = refused O2
 ? write Main.Lamp TRUE
-= ok";
-
-/// A case as it is read so far.
-#[derive(Drop)]
-struct Case {
-    program: Vec<u8>,
-    session: Vec<u8>,
-    wanted: Vec<u8>,
-    /// Whether the line of `=` of a layout was read.
-    is_listing: bool,
-}
-
-impl Case {
-    fn new(alloc: Global) -> Case {
-        Case {
-            program: Vec::new(alloc),
-            session: Vec::new(alloc),
-            wanted: Vec::new(alloc),
-            is_listing: false,
-        }
-    }
-
-    /// Takes one line more.
-    fn add(&mut self, line: &[u8]) -> Result<(), AllocError> {
-        if line == b"=".as_slice() {
-            self.is_listing = true;
-            return Ok(());
-        }
-        if let Some(typed) = line.strip_prefix(b"? ") {
-            return put_line(&mut self.session, typed);
-        }
-        if let Some(reply) = line.strip_prefix(b"= ") {
-            return put_line(&mut self.wanted, reply);
-        }
-        if self.is_listing {
-            put_line(&mut self.wanted, line)
-        } else {
-            put_line(&mut self.program, line)
-        }
-    }
-}
-
-/// Puts a line and its end behind others.
-fn put_line(lines: &mut Vec<u8>, line: &[u8]) -> Result<(), AllocError> {
-    lines.extend_from_slice(line)?;
-    lines.push(b'\n')?;
-    Ok(())
-}
-
-/// The cases of a table.
-fn cases_of(alloc: Global, table: &[u8]) -> Result<Vec<Case>, AllocError> {
-    let mut cases = Vec::new(alloc);
-    let mut case = Case::new(alloc);
-    for line in table.split(|byte| *byte == b'\n') {
-        if line.starts_with(b"# ") {
-            if !case.program.is_empty() {
-                cases.push(case)?;
-            }
-            case = Case::new(alloc);
-        } else {
-            case.add(line)?;
-        }
-    }
-    cases.push(case)?;
-    Ok(cases)
-}
+= ok
+# outputs of an instance, and of one in it, are written, forced and undone as all others
+FUNCTION_BLOCK Valve VAR_INPUT Open : BOOL; END_VAR VAR_OUTPUT Travel : TIME := T#2s; END_VAR VAR Run : TON; END_VAR
+Run(IN := Open, PT := T#1s); END_FUNCTION_BLOCK
+PROGRAM Main VAR Left, Right : Valve; END_VAR Left(Open := TRUE); END_PROGRAM
+? write Main.Right.Travel T#3s
+= ok
+? force main.right.run.q TRUE
+= ok
+? write Main.Right.Run.Q FALSE
+= refused O4
+? show Main.Right.Run.Q
+= Main.Right.Run.Q = TRUE forced
+? show Main.Left.Travel
+= Main.Left.Travel = T#2000ms
+? status
+= running 0 forces 1 undo 2
+? undo
+= ok
+? show Main.Right.Run.Q
+= Main.Right.Run.Q = FALSE
+? undo
+= ok
+? show Main.Right.Travel
+= Main.Right.Travel = T#2000ms
+? undo
+= refused O7";
 
 /// What a layout of a text writes, as the program `Main`, and its status.
 #[derive(Drop)]
@@ -324,18 +351,10 @@ fn lay_out(alloc: Global, text: &[u8]) -> Result<Told, AllocError> {
     Ok(Told { status, written })
 }
 
-/// The status of a session with these replies.
-fn status_of(replies: &[u8]) -> u8 {
-    let is_refused = replies
-        .split(|byte| *byte == b'\n')
-        .any(|reply| reply.starts_with(b"refused"));
-    if is_refused { LINE_REFUSED } else { ACCEPTED }
-}
-
 #[test]
 fn leaves_are_listed(rt: HostRuntime) -> Result<(), Fail> {
     let cases = cases_of(rt.alloc(), LAYOUTS)?;
-    assert_eq!(rt; cases.len(), 10);
+    assert_eq!(rt; cases.len(), 13);
     for case in &cases {
         let told = lay_out(rt.alloc(), &case.program)?;
         assert_eq!(rt; told.written.as_slice(), case.wanted.as_slice());
@@ -347,7 +366,7 @@ fn leaves_are_listed(rt: HostRuntime) -> Result<(), Fail> {
 #[test]
 fn leaves_are_shown_written_and_forced(rt: HostRuntime) -> Result<(), Fail> {
     let cases = cases_of(rt.alloc(), SESSIONS)?;
-    assert_eq!(rt; cases.len(), 3);
+    assert_eq!(rt; cases.len(), 4);
     for case in &cases {
         let ran = run(rt.alloc(), &case.program, &case.session, 4096)?;
         assert_eq!(rt; ran.written.as_slice(), case.wanted.as_slice());

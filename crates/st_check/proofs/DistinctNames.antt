@@ -22,7 +22,8 @@ use Rattle.st_types.specs.Names as names
 use Rattle.st_types.specs.Types.{Elements, elements_in, shape_of}
 use Rattle.st_types.specs.declared.base.Base.{Base}
 use Rattle.st_types.specs.declared.base.Base.TheVariants as bases
-use Rattle.st_leaves.specs.Distinct.{HasDistinctNames, HaveDistinctNames, member_names, step_names}
+use Rattle.st_leaves.specs.Distinct.{HasDistinctNames, HaveDistinctNames, step_names}
+use Rattle.st_leaves.specs.LeavesIn.{member_names}
 use Rattle.st_check_units.specs.Declarations.{declared_names}
 use Rattle.st_check_units.specs.Repeats.{spellings}
 use Rattle.st_check_units.specs.Units.{chart_names, element_names, variable_names}

@@ -6,6 +6,7 @@ mod DistinctNames
 mod Firsts
 mod Kept
 mod Named
+mod NamesStored
 mod Passing
 mod ShortRanges
 mod ShortSubscripts

@@ -10,9 +10,9 @@ use Rattle.st_tree.specs.declared.tree.unit.Step.{Step}
 use Rattle.st_types.specs.Compositions.{Composition, unknown, elementary, array, composed, standard, Members, none, member}
 use Rattle.st_types.specs.Names.{steps_in}
 use Rattle.st_types.specs.Standard.{Pin, pins_of}
-use Rattle.st_leaves.specs.Charts.{is_pulse, stored_names}
+use Rattle.st_leaves.specs.Charts.{is_pulse, stored_by}
 use Rattle.st_leaves.specs.Leaves.{numbers_in}
-use Rattle.st_leaves.specs.LeavesIn.{Kept, LeafIn, all_steps_in, block_name, chart_in, elements_in, first_written, kept_by, kept_leaf, leaves_in, leaves_of_whole, members_in, one, pin_leaf, starting, state_in, step_in, stored_in, subscript_lists, truth, begun, used_as, variables_in, within}
+use Rattle.st_leaves.specs.LeavesIn.{Kept, LeafIn, all_steps_in, block_name, chart_in, elements_in, first_written, kept_by, kept_leaf, leaves_in, leaves_of_whole, member_names, members_in, one, pin_leaf, starting, state_in, step_in, stored_in, subscript_lists, truth, begun, used_as, variables_in, within}
 use Rattle.st_leaves.specs.Paths.{field, index, kept}
 use Rattle.st_leaves.specs.Distinct.{AreShort, HasShortSubscripts}
 use Rattle.st_leaves.proofs.Pairs.{each_append}
@@ -107,11 +107,10 @@ short_stored : (name : List ℕ) (names : List (List ℕ)) → Each IsShort (fla
 short_stored name [] = tt
 short_stored name (n ∷ ns) = (tt, short_stored name ns)
 
-short_chart : (name : List ℕ) (elements : List ChartElement) → Each IsShort (chart_in name elements)
-short_chart name [] = tt
-short_chart name (e ∷ es) =
+short_chart : (name : List ℕ) (stored : List (List ℕ)) (elements : List ChartElement) → Each IsShort (chart_in name stored elements)
+short_chart name stored [] = tt
+short_chart name stored (e ∷ es) =
     let steps : List Step = flat_map steps_in (e ∷ es) in
-    let stored : List (List ℕ) = stored_names [] (flat_map (λ s. s.associations) steps) in
     each_append IsShort (one (kept (codes "CHART")) name (truth false) begun ++ all_steps_in name 1 steps) (flat_map (stored_in name) stored)
     (each_append IsShort (one (kept (codes "CHART")) name (truth false) begun) (all_steps_in name 1 steps) (tt, tt) (short_steps name 1 steps))
     (short_stored name stored)
@@ -123,7 +122,9 @@ mutual
   short_leaves unknown short = tt
   short_leaves (elementary v) short = (tt, tt)
   short_leaves (array ranges firsts c) short = short_elements (subscript_lists ranges) firsts (leaves_in c) (short_lists ranges short.0) (short_leaves c short.1)
-  short_leaves (composed name ms chart) short = each_append IsShort (members_in name ms) (chart_in name chart) (short_members name ms short) (short_chart name chart)
+  short_leaves (composed name ms chart) short =
+      let stored = stored_by (member_names ms) chart in
+      each_append IsShort (members_in name ms) (chart_in name stored chart) (short_members name ms short) (short_chart name stored chart)
   short_leaves (standard b) short =
       each_append IsShort (flat_map (pin_leaf (block_name b)) (pins_of b)) (flat_map (kept_leaf (block_name b)) (kept_by b)) (short_pins (block_name b) (pins_of b)) (short_kept (block_name b) (kept_by b))
 
@@ -142,5 +143,7 @@ pub short_whole : (c : Composition) → HasShortRanges c → Each IsShort (leave
 short_whole unknown short = tt
 short_whole (elementary v) short = (tt, tt)
 short_whole (array ranges firsts c) short = short_leaves (array ranges firsts c) short
-short_whole (composed name ms chart) short = each_append IsShort (variables_in name ms) (chart_in name chart) (short_variables name ms short) (short_chart name chart)
+short_whole (composed name ms chart) short =
+    let stored = stored_by (member_names ms) chart in
+    each_append IsShort (variables_in name ms) (chart_in name stored chart) (short_variables name ms short) (short_chart name stored chart)
 short_whole (standard b) short = short_leaves (standard b) short

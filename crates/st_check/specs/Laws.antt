@@ -1,12 +1,13 @@
 -- What follows of the definitions of the checks.
-use Rattle.std.specs.Prelude.{◌≡◌, ℕ, ◌⊎◌, List, Some}
-use Rattle.std.specs.List.{All}
+use Rattle.std.specs.Prelude.{◌≡◌, ℕ, ◌++◌, ◌⊎◌, List, Some}
+use Rattle.std.specs.List.{All, Contains}
 use Rattle.st_tree.specs.declared.tree.unit.Unit.{Unit as Section}
 use Rattle.st_faults.specs.declared.fault.Fault.{Fault}
 use Rattle.st_types.specs.Compositions.{composition_of}
-use Rattle.st_types.specs.Names.{Named, unit_at, units_of}
+use Rattle.st_types.specs.Names.{Named, chart_in, unit_at, units_of, variables_in}
 use Rattle.st_order.specs.Graphs.{Reaches}
 use Rattle.st_references.specs.References.{graph_of}
+use Rattle.st_leaves.specs.Charts.{action_names, stored_of, variable_names}
 use Rattle.st_leaves.specs.Distinct.{HasDistinctNames}
 use Rattle.st_leaves.specs.LeavesIn.{leaves_of_whole}
 use Rattle.st_leaves.specs.Paths.{HasWords}
@@ -43,6 +44,11 @@ HasNoRecursion = (program : ProgramView) (unit : ℕ) → IsChecked program → 
 abbrev pub CheckedHasDistinctNames : Type 0
 CheckedHasDistinctNames = (program : ProgramView) → IsChecked program → (unit : Named) → unit_at (units_of (text_of program)) (main_of program) ≡ Some unit
     → HasDistinctNames (composition_of (units_of (text_of program)) unit.declares)
+
+-- each name that a chart of a checked program stores is that of a variable of its unit, or of an action of the chart, as it is declared
+abbrev pub CheckedStoresDeclaredNames : Type 0
+CheckedStoresDeclaredNames = (program : ProgramView) → IsChecked program → (i : ℕ) (unit : Named) → unit_at (units_of (text_of program)) i ≡ Some unit
+    → All (Contains (variable_names (variables_in unit.declares) ++ action_names (chart_in unit.declares))) (stored_of unit.declares)
 
 -- the leaves of a checked program are sound, where the names on the ways to them are words
 abbrev pub CheckedHasSoundLeaves : Type 0

@@ -1,5 +1,5 @@
 //! Laws of checked texts.
-ghost use Rattle.st_check.specs.Laws.{AcceptedOnce, CheckedHasDistinctNames, CheckedHasSoundLeaves, FirstIsOne, FirstIsNotAccepted, HasNoRecursion, IsDecided, MissingIsNotAccepted, MissingIsNotFirst};
+ghost use Rattle.st_check.specs.Laws.{AcceptedOnce, CheckedHasDistinctNames, CheckedHasSoundLeaves, CheckedStoresDeclaredNames, FirstIsOne, FirstIsNotAccepted, HasNoRecursion, IsDecided, MissingIsNotAccepted, MissingIsNotFirst};
 
 /// As a program of a name, a text is accepted, or has a first fault, or has no such program: exactly one of the three. It is
 /// accepted for one number, and all first faults stand at one token and break one rule.
@@ -20,6 +20,12 @@ pub fn checked_program_has_no_recursion()
 /// In a checked program, no two variables and steps of one whole have the same name.
 pub fn checked_program_has_distinct_names()
     ensures { CheckedHasDistinctNames }
+{}
+
+/// Each name that a chart of a checked program stores is that of a variable of its unit, or of an action of the chart, as it is
+/// declared.
+pub fn checked_program_stores_declared_names()
+    ensures { CheckedStoresDeclaredNames }
 {}
 
 /// No two leaves of a checked program have the same path, each path is its shown text in upper case and has at most 255 bytes,

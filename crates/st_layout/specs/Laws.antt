@@ -1,18 +1,23 @@
 -- What follows of layouts and of what memories hold.
-use Rattle.std.specs.Prelude.{ℕ, ◌≡◌, ◌+◌, ◌<◌, ◌≤◌, ◌↔◌, Bool, true, false, if◌then◌else◌, List, length, Option, Some, IsSome, IfSome}
-use Rattle.std.specs.List.{Contains}
-use Rattle.std.specs.Option.{option_map, option_map_or}
+use Rattle.std.specs.Prelude.{ℕ, pos, ◌≡◌, ◌+◌, ◌<◌, ◌≤◌, ◌↔◌, Bool, true, false, if◌then◌else◌, List, length, Option, Some, None, IsSome, IsSomeAnd, IfSome, IsTrue}
+use Rattle.std.specs.List.{All, AllPairs, Contains, filter, flat_map, range_with_len, sum_by}
+use Rattle.std.specs.Option.{is_none, option_map, option_map_or}
 use Rattle.std.specs.Str.{bytes_eq}
 use Rattle.st_values.specs.Types.{width_of}
-use Rattle.st_tree.specs.declared.leaf.Leaf.{Leaf}
-use Rattle.st_values.specs.declared.value.Value.{Value}
-use Rattle.st_leaves.specs.Sound.{IsSound}
-use Rattle.st_layout.specs.Layout.{IsValueAt, leaf_at, number_of, offset_of, paths_of, total_width}
 use Rattle.st_values.specs.Words.{raised}
-use Rattle.st_layout.specs.Pairs.{IsPairing, are_alike, is_pairable, number_at, pairs_between}
+use Rattle.st_values.specs.declared.value.Value.{Value}
+use Rattle.st_tree.specs.declared.leaf.Leaf.{Leaf}
+use Rattle.st_tree.specs.declared.leaf.Role.{Role}
+use Rattle.st_tree.specs.declared.leaf.Role.TheVariants.{StepActive, StepPulsed}
+use Rattle.st_leaves.specs.Sound.{IsSound}
+use Rattle.st_layout.specs.Bytes.{value_bytes}
+use Rattle.st_layout.specs.Layout.{IsOpenAt, IsValueAt, leaf_at, number_of, offset_of, paths_of, total_width}
+use Rattle.st_layout.specs.Memory.{Content, Fits, ForcesAreOpen, forced_at, value_at, with_force, with_value}
+use Rattle.st_layout.specs.Moves.{HoldsValues, moved, saved, truth, unmoved}
+use Rattle.st_layout.specs.Pairs.{IsPairing, Pairs, are_alike, is_pairable, number_at, pairs_between}
 use Rattle.st_layout.specs.Renames.{renamed}
 use Rattle.st_layout.specs.declared.renames.Rename.{Rename}
-use Rattle.st_layout.specs.Memory.{Content, Fits, forced_at, value_at, with_force, with_value}
+use Rattle.st_layout.specs.declared.saved.Saved.{Saved}
 
 -- no leaf begins before the end of one that comes earlier
 abbrev pub PlacesAreApart : Type 0
@@ -58,6 +63,8 @@ PathsDetermineContent = (leaves : List Leaf) (content other : Content) → IsSou
     ((path : List ℕ) → value_of leaves content path ≡ value_of leaves other path) →
     ((path : List ℕ) → is_forced leaves content path ≡ is_forced leaves other path) → content ≡ other
 
+-- ---- which leaves an online change pairs
+
 -- Renames that are accepted pair the leaves one to one, and only leaves that are alike.
 abbrev pub PairsAreOneToOne : Type 0
 PairsAreOneToOne = (old new : List Leaf) (renames : List Rename) → is_pairable old new renames ≡ true → IsPairing old new (pairs_between old new renames)
@@ -67,3 +74,129 @@ abbrev pub PairsAreByPath : Type 0
 PairsAreByPath = (old new : List Leaf) (renames : List Rename) (i j : ℕ) → IsSound old → IsSound new → i < length old → j < length new →
     (number_at (pairs_between old new renames).targets i ≡ Some j)
     ↔ (((leaf_at new j).path ≡ renamed renames (leaf_at old i).path) × (are_alike (leaf_at old i) (leaf_at new j) ≡ true))
+
+-- ---- what an online change carries and saves, and what gives it back
+
+-- Back after carry is the content before: every value and every force, whatever the two programs are.
+abbrev pub BackUndoesCarry : Type 0
+BackUndoesCarry = (old new : List Leaf) (pairs : Pairs) (content : Content) → IsPairing old new pairs → Fits old content →
+    unmoved old pairs (moved new pairs content) (saved pairs content) ≡ content
+
+-- What a change leaves is a content of the new leaves.
+abbrev pub CarriedFits : Type 0
+CarriedFits = (old new : List Leaf) (pairs : Pairs) (content : Content) → IsSound new → IsPairing old new pairs → Fits old content →
+    Fits new (moved new pairs content)
+
+-- What a change saves holds a value of each dropped leaf's type, as its undo asks for.
+abbrev pub SavedHoldsValues : Type 0
+SavedHoldsValues = (old new : List Leaf) (pairs : Pairs) (content : Content) → IsPairing old new pairs → Fits old content →
+    HoldsValues old pairs.targets (saved pairs content).bytes
+
+-- What an undo gives back is a content of the old leaves.
+abbrev pub ReturnedFits : Type 0
+ReturnedFits = (old new : List Leaf) (pairs : Pairs) (content : Content) (dropped : Saved) → IsPairing old new pairs → Fits new content →
+    HoldsValues old pairs.targets dropped.bytes → Fits old (unmoved old pairs content dropped)
+
+-- Where only open leaves are forced before a change, only open leaves are forced after it.
+abbrev pub CarriedForcesAreOpen : Type 0
+CarriedForcesAreOpen = (old new : List Leaf) (pairs : Pairs) (content : Content) → IsPairing old new pairs →
+    ForcesAreOpen old content.forced → ForcesAreOpen new (moved new pairs content).forced
+
+-- And the leaves whose forces are saved are open.
+abbrev pub SavedForcesAreOpen : Type 0
+SavedForcesAreOpen = (old : List Leaf) (pairs : Pairs) (content : Content) →
+    ForcesAreOpen old content.forced → All (IsOpenAt old) (saved pairs content).forced
+
+-- Where only open leaves are forced, and the saved numbers are of open leaves, only open leaves are forced after an undo.
+abbrev pub ReturnedForcesAreOpen : Type 0
+ReturnedForcesAreOpen = (old new : List Leaf) (pairs : Pairs) (content : Content) (dropped : Saved) → IsPairing old new pairs →
+    ForcesAreOpen new content.forced → All (IsOpenAt old) dropped.forced → ForcesAreOpen old (unmoved old pairs content dropped).forced
+
+-- the numbers of the old leaves that are dropped, ascending
+abbrev pub dropped_leaves : Pairs → List ℕ
+dropped_leaves pairs = filter (λ i. is_none (number_at pairs.targets i)) (range_with_len 0 (length pairs.targets))
+
+-- The saved bytes are those of the dropped leaves' values, one after another, and nothing more.
+abbrev pub SavesDroppedValues : Type 0
+SavesDroppedValues = (old : List Leaf) (pairs : Pairs) (content : Content) → length pairs.targets ≡ length old → Fits old content →
+    (saved pairs content).bytes ≡ flat_map (λ i. value_bytes (value_at content.values i)) (dropped_leaves pairs)
+
+-- There are as many as the dropped leaves' types take.
+abbrev pub SavesTheirWidths : Type 0
+SavesTheirWidths = (old : List Leaf) (pairs : Pairs) (content : Content) → length pairs.targets ≡ length old → Fits old content →
+    length (saved pairs content).bytes ≡ sum_by (λ i. width_of (leaf_at old i).elem) (dropped_leaves pairs)
+
+-- The saved numbers are those of the dropped leaves that are forced, ascending.
+abbrev pub SavesDroppedForces : Type 0
+SavesDroppedForces = (old : List Leaf) (pairs : Pairs) (content : Content) → length pairs.targets ≡ length old → Fits old content →
+    (saved pairs content).forced ≡ filter (forced_at content.forced) (dropped_leaves pairs)
+
+-- No number is saved twice, and each comes before the greater ones.
+abbrev pub SavedForcesAscend : Type 0
+SavedForcesAscend = (pairs : Pairs) (content : Content) → AllPairs (λ i j. i < j) (saved pairs content).forced
+
+-- ---- the same by path
+
+-- An online change from the leaves of one program to those of another, over what a memory of the old one holds.
+pub record IsChange (old new : List Leaf) (pairs : Pairs) (before : Content) : Type 0 where
+  pub old_sound : IsSound old
+  pub new_sound : IsSound new
+  pub pairing : IsPairing old new pairs
+  pub fits : Fits old before
+
+-- the value at the path of a new leaf, after the change
+abbrev pub carried_value : List Leaf → Pairs → Content → ℕ → Option Value
+carried_value new pairs before j = value_of new (moved new pairs before) (leaf_at new j).path
+
+-- whether it is forced
+abbrev pub is_forced_still : List Leaf → Pairs → Content → ℕ → Bool
+is_forced_still new pairs before j = is_forced new (moved new pairs before) (leaf_at new j).path
+
+-- the new leaf takes the place of an old one that was TRUE
+abbrev pub WasTrue : List Leaf → Pairs → Content → ℕ → Type 0
+WasTrue old pairs before j =
+    (i : ℕ) × (number_at pairs.sources j ≡ Some i) × IsSomeAnd (value_of old before (leaf_at old i).path) (λ value. value.bits ≡ pos 1)
+
+-- A leaf that takes the place of another has its value.
+abbrev pub KeptValueStays : Type 0
+KeptValueStays = (old new : List Leaf) (pairs : Pairs) (before : Content) (i j : ℕ) → IsChange old new pairs before →
+    number_at pairs.targets i ≡ Some j → carried_value new pairs before j ≡ value_of old before (leaf_at old i).path
+
+-- And it is forced where that one was.
+abbrev pub KeptForceStays : Type 0
+KeptForceStays = (old new : List Leaf) (pairs : Pairs) (before : Content) (i j : ℕ) → IsChange old new pairs before →
+    number_at pairs.targets i ≡ Some j → is_forced_still new pairs before j ≡ is_forced old before (leaf_at old i).path
+
+-- the new leaf takes no other's place
+abbrev pub IsFresh : List Leaf → Pairs → ℕ → Type 0
+IsFresh new pairs j = (j < length new) × (number_at pairs.sources j ≡ None)
+
+-- No fresh leaf is forced.
+abbrev pub FreshLeafIsNotForced : Type 0
+FreshLeafIsNotForced = (old new : List Leaf) (pairs : Pairs) (before : Content) (j : ℕ) → IsChange old new pairs before →
+    IsFresh new pairs j → is_forced_still new pairs before j ≡ false
+
+-- A fresh step of a chart that is kept isn't active.
+abbrev pub FreshStepIsInactive : Type 0
+FreshStepIsInactive = (old new : List Leaf) (pairs : Pairs) (before : Content) (j begun : ℕ) → IsChange old new pairs before →
+    IsFresh new pairs j → (leaf_at new j).role ≡ StepActive begun → IsSome (number_at pairs.sources begun) →
+    carried_value new pairs before j ≡ Some (truth (leaf_at new j) false)
+
+-- A fresh `$P` is TRUE exactly where the step's X and its chart's `$CHART` take the places of leaves that were TRUE, else FALSE:
+-- a step that runs already gives no late pulse.
+abbrev pub FreshPulseFollowsStep : Type 0
+FreshPulseFollowsStep = (old new : List Leaf) (pairs : Pairs) (before : Content) (j active begun : ℕ) → IsChange old new pairs before →
+    IsFresh new pairs j → (leaf_at new j).role ≡ StepPulsed active begun →
+    (given : Bool) × (carried_value new pairs before j ≡ Some (truth (leaf_at new j) given))
+    × (IsTrue given ↔ (WasTrue old pairs before active × WasTrue old pairs before begun))
+
+-- a fresh leaf of this role begins as its program says
+abbrev pub BeginsAsDeclared : Pairs → Role → Type 0
+BeginsAsDeclared pairs (StepActive begun) = number_at pairs.sources begun ≡ None
+BeginsAsDeclared pairs (StepPulsed active begun) = ⊥
+BeginsAsDeclared pairs _ = Unit {0}
+
+-- Any other fresh leaf has its initial value.
+abbrev pub FreshLeafIsInitial : Type 0
+FreshLeafIsInitial = (old new : List Leaf) (pairs : Pairs) (before : Content) (j : ℕ) → IsChange old new pairs before →
+    IsFresh new pairs j → BeginsAsDeclared pairs (leaf_at new j).role → carried_value new pairs before j ≡ Some (leaf_at new j).initial

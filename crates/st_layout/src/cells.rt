@@ -2,8 +2,13 @@
 ghost use Rattle.std.specs.Prelude.{◌≡◌, IfOk, false, length, map, replicate};
 ghost use Rattle.st_layout.specs.Memory.{AreValues};
 
+use crate::carrying::{carried_forces, carried_values, dropped_bytes, dropped_forces};
 use crate::layout::Layout;
 use crate::memory::Memory;
+use crate::plan::Plan;
+use crate::returning::{returned_forces, returned_values};
+use crate::saved::Saved;
+use st_tree::List;
 use st_values::Value;
 use std::alloc::{AllocError, Global};
 
@@ -49,6 +54,40 @@ impl Memory for Cells {
     fn take_from(&mut self, layout: &Layout, other: &Self) {
         self.values.copy_from_slice(&other.values);
         self.forced.copy_from_slice(&other.forced);
+    }
+
+    fn carry(
+        &mut self,
+        alloc: Global,
+        plan: &Plan,
+        old: &Layout,
+        new: &Layout,
+    ) -> Result<Saved, AllocError> {
+        let values = carried_values(alloc, plan, new, &self.values)?;
+        let forced = carried_forces(alloc, plan, new, &self.forced)?;
+        let bytes = dropped_bytes(alloc, plan, old, &self.values)?;
+        let numbers = dropped_forces(alloc, plan, old, &self.forced)?;
+        self.values = values;
+        self.forced = forced;
+        Ok(Saved {
+            bytes: List { items: bytes },
+            forced: List { items: numbers },
+        })
+    }
+
+    fn back(
+        &mut self,
+        alloc: Global,
+        plan: &Plan,
+        old: &Layout,
+        new: &Layout,
+        dropped: &Saved,
+    ) -> Result<(), AllocError> {
+        let values = returned_values(alloc, plan, old, &self.values, dropped.bytes.as_slice())?;
+        let forced = returned_forces(alloc, plan, old, &self.forced, dropped.forced.as_slice())?;
+        self.values = values;
+        self.forced = forced;
+        Ok(())
     }
 }
 

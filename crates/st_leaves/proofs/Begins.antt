@@ -25,9 +25,9 @@ use Rattle.st_types.specs.Types.{Elements, elements_in, shape_of}
 use Rattle.st_types.specs.declared.base.Base.{Base}
 use Rattle.st_types.specs.declared.base.Base.TheVariants as bases
 use Rattle.st_types.specs.declared.standard.StandardBlock.{StandardBlock}
-use Rattle.st_leaves.specs.Charts.{is_pulse, stored_names}
+use Rattle.st_leaves.specs.Charts.{is_pulse, stored_by}
 use Rattle.st_leaves.specs.Compositions.{BeginWithValues}
-use Rattle.st_leaves.specs.LeavesIn.{Kept, LeafIn, Use, all_steps_in, begun, block_leaves, block_name, chart_in, first_written, hidden, kept_by, kept_leaf, leaves_in, leaves_of_whole, members_in, one, pin_leaf, starting, state_in, step_in, stored_in, subscript_lists, truth, used_as, within}
+use Rattle.st_leaves.specs.LeavesIn.{Kept, LeafIn, Use, all_steps_in, begun, block_leaves, block_name, chart_in, first_written, hidden, kept_by, kept_leaf, leaves_in, leaves_of_whole, member_names, members_in, one, pin_leaf, starting, state_in, step_in, stored_in, subscript_lists, truth, used_as, within}
 use Rattle.st_leaves.specs.LeavesIn as leaves
 use Rattle.st_leaves.specs.Paths.{Selector, field, index, kept}
 use Rattle.st_leaves.proofs.Wrapped.{wrapped_is_value}
@@ -115,17 +115,14 @@ begin_steps name back (s ∷ steps) =
 begin_stored : (name stored : List ℕ) → Begin (stored_in name stored)
 begin_stored name stored = begin_within (field stored) name (one (kept (codes "S")) (codes "action") (truth false) hidden) (begin_one (kept (codes "S")) (codes "action") (truth false) hidden refl)
 
-begin_chart : (name : List ℕ) (elements : List ChartElement) → Begin (chart_in name elements)
-begin_chart name [] = All-nil Begins
-begin_chart name (e ∷ es) =
+begin_chart : (name : List ℕ) (stored : List (List ℕ)) (elements : List ChartElement) → Begin (chart_in name stored elements)
+begin_chart name stored [] = All-nil Begins
+begin_chart name stored (e ∷ es) =
     begin_append (one (kept (codes "CHART")) name (truth false) begun) (all_steps_in name 1 steps ++ flat_map (stored_in name) stored)
     (begin_one (kept (codes "CHART")) name (truth false) begun refl)
     (begin_append (all_steps_in name 1 steps) (flat_map (stored_in name) stored) (begin_steps name 1 steps) (begin_each (stored_in name) stored (begin_stored name))) where
       steps : List Step
       steps = flat_map steps_in (e ∷ es)
-
-      stored : List (List ℕ)
-      stored = stored_names [] (flat_map (λ s. s.associations) steps)
 
 -- ---- what variables consist of: each elementary variable begins with a value
 
@@ -146,7 +143,9 @@ mutual
   begin_in unknown h = All-nil Begins
   begin_in (elementary v) h = All-from_recursion Begins (leaves_in (elementary v)) (h, tt)
   begin_in (array ranges firsts c) h = begin_elements (subscript_lists ranges) firsts (leaves_in c) (begin_in c h)
-  begin_in (composed name ms chart) h = begin_append (members_in name ms) (chart_in name chart) (begin_members name ms h) (begin_chart name chart)
+  begin_in (composed name ms chart) h =
+      let stored = stored_by (member_names ms) chart in
+      begin_append (members_in name ms) (chart_in name stored chart) (begin_members name ms h) (begin_chart name stored chart)
   begin_in (standard b) h = begin_block b
 
   begin_members : (name : List ℕ) (ms : Members) → HaveValues ms → Begin (members_in name ms)
@@ -170,7 +169,9 @@ begin_whole : (c : Composition) → HasValues c → Begin (leaves_of_whole c)
 begin_whole unknown h = begin_in unknown h
 begin_whole (elementary v) h = begin_in (elementary v) h
 begin_whole (array ranges firsts c) h = begin_in (array ranges firsts c) h
-begin_whole (composed name ms chart) h = begin_append (leaves.variables_in name ms) (chart_in name chart) (begin_variables name ms h) (begin_chart name chart)
+begin_whole (composed name ms chart) h =
+    let stored = stored_by (member_names ms) chart in
+    begin_append (leaves.variables_in name ms) (chart_in name stored chart) (begin_variables name ms h) (begin_chart name stored chart)
 begin_whole (standard b) h = begin_in (standard b) h
 
 -- ---- those of declarations

@@ -42,9 +42,9 @@ stored_more names steps s is =
     ap (λ ns. ns ++ stored_names ns s.associations) is ∙ sym (stored_append [] (associations_of steps) s.associations)
     ∙ ap (stored_names []) (sym (flat_map-append (λ t. t.associations) steps (s ∷ []) ∙ ap (λ as'. associations_of steps ++ as') (append-nil s.associations)))
 
-pub chart_some : (elements : List ChartElement) → 0 < length elements → all_leaves (flat_map steps_in elements) ≡ chart_leaves elements
-chart_some [] some = absurd (omega (arith, some))
-chart_some (e ∷ es) some = refl
+pub chart_some : (stored : List (List ℕ)) (elements : List ChartElement) → 0 < length elements → all_leaves stored (flat_map steps_in elements) ≡ chart_leaves stored elements
+chart_some stored [] some = absurd (omega (arith, some))
+chart_some stored (e ∷ es) some = refl
 
 -- one name more
 pub leaves_stored : (names : List (List ℕ)) (name : List ℕ) → stored_leaves names ++ below (codes "." ++ name) (named (codes "$S") elems.Bool ∷ []) ≡ stored_leaves (names ++ name ∷ [])

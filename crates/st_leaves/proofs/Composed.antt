@@ -7,20 +7,21 @@ use Rattle.st_tree.specs.declared.tree.declaration.Initial.{Initial}
 use Rattle.st_tree.specs.declared.tree.declaration.Subrange.{Subrange}
 use Rattle.st_tree.specs.declared.tree.declaration.VarKind.{VarKind}
 use Rattle.st_tree.specs.declared.tree.unit.ChartElement.{ChartElement}
-use Rattle.st_types.specs.Compositions.{Composition, elements_composition, Members, member, composition_of, composition_within, declared_composition, is_constant, members_by, optional_composition, started, subscripted, unit_composition}
+use Rattle.st_types.specs.Compositions.{Composition, composed, elements_composition, Members, member, composition_of, composition_within, declared_composition, is_constant, members_by, optional_composition, started, subscripted, unit_composition}
 use Rattle.st_types.specs.Initials.{element_initial, initial_of, unit_element_initial}
 use Rattle.st_types.specs.Names.{Declared, Declares, Named, chart_in, members_of, unit_at, variables_in}
 use Rattle.st_types.specs.Names as names
 use Rattle.st_types.specs.Types.{Elements, elements_in, shape_of}
 use Rattle.st_types.specs.declared.base.Base.{Base}
 use Rattle.st_types.specs.declared.base.Base.TheVariants as bases
-use Rattle.st_leaves.specs.Charts.{LeafBelow, below, chart_leaves}
+use Rattle.st_leaves.specs.Charts.{LeafBelow, below, chart_leaves, stored_by, variable_names}
 use Rattle.st_leaves.specs.Compositions.{counted, LeavesAreThoseOfTheComposition}
 use Rattle.st_leaves.specs.Leaves.{array_leaves, declared_leaves, elements_leaves, leaves_of, leaves_within, optional_leaves, shape_leaves, unit_leaves}
-use Rattle.st_leaves.specs.LeavesIn.{leaves_in, members_in, within}
+use Rattle.st_leaves.specs.LeavesIn.{leaves_in, member_names, members_in, within}
 use Rattle.st_leaves.specs.LeavesIn as leaves
 use Rattle.st_leaves.specs.Paths.{field}
 use Rattle.st_leaves.proofs.Counted.{counts, counts_append, counts_array, counts_block, counts_chart, counts_started, counts_whole, counts_within}
+use Rattle.st_leaves.proofs.Spellings.{variables_are_members}
 
 abbrev composition_leaves : Composition → List LeafBelow
 composition_leaves c = counts (leaves_in c)
@@ -64,10 +65,13 @@ module _ (units : List Named) (f : Base → List LeafBelow) (g : Base → Compos
 
   -- the variables, and then the chart
   of_variables : (whole : List ℕ) (vs : List Declared) (chart : List ChartElement)
-      → flat_map (declared_leaves units f) vs ++ chart_leaves chart ≡ counts (members_in whole (members_by units g vs) ++ leaves.chart_in whole chart)
+      → flat_map (declared_leaves units f) vs ++ chart_leaves (stored_by (variable_names vs) chart) chart ≡ composition_leaves (composed whole (members_by units g vs) chart)
   of_variables whole vs chart =
-      ap (λ ls. ls ++ chart_leaves chart) (of_declared whole vs) ∙ ap (λ ls. member_leaves whole (members_by units g vs) ++ ls) (sym (counts_chart whole chart))
-      ∙ sym (counts_append (members_in whole (members_by units g vs)) (leaves.chart_in whole chart))
+      let ms = members_by units g vs in
+      let stored = stored_by (member_names ms) chart in
+      ap (λ names. flat_map (declared_leaves units f) vs ++ chart_leaves (stored_by names chart) chart) (variables_are_members units g vs)
+      ∙ ap (λ ls. ls ++ chart_leaves stored chart) (of_declared whole vs) ∙ ap (λ ls. member_leaves whole ms ++ ls) (sym (counts_chart whole stored chart))
+      ∙ sym (counts_append (members_in whole ms) (leaves.chart_in whole stored chart))
 
   of_unit : (whole : List ℕ) (unit : Declares) → unit_leaves units f unit ≡ composition_leaves (unit_composition units g whole unit)
   of_unit whole (names.type (declared_types.Structure position members)) =

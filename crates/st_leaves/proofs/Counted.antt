@@ -18,10 +18,10 @@ use Rattle.st_types.specs.Initials.{first_values, value_written}
 use Rattle.st_types.specs.Names.{steps_in}
 use Rattle.st_types.specs.declared.standard.StandardBlock.{StandardBlock}
 use Rattle.st_types.specs.declared.standard.StandardBlock.TheVariants as blocks
-use Rattle.st_leaves.specs.Charts.{LeafBelow, below, chart_leaves, is_pulse, named, step_leaves, stored_leaves, stored_names}
+use Rattle.st_leaves.specs.Charts.{LeafBelow, below, chart_leaves, is_pulse, named, step_leaves, stored_by, stored_leaves}
 use Rattle.st_leaves.specs.Compositions.{counted}
 use Rattle.st_leaves.specs.Leaves.{array_leaves, choices, numbers_in, standard_leaves, subscript_text}
-use Rattle.st_leaves.specs.LeavesIn.{LeafIn, all_steps_in, block_leaves, chart_in, elements_in, first_written, leaves_in, leaves_of_whole, members_in, starting, state_in, step_in, stored_in, subscript_lists, used_as, variables_in, within}
+use Rattle.st_leaves.specs.LeavesIn.{LeafIn, all_steps_in, block_leaves, chart_in, elements_in, first_written, leaves_in, leaves_of_whole, member_names, members_in, starting, state_in, step_in, stored_in, subscript_lists, used_as, variables_in, within}
 use Rattle.st_leaves.specs.Paths.{Selector, field, index, selector_text, subscripts_text}
 use Rattle.st_leaves.specs.Steps.{state_leaves}
 use Rattle.st_leaves.proofs.SubscriptTexts.{IsSome, some_signed}
@@ -145,17 +145,14 @@ counts_stored : (name : List ℕ) (stored : List (List ℕ)) → counts (flat_ma
 counts_stored name [] = refl
 counts_stored name (n ∷ stored) = ap (λ ls. counts (stored_in name n) ++ ls) (counts_stored name stored)
 
-pub counts_chart : (name : List ℕ) (elements : List ChartElement) → counts (chart_in name elements) ≡ chart_leaves elements
-counts_chart name [] = refl
-counts_chart name (e ∷ es) =
+pub counts_chart : (name : List ℕ) (stored : List (List ℕ)) (elements : List ChartElement) → counts (chart_in name stored elements) ≡ chart_leaves stored elements
+counts_chart name stored [] = refl
+counts_chart name stored (e ∷ es) =
     ap (λ ls. named (codes "$CHART") elems.Bool ∷ ls)
     (counts_append (all_steps_in name 1 steps) (flat_map (stored_in name) stored) ∙ ap (λ ls. ls ++ counts (flat_map (stored_in name) stored)) (counts_steps name 1 steps)
     ∙ ap (λ ls. flat_map step_leaves steps ++ ls) (counts_stored name stored)) where
       steps : List Step
       steps = flat_map steps_in (e ∷ es)
-
-      stored : List (List ℕ)
-      stored = stored_names [] (flat_map (λ s. s.associations) steps)
 
 -- ---- what begins with a value that is written
 
@@ -199,6 +196,6 @@ counts_whole unknown = refl
 counts_whole (elementary v) = refl
 counts_whole (array ranges firsts c) = refl
 counts_whole (composed name ms chart) =
-    counts_append (variables_in name ms) (chart_in name chart) ∙ ap (λ ls. ls ++ counts (chart_in name chart)) (counts_variables name ms)
-    ∙ sym (counts_append (members_in name ms) (chart_in name chart))
+    let own = chart_in name (stored_by (member_names ms) chart) chart in
+    counts_append (variables_in name ms) own ∙ ap (λ ls. ls ++ counts own) (counts_variables name ms) ∙ sym (counts_append (members_in name ms) own)
 counts_whole (standard b) = refl

@@ -14,6 +14,7 @@ pub mod PathsApart
 pub mod Places
 pub mod RaisedWords
 pub mod SizesOf
+pub mod Spellings
 pub mod StoredApart
 pub mod SubscriptTexts
 pub mod SubscriptsApart

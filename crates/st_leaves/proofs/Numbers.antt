@@ -15,11 +15,12 @@ use Rattle.st_types.specs.Names.{steps_in}
 use Rattle.st_types.specs.Standard.{pins_of}
 use Rattle.st_types.specs.declared.standard.StandardBlock.{StandardBlock}
 use Rattle.st_types.specs.declared.standard.StandardBlock.TheVariants as blocks
-use Rattle.st_leaves.specs.Charts.{is_pulse, stored_names}
+use Rattle.st_leaves.specs.Charts.{is_pulse, stored_by, stored_names}
 use Rattle.st_leaves.specs.Leaves.{number_of, numbers_in}
-use Rattle.st_leaves.specs.LeavesIn.{LeafIn, all_steps_in, block_leaves, chart_in, elements_in, first_written, kept_by, leaves_in, leaves_of_whole, members_in, starting, state_in, step_in, stored_in, subscript_lists, used_as, variables_in, within}
+use Rattle.st_leaves.specs.LeavesIn.{LeafIn, all_steps_in, block_leaves, chart_in, elements_in, first_written, kept_by, leaves_in, leaves_of_whole, member_names, members_in, starting, state_in, step_in, stored_in, subscript_lists, used_as, variables_in, within}
 use Rattle.st_leaves.specs.Paths.{Path, Selector, field, index}
 use Rattle.st_leaves.specs.Places.{LeavesAreCounted, chart_count, count, counts, extent, extent_of, step_count, steps_count}
+use Rattle.st_leaves.proofs.Spellings.{stored_by_count}
 
 -- ---- paths, whatever else leaves have
 
@@ -100,18 +101,18 @@ stored_length : (name : List ℕ) (stored : List (List ℕ)) → length (flat_ma
 stored_length name [] = refl
 stored_length name (n ∷ stored) = ap suc (stored_length name stored)
 
-pub chart_length : (name : List ℕ) (chart : List ChartElement) → length (chart_in name chart) ≡ chart_count chart
-chart_length name [] = refl
-chart_length name (e ∷ es) =
-    let all : length (all_steps_in name 1 steps ++ flat_map (stored_in name) stored) ≡ steps_count steps + length stored =
+pub chart_length : (name : List ℕ) (variables : List (List ℕ)) (chart : List ChartElement) → length (chart_in name (stored_by variables chart) chart) ≡ chart_count chart
+chart_length name variables [] = refl
+chart_length name variables (e ∷ es) =
+    let all : length (all_steps_in name 1 steps ++ flat_map (stored_in name) stored) ≡ steps_count steps + length (stored_names [] (flat_map (λ s. s.associations) steps)) =
     length-append (all_steps_in name 1 steps) (flat_map (stored_in name) stored) ∙ ap (λ n. n + length (flat_map (stored_in name) stored)) (steps_length name 1 steps)
-    ∙ ap (λ n. steps_count steps + n) (stored_length name stored) in
+    ∙ ap (λ n. steps_count steps + n) (stored_length name stored ∙ stored_by_count variables (e ∷ es)) in
     omega (arith, all) where
       steps : List Step
       steps = flat_map steps_in (e ∷ es)
 
       stored : List (List ℕ)
-      stored = stored_names [] (flat_map (λ s. s.associations) steps)
+      stored = stored_by variables (e ∷ es)
 
 -- ---- what variables consist of
 
@@ -122,7 +123,8 @@ mutual
   length_is_count (array ranges firsts c) =
       elements_length (subscript_lists ranges) firsts (leaves_in c) ∙ ap (λ n. n * length (leaves_in c)) (subscripts_length ranges) ∙ ap (λ n. extent ranges * n) (length_is_count c)
   length_is_count (composed name ms chart) =
-      length-append (members_in name ms) (chart_in name chart) ∙ ap (λ n. n + length (chart_in name chart)) (length_is_counts name ms) ∙ ap (λ n. counts ms + n) (chart_length name chart)
+      let own = chart_in name (stored_by (member_names ms) chart) chart in
+      length-append (members_in name ms) own ∙ ap (λ n. n + length own) (length_is_counts name ms) ∙ ap (λ n. counts ms + n) (chart_length name (member_names ms) chart)
   length_is_count (standard b) = block_length b
 
   pub length_is_counts : (name : List ℕ) (ms : Members) → length (members_in name ms) ≡ counts ms
@@ -157,8 +159,8 @@ whole_paths unknown = refl
 whole_paths (elementary v) = refl
 whole_paths (array ranges firsts c) = refl
 whole_paths (composed name ms chart) =
-    paths_append (variables_in name ms) (chart_in name chart) ∙ ap (λ ps. ps ++ paths (chart_in name chart)) (variable_paths name ms)
-    ∙ sym (paths_append (members_in name ms) (chart_in name chart))
+    let own = chart_in name (stored_by (member_names ms) chart) chart in
+    paths_append (variables_in name ms) own ∙ ap (λ ps. ps ++ paths own) (variable_paths name ms) ∙ sym (paths_append (members_in name ms) own)
 whole_paths (standard b) = refl
 
 whole_length : (c : Composition) → length (leaves_of_whole c) ≡ length (leaves_in c)

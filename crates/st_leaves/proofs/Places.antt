@@ -17,9 +17,9 @@ use Rattle.st_types.specs.Names.{steps_in}
 use Rattle.st_types.specs.Standard.{Pin, pins_of}
 use Rattle.st_types.specs.declared.standard.StandardBlock.{StandardBlock}
 use Rattle.st_values.specs.Words.{is_word}
-use Rattle.st_leaves.specs.Charts.{is_pulse, stored_names}
+use Rattle.st_leaves.specs.Charts.{is_pulse, stored_by}
 use Rattle.st_leaves.specs.Leaves.{number_of, numbers_in}
-use Rattle.st_leaves.specs.LeavesIn.{LeafIn, all_steps_in, begun, block_leaves, block_name, chart_in, elements_in, first_written, kept_by, kept_leaf, leaves_in, leaves_of_whole, members_in, one, pin_leaf, starting, state_in, step_in, stored_in, subscript_lists, truth, within}
+use Rattle.st_leaves.specs.LeavesIn.{LeafIn, all_steps_in, begun, block_leaves, block_name, chart_in, elements_in, first_written, kept_by, kept_leaf, leaves_in, leaves_of_whole, member_names, members_in, one, pin_leaf, starting, state_in, step_in, stored_in, subscript_lists, truth, within}
 use Rattle.st_leaves.specs.Paths.{Path, Selector, are_same_numbers, field, index, is_same_path, is_same_selector, kept}
 use Rattle.st_leaves.specs.Places.{IsDistance, no_more, above, IsMember, here, later, IsPart, first, behind, IsPin, IsStep, LeadsTo, end, element, into, pin, flag, time, PlacesAreNumbers, count, counts, extent, extent_of, step_count}
 use Rattle.st_leaves.proofs.Names.{is_word_comm}
@@ -201,21 +201,20 @@ some_part : {A : Type 0} (name_of : A → List ℕ) (count_of : A → ℕ) (name
 some_part name_of count_of name xs k (first e) = omega arith
 some_part name_of count_of name xs k (behind e h) = omega arith
 
-chart_at : (whole name : List ℕ) (p : Path) (j : ℕ) → InEachStep p j → (chart : List ChartElement) (k : ℕ) → IsStep name chart k → IsAt (leaf_test (field name ∷ p)) (chart_in whole chart) (1 + (k + j))
-chart_at whole name p j each [] k h = absurd (omega (arith, some_part (λ s. s.name.spelling) step_count name [] k h))
-chart_at whole name p j each (e ∷ es) k h =
+chart_at : (whole name : List ℕ) (p : Path) (j : ℕ) → InEachStep p j → (stored : List (List ℕ)) (chart : List ChartElement) (k : ℕ) → IsStep name chart k
+    → IsAt (leaf_test (field name ∷ p)) (chart_in whole stored chart) (1 + (k + j))
+chart_at whole name p j each stored [] k h = absurd (omega (arith, some_part (λ s. s.name.spelling) step_count name [] k h))
+chart_at whole name p j each stored (e ∷ es) k h =
     at_behind (leaf_test (field name ∷ p)) (one (kept (codes "CHART")) whole (truth false) begun) (all_steps_in whole 1 steps ++ flat_map (stored_in whole) stored) 1 (k + j) refl
     (at_left (leaf_test (field name ∷ p)) (all_steps_in whole 1 steps) (flat_map (stored_in whole) stored) (k + j) (steps_at whole name p j each 1 steps k h)) where
       steps : List Step
       steps = flat_map steps_in (e ∷ es)
 
-      stored : List (List ℕ)
-      stored = stored_names [] (flat_map (λ s. s.associations) steps)
-
 step_at : (whole name : List ℕ) (p : Path) (j : ℕ) → InEachStep p j → (ms : Members) (chart : List ChartElement) (k : ℕ) → IsStep name chart k
     → IsAt (leaf_test (field name ∷ p)) (leaves_in (composed whole ms chart)) (counts ms + (1 + (k + j)))
 step_at whole name p j each ms chart k h =
-    at_behind (leaf_test (field name ∷ p)) (members_in whole ms) (chart_in whole chart) (counts ms) (1 + (k + j)) (length_is_counts whole ms) (chart_at whole name p j each chart k h)
+    let stored = stored_by (member_names ms) chart in
+    at_behind (leaf_test (field name ∷ p)) (members_in whole ms) (chart_in whole stored chart) (counts ms) (1 + (k + j)) (length_is_counts whole ms) (chart_at whole name p j each stored chart k h)
 
 -- ---- what variables consist of
 
@@ -227,7 +226,7 @@ is_at c p k (element {ranges = ranges} {firsts = firsts} {c = e} {is = is} {path
     at_number (leaf_test (index is ∷ q)) (elements_in (subscript_lists ranges) firsts (leaves_in e)) (w.number * length (leaves_in e) + j) (d + j) n
     (elements_at is (subscript_lists ranges) firsts q (leaves_in e) w.number j w.stands (is_at e q j h))
 is_at c p k (into {whole = whole} {name = name} {ms = ms} {chart = chart} {c = b} {path = q} {d = d} {k = j} g h) =
-    at_left (leaf_test (field name ∷ q)) (members_in whole ms) (chart_in whole chart) (d + j) (member_at whole name q ms d b j g (is_at b q j h))
+    at_left (leaf_test (field name ∷ q)) (members_in whole ms) (chart_in whole (stored_by (member_names ms) chart) chart) (d + j) (member_at whole name q ms d b j g (is_at b q j h))
 is_at c p k (pin {b = b} {name = name} {k = j} h) = pin_at name b j h
 is_at c p k (flag {whole = whole} {name = name} {x = x} {ms = ms} {chart = chart} {k = j} h e) =
     let z : counts ms + (1 + (j + 0)) ≡ counts ms + (1 + j) = omega arith in

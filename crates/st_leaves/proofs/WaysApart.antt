@@ -9,13 +9,15 @@ use Rattle.st_types.specs.Compositions.{Composition, unknown, elementary, array,
 use Rattle.st_types.specs.Names.{steps_in}
 use Rattle.st_types.specs.declared.standard.StandardBlock.{StandardBlock}
 use Rattle.st_types.specs.declared.standard.StandardBlock.TheVariants as blocks
-use Rattle.st_leaves.specs.Distinct.{AreApart, HasDistinctNames, HaveDistinctNames, WaysAreDistinct, member_names, step_names}
-use Rattle.st_leaves.specs.LeavesIn.{LeafIn, block_leaves, chart_in, leaves_in, leaves_of_whole, members_in, subscript_lists, variables_in}
+use Rattle.st_leaves.specs.Charts.{stored_by}
+use Rattle.st_leaves.specs.Distinct.{AreApart, HasDistinctNames, HaveDistinctNames, WaysAreDistinct, step_names}
+use Rattle.st_leaves.specs.LeavesIn.{LeafIn, block_leaves, chart_in, leaves_in, leaves_of_whole, member_names, members_in, subscript_lists, variables_in}
 use Rattle.st_leaves.specs.Paths.{Path, are_same_numbers, field, index, kept}
 use Rattle.st_leaves.proofs.ChartWays.{chart_in_ways, chart_ways, step_groups, whole_differ, whole_not_stored}
 use Rattle.st_leaves.proofs.Differences.{BeginApart, Differ, IsNotStored, away, groups_differ, not_stored_tested, tested}
 use Rattle.st_leaves.proofs.Groups.{grouped}
 use Rattle.st_leaves.proofs.Pairs.{Pairwise, all_pairs, each_any, each_map, from_all_pairs, pairwise_map, pairwise_mapped}
+use Rattle.st_leaves.proofs.Spellings.{stored_by_apart}
 use Rattle.st_leaves.proofs.SubscriptsApart.{subscripts_apart}
 use Rattle.st_leaves.proofs.WaysIn.{Group, element_groups, elements_ways, member_groups, members_ways, step_group, variables_ways, ways}
 
@@ -41,15 +43,22 @@ members_named (member name kind c ms) = ((λ t. refl), members_named ms)
 
 -- ---- wholes
 
-whole_ways : (name : List ℕ) (ms : Members) (chart : List ChartElement) → ways (members_in name ms ++ chart_in name chart) ≡ grouped (member_groups ms) ++ chart_ways chart
-whole_ways name ms chart =
-    map-append (λ (l : LeafIn). l.path) (members_in name ms) (chart_in name chart) ∙ ap (λ ps. ps ++ ways (chart_in name chart)) (members_ways name ms)
-    ∙ ap (λ ps. grouped (member_groups ms) ++ ps) (chart_in_ways name chart)
+-- the names that the chart of a whole stores
+abbrev own_stored : Members → List ChartElement → List (List ℕ)
+own_stored ms chart = stored_by (member_names ms) chart
 
-program_ways : (name : List ℕ) (ms : Members) (chart : List ChartElement) → ways (variables_in name ms ++ chart_in name chart) ≡ grouped (member_groups ms) ++ chart_ways chart
+abbrev own_leaves : List ℕ → Members → List ChartElement → List LeafIn
+own_leaves name ms chart = chart_in name (own_stored ms chart) chart
+
+whole_ways : (name : List ℕ) (ms : Members) (chart : List ChartElement) → ways (members_in name ms ++ own_leaves name ms chart) ≡ grouped (member_groups ms) ++ chart_ways (own_stored ms chart) chart
+whole_ways name ms chart =
+    map-append (λ (l : LeafIn). l.path) (members_in name ms) (own_leaves name ms chart) ∙ ap (λ ps. ps ++ ways (own_leaves name ms chart)) (members_ways name ms)
+    ∙ ap (λ ps. grouped (member_groups ms) ++ ps) (chart_in_ways name (own_stored ms chart) chart)
+
+program_ways : (name : List ℕ) (ms : Members) (chart : List ChartElement) → ways (variables_in name ms ++ own_leaves name ms chart) ≡ grouped (member_groups ms) ++ chart_ways (own_stored ms chart) chart
 program_ways name ms chart =
-    map-append (λ (l : LeafIn). l.path) (variables_in name ms) (chart_in name chart) ∙ ap (λ ps. ps ++ ways (chart_in name chart)) (variables_ways name ms)
-    ∙ ap (λ ps. grouped (member_groups ms) ++ ps) (chart_in_ways name chart)
+    map-append (λ (l : LeafIn). l.path) (variables_in name ms) (own_leaves name ms chart) ∙ ap (λ ps. ps ++ ways (own_leaves name ms chart)) (variables_ways name ms)
+    ∙ ap (λ ps. grouped (member_groups ms) ++ ps) (chart_in_ways name (own_stored ms chart) chart)
 
 block_not_stored : (b : StandardBlock) → Each IsNotStored (ways (block_leaves b))
 block_not_stored blocks.RTrig = not_stored_tested (ways (block_leaves blocks.RTrig)) refl
@@ -82,7 +91,7 @@ not_stored (array ranges firsts c) =
     subst (Each IsNotStored) (sym (elements_ways (subscript_lists ranges) firsts (leaves_in c)))
     (away (kept _) [] (element_groups (subscript_lists ranges) (ways (leaves_in c)))
     (each_map (λ g. BeginApart g.0 (kept _)) _ (subscript_lists ranges) (each_any _ (subscript_lists ranges) (λ is. refl))))
-not_stored (composed name ms chart) = subst (Each IsNotStored) (sym (whole_ways name ms chart)) (whole_not_stored (member_groups ms) (members_named ms) chart)
+not_stored (composed name ms chart) = subst (Each IsNotStored) (sym (whole_ways name ms chart)) (whole_not_stored (member_groups ms) (members_named ms) (own_stored ms chart) chart)
 not_stored (standard b) = block_not_stored b
 
 members_not_stored : (ms : Members) → Each (λ g. Each IsNotStored g.1) (member_groups ms)
@@ -105,7 +114,7 @@ mutual
       (elements_differ (subscript_lists ranges) (ways (leaves_in c)) (subscripts_apart ranges) (differ c names))
   differ (composed name ms chart) names =
       subst (Pairwise Differ) (sym (whole_ways name ms chart))
-      (whole_differ (member_groups ms) (members_named ms) (members_differ ms names.1) (members_not_stored ms) chart (groups_begin_apart ms chart names.0))
+      (whole_differ (member_groups ms) (members_named ms) (own_stored ms chart) (members_differ ms names.1) (members_not_stored ms) (stored_by_apart (member_names ms) chart) chart (groups_begin_apart ms chart names.0))
   differ (standard b) names = block_differ b
 
   members_differ : (ms : Members) → HaveDistinctNames ms → Each (λ g. Pairwise Differ g.1) (member_groups ms)
@@ -118,7 +127,7 @@ whole (elementary v) names = differ (elementary v) names
 whole (array ranges firsts c) names = differ (array ranges firsts c) names
 whole (composed name ms chart) names =
     subst (Pairwise Differ) (sym (program_ways name ms chart))
-    (whole_differ (member_groups ms) (members_named ms) (members_differ ms names.1) (members_not_stored ms) chart (groups_begin_apart ms chart names.0))
+    (whole_differ (member_groups ms) (members_named ms) (own_stored ms chart) (members_differ ms names.1) (members_not_stored ms) (stored_by_apart (member_names ms) chart) chart (groups_begin_apart ms chart names.0))
 whole (standard b) names = differ (standard b) names
 
 pub ways_differ : (c : Composition) → HasDistinctNames c → Pairwise (λ l other. Differ l.path other.path) (leaves_of_whole c)

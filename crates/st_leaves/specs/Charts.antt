@@ -1,5 +1,5 @@
 -- What a chart keeps of itself (2.6): leaves whose names can't be written in a program, but for the flag and the time of a step.
-use Rattle.std.specs.Prelude.{ℕ, Bool, false, ◌&&◌, not, List, [], ◌∷◌, ◌++◌, codes, Option, Some, None, if◌then◌else◌}
+use Rattle.std.specs.Prelude.{ℕ, Bool, false, ◌&&◌, not, List, [], ◌∷◌, ◌++◌, codes, map, Option, Some, None, if◌then◌else◌}
 use Rattle.std.specs.List.{flat_map, list_any}
 use Rattle.st_values.specs.Words.{is_word}
 use Rattle.st_values.specs.declared.elem.Elem.{Elem}
@@ -8,7 +8,8 @@ use Rattle.st_tree.specs.declared.tree.unit.ActionQualifier.{ActionQualifier}
 use Rattle.st_tree.specs.declared.tree.unit.Association.{Association}
 use Rattle.st_tree.specs.declared.tree.unit.ChartElement.{ChartElement}
 use Rattle.st_tree.specs.declared.tree.unit.Step.{Step}
-use Rattle.st_types.specs.Names.{steps_in}
+use Rattle.st_types.specs.Compositions.{is_constant}
+use Rattle.st_types.specs.Names.{Declared, Declares, actions_in, chart_in, steps_in, variables_in}
 
 -- a leaf below some part: the rest of its path as it is shown, and its type
 pub record LeafBelow : Type 0 where
@@ -49,14 +50,42 @@ stored_names others (a ∷ more) =
     if is_stored a && not (list_any (is_word a.name.spelling) others) then a.name.spelling ∷ stored_names (a.name.spelling ∷ others) more
     else stored_names others more
 
+-- ---- how these names are declared
+
+-- a name as the first of these spells it that is the same, and as it stands where none is
+abbrev pub as_declared : List (List ℕ) → List ℕ → List ℕ
+as_declared [] name = name
+as_declared (d ∷ declared) name = if is_word d name then d else as_declared declared name
+
+-- the name of a variable, if it can be stored: a constant can't
+abbrev pub storable : Declared → List (List ℕ)
+storable v = if is_constant v.kind then [] else v.name.spelling ∷ []
+
+abbrev pub variable_names : List Declared → List (List ℕ)
+variable_names variables = flat_map storable variables
+
+abbrev pub action_names : List ChartElement → List (List ℕ)
+action_names elements = map (λ a. a.name.spelling) (flat_map actions_in elements)
+
+-- the names that a chart stores, in the order of their first associations, each as the variable or the action is declared that it
+-- names: the variables of its unit have these names
+abbrev pub stored_by : List (List ℕ) → List ChartElement → List (List ℕ)
+stored_by variables elements = map (as_declared (variables ++ action_names elements)) (stored_names [] (flat_map (λ s. s.associations) (flat_map steps_in elements)))
+
+-- the names that the chart of a unit stores
+abbrev pub stored_of : Declares → List (List ℕ)
+stored_of unit = stored_by (variable_names (variables_in unit)) (chart_in unit)
+
+-- ---- the whole
+
 abbrev pub stored_leaves : List (List ℕ) → List LeafBelow
 stored_leaves names = flat_map (λ name. below (codes "." ++ name) (named (codes "$S") elems.Bool ∷ [])) names
 
--- whether the chart has begun, then its steps, then its stored names
-abbrev pub all_leaves : List Step → List LeafBelow
-all_leaves steps = named (codes "$CHART") elems.Bool ∷ flat_map step_leaves steps ++ stored_leaves (stored_names [] (flat_map (λ s. s.associations) steps))
+-- whether the chart has begun, then its steps, then the names that it stores
+abbrev pub all_leaves : List (List ℕ) → List Step → List LeafBelow
+all_leaves stored steps = named (codes "$CHART") elems.Bool ∷ flat_map step_leaves steps ++ stored_leaves stored
 
--- of the elements of a chart; without any there is no chart
-abbrev pub chart_leaves : List ChartElement → List LeafBelow
-chart_leaves [] = []
-chart_leaves elements = all_leaves (flat_map steps_in elements)
+-- of the elements of a chart that stores these names; without any there is no chart
+abbrev pub chart_leaves : List (List ℕ) → List ChartElement → List LeafBelow
+chart_leaves stored [] = []
+chart_leaves stored elements = all_leaves stored (flat_map steps_in elements)

@@ -5,13 +5,9 @@ use Rattle.st_values.specs.Words.{is_word, raised}
 use Rattle.st_tree.specs.declared.tree.unit.ChartElement.{ChartElement}
 use Rattle.st_types.specs.Compositions.{Composition, unknown, elementary, array, composed, standard, Members, none, member, composition_of}
 use Rattle.st_types.specs.Names.{Named, steps_in}
-use Rattle.st_leaves.specs.LeavesIn.{leaves_of_whole}
+use Rattle.st_leaves.specs.LeavesIn.{leaves_of_whole, member_names}
 use Rattle.st_leaves.specs.Paths.{HasWords, Path, field, index, is_same_path, kept, path_text}
 use Rattle.st_leaves.specs.Programs.{program_leaves}
-
-abbrev pub member_names : Members → List (List ℕ)
-member_names none = []
-member_names (member name kind c ms) = name ∷ member_names ms
 
 abbrev pub step_names : List ChartElement → List (List ℕ)
 step_names chart = map (λ s. s.name.spelling) (flat_map steps_in chart)

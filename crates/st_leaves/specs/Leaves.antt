@@ -16,7 +16,7 @@ use Rattle.st_types.specs.declared.base.Base.TheVariants as bases
 use Rattle.st_types.specs.declared.standard.StandardBlock.{StandardBlock}
 use Rattle.st_types.specs.declared.standard.StandardBlock.TheVariants as blocks
 use Rattle.st_sizes.specs.Subscripts.{below_zero, numbers, values_from}
-use Rattle.st_leaves.specs.Charts.{LeafBelow, below, chart_leaves, named}
+use Rattle.st_leaves.specs.Charts.{LeafBelow, below, chart_leaves, named, stored_of}
 
 -- ---- the elements of an array
 
@@ -78,7 +78,7 @@ module _ (units : List Named) where
   -- of a structure its members, of an instance and a program the variables and then the chart
   abbrev pub unit_leaves : (Base → List LeafBelow) → Declares → List LeafBelow
   unit_leaves inside (names.type (declared_types.Structure position members)) = flat_map (declared_leaves inside) (members_of members)
-  unit_leaves inside unit = flat_map (declared_leaves inside) (variables_in unit) ++ chart_leaves (chart_in unit)
+  unit_leaves inside unit = flat_map (declared_leaves inside) (variables_in unit) ++ chart_leaves (stored_of unit) (chart_in unit)
 
   abbrev pub optional_leaves : (Base → List LeafBelow) → Option Named → List LeafBelow
   optional_leaves inside None = []

@@ -16,7 +16,7 @@ use Rattle.st_types.specs.Names.{steps_in}
 use Rattle.st_types.specs.Standard.{Pin, pins_of}
 use Rattle.st_types.specs.declared.standard.StandardBlock.{StandardBlock}
 use Rattle.st_types.specs.declared.standard.StandardBlock.TheVariants as blocks
-use Rattle.st_leaves.specs.Charts.{is_pulse, stored_names}
+use Rattle.st_leaves.specs.Charts.{is_pulse, stored_by}
 use Rattle.st_leaves.specs.Leaves.{numbers_in}
 use Rattle.st_leaves.specs.Paths.{Path, Selector, field, index, kept}
 
@@ -142,26 +142,30 @@ all_steps_in name back (s ∷ steps) = step_in name back s ++ all_steps_in name 
 abbrev pub stored_in : List ℕ → List ℕ → List LeafIn
 stored_in name stored = within (field stored) name (one (kept (codes "S")) (codes "action") (truth false) hidden)
 
--- whether the chart has begun, then its steps in the order of the text, then the names that are stored, in the order of the first association
-abbrev pub whole_chart_in : List ℕ → List Step → List LeafIn
-whole_chart_in name steps =
+-- whether the chart has begun, then its steps in the order of the text, then the names that it stores
+abbrev pub whole_chart_in : List ℕ → List (List ℕ) → List Step → List LeafIn
+whole_chart_in name stored steps =
     one (kept (codes "CHART")) name (truth false) begun
     ++ all_steps_in name 1 steps
-    ++ flat_map (stored_in name) (stored_names [] (flat_map (λ s. s.associations) steps))
+    ++ flat_map (stored_in name) stored
 
--- without elements there is no chart
-abbrev pub chart_in : List ℕ → List ChartElement → List LeafIn
-chart_in name [] = []
-chart_in name elements = whole_chart_in name (flat_map steps_in elements)
+-- of a chart that stores these names; without elements there is none
+abbrev pub chart_in : List ℕ → List (List ℕ) → List ChartElement → List LeafIn
+chart_in name stored [] = []
+chart_in name stored elements = whole_chart_in name stored (flat_map steps_in elements)
 
 -- ---- what variables consist of
+
+abbrev pub member_names : Members → List (List ℕ)
+member_names none = []
+member_names (member name kind c ms) = name ∷ member_names ms
 
 abbrev mutual
   pub leaves_in : Composition → List LeafIn
   leaves_in unknown = []
   leaves_in (elementary v) = record { path = []; spine = []; initial = v; use' = plain } ∷ []
   leaves_in (array ranges firsts c) = elements_in (subscript_lists ranges) firsts (leaves_in c)
-  leaves_in (composed name ms chart) = members_in name ms ++ chart_in name chart
+  leaves_in (composed name ms chart) = members_in name ms ++ chart_in name (stored_by (member_names ms) chart) chart
   leaves_in (standard b) = block_leaves b
 
   -- of the members of a whole of this name, in order
@@ -186,5 +190,5 @@ variables_in name (member field' kind c ms) = within (field field') name (used_a
 
 -- of a program: its variables in order, and then its chart
 abbrev pub leaves_of_whole : Composition → List LeafIn
-leaves_of_whole (composed name ms chart) = variables_in name ms ++ chart_in name chart
+leaves_of_whole (composed name ms chart) = variables_in name ms ++ chart_in name (stored_by (member_names ms) chart) chart
 leaves_of_whole c = leaves_in c

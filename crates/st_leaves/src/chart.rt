@@ -1,8 +1,8 @@
 //! How large the leaves of charts are (2.6).
-ghost use Rattle.std.specs.Prelude.{◌≡◌, IfOk};
+ghost use Rattle.std.specs.Prelude.{◌≡◌, IfOk, List, ℕ};
 ghost use Rattle.std.specs.List.{list_any};
 ghost use Rattle.st_sizes.specs.Sizes.{IsSize};
-ghost use Rattle.st_leaves.specs.Charts.{chart_leaves, is_pulse, step_leaves};
+ghost use Rattle.st_leaves.specs.Charts.{chart_leaves, is_pulse, step_leaves, stored_by};
 ghost use Rattle.st_leaves.specs.Limits.{sizes_of};
 ghost use Rattle.st_leaves.specs.Steps.{state_leaves};
 
@@ -13,10 +13,10 @@ use st_tree::tree::{Association, ChartElement, Step};
 use st_values::Elem;
 use std::alloc::{AllocError, Global};
 
-/// Of a chart with these elements: whether it has begun, its steps, and the names that it stores. Without elements there is no
-/// chart.
+/// Of a chart with these elements: whether it has begun, its steps, and the names that it stores, however they are declared.
+/// Without elements there is no chart.
 pub fn chart_size(alloc: Global, elements: &[ChartElement]) -> Result<Size, AllocError>
-    ensures { IfOk result (λ size. IsSize size (sizes_of (chart_leaves elements.now))) }
+    ensures { IfOk result (λ size. (variables : List (List ℕ)) → IsSize size (sizes_of (chart_leaves (stored_by variables elements.now) elements.now))) }
 {
     if elements.is_empty() {
         return Ok(Size::none());

@@ -3,6 +3,7 @@ pub mod ChartListings
 pub mod Choices
 pub mod Empties
 pub mod Listings
+pub mod NamesStored
 pub mod ProgramLeaves
 pub mod Variables
 pub mod Walks

@@ -7,11 +7,13 @@ use Rattle.st_tree.specs.declared.tree.declaration.DeclaredType.TheVariants as d
 use Rattle.st_tree.specs.declared.tree.declaration.VarKind.{VarKind}
 use Rattle.st_tree.specs.declared.tree.declaration.VarKind.TheVariants as var_kinds
 use Rattle.st_tree.specs.declared.tree.unit.ChartElement.{ChartElement}
-use Rattle.st_types.specs.Compositions.{composition_of, is_constant}
+use Rattle.st_types.specs.Compositions.{Composition, composition_of, composition_within, is_constant}
 use Rattle.st_types.specs.Inside.{declared_by, named_by}
 use Rattle.st_types.specs.declared.unit.NamedUnit.{NamedUnit}
-use Rattle.st_types.specs.Names.{Declared, Declares, Named, chart_in, unit_at}
+use Rattle.st_types.specs.Names.{Declared, Declares, Named, chart_in, unit_at, variables_of}
 use Rattle.st_types.specs.Names as names
+use Rattle.st_types.specs.declared.base.Base.{Base}
+use Rattle.st_leaves.specs.Charts.{stored_of}
 use Rattle.st_leaves.specs.LeavesIn.{LeafIn, as_input, leaves_of_whole, used_as, within}
 use Rattle.st_leaves.specs.LeavesIn as leaves
 use Rattle.st_leaves.specs.Paths.{HasWords, field}
@@ -22,7 +24,7 @@ use Rattle.st_listing.specs.Listings.{AreWays, ListingView, as_inputs, inside, l
 use Rattle.st_listing.specs.Walks.{declared_leaves, variable_leaves}
 use Rattle.st_listing.proofs.Listings.{length_listed, length_used, length_within, listed_inputs, listed_twice, listed_within, ways_append, ways_none, ways_within}
 use Rattle.st_listing.proofs.ProgramLeaves.{same_unit}
-use Rattle.st_listing.proofs.Walks.{constant_variable, names_of_unit, other_variable, variables_more}
+use Rattle.st_listing.proofs.Walks.{constant_variable, names_of_unit, other_variable, variables_more, with_chart}
 
 abbrev pub program : List ℕ
 program = codes "PROGRAM"
@@ -97,24 +99,29 @@ all_ways left whole none each = each (subst AreWays (sym none) ways_none)
 
 -- ---- the program
 
-pub program_split : (units : List Named) (depth i : ℕ) (u : Named) (vs : List Declared) (elements : List ChartElement) → unit_at units i ≡ Some u → depth ≡ length units + 1 → vs ≡ names_at units i → elements ≡ chart_in u.declares
-    → leaves_of_whole (composition_of units u.declares) ≡ variable_leaves units depth program vs ++ leaves.chart_in program elements
+pub program_split : (units : List Named) (depth i : ℕ) (u : Named) (vs : List Declared) (stored : List (List ℕ)) (elements : List ChartElement) → unit_at units i ≡ Some u → depth ≡ length units + 1 → vs ≡ names_at units i
+    → stored ≡ stored_of u.declares → elements ≡ chart_in u.declares → leaves_of_whole (composition_of units u.declares) ≡ variable_leaves units depth program vs ++ leaves.chart_in program stored elements
 unfolding composition_of
-program_split units depth i u vs elements at deep vs_are elements_are =
-    by u.declares ∙ ap (λ n. variable_leaves units n program (names_in u.declares) ++ leaves.chart_in program (chart_in u.declares)) (omega (arith, deep))
-    ∙ ap (λ ds. variable_leaves units depth program ds ++ leaves.chart_in program (chart_in u.declares)) (sym (vs_are ∙ names_of_unit units i u at))
-    ∙ ap (λ es. variable_leaves units depth program vs ++ leaves.chart_in program es) (sym elements_are) where
-      by : (d : Declares) → leaves_of_whole (composition_of units d) ≡ variable_leaves units (suc (length units)) program (names_in d) ++ leaves.chart_in program (chart_in d)
+program_split units depth i u vs stored elements at deep vs_are stored_are elements_are =
+    by u.declares ∙ ap (λ n. variable_leaves units n program (names_in u.declares) ++ leaves.chart_in program (stored_of u.declares) (chart_in u.declares)) (omega (arith, deep))
+    ∙ ap (λ ds. variable_leaves units depth program ds ++ leaves.chart_in program (stored_of u.declares) (chart_in u.declares)) (sym (vs_are ∙ names_of_unit units i u at))
+    ∙ ap (λ ns. variable_leaves units depth program vs ++ leaves.chart_in program ns (chart_in u.declares)) (sym stored_are)
+    ∙ ap (λ es. variable_leaves units depth program vs ++ leaves.chart_in program stored es) (sym elements_are) where
+      inside : Base → Composition
+      inside = composition_within units (suc (length units))
+
+      by : (d : Declares) → leaves_of_whole (composition_of units d) ≡ variable_leaves units (suc (length units)) program (names_in d) ++ leaves.chart_in program (stored_of d) (chart_in d)
       by (names.type (declared_types.Structure position members)) = refl
       by (names.type (declared_types.Derived specification initial)) = refl
       by (names.function f) = refl
-      by (names.block b) = refl
-      by (names.program p) = refl
+      by (names.block b) = with_chart units inside program (variable_leaves units (suc (length units)) program (variables_of b.variables)) (names.block b)
+      by (names.program p) = with_chart units inside program (variable_leaves units (suc (length units)) program (variables_of p.variables)) (names.program p)
 
-pub program_parts : (units : List Named) (rows : List NamedUnit) (i : ℕ) (read : NamedUnit) (u : Named) (vs : List Declared) (elements : List ChartElement) → map named_by rows ≡ units → Some (named_by read) ≡ unit_at units i → unit_at units i ≡ Some u
-    → vs ≡ names_at units i → elements ≡ chart_in (declared_by read.kind) → leaves_of_whole (composition_of units u.declares) ≡ variable_leaves units (length rows + 1) program vs ++ leaves.chart_in program elements
-program_parts units rows i read u vs elements are read_at at vs_are elements_are =
-    program_split units (length rows + 1) i u vs elements at (ap (λ n. n + 1) (sym (length-map rows named_by) ∙ ap length are)) vs_are
+pub program_parts : (units : List Named) (rows : List NamedUnit) (i : ℕ) (read : NamedUnit) (u : Named) (vs : List Declared) (stored : List (List ℕ)) (elements : List ChartElement) → map named_by rows ≡ units
+    → Some (named_by read) ≡ unit_at units i → unit_at units i ≡ Some u → vs ≡ names_at units i → stored ≡ stored_of u.declares → elements ≡ chart_in (declared_by read.kind)
+    → leaves_of_whole (composition_of units u.declares) ≡ variable_leaves units (length rows + 1) program vs ++ leaves.chart_in program stored elements
+program_parts units rows i read u vs stored elements are read_at at vs_are stored_are elements_are =
+    program_split units (length rows + 1) i u vs stored elements at (ap (λ n. n + 1) (sym (length-map rows named_by) ∙ ap length are)) vs_are stored_are
     (elements_are ∙ ap (λ (v : Named). chart_in v.declares) (same_unit (named_by read) u (read_at ∙ at)))
 
 pub first_room : (s : ListingView) (a b whole : List LeafIn) → whole ≡ a ++ b → length s.leaves + length whole ≤ 65536 → length s.leaves + length a ≤ 65536

@@ -15,7 +15,7 @@ use Rattle.st_tree.specs.declared.tree.declaration.Initial.{Initial}
 use Rattle.st_tree.specs.declared.tree.declaration.Initial.TheVariants as initials
 use Rattle.st_tree.specs.declared.tree.declaration.Subrange.{Subrange}
 use Rattle.st_types.specs.Compositions.{Composition, array, member, composition_within, declared_composition, is_constant, members_by, optional_composition, started, subscripted, unknown}
-use Rattle.st_types.specs.Names.{Declared, Declares, Named, chart_in}
+use Rattle.st_types.specs.Names.{Declared, Declares, Named, chart_in, variables_of}
 use Rattle.st_types.specs.Names as names
 use Rattle.st_types.specs.Names.{unit_at}
 use Rattle.st_types.specs.Initials.{element_initial, initial_of, value_written}
@@ -29,12 +29,14 @@ use Rattle.st_tree.specs.declared.tree.declaration.Specification.{Specification}
 use Rattle.st_tree.specs.declared.tree.declaration.Specification.TheVariants as specifications
 use Rattle.st_tree.specs.declared.tree.unit.ChartElement.{ChartElement}
 use Rattle.st_types.specs.declared.base.Base.{Base}
-use Rattle.st_leaves.specs.LeavesIn.{LeafIn, block_leaves, elements_in, first_written, leaves_in, members_in, plain, starting, subscript_lists, used_as, variables_in, within}
+use Rattle.st_leaves.specs.Charts.{stored_by, stored_of}
+use Rattle.st_leaves.specs.LeavesIn.{LeafIn, block_leaves, elements_in, first_written, leaves_in, member_names, members_in, plain, starting, subscript_lists, used_as, variables_in, within}
 use Rattle.st_leaves.specs.LeavesIn as leaves
 use Rattle.st_leaves.specs.Paths.{field, index, selector_text}
 use Rattle.st_initials.specs.Lists.{values_of}
 use Rattle.st_scopes.specs.Declarations.{names_at, names_in, seen}
 use Rattle.st_scopes.specs.declared.declaration.Declared.{Declared as Row}
+use Rattle.st_leaves.proofs.Spellings.{variables_are_members}
 use Rattle.st_listing.specs.Listings.{AreWays, ListingView, behind, inside, leaf_behind, leaves_behind, listed, outside}
 use Rattle.st_listing.specs.Walks.{begins_with, array_leaves, declared_leaves, member_leaves, started_value, unit_leaves, variable_leaves}
 use Rattle.st_listing.proofs.Listings.{ways_append, ways_none, ways_starting, ways_within, length_listed, length_starting, length_within, listed_count, listed_none, listed_twice, listed_within, ways_more}
@@ -59,15 +61,21 @@ array_started (Some (initials.Array position items)) ranges c = refl
 
 -- ---- units
 
+-- the chart of a unit stores the same names, whether they are looked up among its members or its variables
+pub with_chart : (units : List Named) (inside : Base → Composition) (name : List ℕ) (before : List LeafIn) (d : Declares)
+    → before ++ leaves.chart_in name (stored_by (member_names (members_by units inside (names.variables_in d))) (chart_in d)) (chart_in d) ≡ before ++ leaves.chart_in name (stored_of d) (chart_in d)
+with_chart units inside name before d = ap (λ ns. before ++ leaves.chart_in name (stored_by ns (chart_in d)) (chart_in d)) (sym (variables_are_members units inside (names.variables_in d)))
+
 pub unit_has : (units : List Named) (inside : Base → Composition) (u : Named)
-    → leaves_in (optional_composition units inside (Some u)) ≡ members_in (raised u.name.spelling) (members_by units inside (names_in u.declares)) ++ leaves.chart_in (raised u.name.spelling) (chart_in u.declares)
+    → leaves_in (optional_composition units inside (Some u)) ≡ members_in (raised u.name.spelling) (members_by units inside (names_in u.declares)) ++ leaves.chart_in (raised u.name.spelling) (stored_of u.declares) (chart_in u.declares)
 unit_has units inside u = by u.declares where
-  by : (d : Declares) → leaves_in (optional_composition units inside (Some (record { name = u.name; declares = d }))) ≡ members_in (raised u.name.spelling) (members_by units inside (names_in d)) ++ leaves.chart_in (raised u.name.spelling) (chart_in d)
+  by : (d : Declares)
+      → leaves_in (optional_composition units inside (Some (record { name = u.name; declares = d }))) ≡ members_in (raised u.name.spelling) (members_by units inside (names_in d)) ++ leaves.chart_in (raised u.name.spelling) (stored_of d) (chart_in d)
   by (names.type (declared_types.Structure position members)) = refl
   by (names.type (declared_types.Derived specification initial)) = refl
   by (names.function f) = refl
-  by (names.block b) = refl
-  by (names.program p) = refl
+  by (names.block b) = with_chart units inside (raised u.name.spelling) (members_in (raised u.name.spelling) (members_by units inside (variables_of b.variables))) (names.block b)
+  by (names.program p) = with_chart units inside (raised u.name.spelling) (members_in (raised u.name.spelling) (members_by units inside (variables_of p.variables))) (names.program p)
 
 -- ---- members
 
@@ -292,13 +300,26 @@ unit_name units all i u d at are = ap (λ ns. get_or ns i d) are ∙ by units i 
 pub names_of_unit : (units : List Named) (i : ℕ) (u : Named) → unit_at units i ≡ Some u → names_at units i ≡ names_in u.declares
 names_of_unit units i u at = ap (λ o. option_map_or names_in (option_map (λ u. u.declares) o) []) at
 
-pub unit_split : (units : List Named) (depth i : ℕ) (u : Named) (name : List ℕ) (vs : List Declared) (elements : List ChartElement) → unit_at units i ≡ Some u → name ≡ raised u.name.spelling → vs ≡ names_at units i
-    → elements ≡ chart_in u.declares → unit_leaves units depth i ≡ member_leaves units depth name vs ++ leaves.chart_in name elements
-unit_split units depth i u name vs elements at named vs_are elements_are =
+-- what stands for a unit, in a list for all units
+pub unit_read : {X Y : Type 0} (f : X → Y) (g : Named → Y) (units : List Named) (all : List X) (i : ℕ) (u : Named) (d : X) → unit_at units i ≡ Some u → map f all ≡ map g units → f (get_or all i d) ≡ g u
+unit_read f g [] all i u d at are = absurd (cc)
+unit_read f g (v ∷ us) [] i u d at are = absurd (cc)
+unit_read f g (v ∷ us) (x ∷ xs) zero u d at are =
+    let here : f x ≡ g v = cc in
+    let same : v ≡ u = cc in
+    here ∙ ap g same
+unit_read f g (v ∷ us) (x ∷ xs) (suc n) u d at are =
+    let rest : map f xs ≡ map g us = cc in
+    unit_read f g us xs n u d at rest
+
+pub unit_split : (units : List Named) (depth i : ℕ) (u : Named) (name : List ℕ) (vs : List Declared) (stored : List (List ℕ)) (elements : List ChartElement) → unit_at units i ≡ Some u → name ≡ raised u.name.spelling
+    → vs ≡ names_at units i → stored ≡ stored_of u.declares → elements ≡ chart_in u.declares → unit_leaves units depth i ≡ member_leaves units depth name vs ++ leaves.chart_in name stored elements
+unit_split units depth i u name vs stored elements at named vs_are stored_are elements_are =
     ap (λ o. leaves_in (optional_composition units (composition_within units depth) o)) at ∙ unit_has units (composition_within units depth) u
-    ∙ ap (λ n. member_leaves units depth n (names_in u.declares) ++ leaves.chart_in n (chart_in u.declares)) (sym named)
-    ∙ ap (λ ds. member_leaves units depth name ds ++ leaves.chart_in name (chart_in u.declares)) (sym (vs_are ∙ names_of_unit units i u at))
-    ∙ ap (λ es. member_leaves units depth name vs ++ leaves.chart_in name es) (sym elements_are)
+    ∙ ap (λ n. member_leaves units depth n (names_in u.declares) ++ leaves.chart_in n (stored_of u.declares) (chart_in u.declares)) (sym named)
+    ∙ ap (λ ds. member_leaves units depth name ds ++ leaves.chart_in name (stored_of u.declares) (chart_in u.declares)) (sym (vs_are ∙ names_of_unit units i u at))
+    ∙ ap (λ ns. member_leaves units depth name vs ++ leaves.chart_in name ns (chart_in u.declares)) (sym stored_are)
+    ∙ ap (λ es. member_leaves units depth name vs ++ leaves.chart_in name stored es) (sym elements_are)
 
 pub members_left : (units : List Named) (depth : ℕ) (of : List ℕ) (rows : List Row) (i : ℕ) (row : Row) → i < length rows → get_or rows i row ≡ row
     → member_leaves units depth of (map seen (drop i rows)) ≡ member_leaves units depth of (seen row ∷ []) ++ member_leaves units depth of (map seen (drop (i + 1) rows))

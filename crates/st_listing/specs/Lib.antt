@@ -1,5 +1,6 @@
 pub mod Choices
 pub mod Kinds
 pub mod Listings
+pub mod Spellings
 pub mod Uses
 pub mod Walks

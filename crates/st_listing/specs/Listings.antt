@@ -1,5 +1,6 @@
 -- The leaves of a program, one put behind the other.
-use Rattle.std.specs.Prelude.{ℕ, suc, Bool, true, false, List, [], ◌∷◌, ◌++◌, length, take, ◌-◌}
+use Rattle.std.specs.Borrow.{Bor}
+use Rattle.std.specs.Prelude.{ℕ, suc, Bool, true, false, List, [], ◌∷◌, ◌++◌, length, map, take, ◌-◌}
 use Rattle.std.specs.List.{All, flat_map}
 use Rattle.st_values.specs.Words.{raised}
 use Rattle.st_tree.specs.declared.leaf.Leaf.{Leaf}
@@ -59,6 +60,10 @@ as_inputs s is_input = record { leaves = s.leaves; text = s.text; spine = s.spin
 -- all names on the ways to these leaves are words
 abbrev pub AreWays : List LeafIn → Type 0
 AreWays leaves = All (λ l. HasWords l.path) leaves
+
+-- the names that these words are
+abbrev pub spelled : List (Bor (List ℕ)) → List (List ℕ)
+spelled words = map (λ word. word.now) words
 
 -- what the steps of a chart are associated with
 abbrev pub associations_in : List ChartElement → List Association

@@ -2,37 +2,38 @@
 ghost use Rattle.std.specs.List.{flat_map};
 ghost use Rattle.std.specs.Prelude.{◌≡◌, ◌+◌, ◌≤◌, ◌++◌, [], ◌∷◌, OnOk, length};
 ghost use Rattle.st_types.specs.Names.{steps_in};
-ghost use Rattle.st_leaves.specs.Charts.{stored_names};
 ghost use Rattle.st_leaves.specs.LeavesIn.{all_steps_in, chart_in, state_in, step_in, stored_in};
-ghost use Rattle.st_listing.specs.Listings.{AreWays, associations_in, listed};
+ghost use Rattle.st_listing.specs.Listings.{AreWays, listed, spelled};
 
 use crate::leaf_use::LeafUse;
 use crate::listing::Listing;
 use crate::values::{truth, zero_of};
-use st_leaves::{StoredNames, has_pulse};
-use st_tree::tree::{Association, ChartElement, Step};
+use st_leaves::has_pulse;
+use st_tree::Word;
+use st_tree::tree::{ChartElement, Step};
 use st_values::Elem;
 use std::alloc::{AllocError, Global};
 
 impl<'a> Listing<'a> {
-    /// Lists the chart of a unit of that name: whether it has begun, its steps, and the names that it stores. Without elements
-    /// there is no chart.
+    /// Lists the chart of a unit of that name, which stores these names: whether it has begun, its steps, and the names. Without
+    /// elements there is no chart.
     pub fn list_chart(
         &mut self,
         alloc: Global,
         of: &'a [u8],
         elements: &[ChartElement],
+        stored: &[&Word],
     ) -> Result<(), AllocError>
-        requires room { length self.old.leaves + length (chart_in of.now elements.now) ≤ 65536 }
-        ensures listed { OnOk result (self.new ≡ listed self.old (chart_in of.now elements.now)) }
-        ensures ways { OnOk result (AreWays (chart_in of.now elements.now)) }
+        requires room { length self.old.leaves + length (chart_in of.now (spelled stored.now) elements.now) ≤ 65536 }
+        ensures listed { OnOk result (self.new ≡ listed self.old (chart_in of.now (spelled stored.now) elements.now)) }
+        ensures ways { OnOk result (AreWays (chart_in of.now (spelled stored.now) elements.now)) }
     {
         if elements.is_empty() {
             return Ok(());
         }
         self.put_kept(alloc, b"CHART", of, truth(false), LeafUse::Begun)?;
         self.list_steps(alloc, of, elements)?;
-        self.list_stored(alloc, of, elements)?;
+        self.list_stored(alloc, of, stored)?;
         Ok(())
     }
 
@@ -103,72 +104,31 @@ impl<'a> Listing<'a> {
         Ok(())
     }
 
-    /// Lists the names that the steps among these elements store.
+    /// Lists whether what has these names is stored, one after the other.
     fn list_stored(
         &mut self,
         alloc: Global,
         of: &'a [u8],
-        elements: &[ChartElement],
+        stored: &[&Word],
     ) -> Result<(), AllocError>
-        requires room { length self.old.leaves + length (stored_names [] (associations_in elements.now)) ≤ 65536 }
-        ensures listed { OnOk result (self.new ≡ listed self.old (flat_map (stored_in of.now) (stored_names [] (associations_in elements.now)))) }
-        ensures ways { OnOk result (AreWays (flat_map (stored_in of.now) (stored_names [] (associations_in elements.now)))) }
+        requires room { length self.old.leaves + length stored.now ≤ 65536 }
+        ensures listed { OnOk result (self.new ≡ listed self.old (flat_map (stored_in of.now) (spelled stored.now))) }
+        ensures ways { OnOk result (AreWays (flat_map (stored_in of.now) (spelled stored.now))) }
     {
-        let mut stored = StoredNames::new(alloc);
-        'elements: for element in elements {
-            let ChartElement::Step(step) = element else {
-                continue;
-            };
-            self.list_stored_by(alloc, of, &mut stored, step.associations.as_slice())?;
-        }
-        Ok(())
-    }
-
-    /// Lists the names that these associations store and that aren't among the others, and puts them there.
-    fn list_stored_by<'b>(
-        &mut self,
-        alloc: Global,
-        of: &'a [u8],
-        stored: &mut StoredNames<'b>,
-        associations: &'b [Association],
-    ) -> Result<(), AllocError>
-        requires room { length self.old.leaves + length (stored_names stored.old associations.now) ≤ 65536 }
-        ensures stored { OnOk result (stored.new ≡ stored.old ++ stored_names stored.old associations.now) }
-        ensures listed { OnOk result (self.new ≡ listed self.old (flat_map (stored_in of.now) (stored_names stored.old associations.now))) }
-        ensures ways { OnOk result (AreWays (flat_map (stored_in of.now) (stored_names stored.old associations.now))) }
-    {
-        'associations: for association in associations {
-            self.list_stored_name(alloc, of, stored, association)?;
-        }
-        Ok(())
-    }
-
-    /// Lists the name of this association, if it has the qualifier S and isn't among the others, and puts it there.
-    fn list_stored_name<'b>(
-        &mut self,
-        alloc: Global,
-        of: &'a [u8],
-        stored: &mut StoredNames<'b>,
-        association: &'b Association,
-    ) -> Result<(), AllocError>
-        requires room { length self.old.leaves + length (stored_names stored.old (association.now ∷ [])) ≤ 65536 }
-        ensures stored { OnOk result (stored.new ≡ stored.old ++ stored_names stored.old (association.now ∷ [])) }
-        ensures listed { OnOk result (self.new ≡ listed self.old (flat_map (stored_in of.now) (stored_names stored.old (association.now ∷ [])))) }
-        ensures ways { OnOk result (AreWays (flat_map (stored_in of.now) (stored_names stored.old (association.now ∷ [])))) }
-    {
-        if stored.add(association)? {
-            self.list_action(alloc, of, association.name.spelling.letters())?;
+        'stored: for name in stored {
+            self.list_action(alloc, of, name)?;
         }
         Ok(())
     }
 
     /// Lists whether what has this name is stored.
-    fn list_action(&mut self, alloc: Global, of: &'a [u8], name: &[u8]) -> Result<(), AllocError>
+    fn list_action(&mut self, alloc: Global, of: &'a [u8], name: &Word) -> Result<(), AllocError>
         requires room { length self.old.leaves + 1 ≤ 65536 }
-        ensures { OnOk result (self.new ≡ listed self.old (stored_in of.now name.now)) }
+        ensures listed { OnOk result (self.new ≡ listed self.old (stored_in of.now name.now)) }
+        ensures ways { AreWays (stored_in of.now name.now) }
     {
         let mark = self.mark();
-        self.enter(name, of)?;
+        self.enter(name.letters(), of)?;
         self.put_kept(alloc, b"S", b"action", truth(false), LeafUse::Hidden)?;
         self.leave(mark);
         Ok(())

@@ -14,6 +14,7 @@ ghost use Rattle.st_types.specs.Names.{Named, unit_at, units_of};
 ghost use Rattle.st_values.specs.Words.{raised};
 
 use crate::listing::{Listing, upper_case};
+use crate::stored::names_stored;
 use crate::walk::Walk;
 use st_check::{Program, checked_program_has_sound_leaves};
 use st_initials::Initials;
@@ -51,12 +52,14 @@ fn main_leaves(
     let initials = Initials::new(alloc, tables, order)?;
     let sizes = type_sizes(alloc, tables, order)?;
     let names = upper_names(alloc, tables.units())?;
+    let stored = names_stored(alloc, tables)?;
     walked_leaves(
         Walk {
             alloc,
             tables,
             initials: &initials,
             names: names.as_slice(),
+            stored: stored.as_slice(),
             sizes: sizes.as_slice(),
         },
         main,

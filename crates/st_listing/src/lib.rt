@@ -8,6 +8,8 @@ mod leaf_use;
 mod leaves;
 mod listing;
 mod program;
+mod spellings;
+mod stored;
 mod subscripts;
 mod values;
 mod walk;

@@ -25,9 +25,11 @@ impl<'a, 't> Walk<'a, 't> {
         ensures ways { (u : Named) → unit_at (units_in self.entry) unit ≡ Some u → OnOk result (AreWays (leaves_of_whole (composition_of (units_in self.entry) u.declares))) }
     {
         let program = self.tables.unit(unit);
+        let elements = chart_of(program.kind);
+        let stored = self.stored[unit].as_slice();
         let depth = self.tables.units().len() + 1;
         self.list_variables(depth, self.tables.declared(unit), listing)?;
-        listing.list_chart(self.alloc, b"PROGRAM", chart_of(program.kind))
+        listing.list_chart(self.alloc, b"PROGRAM", elements, stored)
     }
 
     /// Lists variables of the program, in order.
@@ -76,7 +78,7 @@ impl<'a, 't> Walk<'a, 't> {
 }
 
 /// Whether a declared name is a constant.
-fn is_constant(kind: VarKind) -> bool
+pub(crate) fn is_constant(kind: VarKind) -> bool
     ensures { result ≡ is_constant kind }
 {
     matches!(kind, VarKind::Constant)

@@ -22,8 +22,8 @@ use crate::values::started_value;
 use st_initials::{FirstValues, Initials};
 use st_scopes::{Declared, Tables};
 use st_sizes::Size;
-use st_tree::List;
 use st_tree::tree::{Body, ChartElement, Constant, Initial, Subrange, VarKind};
+use st_tree::{List, Word};
 use st_types::{Base, UnitKind};
 use std::alloc::{AllocError, Global};
 
@@ -45,6 +45,8 @@ pub(crate) struct Walk<'a, 't> {
     pub initials: &'t Initials<'a>,
     /// The names of the units, in upper case.
     pub names: &'t [List<u8>],
+    /// The names that the charts of the units store.
+    pub stored: &'t [Vec<&'a Word>],
     /// The sizes of types, by the numbers of the units.
     pub sizes: &'t [Size],
 }
@@ -171,9 +173,10 @@ impl<'a, 't> Walk<'a, 't> {
             return Ok(());
         }
         let name = self.names[unit].as_slice();
+        let stored = self.stored[unit].as_slice();
         let elements = chart_of(self.tables.unit(unit).kind);
         self.list_members(depth, name, self.tables.declared(unit), listing)?;
-        listing.list_chart(self.alloc, name, elements)
+        listing.list_chart(self.alloc, name, elements, stored)
     }
 
     /// Lists members of a whole of that name, in order.

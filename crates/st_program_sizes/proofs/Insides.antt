@@ -4,7 +4,7 @@ use Rattle.std.specs.List.{All, flat_map}
 use Rattle.st_tree.specs.declared.tree.declaration.DeclaredType.TheVariants as declared_types
 use Rattle.st_tree.specs.declared.tree.declaration.Subrange.{Subrange}
 use Rattle.st_values.specs.declared.elem.Elem.{Elem}
-use Rattle.st_leaves.specs.Charts.{LeafBelow, below, chart_leaves}
+use Rattle.st_leaves.specs.Charts.{LeafBelow, below, chart_leaves, stored_of}
 use Rattle.st_types.specs.Compositions.{is_constant}
 use Rattle.st_leaves.specs.Leaves.{array_leaves, declared_leaves, shape_leaves, unit_leaves}
 use Rattle.st_references.specs.References.{contained, declared_names, unit_types}
@@ -38,8 +38,8 @@ module _ (units : List Named) (f g : Base → List LeafBelow) (none : f bases.Un
       (subst (All AreSame) (flat_map-flat_map (contained units) declared_names vs) all)
 
   with_chart : (unit : Declares) → All AreSame (flat_map (contained units) (flat_map declared_names (variables_in unit)))
-      → flat_map (declared_leaves units f) (variables_in unit) ++ chart_leaves (chart_in unit) ≡ flat_map (declared_leaves units g) (variables_in unit) ++ chart_leaves (chart_in unit)
-  with_chart unit all = ap (λ leaves. leaves ++ chart_leaves (chart_in unit)) (variables_same (variables_in unit) all)
+      → flat_map (declared_leaves units f) (variables_in unit) ++ chart_leaves (stored_of unit) (chart_in unit) ≡ flat_map (declared_leaves units g) (variables_in unit) ++ chart_leaves (stored_of unit) (chart_in unit)
+  with_chart unit all = ap (λ leaves. leaves ++ chart_leaves (stored_of unit) (chart_in unit)) (variables_same (variables_in unit) all)
 
   pub unit_same : (unit : Declares) → All AreSame (flat_map (contained units) (unit_types unit)) → unit_leaves units f unit ≡ unit_leaves units g unit
   unit_same (names.type (declared_types.Derived specification initial)) all = refl

@@ -5,7 +5,7 @@ use Rattle.std.specs.Option.{option_map_or}
 use Rattle.std.proofs.lemmas.List.{append-nil, map-append}
 use Rattle.std.proofs.lemmas.Option.{same_Some}
 use Rattle.st_tree.specs.declared.tree.declaration.DeclaredType.TheVariants as declared_types
-use Rattle.st_leaves.specs.Charts.{chart_leaves}
+use Rattle.st_leaves.specs.Charts.{chart_leaves, stored_of}
 use Rattle.st_leaves.specs.Leaves.{array_leaves, declared_leaves, leaves_of, unit_leaves}
 use Rattle.st_leaves.specs.Limits.{size_of, sizes_of}
 use Rattle.st_sizes.specs.Sizes.{IsSize}
@@ -21,7 +21,7 @@ use Rattle.st_program_sizes.specs.Sized.{made_leaves, own_leaves, type_leaves}
 
 module _ (units : List Named) where
   -- what a unit declares, and then its chart
-  in_order : (unit : Declares) → unit_leaves units (type_leaves units) unit ≡ flat_map (declared_leaves units (type_leaves units)) (names_in unit) ++ chart_leaves (chart_in unit)
+  in_order : (unit : Declares) → unit_leaves units (type_leaves units) unit ≡ flat_map (declared_leaves units (type_leaves units)) (names_in unit) ++ chart_leaves (stored_of unit) (chart_in unit)
   in_order (names.type (declared_types.Derived specification initial)) = refl
   in_order (names.type (declared_types.Structure position members)) = sym (append-nil (flat_map (declared_leaves units (type_leaves units)) (members_of members)))
   in_order (names.function f) = refl
@@ -29,22 +29,23 @@ module _ (units : List Named) where
   in_order (names.program p) = refl
 
   pub unit_sized : (i : ℕ) (read : NamedUnit) (u : Named) (vs : List Declared) (size : Size) → Some (named_by read) ≡ unit_at units i → unit_at units i ≡ Some u → vs ≡ names_at units i
-      → IsSize size (sizes_of (flat_map (declared_leaves units (type_leaves units)) vs) ++ sizes_of (chart_leaves (chart_in (declared_by read.kind)))) → IsSize size (sizes_of (leaves_of units u.declares))
+      → IsSize size (sizes_of (flat_map (declared_leaves units (type_leaves units)) vs) ++ sizes_of (chart_leaves (stored_of (declared_by read.kind)) (chart_in (declared_by read.kind)))) → IsSize size (sizes_of (leaves_of units u.declares))
   unfolding leaves_of
   unit_sized i read u vs size at is declared sized =
       let same : declared_by read.kind ≡ u.declares = ap Named.declares (same_Some (named_by read) u (at ∙ is)) in
       let all : vs ≡ names_in u.declares = declared ∙ ap (λ unit. option_map_or names_in (option_map (λ (v : Named). v.declares) unit) []) is in
       subst (λ leaves. IsSize size (sizes_of leaves)) (sym (in_order u.declares))
-      (subst (IsSize size) (sym (map-append size_of (flat_map (declared_leaves units (type_leaves units)) (names_in u.declares)) (chart_leaves (chart_in u.declares))))
-      (subst (λ ds. IsSize size (sizes_of (flat_map (declared_leaves units (type_leaves units)) ds) ++ sizes_of (chart_leaves (chart_in u.declares)))) all
-      (subst (λ unit. IsSize size (sizes_of (flat_map (declared_leaves units (type_leaves units)) vs) ++ sizes_of (chart_leaves (chart_in unit)))) same sized)))
+      (subst (IsSize size) (sym (map-append size_of (flat_map (declared_leaves units (type_leaves units)) (names_in u.declares)) (chart_leaves (stored_of u.declares) (chart_in u.declares))))
+      (subst (λ ds. IsSize size (sizes_of (flat_map (declared_leaves units (type_leaves units)) ds) ++ sizes_of (chart_leaves (stored_of u.declares) (chart_in u.declares)))) all
+      (subst (λ unit. IsSize size (sizes_of (flat_map (declared_leaves units (type_leaves units)) vs) ++ sizes_of (chart_leaves (stored_of unit) (chart_in unit)))) same sized)))
 
   -- of an array
   pub array_sized : (i : ℕ) (e : Elements) (size : Size) → elements_in units (bases.Array i) ≡ Some e
       → IsSize size (sizes_of (array_leaves e.subscripts (type_leaves units e.element))) → IsSize size (sizes_of (own_leaves units i))
   array_sized i e size is sized = subst (λ elements. IsSize size (sizes_of (made_leaves units elements (unit_at units i)))) (sym is) sized
 
-there : (units : List Named) (i : ℕ) → i < length units → (u : Named) × (unit_at units i ≡ Some u)
+-- each number below that of units is one of a unit
+pub there : (units : List Named) (i : ℕ) → i < length units → (u : Named) × (unit_at units i ≡ Some u)
 there [] i below = absurd (omega (arith, below))
 there (u ∷ us) zero below = (u, refl)
 there (u ∷ us) (suc i) below = there us i (omega (arith, below))

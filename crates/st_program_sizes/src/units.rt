@@ -1,6 +1,6 @@
 //! The sizes of units, each after those that it contains.
-ghost use Rattle.std.specs.Prelude.{◌≡◌, ◌<◌, ℕ, IfOk, Some, length};
-ghost use Rattle.st_leaves.specs.Charts.{chart_leaves};
+ghost use Rattle.std.specs.Prelude.{◌≡◌, ◌<◌, ℕ, IfOk, List, Some, length};
+ghost use Rattle.st_leaves.specs.Charts.{chart_leaves, stored_by};
 ghost use Rattle.st_leaves.specs.Leaves.{leaves_of};
 ghost use Rattle.st_leaves.specs.Limits.{sizes_of};
 ghost use Rattle.st_order.specs.Graphs.{IsOrder};
@@ -74,9 +74,10 @@ pub fn unit_size(
     Ok(variables.beside(chart))
 }
 
-/// The size of what a unit's chart keeps.
+/// The size of what a unit's chart keeps, however the names that it stores are declared.
 fn unit_chart_size(alloc: Global, unit: UnitKind<'_>) -> Result<Size, AllocError>
-    ensures { IfOk result (λ size. IsSize size (sizes_of (chart_leaves (chart_in (declared_by unit.entry))))) }
+    ensures { IfOk result (λ size. (variables : List (List ℕ))
+        → IsSize size (sizes_of (chart_leaves (stored_by variables (chart_in (declared_by unit.entry))) (chart_in (declared_by unit.entry))))) }
 {
     let (UnitKind::Block(pou) | UnitKind::Program(pou)) = unit else {
         return Ok(Size::none());

@@ -4,11 +4,13 @@ use Rattle.st_sizes.specs.declared.size.Size.{Size}
 use Rattle.st_types.specs.Names.{units_of}
 use Rattle.st_types.specs.Types.{type_at}
 use Rattle.st_values.specs.Words.{raised}
+use Rattle.st_listing.specs.Listings.{spelled}
 use Rattle.st_listing.proofs.leaves.main_leaves.Goals as goal
 
 pub walked_leaves-requires-clause-walk : goal.walked_leaves-requires-clause-walk
 walked_leaves-requires-clause-walk c = record {
   initials = c.in_ok-initials.ensures;
   names = c.as_slice.ensures.value ∙ c.in_ok-names.ensures ∙ ap (map (λ u. raised u.name.spelling)) c.units.ensures;
-  sizes = λ i. subst (λ (sizes : List Size). IsSized (units_of c.args.tables.now) sizes (type_at (units_of c.args.tables.now) i)) (sym c.as_slice-2.ensures.value) (c.in_ok-sizes.ensures i);
+  stored = ap (map (λ names. spelled names.items)) c.as_slice-2.ensures.value ∙ c.in_ok-stored.ensures;
+  sizes = λ i. subst (λ (sizes : List Size). IsSized (units_of c.args.tables.now) sizes (type_at (units_of c.args.tables.now) i)) (sym c.as_slice-3.ensures.value) (c.in_ok-sizes.ensures i);
 }

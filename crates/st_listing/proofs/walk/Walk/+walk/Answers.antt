@@ -1,15 +1,16 @@
 use Rattle.std.proofs.Common.{rules, ◌+◌, ◌-◌, [], ◌∷◌, ap, arith, drop, length, map, refl, subst, sym, ◌∙◌}
 use Rattle.std.specs.Option.{option_copied}
 use Rattle.std.proofs.lemmas.Result.{on_ok_weaker}
+use Rattle.st_leaves.specs.Charts.{stored_of}
 use Rattle.st_leaves.specs.LeavesIn.{chart_in, elements_in, plain, subscript_lists}
-use Rattle.st_listing.specs.Listings.{AreWays, listed, outside}
+use Rattle.st_listing.specs.Listings.{AreWays, listed, outside, spelled}
 use Rattle.st_listing.specs.Walks.{declared_leaves, member_leaves, part_leaves, started_value, unit_leaves, units_in}
 use Rattle.st_scopes.specs.Declarations.{seen}
 use Rattle.st_types.specs.Inside.{named_by}
 use Rattle.st_types.specs.declared.base.Base.TheVariants as bases
 use Rattle.st_listing.proofs.Empties.{no_elements}
 use Rattle.st_listing.proofs.Listings.{listed_more, ways_by, ways_more}
-use Rattle.st_listing.proofs.Walks.{declared_part_of, element_listed, elementary_listed, elements_within, first_room, isnt_constant, left_more, left_room, left_ways, member_listed, member_ways, members_left, next_element, next_element_room, next_element_ways, no_depth, nothing_listed, nothing_ways, part_array, part_elementary, part_of, part_standard, part_unit, part_unknown, room_of, second_room, some_left, unit_name, unit_none, unit_split}
+use Rattle.st_listing.proofs.Walks.{declared_part_of, element_listed, elementary_listed, elements_within, first_room, isnt_constant, left_more, left_room, left_ways, member_listed, member_ways, members_left, next_element, next_element_room, next_element_ways, no_depth, nothing_listed, nothing_ways, part_array, part_elementary, part_of, part_standard, part_unit, part_unknown, room_of, second_room, some_left, unit_name, unit_none, unit_read, unit_split}
 use Rattle.st_listing.proofs.walk.Walk.+walk.Goals as goal
 
 pub list_array-of_array-requires-clause-unit : goal.list_array-of_array-requires-clause-unit
@@ -190,11 +191,13 @@ list_unit-list_members-requires t c =
     let units = units_in c.args.self in
     let u = named_by c.unit.result in
     let named = c.as_slice-name.ensures ∙ unit_name units c.args.self.names.now c.args.unit u c.index-self-unit.result (sym c.unit.ensures) c.requires.walk.names in
-    let split = unit_split units c.args.depth c.args.unit u c.as_slice-name.result.now (map seen c.declared.result.now) c.chart_of-elements.result.now (sym c.unit.ensures) named c.declared.ensures c.chart_of-elements.ensures in (
+    let stored = ap spelled c.as_slice-stored.ensures.value
+    ∙ unit_read (λ names. spelled names.items) (λ u. stored_of u.declares) units c.args.self.stored.now c.args.unit u c.index-self-unit-2.result (sym c.unit.ensures) c.requires.walk.stored in
+    let split = unit_split units c.args.depth c.args.unit u c.as_slice-name.result.now (map seen c.declared.result.now) (spelled c.as_slice-stored.result.now) c.chart_of-elements.result.now (sym c.unit.ensures) named c.declared.ensures stored c.chart_of-elements.ensures in (
       omega (arith, c.decreases),
       (
         c.requires.walk,
-        first_room c.args.listing.now (member_leaves units c.args.depth c.as_slice-name.result.now (map seen c.declared.result.now)) (chart_in c.as_slice-name.result.now c.chart_of-elements.result.now) _ split c.requires.room,
+        first_room c.args.listing.now (member_leaves units c.args.depth c.as_slice-name.result.now (map seen c.declared.result.now)) (chart_in c.as_slice-name.result.now (spelled c.as_slice-stored.result.now) c.chart_of-elements.result.now) _ split c.requires.room,
       ),
     )
 
@@ -203,9 +206,11 @@ list_unit-list_chart-requires t c =
     let units = units_in c.args.self in
     let u = named_by c.unit.result in
     let named = c.as_slice-name.ensures ∙ unit_name units c.args.self.names.now c.args.unit u c.index-self-unit.result (sym c.unit.ensures) c.requires.walk.names in
-    let split = unit_split units c.args.depth c.args.unit u c.as_slice-name.result.now (map seen c.declared.result.now) c.chart_of-elements.result.now (sym c.unit.ensures) named c.declared.ensures c.chart_of-elements.ensures in record {
+    let stored = ap spelled c.as_slice-stored.ensures.value
+    ∙ unit_read (λ names. spelled names.items) (λ u. stored_of u.declares) units c.args.self.stored.now c.args.unit u c.index-self-unit-2.result (sym c.unit.ensures) c.requires.walk.stored in
+    let split = unit_split units c.args.depth c.args.unit u c.as_slice-name.result.now (map seen c.declared.result.now) (spelled c.as_slice-stored.result.now) c.chart_of-elements.result.now (sym c.unit.ensures) named c.declared.ensures stored c.chart_of-elements.ensures in record {
       room =
-          second_room c.args.listing.now c.list_members.new.listing (member_leaves units c.args.depth c.as_slice-name.result.now (map seen c.declared.result.now)) (chart_in c.as_slice-name.result.now c.chart_of-elements.result.now) _ split
+          second_room c.args.listing.now c.list_members.new.listing (member_leaves units c.args.depth c.as_slice-name.result.now (map seen c.declared.result.now)) (chart_in c.as_slice-name.result.now (spelled c.as_slice-stored.result.now) c.chart_of-elements.result.now) _ split
           c.in_ok-list_members.ensures.listed c.requires.room;
     }
 
@@ -214,19 +219,23 @@ list_unit-returns-clause-listed t c =
     let units = units_in c.args.self in
     let u = named_by c.unit.result in
     let named = c.as_slice-name.ensures ∙ unit_name units c.args.self.names.now c.args.unit u c.index-self-unit.result (sym c.unit.ensures) c.requires.walk.names in
-    let split = unit_split units c.args.depth c.args.unit u c.as_slice-name.result.now (map seen c.declared.result.now) c.chart_of-elements.result.now (sym c.unit.ensures) named c.declared.ensures c.chart_of-elements.ensures in
+    let stored = ap spelled c.as_slice-stored.ensures.value
+    ∙ unit_read (λ names. spelled names.items) (λ u. stored_of u.declares) units c.args.self.stored.now c.args.unit u c.index-self-unit-2.result (sym c.unit.ensures) c.requires.walk.stored in
+    let split = unit_split units c.args.depth c.args.unit u c.as_slice-name.result.now (map seen c.declared.result.now) (spelled c.as_slice-stored.result.now) c.chart_of-elements.result.now (sym c.unit.ensures) named c.declared.ensures stored c.chart_of-elements.ensures in
     on_ok_weaker c.list_chart.result
     (λ h. listed_more c.args.listing.now c.list_members.new.listing c.list_chart.new.self (member_leaves units c.args.depth c.as_slice-name.result.now (map seen c.declared.result.now))
-    (chart_in c.as_slice-name.result.now c.chart_of-elements.result.now) (unit_leaves units c.args.depth c.args.unit) split c.in_ok-list_members.ensures.listed h) c.list_chart.ensures.listed
+    (chart_in c.as_slice-name.result.now (spelled c.as_slice-stored.result.now) c.chart_of-elements.result.now) (unit_leaves units c.args.depth c.args.unit) split c.in_ok-list_members.ensures.listed h) c.list_chart.ensures.listed
 
 pub list_unit-returns-clause-ways : goal.list_unit-returns-clause-ways
 list_unit-returns-clause-ways t c =
     let units = units_in c.args.self in
     let u = named_by c.unit.result in
     let named = c.as_slice-name.ensures ∙ unit_name units c.args.self.names.now c.args.unit u c.index-self-unit.result (sym c.unit.ensures) c.requires.walk.names in
-    let split = unit_split units c.args.depth c.args.unit u c.as_slice-name.result.now (map seen c.declared.result.now) c.chart_of-elements.result.now (sym c.unit.ensures) named c.declared.ensures c.chart_of-elements.ensures in
+    let stored = ap spelled c.as_slice-stored.ensures.value
+    ∙ unit_read (λ names. spelled names.items) (λ u. stored_of u.declares) units c.args.self.stored.now c.args.unit u c.index-self-unit-2.result (sym c.unit.ensures) c.requires.walk.stored in
+    let split = unit_split units c.args.depth c.args.unit u c.as_slice-name.result.now (map seen c.declared.result.now) (spelled c.as_slice-stored.result.now) c.chart_of-elements.result.now (sym c.unit.ensures) named c.declared.ensures stored c.chart_of-elements.ensures in
     on_ok_weaker c.list_chart.result
-    (λ h. ways_more (member_leaves units c.args.depth c.as_slice-name.result.now (map seen c.declared.result.now)) (chart_in c.as_slice-name.result.now c.chart_of-elements.result.now) (unit_leaves units c.args.depth c.args.unit) split
+    (λ h. ways_more (member_leaves units c.args.depth c.as_slice-name.result.now (map seen c.declared.result.now)) (chart_in c.as_slice-name.result.now (spelled c.as_slice-stored.result.now) c.chart_of-elements.result.now) (unit_leaves units c.args.depth c.args.unit) split
     c.in_ok-list_members.ensures.ways h) c.list_chart.ensures.ways
 
 pub list_part-returns-then-has_no_leaves-clause-listed : goal.list_part-returns-then-has_no_leaves-clause-listed
