@@ -1,22 +1,22 @@
 -- The states that the records of a controller lead back to.
-use Rattle.std.proofs.Common.{ℕ, suc, Bool, nat_le, ◌≡◌, List, [], ◌∷◌, ◌++◌, length, refl, sym, ◌∙◌, ap, subst}
-use Rattle.std.specs.Prelude.{Err, Ok, Result, reverse}
+use Rattle.std.proofs.Common.{ℕ, suc, Bool, true, nat_le, ◌≡◌, List, [], ◌∷◌, ◌++◌, length, inl, refl, sym, ◌∙◌, ap, subst}
+use Rattle.std.specs.Prelude.{Err, Ok, Result, false, reverse}
 use Rattle.std.proofs.lemmas.List.{length-reverse, reverse-append}
-use Rattle.st_control.specs.Controllers.{ControllerView, FitsChain, IsCoherent, Takes, machine_of, states_before}
+use Rattle.st_control.specs.Controllers.{ControllerView, FitsChain, IsCoherent, Takes, TakesUndo, is_of_change, machine_of, states_before}
 use Rattle.st_control.specs.Machine.{accept, accept_at, is_full}
 use Rattle.st_control.specs.States.{FitsRecord, StateView, undone}
 use Rattle.st_control.specs.declared.record.Record.{Record}
-use Rattle.st_control.specs.declared.refusal.Refusal.TheVariants as refusals
+use Rattle.st_control.specs.declared.refusal.Refusal.{Refusal}
 
 -- the same controller in another state, with one record more
 abbrev pub kept : ControllerView → StateView → Record → ControllerView
 kept c s left = record { state = s; records = c.records ++ left ∷ []; main = c.main; limit = c.limit }
 
 -- a record that leads back to the state before stands for that state
-pub machine_of-kept : (c : ControllerView) (s : StateView) (left : Record) → undone s left ≡ c.state → machine_of (kept c s left) ≡ accept (machine_of c) s
+pub machine_of-kept : (c : ControllerView) (s : StateView) (left : Record) → undone s left ≡ c.state → machine_of (kept c s left) ≡ accept (machine_of c) (is_of_change left) s
 machine_of-kept c s left back =
     rw (reverse-append c.records (left ∷ []))
-    (ap (λ (t : StateView). accept (record { state = t; history = states_before t (reverse c.records); main = c.main; limit = c.limit }) s) back)
+    (ap (λ (t : StateView). accept (record { state = t; history = states_before t (reverse c.records); main = c.main; limit = c.limit }) (is_of_change left) s) back)
 
 -- it makes the chain of the records one longer
 pub coherent-kept : (before s : StateView) (records : List Record) (left : Record) → undone s left ≡ before → FitsRecord s left → IsCoherent before records → IsCoherent s (records ++ left ∷ [])
@@ -32,18 +32,26 @@ pub length-history : (c : ControllerView) → length (machine_of c).history ≡ 
 length-history c = length-states_before c.state (reverse c.records) ∙ length-reverse c.records
 
 -- the list of records is full where the machine's history is
-is_full-records : (c : ControllerView) (len : ℕ) → len ≡ length c.records → is_full (machine_of c) ≡ nat_le 256 len
+pub is_full-records : (c : ControllerView) (len : ℕ) → len ≡ length c.records → is_full (machine_of c) ≡ nat_le 256 len
 is_full-records c len len_is = ap (nat_le 256) (length-history c ∙ sym len_is)
 
 -- a command for which no leaf was found is refused
-pub takes_refused : (c : ControllerView) (change : ℕ → StateView) (find : Bool → Result ℕ ℕ) (len number : ℕ)
-    → len ≡ length c.records → Err number ≡ find (nat_le 256 len)
-    → Takes {A = Unit {0}} (accept_at (machine_of c) change (find (is_full (machine_of c)))) c (Err (refusals.O number)) c
-takes_refused c change find len number len_is found = rw (is_full-records c len len_is, ← found) (refl, refl)
+pub takes_refused : (c : ControllerView) (new : ℕ → StateView) (find : Bool → Result ℕ Refusal) (len : ℕ) (refusal : Refusal)
+    → len ≡ length c.records → Err refusal ≡ find (nat_le 256 len)
+    → Takes {A = Unit {0}} (accept_at (machine_of c) new (find (is_full (machine_of c)))) c (Err refusal) c
+takes_refused c new find len refusal len_is found = rw (is_full-records c len len_is, ← found) (refl, refl)
 
 -- a command that changed the leaf that was found, and kept a record that leads back, is accepted
-pub takes_accepted : (c : ControllerView) (change : ℕ → StateView) (find : Bool → Result ℕ ℕ) (len leaf : ℕ) (s : StateView) (left : Record)
-    → len ≡ length c.records → Ok leaf ≡ find (nat_le 256 len) → s ≡ change leaf → undone s left ≡ c.state
-    → Takes {A = Unit {0}} (accept_at (machine_of c) change (find (is_full (machine_of c)))) c (Ok tt) (kept c s left)
-takes_accepted c change find len leaf s left len_is found changed back =
-    rw (is_full-records c len len_is, ← found) (refl, machine_of-kept c s left back ∙ ap (accept (machine_of c)) changed)
+pub takes_accepted : (c : ControllerView) (new : ℕ → StateView) (find : Bool → Result ℕ Refusal) (len leaf : ℕ) (s : StateView) (left : Record)
+    → len ≡ length c.records → Ok leaf ≡ find (nat_le 256 len) → s ≡ new leaf → undone s left ≡ c.state → is_of_change left ≡ false
+    → Takes {A = Unit {0}} (accept_at (machine_of c) new (find (is_full (machine_of c)))) c (Ok tt) (kept c s left)
+takes_accepted c new find len leaf s left len_is found is back no_change =
+    rw (is_full-records c len len_is, ← found)
+    (refl, machine_of-kept c s left back ∙ (ap (λ by_change. accept (machine_of c) by_change s) no_change ∙ ap (accept (machine_of c) false) is))
+
+-- an undo of the newest record goes back to the newest of the states
+pub takes_undo : (c : ControllerView) (records : List Record) (newest : Record) (s : StateView) → c.records ≡ records ++ newest ∷ [] → s ≡ undone c.state newest
+    → TakesUndo {A = Unit {0}} c (Ok tt) (record { state = s; records = records; main = c.main; limit = c.limit })
+takes_undo c records newest s all back =
+    rw (all, reverse-append records (newest ∷ []))
+    (true, inl refl, (refl, ap (λ (t : StateView). machine_of (record { state = t; records = records; main = c.main; limit = c.limit })) back))

@@ -1,7 +1,11 @@
-pub mod Changes
+pub mod Causes
+pub mod ChangeSteps
+pub mod Charts
 pub mod Histories
 pub mod Names
+pub mod OnePath
 pub mod Open
+pub mod RaisedRenames
 pub mod Records
 pub mod Steps
 pub mod Texts

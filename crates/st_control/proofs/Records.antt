@@ -7,15 +7,15 @@ use Rattle.std.proofs.lemmas.List.{length-set}
 use Rattle.st_control.specs.Controllers.{force_record, leaf_at_path, release_record, write_record}
 use Rattle.st_control.specs.Laws.{RecordFits, RecordUndoesCommand, StepsKeepWhole}
 use Rattle.st_control.specs.Machine.{force_causes, is_value_of, leaf_to_force}
-use Rattle.st_control.specs.Machine.Command.{force, release, write}
-use Rattle.st_control.specs.States.{FitsRecord, IsOpenAt, IsWhole, StateView, forced, leaf_of, leaves_of, released, undone, written}
+use Rattle.st_control.specs.Machine.Command.{change, force, release, write}
+use Rattle.st_control.specs.States.{FitsRecord, IsWhole, StateView, forced, leaf_of, leaves_of, released, undone, written}
 use Rattle.st_control.specs.declared.record.Record.TheVariants.{Force, Release, Write}
-use Rattle.st_control.proofs.Changes.{force_accepts, found_at, release_accepts, write_accepts}
+use Rattle.st_control.proofs.OnePath.{force_accepts, found_at, release_accepts, write_accepts}
 use Rattle.st_control.proofs.Open.{mark_keeps_open}
 use Rattle.st_control.proofs.Undone.{undone_forced, undone_released, undone_written}
 use Rattle.st_layout.proofs.Contents.{value_fits, with_value_fits}
 use Rattle.st_layout.proofs.Paths.{number-Some}
-use Rattle.st_layout.specs.Layout.{IsValueAt, is_open, leaf_at}
+use Rattle.st_layout.specs.Layout.{IsOpenAt, IsValueAt, is_open, leaf_at}
 use Rattle.st_layout.specs.Memory.{forced_at, value_at}
 use Rattle.st_tree.specs.declared.leaf.Leaf.{Leaf}
 use Rattle.st_values.specs.Types.{is_same, place_of}
@@ -46,19 +46,20 @@ pub force_leaves : (s : StateView) (path : List ℕ) (value : Value) (full : Boo
 force_leaves s path value full leaf is = force_record-is s path leaf (found_at (leaf_of s path) (force_causes s full value) leaf (sym is))
 
 pub record_undoes : RecordUndoesCommand
-record_undoes (write path value) m next accepted =
+record_undoes (write path value) m next at_leaf accepted =
     let a = write_accepts path value m next accepted in
     subst (λ s. undone s (write_record m.state path) ≡ m.state) a.next_is
     (subst (λ left. undone (written m.state a.leaf value) left ≡ m.state) (write_record-is m.state path a.leaf a.found) (undone_written m.state a.leaf value))
-record_undoes (force path value) m next accepted =
+record_undoes (force path value) m next at_leaf accepted =
     let a = force_accepts path value m next accepted in
     subst (λ s. undone s (force_record m.state path) ≡ m.state) a.next_is
     (subst (λ left. undone (forced m.state a.leaf value) left ≡ m.state) (force_record-is m.state path a.leaf a.found) (undone_forced m.state a.leaf value))
-record_undoes (release path) m next accepted =
+record_undoes (release path) m next at_leaf accepted =
     let a = release_accepts path m next accepted in
     subst (λ s. undone s (release_record m.state path) ≡ m.state) a.next_is
     (subst (λ left. undone (released m.state a.leaf) left ≡ m.state) (release_record-is m.state path a.leaf a.found)
     (undone_released m.state a.leaf (not-false (forced_at m.state.content.forced a.leaf) a.allowed.0)))
+record_undoes (change renames read) m next at_leaf accepted = absurd (cc)
 
 -- ---- where it fits
 
@@ -67,23 +68,24 @@ value_at-fits : (s : StateView) (leaf : ℕ) → IsWhole s → leaf < length (le
 value_at-fits s leaf whole below = value_fits (leaves_of s) s.content.values leaf whole.fits.types below
 
 pub record_fits : RecordFits
-record_fits (write path value) m next whole accepted =
+record_fits (write path value) m next at_leaf whole accepted =
     let a = write_accepts path value m next accepted in
     let below = (number-Some (leaves_of m.state) path a.leaf a.found).0 in
     subst (λ s. FitsRecord s (write_record m.state path)) a.next_is
     (subst (FitsRecord (written m.state a.leaf value)) (write_record-is m.state path a.leaf a.found)
     (below, not-false (is_open (leaf_at (leaves_of m.state) a.leaf).role) a.allowed.0, value_at-fits m.state a.leaf whole below))
-record_fits (force path value) m next whole accepted =
+record_fits (force path value) m next at_leaf whole accepted =
     let a = force_accepts path value m next accepted in
     let below = (number-Some (leaves_of m.state) path a.leaf a.found).0 in
     subst (λ s. FitsRecord s (force_record m.state path)) a.next_is
     (subst (FitsRecord (forced m.state a.leaf value)) (force_record-is m.state path a.leaf a.found)
     (below, not-false (is_open (leaf_at (leaves_of m.state) a.leaf).role) a.allowed.0, value_at-fits m.state a.leaf whole below))
-record_fits (release path) m next whole accepted =
+record_fits (release path) m next at_leaf whole accepted =
     let a = release_accepts path m next accepted in
     subst (λ s. FitsRecord s (release_record m.state path)) a.next_is
     (subst (FitsRecord (released m.state a.leaf)) (release_record-is m.state path a.leaf a.found)
     ((number-Some (leaves_of m.state) path a.leaf a.found).0, whole.forces a.leaf (not-false (forced_at m.state.content.forced a.leaf) a.allowed.0)))
+record_fits (change renames read) m next at_leaf whole accepted = absurd (cc)
 
 -- ---- whole states
 
@@ -126,7 +128,7 @@ takes_value leaves i value takes =
     record { elem = same_elem value.elem (leaf_at leaves i).elem both.0; in_range = both.1 }
 
 pub whole_after : StepsKeepWhole
-whole_after (write path value) m next whole accepted =
+whole_after (write path value) m next at_leaf whole accepted =
     let a = write_accepts path value m next accepted in
     subst IsWhole a.next_is (record {
       sound = whole.sound;
@@ -135,7 +137,7 @@ whole_after (write path value) m next whole accepted =
       forces = whole.forces;
       moment = whole.moment;
     })
-whole_after (force path value) m next whole accepted =
+whole_after (force path value) m next at_leaf whole accepted =
     let a = force_accepts path value m next accepted in
     let here : IsOpenAt (leaves_of m.state) a.leaf = not-false (is_open (leaf_at (leaves_of m.state) a.leaf).role) a.allowed.0 in
     let valued = with_value_fits (leaves_of m.state) m.state.content a.leaf value whole.fits
@@ -146,7 +148,7 @@ whole_after (force path value) m next whole accepted =
       forces = mark_keeps_open (leaves_of m.state) m.state.content.forced a.leaf true whole.forces here;
       moment = whole.moment;
     })
-whole_after (release path) m next whole accepted =
+whole_after (release path) m next at_leaf whole accepted =
     let a = release_accepts path m next accepted in
     let here : IsOpenAt (leaves_of m.state) a.leaf = whole.forces a.leaf (not-false (forced_at m.state.content.forced a.leaf) a.allowed.0) in
     subst IsWhole a.next_is (record {
@@ -155,3 +157,4 @@ whole_after (release path) m next whole accepted =
       forces = mark_keeps_open (leaves_of m.state) m.state.content.forced a.leaf false whole.forces here;
       moment = whole.moment;
     })
+whole_after (change renames read) m next at_leaf whole accepted = absurd (cc)

@@ -1,4 +1,5 @@
 pub mod Causes
+pub mod Changes
 pub mod Controllers
 pub mod Laws
 pub mod Loads

@@ -73,6 +73,11 @@ pub record IsProgramOf (text main : List ℕ) (program : ProgramView) : Type 0 w
   pub checked : IsChecked program
   pub named : program_named (units_of (text_of program)) main ≡ Some (main_of program)
 
+-- A text is read as a program, or refused as its checks refuse it: one that is not too long, also for want of memory.
+abbrev pub Reads : List ℕ → List ℕ → Result ProgramView Refusal → Type 0
+Reads text main (Ok program) = IsProgramOf text main program
+Reads text main (Err refusal) = IsCheckedAs text main (Err refusal)
+
 -- All programs that a text is checked as have the same units, the same main program and the same leaves.
 pub record AreAlike (program other : ProgramView) : Type 0 where
   pub units : text_of program ≡ text_of other

@@ -1,9 +1,10 @@
 //! The controller.
 ghost use Rattle.std.specs.Prelude.{◌≡◌, ◌+◌, ◌<◌, ◌≤◌, ◌^◌, ◌++◌, ◌∷◌, [], Err, IfErr, IfOk, IfSome, List, MatchResult, Ok, OnOk, length, vec_capacity, vec_len};
-ghost use Rattle.st_control.specs.Controllers.{DropsNewest, Keeps, Takes, first_controller, force_count, machine_of, record_of, shown_to};
+ghost use Rattle.st_control.specs.Changes.{counts_of};
+ghost use Rattle.st_control.specs.Controllers.{DropsNewest, GoesOver, Keeps, Takes, TakesChange, TakesUndo, change_record, first_controller, force_count, machine_of, record_of, shown_to};
 ghost use Rattle.st_control.specs.Loads.{IsLoaded};
-ghost use Rattle.st_control.specs.Machine.{step, undo_step};
-ghost use Rattle.st_control.specs.Machine.Command.{force, release, write};
+ghost use Rattle.st_control.specs.Machine.{step};
+ghost use Rattle.st_control.specs.Machine.Command.{change, force, release, write};
 ghost use Rattle.st_control.specs.States.{IsWhole, leaf_of, leaves_of};
 ghost use Rattle.st_control.specs.Texts.{IsCheckedAs};
 ghost use Rattle.st_layout.specs.Layout.{leaf_at};
@@ -11,13 +12,14 @@ ghost use Rattle.st_check.specs.Programs.{text_of};
 ghost use Rattle.st_tree.specs.declared.tree.unit.Unit.{Unit as ProgramUnit};
 ghost use Rattle.st_values.specs.Values.{IsValue};
 
+use crate::changing::{Counts, raised};
 use crate::image::Image;
 use crate::record::Record;
 use crate::refusal::{NO_SUCH_PATH, NOTHING_TO_UNDO, Refusal};
 use crate::state::{State, Status};
 use crate::undoing::revert;
-use st_layout::Memory;
-use st_tree::Name;
+use st_layout::{Memory, Rename};
+use st_tree::{List, Name};
 use st_values::{Elem, Value};
 use std::alloc::{AllocError, Global};
 use std::marker::Model;
@@ -157,7 +159,7 @@ impl<M: Memory> Controller<M> {
     {
         let full = self.records.len() >= MAX_RECORDS;
         match self.state.leaf_to_write(full, path, value) {
-            Err(number) => Err(Refusal::O(number)),
+            Err(refusal) => Err(refusal),
             Ok(leaf) => {
                 let newest = self.state.write(leaf, value);
                 keep(&mut self.records, newest);
@@ -176,7 +178,7 @@ impl<M: Memory> Controller<M> {
     {
         let full = self.records.len() >= MAX_RECORDS;
         match self.state.leaf_to_force(full, path, value) {
-            Err(number) => Err(Refusal::O(number)),
+            Err(refusal) => Err(refusal),
             Ok(leaf) => {
                 let newest = self.state.force(leaf, value);
                 keep(&mut self.records, newest);
@@ -194,7 +196,7 @@ impl<M: Memory> Controller<M> {
     {
         let full = self.records.len() >= MAX_RECORDS;
         match self.state.leaf_to_release(full, path) {
-            Err(number) => Err(Refusal::O(number)),
+            Err(refusal) => Err(refusal),
             Ok(leaf) => {
                 let newest = self.state.release(leaf);
                 keep(&mut self.records, newest);
@@ -203,11 +205,58 @@ impl<M: Memory> Controller<M> {
         }
     }
 
-    /// Takes back the newest command that isn't undone. It leaves no record itself, and is never refused for want of memory.
+    /// Goes over to the program that another text is, as `change_named` with no renames does.
+    pub fn change(&mut self, alloc: Global, text: &[u8]) -> Result<Counts, Refusal>
+        ensures step { TakesChange text.now [] self.old result self.new }
+        ensures counts { IfOk result (λ counts. counts ≡ counts_of self.old.state [] self.new.state.program) }
+        ensures record { OnOk result (Keeps self.old self.new (record_of (change [] (Ok self.new.state.program)) self.old.state)) }
+    {
+        self.change_named(alloc, text, Vec::new(alloc))
+    }
+
+    /// Goes over to the program of the same name that another text is, without a stop. A leaf that both programs have keeps
+    /// its value and its force; `renames` says which parts of the old program have other paths in the new one. The moment and
+    /// the status stay. The answer counts the leaves.
     ///
-    /// Refused as O7 where there is nothing to undo.
+    /// Refused as `check_program` refuses the text, O6 where the undo list is full, O13 where the renames give no pairs, O8
+    /// where a chart that both programs have would keep no active step, and for want of memory. What is refused keeps nothing
+    /// that it made.
+    pub fn change_named(
+        &mut self,
+        alloc: Global,
+        text: &[u8],
+        renames: Vec<Rename>,
+    ) -> Result<Counts, Refusal>
+        ensures step { TakesChange text.now renames.items self.old result self.new }
+        ensures counts { IfOk result (λ counts. counts ≡ counts_of self.old.state renames.items self.new.state.program) }
+        ensures record { OnOk result (Keeps self.old self.new (record_of (change renames.items (Ok self.new.state.program)) self.old.state)) }
+    {
+        let image = Image::load(alloc, text, self.main.bytes())?;
+        self.go_over(alloc, image, raised(renames))
+    }
+
+    /// Goes over to a program that was read. The renames are in upper case.
+    ///
+    /// Every growth comes before anything is replaced.
+    fn go_over(&mut self, alloc: Global, image: Image, renames: List<Rename>) -> Result<Counts, Refusal>
+        ensures step { GoesOver image renames self.old result self.new }
+        ensures counts { IfOk result (λ counts. counts ≡ counts_of self.old.state renames self.new.state.program) }
+        ensures record { OnOk result (Keeps self.old self.new (change_record self.old.state renames self.new.state.program)) }
+    {
+        let full = self.records.len() >= MAX_RECORDS;
+        let plan = self.state.plan_of_change(alloc, full, &image, renames.as_slice())?;
+        let counts = Counts::of(&plan);
+        let newest = self.state.change(alloc, &plan, image, renames)?;
+        keep(&mut self.records, newest);
+        Ok(counts)
+    }
+
+    /// Takes back the newest command that isn't undone. It leaves no record itself.
+    ///
+    /// Refused as O7 where there is nothing to undo, and for want of memory where the command is an online change; then a
+    /// later undo can succeed.
     pub fn undo(&mut self, alloc: Global) -> Result<(), Refusal>
-        ensures step { Takes (undo_step (machine_of self.old)) self.old result self.new }
+        ensures step { TakesUndo self.old result self.new }
         ensures record { OnOk result (DropsNewest self.old self.new) }
     {
         let Some(newest) = self.records.pop() else {

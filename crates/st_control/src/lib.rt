@@ -1,6 +1,7 @@
 //! The controller: a running program that an operator looks at and changes, and whose changes can all be taken back.
 #![tactic(auto)]
 
+mod changing;
 mod check;
 mod controller;
 mod image;
@@ -10,6 +11,7 @@ mod refusal;
 mod state;
 mod undoing;
 
+pub use changing::Counts;
 pub use check::{check_program, texts_give_one_list};
 pub use controller::{Controller, MAX_RECORDS, Report};
 pub use image::Image;
@@ -19,8 +21,8 @@ pub use laws::{
 };
 pub use record::Record;
 pub use refusal::{
-    IS_FORCED, NO_SUCH_LINE, NO_SUCH_PATH, NOT_FORCED, NOT_OF_TYPE, NOT_OPEN, NOTHING_TO_UNDO,
-    Refusal, UNDO_FULL,
+    IS_FORCED, NO_ACTIVE_STEP, NO_SUCH_LINE, NO_SUCH_PATH, NOT_FORCED, NOT_OF_TYPE, NOT_OPEN,
+    NOT_PAIRED, NOTHING_TO_UNDO, Refusal, UNDO_FULL,
 };
 pub use state::{RunFault, RunFaultKind, State, Status};
 pub use undoing::revert;

@@ -1,9 +1,11 @@
 //! Why a command is refused.
 ghost use Rattle.std.specs.Prelude.{◌≡◌};
+ghost use Rattle.st_control.specs.Causes.{refusal_of_plan};
 ghost use Rattle.st_control.specs.Texts.{refusal_of, refusal_of_rules};
 ghost use Rattle.st_control.specs.declared.refusal.Refusal.TheVariants as refusals;
 
 use st_check::CheckFault;
+use st_layout::PlanFault;
 use st_tokens::SyntaxFault;
 use std::alloc::AllocError;
 
@@ -28,10 +30,17 @@ pub const UNDO_FULL: u8 = 6;
 /// There is nothing to undo.
 pub const NOTHING_TO_UNDO: u8 = 7;
 
+/// A chart that both programs have would keep no active step.
+pub const NO_ACTIVE_STEP: u8 = 8;
+
 /// A session has no such line.
 pub const NO_SUCH_LINE: u8 = 11;
 
-/// Why a command is refused. Of several causes the one with the lowest number is named.
+/// The renames of an online change give no pairs.
+pub const NOT_PAIRED: u8 = 13;
+
+/// Why a command is refused. Of several causes the one with the lowest number is named; of those of an online change the
+/// renames (13) come before the charts (8).
 #[derive(Clone, Copy, Debug, PartialEq, Eq)]
 pub enum Refusal {
     /// The text isn't in the grammar: the number of the cause, from 1 to 4, and a line.
@@ -68,6 +77,17 @@ impl From<CheckFault> for Refusal {
                 line: fault.line(),
             },
             None => Refusal::M,
+        }
+    }
+}
+
+impl From<PlanFault> for Refusal {
+    ghost from_gives = { λ fault refusal. refusal ≡ refusal_of_plan fault };
+
+    fn from(fault: PlanFault) -> Refusal {
+        match fault {
+            PlanFault::Memory => Refusal::M,
+            PlanFault::NotPaired => Refusal::O(NOT_PAIRED),
         }
     }
 }

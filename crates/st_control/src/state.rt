@@ -2,12 +2,14 @@
 ghost use Rattle.std.specs.Prelude.{◌≡◌, ◌<◌, IfOk, IsTrue, OnOk, count_by, false, true, length};
 ghost use Rattle.st_control.specs.Machine.{is_value_of};
 ghost use Rattle.st_leaves.specs.Sound.{IsValueOf};
-ghost use Rattle.st_layout.specs.Layout.{IsValueAt, is_open};
+ghost use Rattle.st_layout.specs.Layout.{IsOpenAt, IsValueAt, is_open};
 ghost use Rattle.st_layout.specs.Memory.{forced_at, value_at};
 
 use crate::image::Image;
 use crate::record::Record;
-use crate::refusal::{IS_FORCED, NO_SUCH_PATH, NOT_FORCED, NOT_OF_TYPE, NOT_OPEN, UNDO_FULL};
+use crate::refusal::{
+    IS_FORCED, NO_SUCH_PATH, NOT_FORCED, NOT_OF_TYPE, NOT_OPEN, Refusal, UNDO_FULL,
+};
 use st_layout::Memory;
 use st_tree::{Leaf, Name, Role};
 use st_values::{Value, is_value};
@@ -60,7 +62,8 @@ pub struct State<M: Memory> {
 impl<M: Memory> Model for State<M> {
     ghost use Rattle.std.specs.Coded.{codes};
     ghost use Rattle.st_check.specs.Programs.{leaves_of_program};
-    ghost use Rattle.st_control.specs.States.{ForcesAreOpen, IsMoment, StateView};
+    ghost use Rattle.st_control.specs.States.{IsMoment, StateView};
+    ghost use Rattle.st_layout.specs.Memory.{ForcesAreOpen};
     ghost use Rattle.st_tree.specs.contracts.tree.expression.Expression as expression;
     ghost use Rattle.st_tree.specs.contracts.tree.statement.Statement as statement;
 
@@ -74,11 +77,16 @@ impl<M: Memory> Model for State<M> {
 }
 
 impl<M: Memory> State<M> {
-    ghost use Rattle.st_control.specs.States.{FitsRecord, IsOpenAt, IsWhole, forced, leaf_of, leaves_of, released, undone, written};
+    ghost use Rattle.st_control.specs.States.{FitsRecord, IsWhole, forced, leaf_of, leaves_of, released, undone, written};
     ghost use Rattle.st_control.specs.Machine.{leaf_to_force, leaf_to_release, leaf_to_write};
 
-    /// The leaf that a write would set, or the number of its refusal.
-    pub(crate) fn leaf_to_write(&self, full: bool, path: &[u8], value: Value) -> Result<u32, u8>
+    /// The leaf that a write would set, or its refusal.
+    pub(crate) fn leaf_to_write(
+        &self,
+        full: bool,
+        path: &[u8],
+        value: Value,
+    ) -> Result<u32, Refusal>
         ensures value { result ≡ leaf_to_write self.entry.now full path.now value }
         ensures below { IfOk result (λ leaf. leaf < length (leaves_of self.entry.now)) }
         ensures opens { IfOk result (λ leaf. IsOpenAt (leaves_of self.entry.now) leaf) }
@@ -86,23 +94,32 @@ impl<M: Memory> State<M> {
         ensures not_full { OnOk result (full ≡ false) }
     {
         let Some(leaf) = self.image.layout().leaf(path) else {
-            return Err(NO_SUCH_PATH);
+            return Err(Refusal::O(NO_SUCH_PATH));
         };
         let declared = self.image.layout().at(leaf);
         if !is_open(declared.role) {
-            return Err(NOT_OPEN);
+            return Err(Refusal::O(NOT_OPEN));
         }
         if !is_value_of(declared, value) {
-            return Err(NOT_OF_TYPE);
+            return Err(Refusal::O(NOT_OF_TYPE));
         }
         if self.memory.forced(self.image.layout(), leaf) {
-            return Err(IS_FORCED);
+            return Err(Refusal::O(IS_FORCED));
         }
-        if full { Err(UNDO_FULL) } else { Ok(leaf) }
+        if full {
+            Err(Refusal::O(UNDO_FULL))
+        } else {
+            Ok(leaf)
+        }
     }
 
-    /// The leaf that a force would set, or the number of its refusal.
-    pub(crate) fn leaf_to_force(&self, full: bool, path: &[u8], value: Value) -> Result<u32, u8>
+    /// The leaf that a force would set, or its refusal.
+    pub(crate) fn leaf_to_force(
+        &self,
+        full: bool,
+        path: &[u8],
+        value: Value,
+    ) -> Result<u32, Refusal>
         ensures value { result ≡ leaf_to_force self.entry.now full path.now value }
         ensures below { IfOk result (λ leaf. leaf < length (leaves_of self.entry.now)) }
         ensures opens { IfOk result (λ leaf. IsOpenAt (leaves_of self.entry.now) leaf) }
@@ -110,32 +127,40 @@ impl<M: Memory> State<M> {
         ensures not_full { OnOk result (full ≡ false) }
     {
         let Some(leaf) = self.image.layout().leaf(path) else {
-            return Err(NO_SUCH_PATH);
+            return Err(Refusal::O(NO_SUCH_PATH));
         };
         let declared = self.image.layout().at(leaf);
         if !is_open(declared.role) {
-            return Err(NOT_OPEN);
+            return Err(Refusal::O(NOT_OPEN));
         }
         if !is_value_of(declared, value) {
-            return Err(NOT_OF_TYPE);
+            return Err(Refusal::O(NOT_OF_TYPE));
         }
-        if full { Err(UNDO_FULL) } else { Ok(leaf) }
+        if full {
+            Err(Refusal::O(UNDO_FULL))
+        } else {
+            Ok(leaf)
+        }
     }
 
-    /// The leaf that a release would let go, or the number of its refusal.
-    pub(crate) fn leaf_to_release(&self, full: bool, path: &[u8]) -> Result<u32, u8>
+    /// The leaf that a release would let go, or its refusal.
+    pub(crate) fn leaf_to_release(&self, full: bool, path: &[u8]) -> Result<u32, Refusal>
         ensures value { result ≡ leaf_to_release self.entry.now full path.now }
         ensures below { IfOk result (λ leaf. leaf < length (leaves_of self.entry.now)) }
         ensures forced { IfOk result (λ leaf. forced_at self.entry.now.content.forced leaf ≡ true) }
         ensures not_full { OnOk result (full ≡ false) }
     {
         let Some(leaf) = self.image.layout().leaf(path) else {
-            return Err(NO_SUCH_PATH);
+            return Err(Refusal::O(NO_SUCH_PATH));
         };
         if !self.memory.forced(self.image.layout(), leaf) {
-            return Err(NOT_FORCED);
+            return Err(Refusal::O(NOT_FORCED));
         }
-        if full { Err(UNDO_FULL) } else { Ok(leaf) }
+        if full {
+            Err(Refusal::O(UNDO_FULL))
+        } else {
+            Ok(leaf)
+        }
     }
 
     /// Sets the value of a leaf, and answers what undoes it.

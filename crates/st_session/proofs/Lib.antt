@@ -1,7 +1,11 @@
+pub mod CommandLemmas
+pub mod EndLemmas
 pub mod LineLemmas
 pub mod Listings
+pub mod ReadLemmas
 pub mod RunLemmas
 pub mod ServeLemmas
+pub mod SourceLemmas
 pub mod StepLemmas
 pub mod TakingLemmas
 pub mod WordLemmas

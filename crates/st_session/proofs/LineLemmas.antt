@@ -54,7 +54,7 @@ whole_lines_of-part part no_lf = rw (slice_split_none is_lf part no_lf) refl
 is_no_lf : (byte : ℕ) → byte ≢ 10 → is_lf byte ≡ false
 is_no_lf byte other = grind (arith, common_steps)
 
-NoLf-more : (part : List ℕ) (byte : ℕ) → NoLf part → byte ≢ 10 → NoLf (part ++ byte ∷ [])
+pub NoLf-more : (part : List ℕ) (byte : ℕ) → NoLf part → byte ≢ 10 → NoLf (part ++ byte ∷ [])
 NoLf-more part byte no_lf other =
     All-append (λ b. is_lf b ≡ false) part (byte ∷ []) no_lf (λ k d within. let first : k ≡ 0 = omega arith in rw first (is_no_lf byte other))
 
@@ -76,7 +76,7 @@ pub line_ended : (is_empty is_long at_end : Bool) (line bytes rest more text : L
     → (is_long ≡ true → found ≡ findings.TooLong) → (is_long ≡ false → (found ≡ findings.Line) × (text ≡ strip_carriage_return line))
     → TakesFound found at_end text bytes more
 line_ended is_empty true at_end line bytes rest more text found so next long short =
-    rw (long refl) (inl (record { part = so.part; split = so.split ∙ ap (λ xs. so.part ++ xs) next; no_lf = so.no_lf; is = rw (← so.long) refl }))
+    rw (long refl) (strip_carriage_return so.part, inl (record { part = so.part; split = so.split ∙ ap (λ xs. so.part ++ xs) next; no_lf = so.no_lf; is = rw (← so.long) refl }))
 line_ended is_empty false at_end line bytes rest more text found so next long short =
     rw ((short refl).0) (inl (record {
       part = so.part;
@@ -91,7 +91,7 @@ pub line_last : (is_empty is_long at_end : Bool) (line bytes rest more : List �
     → TakesFound found at_end line bytes more
 line_last is_empty true at_end line bytes rest more found so bytes_read none ended long short =
     let whole : bytes ≡ so.part = so.split ∙ ap (λ xs. so.part ++ xs) none.0 ∙ append-nil so.part in
-    rw (long refl) (inr (record { whole = none.1; no_lf = rw whole so.no_lf; some = rw whole (is_some so.part (sym bytes_read ∙ so.empty)); is = rw (whole, ← so.long) refl }, ended))
+    rw (long refl) (bytes, inr (record { whole = none.1; no_lf = rw whole so.no_lf; some = rw whole (is_some so.part (sym bytes_read ∙ so.empty)); is = rw (whole, ← so.long) refl }, ended))
 line_last is_empty false at_end line bytes rest more found so bytes_read none ended long short =
     let whole : bytes ≡ so.part = so.split ∙ ap (λ xs. so.part ++ xs) none.0 ∙ append-nil so.part in
     rw (short refl) (inr (record { whole = none.1; no_lf = rw whole so.no_lf; some = rw whole (is_some so.part (sym bytes_read ∙ so.empty)); is = rw (whole, ← so.long, kept_whole line so.part so.kept so.long) refl }, ended))

@@ -1,6 +1,6 @@
 -- Lemmas on what a run writes.
-use Rattle.std.proofs.Common.{◌≡◌, ◌≢◌, ◌<◌, ◌^◌, ℕ, List, [], length, inl, inr, refl, arith, subst, sym, take}
-use Rattle.std.specs.Prelude.{◌⊎◌, Option, Ok, Err, Bool, codes, if◌then◌else◌}
+use Rattle.std.proofs.Common.{ap, ◌≡◌, ◌≢◌, ◌<◌, ◌^◌, ℕ, List, [], length, inl, inr, refl, arith, subst, sym, take}
+use Rattle.std.specs.Prelude.{◌⊎◌, Option, Ok, Err, codes}
 use Rattle.std.specs.Io.KnownBytes.{Appends}
 use Rattle.std.proofs.lemmas.Fmt.{decimal_digit}
 use Rattle.st_control.specs.Causes.{too_long}
@@ -12,12 +12,12 @@ use Rattle.st_control.specs.declared.refusal.Refusal.{Refusal}
 use Rattle.st_control.specs.declared.refusal.Refusal.TheVariants as refusals
 use Rattle.st_session.specs.Checks.{TellsPart}
 use Rattle.st_session.specs.Layouts.{ListsPart, OfLayout}
-use Rattle.st_session.specs.Lines.{lines_of}
 use Rattle.st_session.specs.Pending.{OnBytes, OnReading}
 use Rattle.st_session.specs.Replies.{ended, refusal_text}
-use Rattle.st_session.specs.Runs.{WritesAll, WritesPart, WritesRead}
+use Rattle.st_session.specs.Runs.{WritesAll, WritesPart, WritesRead, grade_status}
 use Rattle.st_session.specs.Sessions.{AnswersAll, AnswersRead, StopsIn}
-use Rattle.st_session.proofs.RunLemmas.{take-StopsIn}
+use Rattle.st_session.specs.declared.grade.Grade.{Grade}
+use Rattle.st_session.proofs.RunLemmas.{StopsIn-beginning}
 use Rattle.st_session.proofs.TakingLemmas.{OnBytes-all, OnBytes-then, OnReading-then}
 
 -- a text that is too long is refused for that
@@ -51,11 +51,11 @@ short_checked text main refusal (inr short) other = inr (short.0, inl refl)
 -- a refusal was cut, or that of want of memory
 pub WritesPart-refused : (text main : List ℕ) (limit : ℕ) (refusal : Refusal) (known before now : Option (List ℕ)) → IsCheckedAs text main (Err refusal)
     → WritesPart [] before now (Err refusal) ⊎ ((refusal ≢ too_long) × WritesPart [] before now (Err refusals.M))
-    → OnBytes known (λ bytes. OfLoad text main limit (WritesPart (lines_of bytes) before now))
+    → OnBytes known (λ bytes. OfLoad text main limit (WritesPart bytes before now))
 WritesPart-refused text main limit refusal known before now refuses (inl part) =
-    OnBytes-all known (λ bytes. OfLoad text main limit (WritesPart (lines_of bytes) before now)) (λ bytes. (Err refusal, refuses, part))
+    OnBytes-all known (λ bytes. OfLoad text main limit (WritesPart bytes before now)) (λ bytes. (Err refusal, refuses, part))
 WritesPart-refused text main limit refusal known before now refuses (inr part) =
-    OnBytes-all known (λ bytes. OfLoad text main limit (WritesPart (lines_of bytes) before now)) (λ bytes. (Err refusals.M, short_checked text main refusal refuses part.0, part.1))
+    OnBytes-all known (λ bytes. OfLoad text main limit (WritesPart bytes before now)) (λ bytes. (Err refusals.M, short_checked text main refusal refuses part.0, part.1))
 
 -- the same of a check
 pub TellsPart-refused : (text main : List ℕ) (refusal : Refusal) (before now : Option (List ℕ)) → IsCheckedAs text main (Err refusal)
@@ -71,22 +71,28 @@ pub ListsPart-refused : (text main : List ℕ) (refusal : Refusal) (before now :
 ListsPart-refused text main refusal before now refuses (inl part) = (Err refusal, refuses, part)
 ListsPart-refused text main refusal before now refuses (inr part) = (Err refusals.M, short_checked text main refusal refuses part.0, part.1)
 
+-- there was no memory for the load, or for the text of its refusal
+pub WritesAll-memory : (text main : List ℕ) (limit : ℕ) (refusal : Refusal) (known before now : Option (List ℕ)) → IsCheckedAs text main (Err refusal) → refusal ≢ too_long
+    → Appends before now (ended (codes "refused M")) → OnBytes known (λ bytes. OfLoad text main limit (WritesAll bytes 5 before now))
+WritesAll-memory text main limit refusal known before now refuses other written =
+    OnBytes-all known (λ bytes. OfLoad text main limit (WritesAll bytes 5 before now)) (λ bytes. (Err refusals.M, short_checked text main refusal refuses other, (refl, written)))
+
 -- ---- what a session's answers are for a run
 
-pub WritesAll-answers : (known : Option (List ℕ)) (refused : Bool) (c : ControllerView) (new : Machine) (before now : Option (List ℕ)) → OnBytes known (AnswersAll refused (machine_of c) new before now)
-    → OnBytes known (λ bytes. WritesAll (lines_of bytes) (if refused then 3 else 0) before now (Ok c))
-WritesAll-answers known refused c new before now answers =
-    OnBytes-then known (AnswersAll refused (machine_of c) new before now) (λ bytes. WritesAll (lines_of bytes) (if refused then 3 else 0) before now (Ok c))
-    (λ bytes all. (rw (← all.refusals) refl, all.answers.told)) answers
+pub WritesAll-answers : (known : Option (List ℕ)) (grade : Grade) (c : ControllerView) (new : Machine) (before now : Option (List ℕ)) → OnBytes known (AnswersAll grade (machine_of c) new before now)
+    → OnBytes known (λ bytes. WritesAll bytes (grade_status grade) before now (Ok c))
+WritesAll-answers known grade c new before now answers =
+    OnBytes-then known (AnswersAll grade (machine_of c) new before now) (λ bytes. WritesAll bytes (grade_status grade) before now (Ok c))
+    (λ bytes all. (all.answers.taken, all.answers.follows, ap grade_status all.graded, all.answers.told)) answers
 
 pub WritesPart-stops : (known : Option (List ℕ)) (c : ControllerView) (new : Machine) (before now : Option (List ℕ)) → OnBytes known (StopsIn (machine_of c) new before now)
-    → OnBytes known (λ bytes. WritesPart (lines_of bytes) before now (Ok c))
+    → OnBytes known (λ bytes. WritesPart bytes before now (Ok c))
 WritesPart-stops known c new before now stops =
-    OnBytes-then known (StopsIn (machine_of c) new before now) (λ bytes. WritesPart (lines_of bytes) before now (Ok c))
-    (λ bytes stop. take-StopsIn (machine_of c) new before now bytes stop) stops
+    OnBytes-then known (StopsIn (machine_of c) new before now) (λ bytes. WritesPart bytes before now (Ok c))
+    (λ bytes stop. StopsIn-beginning (machine_of c) new before now bytes stop) stops
 
 pub WritesRead-answers : (known rest : Option (List ℕ)) (c : ControllerView) (new : Machine) (before now : Option (List ℕ)) → OnReading known rest (AnswersRead (machine_of c) new before now)
     → OnReading known rest (λ x y. WritesRead x y before now c)
 WritesRead-answers known rest c new before now answers =
     OnReading-then known rest (AnswersRead (machine_of c) new before now) (λ x y. WritesRead x y before now c)
-    (λ x y read. (read.read, read.split, read.answers.told)) answers
+    (λ x y read. (read.read, read.split, (read.answers.taken, read.answers.follows, read.answers.told))) answers

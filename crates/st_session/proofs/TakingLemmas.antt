@@ -4,9 +4,13 @@ use Rattle.std.specs.Prelude.{Option, Some, None, Result, Ok, Err, OnErr, if◌t
 use Rattle.std.specs.Io.KnownBytes.{Keeps, prepend_known}
 use Rattle.std.proofs.Math.Seq.{drop-cons}
 use Rattle.st_control.specs.Machine.{Machine}
-use Rattle.st_session.specs.Sessions.{TurnsOver}
+use Rattle.st_layout.specs.declared.renames.Rename.{Rename}
+use Rattle.st_session.specs.Sessions.{DoesOver, TurnsOver}
+use Rattle.st_session.specs.SourceTexts.{TakesText}
 use Rattle.st_session.specs.Pending.{OnBytes, OnReading, TakesByte, TakesFound}
+use Rattle.st_session.specs.declared.grade.Grade.{Grade}
 use Rattle.st_session.specs.declared.input.Found.{Found}
+use Rattle.st_session.specs.declared.source_text.SourceText.{SourceText}
 
 -- what holds of all bytes holds of those that are known
 pub OnBytes-all : (known : Option (List ℕ)) (P : List ℕ → Type 0) → ((bytes : List ℕ) → P bytes) → OnBytes known P
@@ -84,11 +88,23 @@ pub OnErr-from : {T E P : Type 0} (r : Result T E) → P → OnErr r P
 OnErr-from (Ok x) holds = tt
 OnErr-from (Err e) holds = holds
 
+pub OnErr-then : {T E P Q : Type 0} (r : Result T E) → (P → Q) → OnErr r P → OnErr r Q
+OnErr-then (Ok x) weaken holds = tt
+OnErr-then (Err e) weaken holds = weaken holds
+
 -- what has not ended had not ended before
 pub not_ended_before : (old new : Bool) → (old ≡ true → new ≡ true) → new ≡ false → old ≡ false
 not_ended_before true new ended now = cc (ended refl, now)
 not_ended_before false new ended now = refl
 
-pub TurnsOver-same : (o p : Option Bool) (at_end : Bool) (a b : Option (List ℕ)) (old new : Machine) (before now : Option (List ℕ)) → OnReading a b (TurnsOver o at_end old new before now) → o ≡ p
+pub TurnsOver-same : (o p : Option Grade) (at_end : Bool) (a b : Option (List ℕ)) (old new : Machine) (before now : Option (List ℕ)) → OnReading a b (TurnsOver o at_end old new before now) → o ≡ p
     → OnReading a b (TurnsOver p at_end old new before now)
-TurnsOver-same o p at_end a b old new before now turns same = subst (λ (q : Option Bool). OnReading a b (TurnsOver q at_end old new before now)) same turns
+TurnsOver-same o p at_end a b old new before now turns same = subst (λ (q : Option Grade). OnReading a b (TurnsOver q at_end old new before now)) same turns
+
+pub DoesOver-same : (o p : Option Grade) (at_end : Bool) (a b : Option (List ℕ)) (old new : Machine) (reply : List ℕ) → OnReading a b (DoesOver o at_end old new reply) → o ≡ p
+    → OnReading a b (DoesOver p at_end old new reply)
+DoesOver-same o p at_end a b old new reply does same = subst (λ (q : Option Grade). OnReading a b (DoesOver q at_end old new reply)) same does
+
+pub TakesText-same : (renames : List Rename) (o p at_end : Bool) (a b : Option (List ℕ)) (source : SourceText) → OnReading a b (TakesText renames o at_end source) → o ≡ p
+    → OnReading a b (TakesText renames p at_end source)
+TakesText-same renames o p at_end a b source takes same = subst (λ (q : Bool). OnReading a b (TakesText renames q at_end source)) same takes

@@ -1,5 +1,6 @@
 pub mod Bytes
 pub mod Checks
+pub mod Commands
 pub mod Inputs
 pub mod Layouts
 pub mod Lines
@@ -10,5 +11,7 @@ pub mod Requests
 pub mod Runs
 pub mod Sessions
 pub mod Sheet
+pub mod SourceTexts
 pub mod Streams
+pub mod Turns
 pub mod Words

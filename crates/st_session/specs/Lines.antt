@@ -1,11 +1,12 @@
 -- The lines of a session.
-use Rattle.std.specs.Prelude.{ℕ, Bool, ◌==◌, nat_lt, if◌then◌else◌, List, [], ◌∷◌, length, Option, Some, None}
+use Rattle.std.specs.Prelude.{ℕ, Bool, ◌==◌, nat_lt, if◌then◌else◌, List, [], ◌∷◌, length}
 use Rattle.std.specs.List.{slice_split}
 use Rattle.std.specs.Str.Lines.{strip_carriage_return}
 
--- a line: its bytes, or `None` where it is too long
-abbrev pub Line : Type 0
-Line = Option (List ℕ)
+-- a line: its bytes, and whether it is too long for a command
+pub record Line : Type 0 where
+  pub text : List ℕ
+  pub is_long : Bool
 
 -- whether a byte is an LF
 abbrev pub is_lf : ℕ → Bool
@@ -17,11 +18,11 @@ parts_of bytes = slice_split is_lf bytes
 
 -- the line of a part before an LF, without one CR at its end: the CR counts among the 4,096 bytes
 abbrev pub ended_line : List ℕ → Line
-ended_line part = if nat_lt 4096 (length part) then None else Some (strip_carriage_return part)
+ended_line part = record { text = strip_carriage_return part; is_long = nat_lt 4096 (length part) }
 
 -- the line of the part after the last LF
 abbrev pub last_line : List ℕ → Line
-last_line part = if nat_lt 4096 (length part) then None else Some part
+last_line part = record { text = part; is_long = nat_lt 4096 (length part) }
 
 -- an empty part after the last LF is no line
 abbrev pub lines_in : List (List ℕ) → List Line

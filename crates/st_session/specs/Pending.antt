@@ -51,8 +51,8 @@ TakesLine at_end line bytes rest = TakesEnded line bytes rest ⊎ (TakesLast lin
 -- a line was taken into the buffer, or passed over as too long, or there is none
 abbrev pub TakesFound : Found → Bool → List ℕ → List ℕ → List ℕ → Type 0
 TakesFound findings.End at_end text bytes rest = (bytes ≡ []) × (rest ≡ [])
-TakesFound findings.Line at_end text bytes rest = TakesLine at_end (Some text) bytes rest
-TakesFound findings.TooLong at_end text bytes rest = TakesLine at_end None bytes rest
+TakesFound findings.Line at_end text bytes rest = TakesLine at_end (record { text = text; is_long = false }) bytes rest
+TakesFound findings.TooLong at_end text bytes rest = (long : List ℕ) × TakesLine at_end (record { text = long; is_long = true }) bytes rest
 
 -- there is a line
 abbrev pub IsFound : Found → Type 0

@@ -1,15 +1,20 @@
-//! A session: each line of a source is acted on, and its reply written to a sink.
-ghost use Rattle.std.specs.Prelude.{◌≡◌, ◌≤◌, ◌<◌, ◌↔◌, ◌||◌, ℕ, [], true, false, take, IfOk, IsTrue, OnErr, OnOk, OnSome, is_err, vec_capacity};
+//! A session: each command of a source is acted on, and its reply written to a sink.
+ghost use Rattle.std.specs.Prelude.{◌≡◌, ◌≤◌, ◌<◌, ◌↔◌, ◌||◌, ◌⊎◌, ℕ, [], true, false, take, IfOk, IsTrue, OnErr, OnOk, OnSome, is_err, vec_capacity};
 ghost use Rattle.std.specs.Io.KnownBytes.{Appends};
 ghost use Rattle.st_control.specs.Controllers.{machine_of};
 ghost use Rattle.st_session.specs.Inputs.{left, pending, unread};
 ghost use Rattle.st_session.specs.Pending.{OnBytes, OnReading};
-ghost use Rattle.st_session.specs.Replies.{answer, value_given};
-ghost use Rattle.st_session.specs.Requests.{RequestView, request_of};
-ghost use Rattle.st_session.specs.Sessions.{AnswersAll, AnswersRead, LosesPart, StopsIn, TurnsOver};
+ghost use Rattle.st_session.specs.Commands.{TakesPartOf};
+ghost use Rattle.st_session.specs.Requests.{RequestView, request_in, request_of};
+ghost use Rattle.st_session.specs.Sessions.{AnswersAll, AnswersRead, Does, DoesAsked, DoesOver, LosesPart, LosesText, StopsIn, TurnsOver};
+ghost use Rattle.st_session.specs.Turns.{CanBeAsked, answer, value_given};
+ghost use Rattle.st_session.specs.Words.{words_of};
 
+use crate::change::take_change;
 use crate::devices::{DeviceFault, Sink, Source};
+use crate::grade::{Grade, worse};
 use crate::input::{Found, Input, MAX_LINE_BYTES};
+use crate::renames::read_renames;
 use crate::reply::Reply;
 use crate::request::{Request, read_request};
 use st_control::{Controller, NO_SUCH_LINE, NO_SUCH_PATH, Refusal};
@@ -20,11 +25,11 @@ use std::alloc::{AllocError, Global};
 /// How a session ended.
 #[derive(Clone, Copy, Debug, PartialEq, Eq)]
 pub enum Outcome {
-    /// All lines were accepted.
+    /// All commands were accepted.
     Clean,
-    /// Some line was refused.
+    /// Some command was refused.
     Refused,
-    /// There was no memory for the session.
+    /// There was no memory for some command, or for the session itself.
     Memory,
     /// A device failed.
     Device,
@@ -46,78 +51,77 @@ fn read_given<M: Memory>(controller: &Controller<M>, path: &[u8], text: &[u8]) -
     }
 }
 
-/// Replies what the leaf with this path holds, and answers whether that is a refusal.
-fn show<M: Memory>(controller: &Controller<M>, path: &[u8], reply: &mut Reply) -> bool
+/// Replies what the leaf with this path holds, and answers the grade of that.
+fn show<M: Memory>(controller: &Controller<M>, path: &[u8], reply: &mut Reply) -> Grade
     ensures reply { reply.new ≡ (answer (RequestView.show path.now) (machine_of controller.now)).reply }
-    ensures refused { result ≡ (answer (RequestView.show path.now) (machine_of controller.now)).refused }
+    ensures grade { result ≡ (answer (RequestView.show path.now) (machine_of controller.now)).grade }
 {
     let (Some(leaf), Ok((value, forced))) = (controller.find(path), controller.get(path)) else {
         return reply.answer(Err(Refusal::O(NO_SUCH_PATH)));
     };
     reply.show(controller.shown(leaf), value, forced);
-    false
+    Grade::Accepted
 }
 
-/// Sets the leaf with this path to the value that the text is, and answers whether that is refused.
+/// Sets the leaf with this path to the value that the text is, and answers the grade of the reply.
 fn write<M: Memory>(
     controller: &mut Controller<M>,
     path: &[u8],
     text: &[u8],
     reply: &mut Reply,
-) -> bool
+) -> Grade
     ensures machine { machine_of controller.new
         ≡ (answer (RequestView.write path.now text.now) (machine_of controller.old)).machine }
     ensures reply { reply.new
         ≡ (answer (RequestView.write path.now text.now) (machine_of controller.old)).reply }
-    ensures refused { result
-        ≡ (answer (RequestView.write path.now text.now) (machine_of controller.old)).refused }
+    ensures grade { result
+        ≡ (answer (RequestView.write path.now text.now) (machine_of controller.old)).grade }
 {
     let value = read_given(controller, path, text);
     reply.answer(controller.write(path, value))
 }
 
-/// Sets the leaf with this path to the value that the text is and forces it, and answers whether that is refused.
+/// Sets the leaf with this path to the value that the text is and forces it, and answers the grade of the reply.
 fn force<M: Memory>(
     controller: &mut Controller<M>,
     path: &[u8],
     text: &[u8],
     reply: &mut Reply,
-) -> bool
+) -> Grade
     ensures machine { machine_of controller.new
         ≡ (answer (RequestView.force path.now text.now) (machine_of controller.old)).machine }
     ensures reply { reply.new
         ≡ (answer (RequestView.force path.now text.now) (machine_of controller.old)).reply }
-    ensures refused { result
-        ≡ (answer (RequestView.force path.now text.now) (machine_of controller.old)).refused }
+    ensures grade { result
+        ≡ (answer (RequestView.force path.now text.now) (machine_of controller.old)).grade }
 {
     let value = read_given(controller, path, text);
     reply.answer(controller.force(path, value))
 }
 
-/// Replies how the controller stands, and answers that this is no refusal.
-fn report<M: Memory>(controller: &Controller<M>, reply: &mut Reply) -> bool
+/// Replies how the controller stands, and answers the grade of that.
+fn report<M: Memory>(controller: &Controller<M>, reply: &mut Reply) -> Grade
     ensures reply { reply.new ≡ (answer RequestView.status (machine_of controller.now)).reply }
-    ensures refused { result ≡ false }
+    ensures grade { result ≡ (answer RequestView.status (machine_of controller.now)).grade }
 {
     reply.report(controller.status());
-    false
+    Grade::Accepted
 }
 
-/// Does what is asked for, makes the reply, and answers whether it is a refusal.
+/// Does what the line of a command asks for, makes the reply, and answers its grade.
 fn act<M: Memory>(
     alloc: Global,
     controller: &mut Controller<M>,
     request: Request<'_>,
     reply: &mut Reply,
-) -> bool
-    ensures machine { machine_of controller.new ≡ (answer (request_of request.entry) (machine_of controller.old)).machine }
-    ensures reply { reply.new ≡ (answer (request_of request.entry) (machine_of controller.old)).reply }
-    ensures refused { result ≡ (answer (request_of request.entry) (machine_of controller.old)).refused }
+) -> Grade
+    ensures { Does (CanBeAsked (request_of request.entry) (machine_of controller.old)) result
+        (machine_of controller.old) (machine_of controller.new) reply.new }
 {
     match request {
         Request::Nothing => {
             reply.clear();
-            false
+            Grade::Accepted
         }
         Request::Show(path) => show(controller, path, reply),
         Request::Write(path, text) => write(controller, path, text, reply),
@@ -125,7 +129,7 @@ fn act<M: Memory>(
         Request::Release(path) => reply.answer(controller.release(path)),
         Request::Undo => reply.answer(controller.undo(alloc)),
         Request::Status => report(controller, reply),
-        Request::Unknown => reply.answer(Err(Refusal::O(NO_SUCH_LINE))),
+        Request::Change(_) | Request::Unknown => reply.answer(Err(Refusal::O(NO_SUCH_LINE))),
     }
 }
 
@@ -167,19 +171,85 @@ impl Buffers {
     }
 }
 
-/// Reads a line, acts on it and writes the reply whole. Answers whether that is a refusal, or nothing at the end.
+/// Reads a command, does it and makes the reply. Answers its grade, or nothing at the end.
+fn take_command<M: Memory, R: Source>(
+    alloc: Global,
+    controller: &mut Controller<M>,
+    source: &mut R,
+    buffers: &mut Buffers,
+) -> Result<Option<Grade>, DeviceFault>
+    requires { R.has_failed source.old ≡ false }
+    ensures ok { IfOk result (λ grade. OnReading
+        (pending buffers.old.input (R.rest source.old)) (pending buffers.new.input (R.rest source.new))
+        (DoesOver grade buffers.new.input.at_end (machine_of controller.old) (machine_of controller.new) buffers.new.reply)) }
+    ensures err { OnErr result (controller.new ≡ controller.old) }
+    ensures read { OnErr result (OnReading
+        (pending buffers.old.input (R.rest source.old)) (R.rest source.new) (TakesPartOf None)) }
+    ensures not_ended { OnErr result (buffers.old.input.at_end ≡ false) }
+    ensures progress { IfOk result (λ grade. OnSome grade (left buffers.new.input (R.reads_left source.new)
+        < left buffers.old.input (R.reads_left source.old))) }
+    ensures ended { buffers.old.input.at_end ≡ true → buffers.new.input.at_end ≡ true }
+    ensures failed { R.has_failed source.new ≡ is_err result }
+{
+    match buffers.input.next_line(source, &mut buffers.line)? {
+        Found::End => Ok(None),
+        Found::TooLong => Ok(Some(buffers.reply.answer(Err(Refusal::O(NO_SUCH_LINE))))),
+        Found::Line => Ok(Some(do_line(alloc, controller, source, buffers)?)),
+    }
+}
+
+/// Does what the line that was taken asks for; where it begins a change, its text is read first. Makes the reply, and answers
+/// its grade.
+fn do_line<M: Memory, R: Source>(
+    alloc: Global,
+    controller: &mut Controller<M>,
+    source: &mut R,
+    buffers: &mut Buffers,
+) -> Result<Grade, DeviceFault>
+    requires { R.has_failed source.old ≡ false }
+    ensures ok { IfOk result (λ grade. OnReading
+        (pending buffers.old.input (R.rest source.old)) (pending buffers.new.input (R.rest source.new))
+        (DoesAsked (request_in (words_of buffers.old.line.items)) grade buffers.new.input.at_end
+        (machine_of controller.old) (machine_of controller.new) buffers.new.reply)) }
+    ensures err { OnErr result (controller.new ≡ controller.old) }
+    ensures read { OnErr result (OnReading
+        (pending buffers.old.input (R.rest source.old)) (R.rest source.new)
+        (LosesText (request_in (words_of buffers.old.line.items)))) }
+    ensures not_ended { OnErr result (buffers.old.input.at_end ≡ false) }
+    ensures steady { OnOk result (left buffers.new.input (R.reads_left source.new)
+        ≤ left buffers.old.input (R.reads_left source.old)) }
+    ensures ended { buffers.old.input.at_end ≡ true → buffers.new.input.at_end ≡ true }
+    ensures failed { R.has_failed source.new ≡ is_err result }
+{
+    match read_request(buffers.line.as_slice()) {
+        Request::Change(words) => {
+            let renames = read_renames(alloc, words);
+            take_change(
+                alloc,
+                controller,
+                renames,
+                &mut buffers.input,
+                source,
+                &mut buffers.reply,
+            )
+        }
+        request => Ok(act(alloc, controller, request, &mut buffers.reply)),
+    }
+}
+
+/// Reads a command, does it and writes the reply whole. Answers its grade, or nothing at the end.
 fn turn<M: Memory, R: Source, W: Sink>(
     alloc: Global,
     controller: &mut Controller<M>,
     source: &mut R,
     sink: &mut W,
     buffers: &mut Buffers,
-) -> Result<Option<bool>, DeviceFault>
+) -> Result<Option<Grade>, DeviceFault>
     requires source { R.has_failed source.old ≡ false }
     requires sink { W.has_failed sink.old ≡ false }
-    ensures ok { IfOk result (λ refused. OnReading
+    ensures ok { IfOk result (λ grade. OnReading
         (pending buffers.old.input (R.rest source.old)) (pending buffers.new.input (R.rest source.new))
-        (TurnsOver refused buffers.new.input.at_end (machine_of controller.old) (machine_of controller.new)
+        (TurnsOver grade buffers.new.input.at_end (machine_of controller.old) (machine_of controller.new)
         (W.taken sink.old) (W.taken sink.new))) }
     ensures err { OnErr result (OnBytes (pending buffers.old.input (R.rest source.old))
         (StopsIn (machine_of controller.old) (machine_of controller.new) (W.taken sink.old) (W.taken sink.new))) }
@@ -187,37 +257,32 @@ fn turn<M: Memory, R: Source, W: Sink>(
         (pending buffers.old.input (R.rest source.old)) (R.rest source.new)
         (LosesPart buffers.old.input.at_end (machine_of controller.old) (machine_of controller.new)
         (W.taken sink.old) (W.taken sink.new)) }
-    ensures progress { IfOk result (λ refused. OnSome refused (left buffers.new.input (R.reads_left source.new)
+    ensures progress { IfOk result (λ grade. OnSome grade (left buffers.new.input (R.reads_left source.new)
         < left buffers.old.input (R.reads_left source.old))) }
     ensures ended { buffers.old.input.at_end ≡ true → buffers.new.input.at_end ≡ true }
     ensures failed { (R.has_failed source.new || W.has_failed sink.new) ≡ is_err result }
     ensures source { OnOk result (R.has_failed source.new ≡ false) }
     ensures sink { OnOk result (W.has_failed sink.new ≡ false) }
 {
-    let refused = match buffers.input.next_line(source, &mut buffers.line)? {
-        Found::End => return Ok(None),
-        Found::TooLong => buffers.reply.answer(Err(Refusal::O(NO_SUCH_LINE))),
-        Found::Line => {
-            let request = read_request(buffers.line.as_slice());
-            act(alloc, controller, request, &mut buffers.reply)
-        }
+    let Some(grade) = take_command(alloc, controller, source, buffers)? else {
+        return Ok(None);
     };
     write_all(sink, buffers.reply.as_slice())?;
-    Ok(Some(refused))
+    Ok(Some(grade))
 }
 
-/// Answers all lines that are pending, and answers whether one was refused.
-fn answer_lines<M: Memory, R: Source, W: Sink>(
+/// Does all commands that are pending, and answers the worst grade of their replies.
+fn answer_all<M: Memory, R: Source, W: Sink>(
     alloc: Global,
     controller: &mut Controller<M>,
     source: &mut R,
     sink: &mut W,
     buffers: &mut Buffers,
-) -> Result<bool, DeviceFault>
+) -> Result<Grade, DeviceFault>
     requires source { R.has_failed source.old ≡ false }
     requires sink { W.has_failed sink.old ≡ false }
-    ensures ok { IfOk result (λ refused. OnBytes (pending buffers.old.input (R.rest source.old))
-        (AnswersAll refused (machine_of controller.old) (machine_of controller.new) (W.taken sink.old) (W.taken sink.new))) }
+    ensures ok { IfOk result (λ grade. OnBytes (pending buffers.old.input (R.rest source.old))
+        (AnswersAll grade (machine_of controller.old) (machine_of controller.new) (W.taken sink.old) (W.taken sink.new))) }
     ensures err { OnErr result (OnBytes (pending buffers.old.input (R.rest source.old))
         (StopsIn (machine_of controller.old) (machine_of controller.new) (W.taken sink.old) (W.taken sink.new))) }
     ensures read { R.has_failed source.new ≡ true → OnReading
@@ -225,14 +290,14 @@ fn answer_lines<M: Memory, R: Source, W: Sink>(
         (AnswersRead (machine_of controller.old) (machine_of controller.new) (W.taken sink.old) (W.taken sink.new)) }
     ensures failed { (R.has_failed source.new || W.has_failed sink.new) ≡ is_err result }
 {
-    let mut refused = false;
-    while let Some(is_refused) = turn(alloc, controller, source, sink, buffers)? {
-        refused |= is_refused;
+    let mut worst = Grade::Accepted;
+    while let Some(grade) = turn(alloc, controller, source, sink, buffers)? {
+        worst = worse(worst, grade);
     }
-    Ok(refused)
+    Ok(worst)
 }
 
-/// Answers each line of the source on the sink, over a controller. The devices have not failed.
+/// Does each command of the source and replies on the sink, over a controller. The devices have not failed.
 pub fn session<M: Memory, R: Source, W: Sink>(
     alloc: Global,
     controller: &mut Controller<M>,
@@ -242,29 +307,31 @@ pub fn session<M: Memory, R: Source, W: Sink>(
     requires source { R.has_failed source.old ≡ false }
     requires sink { W.has_failed sink.old ≡ false }
 
-    // Every line is answered, unless a device fails or there is no memory for the session's own buffers.
+    // Every command is answered, unless a device fails or there is no memory for the session's own buffers.
     ensures clean { result ≡ Outcome.Clean → OnBytes (R.rest source.old)
-        (AnswersAll false (machine_of controller.old) (machine_of controller.new) (W.taken sink.old) (W.taken sink.new)) }
+        (AnswersAll Grade.Accepted (machine_of controller.old) (machine_of controller.new) (W.taken sink.old) (W.taken sink.new)) }
     ensures refused { result ≡ Outcome.Refused → OnBytes (R.rest source.old)
-        (AnswersAll true (machine_of controller.old) (machine_of controller.new) (W.taken sink.old) (W.taken sink.new)) }
+        (AnswersAll Grade.Refused (machine_of controller.old) (machine_of controller.new) (W.taken sink.old) (W.taken sink.new)) }
 
-    // A device has failed, and the session ended there. Of the lines that were read whole none is lost.
+    // A command found no memory; or the session's own buffers didn't, and nothing was done.
+    ensures memory { result ≡ Outcome.Memory → OnBytes (R.rest source.old)
+        (AnswersAll Grade.Memory (machine_of controller.old) (machine_of controller.new) (W.taken sink.old) (W.taken sink.new))
+        ⊎ ((controller.new ≡ controller.old) × (source.new ≡ source.old) × (sink.new ≡ sink.old)) }
+
+    // A device has failed, and the session ended there. Of the commands that were read whole none is lost.
     ensures device { result ≡ Outcome.Device → OnBytes (R.rest source.old)
         (StopsIn (machine_of controller.old) (machine_of controller.new) (W.taken sink.old) (W.taken sink.new)) }
     ensures read { R.has_failed source.new ≡ true → OnReading (R.rest source.old) (R.rest source.new)
         (AnswersRead (machine_of controller.old) (machine_of controller.new) (W.taken sink.old) (W.taken sink.new)) }
     ensures failed { IsTrue (R.has_failed source.new || W.has_failed sink.new) ↔ (result ≡ Outcome.Device) }
-
-    // Nothing was done.
-    ensures memory { result ≡ Outcome.Memory
-        → (controller.new ≡ controller.old) × (source.new ≡ source.old) × (sink.new ≡ sink.old) }
 {
     let Ok(mut buffers) = Buffers::new(alloc) else {
         return Outcome::Memory;
     };
-    match answer_lines(alloc, controller, source, sink, &mut buffers) {
-        Ok(false) => Outcome::Clean,
-        Ok(true) => Outcome::Refused,
+    match answer_all(alloc, controller, source, sink, &mut buffers) {
+        Ok(Grade::Accepted) => Outcome::Clean,
+        Ok(Grade::Refused) => Outcome::Refused,
+        Ok(Grade::Memory) => Outcome::Memory,
         Err(_) => Outcome::Device,
     }
 }

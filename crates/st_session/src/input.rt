@@ -77,7 +77,7 @@ impl Input {
     }
 
     /// Takes the next byte.
-    fn next_byte<R: Source>(&mut self, source: &mut R) -> Result<Option<u8>, DeviceFault>
+    pub fn next_byte<R: Source>(&mut self, source: &mut R) -> Result<Option<u8>, DeviceFault>
         requires { R.has_failed source.old ≡ false }
         ensures bytes { IfOk result (λ byte. OnReading (pending self.old (R.rest source.old))
             (pending self.new (R.rest source.new)) (TakesByte byte)) }

@@ -1,11 +1,12 @@
 //! The reply to a line, put together in room that was made before.
 ghost use Rattle.std.specs.Prelude.{◌≡◌, ◌≤◌, ◌+◌, ◌<◌, ◌++◌, [], IfOk, OnOk, OnErr, is_err, length, true, false, if◌then◌else◌, codes};
 ghost use Rattle.std.specs.Fmt.{decimal};
-ghost use Rattle.st_session.specs.Replies.{ended, fault_name, refusal_text, report_text, result_text, shown_text, status_text};
+ghost use Rattle.st_session.specs.Replies.{change_text, counts_text, ended, fault_name, refusal_text, report_text, result_grade, result_text, shown_text, status_text};
 ghost use Rattle.st_values.specs.Texts.{signed_text, text};
 ghost use Rattle.st_values.specs.Values.{IsValue};
 
-use st_control::{Refusal, Report, RunFaultKind, Status};
+use crate::grade::{Grade, grade_of};
+use st_control::{Counts, Refusal, Report, RunFaultKind, Status};
 use st_values::{Elem, Value, put_value};
 use std::alloc::{AllocError, Global};
 use std::marker::Model;
@@ -53,22 +54,53 @@ impl Reply {
         self.text.clear();
     }
 
-    /// Makes it `ok` or a refusal, and answers whether it is a refusal.
-    pub fn answer(&mut self, done: Result<(), Refusal>) -> bool
+    /// Makes it `ok` or a refusal, and answers its grade.
+    pub fn answer(&mut self, done: Result<(), Refusal>) -> Grade
         ensures text { self.new ≡ result_text done }
-        ensures refused { result ≡ is_err done }
+        ensures grade { result ≡ result_grade done }
     {
         match done {
             Ok(()) => {
                 self.clear();
                 self.put(b"ok\n");
-                false
+                Grade::Accepted
             }
             Err(refusal) => {
                 self.refuse(refusal);
-                true
+                grade_of(refusal)
             }
         }
+    }
+
+    /// Makes it the counts of a change or a refusal, and answers its grade.
+    pub fn count(&mut self, done: Result<Counts, Refusal>) -> Grade
+        ensures text { self.new ≡ change_text done }
+        ensures grade { result ≡ result_grade done }
+    {
+        match done {
+            Ok(counts) => {
+                self.tell_counts(counts);
+                Grade::Accepted
+            }
+            Err(refusal) => {
+                self.refuse(refusal);
+                grade_of(refusal)
+            }
+        }
+    }
+
+    /// Makes it the counts of a change.
+    fn tell_counts(&mut self, counts: Counts)
+        ensures { self.new ≡ ended (counts_text counts) }
+    {
+        self.clear();
+        self.put(b"ok kept ");
+        self.put_number(counts.kept);
+        self.put(b" dropped ");
+        self.put_number(counts.dropped);
+        self.put(b" new ");
+        self.put_number(counts.fresh);
+        self.put(b"\n");
     }
 
     /// Makes it a refusal.

@@ -1,9 +1,9 @@
 //! What a line asks for.
 //!
 //! The words of a line are separated by spaces and tabs. Command words are in lower case.
-ghost use Rattle.std.specs.Prelude.{◌≡◌, ◌≤◌, ◌∷◌, [], MatchOption, length};
-ghost use Rattle.std.specs.List.{position_or_len, prefix_len};
-ghost use Rattle.st_session.specs.Requests.{path_request, request_in, request_of, value_request, word_request};
+ghost use Rattle.std.specs.Prelude.{◌≡◌, ◌≤◌, ◌<◌, ◌∷◌, [], MatchOption, IfSome, length};
+ghost use Rattle.std.specs.List.{list_all, position_or_len, prefix_len};
+ghost use Rattle.st_session.specs.Requests.{change_request, command_request, has_equals, path_request, request_in, request_of, value_request, word_request};
 ghost use Rattle.st_session.specs.Words.{HasNoBlankFirst, is_blank, words_of};
 
 /// What a line asks for. Paths and values are as the line has them.
@@ -19,6 +19,8 @@ pub enum Request<'a> {
     Force(&'a [u8], &'a [u8]),
     /// To let go of the leaf with this path.
     Release(&'a [u8]),
+    /// To go on with the program of a text that follows. The words are renames.
+    Change(&'a [u8]),
     /// To take back the newest command.
     Undo,
     /// How the controller stands.
@@ -34,6 +36,42 @@ pub fn read_request(text: &[u8]) -> Request<'_>
     let Some((word, rest)) = split_word(text) else {
         return Request::Nothing;
     };
+    if word == b"change".as_slice() {
+        read_change(rest)
+    } else {
+        read_command(word, rest)
+    }
+}
+
+/// What `change` and the words of a text ask for.
+fn read_change(words: &[u8]) -> Request<'_>
+    ensures { request_of result ≡ change_request (words_of words.now) }
+{
+    if are_renames(words) {
+        Request::Change(words)
+    } else {
+        Request::Unknown
+    }
+}
+
+/// Tests whether each word of a text can be a rename.
+fn are_renames(words: &[u8]) -> bool
+    ensures { result ≡ list_all has_equals (words_of words.now) }
+{
+    let mut rest = words;
+    while let Some((word, more)) = split_word(rest) {
+        if !word.contains(&b'=') {
+            return false;
+        }
+        rest = more;
+    }
+    true
+}
+
+/// What a word that isn't `change` and the words of a text ask for.
+fn read_command<'a>(word: &'a [u8], rest: &'a [u8]) -> Request<'a>
+    ensures { request_of result ≡ command_request word.now (words_of rest.now) }
+{
     let Some((path, rest)) = split_word(rest) else {
         return from_one_word(word);
     };
@@ -86,8 +124,9 @@ fn from_three_words<'a>(word: &[u8], path: &'a [u8], value: &'a [u8]) -> Request
 }
 
 /// The first word of a text, and what stands after it.
-fn split_word(text: &[u8]) -> Option<(&[u8], &[u8])>
-    ensures { MatchOption result (words_of text.now ≡ []) (λ split. words_of text.now ≡ split.0.now ∷ words_of split.1.now) }
+pub fn split_word(text: &[u8]) -> Option<(&[u8], &[u8])>
+    ensures words { MatchOption result (words_of text.now ≡ []) (λ split. words_of text.now ≡ split.0.now ∷ words_of split.1.now) }
+    ensures shorter { IfSome result (λ split. length split.1.now < length text.now) }
 {
     let text = skip_blanks(text);
     if text.is_empty() {
@@ -100,6 +139,7 @@ fn split_word(text: &[u8]) -> Option<(&[u8], &[u8])>
 fn skip_blanks(text: &[u8]) -> &[u8]
     ensures words { words_of result.now ≡ words_of text.now }
     ensures first { HasNoBlankFirst result.now }
+    ensures shorter { length result.now ≤ length text.now }
 {
     text.split_at(blank_len(text)).1
 }
@@ -125,7 +165,7 @@ fn word_len(text: &[u8]) -> usize
 }
 
 /// Tests whether a byte is a space or a tab.
-fn is_space_or_tab(byte: u8) -> bool
+pub fn is_space_or_tab(byte: u8) -> bool
     ensures { result ≡ is_blank byte }
 {
     byte == b' ' || byte == b'\t'

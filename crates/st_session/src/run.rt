@@ -1,9 +1,8 @@
-//! Running a program's text: it is loaded, and a session's lines are answered.
+//! Running a program's text: it is loaded, and a session's commands are answered.
 ghost use Rattle.std.specs.Prelude.{◌≡◌, ◌≢◌, ◌<◌, ◌^◌, ◌⊎◌, ◌↔◌, ◌||◌, ℕ, [], false, true, Err, Ok, IsTrue, codes, length, take};
 ghost use Rattle.std.specs.Io.KnownBytes.{Appends};
 ghost use Rattle.st_control.specs.Causes.{too_long};
 ghost use Rattle.st_control.specs.Loads.{OfLoad};
-ghost use Rattle.st_session.specs.Lines.{lines_of};
 ghost use Rattle.st_session.specs.Pending.{OnBytes, OnReading};
 ghost use Rattle.st_session.specs.Replies.{ended};
 ghost use Rattle.st_session.specs.Runs.{OfProgram, WritesAll, WritesPart, WritesRead, refusal_status};
@@ -21,7 +20,7 @@ pub const ACCEPTED: u8 = 0;
 /// The text isn't accepted.
 pub const NO_PROGRAM: u8 = 1;
 
-/// Some line was refused.
+/// Some command was refused.
 pub const LINE_REFUSED: u8 = 3;
 
 /// A device failed.
@@ -30,7 +29,7 @@ pub const DEVICE_FAILED: u8 = 4;
 /// There was no memory.
 pub const NO_MEMORY: u8 = 5;
 
-/// Loads the program of the name `main` from a text and answers a session's lines over it, or writes the refusal of the
+/// Loads the program of the name `main` from a text and answers a session's commands over it, or writes the refusal of the
 /// load. Answers the status. The devices have not failed, and `steps` is the step limit of a scan.
 pub fn run_text<R: Source, W: Sink>(
     alloc: Global,
@@ -43,20 +42,22 @@ pub fn run_text<R: Source, W: Sink>(
     requires source { R.has_failed source.old ≡ false }
     requires sink { W.has_failed sink.old ≡ false }
 
-    // The replies to all lines are written, or the refusal of the load.
+    // The replies to all commands are written, or the refusal of the load; but for want of memory for the session's own
+    // buffers nothing is.
     ensures all { result ≢ DEVICE_FAILED → result ≢ NO_MEMORY → OnBytes (R.rest source.old) (λ bytes.
-        OfLoad text.now main.now steps (WritesAll (lines_of bytes) result (W.taken sink.old) (W.taken sink.new))) }
-    ensures memory { result ≡ NO_MEMORY → Appends (W.taken sink.old) (W.taken sink.new) []
-        ⊎ Appends (W.taken sink.old) (W.taken sink.new) (ended (codes "refused M")) }
+        OfLoad text.now main.now steps (WritesAll bytes result (W.taken sink.old) (W.taken sink.new))) }
+    ensures memory { result ≡ NO_MEMORY → OnBytes (R.rest source.old) (λ bytes.
+        OfLoad text.now main.now steps (WritesAll bytes NO_MEMORY (W.taken sink.old) (W.taken sink.new)))
+        ⊎ Appends (W.taken sink.old) (W.taken sink.new) [] }
 
     // A text that is too long is refused for that alone, also where there is no memory.
     ensures long { 2 ^ 20 < length text.now → result ≢ DEVICE_FAILED → (result ≡ NO_PROGRAM)
         × Appends (W.taken sink.old) (W.taken sink.new) (ended (codes "refused S4 line 1")) }
 
-    // A device has failed, and the run ended there. Where it is the source, the text was loaded, and of the lines that were
+    // A device has failed, and the run ended there. Where it is the source, the text was loaded, and of the commands that were
     // read whole none is lost.
     ensures part { result ≡ DEVICE_FAILED → OnBytes (R.rest source.old) (λ bytes.
-        OfLoad text.now main.now steps (WritesPart (lines_of bytes) (W.taken sink.old) (W.taken sink.new))) }
+        OfLoad text.now main.now steps (WritesPart bytes (W.taken sink.old) (W.taken sink.new))) }
     ensures read { R.has_failed source.new ≡ true → OnReading (R.rest source.old) (R.rest source.new) (λ bytes rest.
         OfProgram text.now main.now steps (WritesRead bytes rest (W.taken sink.old) (W.taken sink.new))) }
     ensures failed { IsTrue (R.has_failed source.new || W.has_failed sink.new) ↔ (result ≡ DEVICE_FAILED) }
@@ -77,10 +78,12 @@ fn serve<R: Source, W: Sink>(
     requires source { R.has_failed source.old ≡ false }
     requires sink { W.has_failed sink.old ≡ false }
     ensures all { result ≢ DEVICE_FAILED → result ≢ NO_MEMORY → OnBytes (R.rest source.old) (λ bytes.
-        WritesAll (lines_of bytes) result (W.taken sink.old) (W.taken sink.new) (Ok controller.old)) }
-    ensures memory { result ≡ NO_MEMORY → Appends (W.taken sink.old) (W.taken sink.new) [] }
+        WritesAll bytes result (W.taken sink.old) (W.taken sink.new) (Ok controller.old)) }
+    ensures memory { result ≡ NO_MEMORY → OnBytes (R.rest source.old) (λ bytes.
+        WritesAll bytes NO_MEMORY (W.taken sink.old) (W.taken sink.new) (Ok controller.old))
+        ⊎ Appends (W.taken sink.old) (W.taken sink.new) [] }
     ensures part { result ≡ DEVICE_FAILED → OnBytes (R.rest source.old) (λ bytes.
-        WritesPart (lines_of bytes) (W.taken sink.old) (W.taken sink.new) (Ok controller.old)) }
+        WritesPart bytes (W.taken sink.old) (W.taken sink.new) (Ok controller.old)) }
     ensures read { R.has_failed source.new ≡ true → OnReading (R.rest source.old) (R.rest source.new) (λ bytes rest.
         WritesRead bytes rest (W.taken sink.old) (W.taken sink.new) controller.old) }
     ensures failed { IsTrue (R.has_failed source.new || W.has_failed sink.new) ↔ (result ≡ DEVICE_FAILED) }

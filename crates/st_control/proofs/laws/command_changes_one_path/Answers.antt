@@ -1,4 +1,4 @@
-use Rattle.st_control.proofs.Changes.{changes_one_path}
+use Rattle.st_control.proofs.OnePath.{changes_one_path}
 use Rattle.st_control.proofs.laws.command_changes_one_path.Goals as goal
 
 pub returns : goal.returns

@@ -1,8 +1,8 @@
+use Rattle.std.proofs.Common.{inl}
 use Rattle.std.specs.Prelude.{Err}
 use Rattle.st_control.specs.Loads.{OfLoad}
-use Rattle.st_session.specs.Lines.{lines_of}
 use Rattle.st_session.specs.Runs.{WritesAll}
-use Rattle.st_session.proofs.ServeLemmas.{WritesPart-refused, long_checked, long_written}
+use Rattle.st_session.proofs.ServeLemmas.{WritesAll-memory, WritesPart-refused, long_checked, long_written}
 use Rattle.st_session.proofs.TakingLemmas.{OnBytes-all}
 use Rattle.st_session.proofs.run.run_text.Goals as goal
 
@@ -10,7 +10,7 @@ pub returns-in-Err-clause-all : goal.returns-in-Err-clause-all
 returns-in-Err-clause-all g c = λ works memory.
     let before = g.W.Sink.taken c.args.sink.now in
     let now = g.W.Sink.taken c.refuse.new.sink in
-    OnBytes-all (g.R.Source.rest c.args.source.now) (λ bytes. OfLoad c.args.text.now c.args.main.now c.args.steps (WritesAll (lines_of bytes) c.refuse.result before now))
+    OnBytes-all (g.R.Source.rest c.args.source.now) (λ bytes. OfLoad c.args.text.now c.args.main.now c.args.steps (WritesAll bytes c.refuse.result before now))
     (λ bytes. (Err c.in-Err.refusal, c.in-Err.ensures.refused, c.refuse.ensures.all works memory))
 
 pub returns-in-Err-clause-long : goal.returns-in-Err-clause-long
@@ -23,3 +23,9 @@ pub returns-in-Err-clause-part : goal.returns-in-Err-clause-part
 returns-in-Err-clause-part g c = λ failed.
     WritesPart-refused c.args.text.now c.args.main.now c.args.steps c.in-Err.refusal (g.R.Source.rest c.args.source.now) (g.W.Sink.taken c.args.sink.now) (g.W.Sink.taken c.refuse.new.sink)
     c.in-Err.ensures.refused (c.refuse.ensures.part failed)
+
+pub returns-in-Err-clause-memory : goal.returns-in-Err-clause-memory
+returns-in-Err-clause-memory g c = λ memory.
+    let refused = c.refuse.ensures.memory memory in
+    inl (WritesAll-memory c.args.text.now c.args.main.now c.args.steps c.in-Err.refusal (g.R.Source.rest c.args.source.now) (g.W.Sink.taken c.args.sink.now) (g.W.Sink.taken c.refuse.new.sink)
+    c.in-Err.ensures.refused refused.0 refused.1)

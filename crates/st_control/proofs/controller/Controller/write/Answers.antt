@@ -1,6 +1,6 @@
-use Rattle.std.proofs.Common.{◌∙◌}
+use Rattle.std.proofs.Common.{◌∙◌, ap}
 use Rattle.st_control.proofs.Histories.{takes_accepted, takes_refused}
-use Rattle.st_control.specs.Controllers.{ControllerView}
+use Rattle.st_control.specs.Controllers.{ControllerView, is_of_change}
 use Rattle.st_control.specs.Machine.{leaf_to_write}
 use Rattle.st_control.specs.States.{written}
 use Rattle.st_control.proofs.controller.Controller.write.Goals as goal
@@ -10,7 +10,7 @@ returns-in-Err-clause-step g c =
     let before : ControllerView = record { state = c.self.inside.state; records = c.self.inside.records.items; main = c.self.inside.main; limit = c.self.inside.limit } in
     rw (← c.self.view_is)
     (takes_refused before (λ leaf. written before.state leaf c.args.value) (λ full. leaf_to_write before.state full c.args.path.now c.args.value)
-    c.len-full.result c.in-Err.number (c.len-full.ensures ∙ c.self.inside.records.ok.0) c.in-Err.ensures.value)
+    c.len-full.result c.in-Err.refusal (c.len-full.ensures ∙ c.self.inside.records.ok.0) c.in-Err.ensures.value)
 
 pub returns-in-Ok-clause-step : goal.returns-in-Ok-clause-step
 returns-in-Ok-clause-step g c =
@@ -18,4 +18,4 @@ returns-in-Ok-clause-step g c =
     rw (c.keep.ensures.items, ← c.self.view_is)
     (takes_accepted before (λ leaf. written before.state leaf c.args.value) (λ full. leaf_to_write before.state full c.args.path.now c.args.value)
     c.len-full.result c.in-Ok.leaf c.write-newest.new.self c.write-newest.result
-    (c.len-full.ensures ∙ c.self.inside.records.ok.0) c.in-Ok.ensures.value c.write-newest.ensures.new c.write-newest.ensures.back)
+    (c.len-full.ensures ∙ c.self.inside.records.ok.0) c.in-Ok.ensures.value c.write-newest.ensures.new c.write-newest.ensures.back (ap is_of_change c.write-newest.ensures.record))

@@ -1,0 +1,257 @@
+//! The text of an online change, put together from source lines.
+//!
+//! A text that grows too long, or finds no memory, is still read to its end. What is known of it then is that it did.
+ghost use Rattle.std.specs.Prelude.{◌≡◌, ◌≢◌, ◌≤◌, ◌<◌, ◌^◌, ◌++◌, ◌∷◌, ℕ, List, [], Some, Err, IfErr, IfOk, OnErr, OnOk, false, is_err, length, slice_index, true};
+ghost use Rattle.st_control.specs.Texts.{IsCheckedAs};
+ghost use Rattle.st_layout.specs.declared.renames.Rename.{Rename};
+ghost use Rattle.st_session.specs.Commands.{TakesPartOf, ends_text, is_end, new_change};
+ghost use Rattle.st_session.specs.Inputs.{left, pending};
+ghost use Rattle.st_session.specs.Lines.{ended_line, last_line};
+ghost use Rattle.st_session.specs.Pending.{OnReading};
+ghost use Rattle.st_session.specs.SourceTexts.{Holds, HoldsLine, HoldsText, IsStored, TakesText, end_word, ends_with};
+ghost use Rattle.st_session.specs.Words.{words_of};
+
+use crate::devices::{DeviceFault, Source};
+use crate::input::Input;
+use crate::request::is_space_or_tab;
+use st_control::Refusal;
+use st_tokens::MAX_TEXT_BYTES;
+use std::alloc::Global;
+
+/// The only word of the line that ends a text.
+const END_WORD: &[u8] = b"end_change";
+
+/// What a line has so far.
+#[derive(Clone, Copy)]
+pub enum LineWord {
+    /// So many bytes of `end_change`, after blanks.
+    Front(usize),
+    /// `end_change`, and a blank after it.
+    Whole,
+    /// Another word, or more than one.
+    Other,
+}
+
+/// What a line has with one more byte.
+fn with_byte(word: LineWord, byte: u8) -> LineWord
+    ensures { (rest : List ℕ) → ends_with result rest ≡ ends_with word (byte ∷ rest) }
+{
+    match word {
+        LineWord::Front(count) => after_front(count, byte),
+        LineWord::Whole if is_space_or_tab(byte) => LineWord::Whole,
+        _ => LineWord::Other,
+    }
+}
+
+/// The same where it has so many bytes of `end_change`.
+fn after_front(count: usize, byte: u8) -> LineWord
+    ensures { (rest : List ℕ) → ends_with result rest ≡ ends_with (LineWord.Front count) (byte ∷ rest) }
+{
+    if is_next(count, byte) {
+        LineWord::Front(count + 1)
+    } else if !is_space_or_tab(byte) {
+        LineWord::Other
+    } else if count == 0 {
+        LineWord::Front(0)
+    } else if count < END_WORD.len() {
+        LineWord::Other
+    } else {
+        LineWord::Whole
+    }
+}
+
+/// Tests whether `end_change` goes on with this byte after so many.
+fn is_next(count: usize, byte: u8) -> bool
+    ensures within { result ≡ true → count < length end_word }
+    ensures yes { result ≡ true → slice_index end_word count ≡ byte }
+    ensures no { result ≡ false → count < length end_word → slice_index end_word count ≢ byte }
+{
+    count < END_WORD.len() && END_WORD[count] == byte
+}
+
+/// Tests whether a line that has this, and no more, ends a text.
+fn is_text_end(word: LineWord) -> bool
+    ensures { result ≡ ends_with word [] }
+{
+    match word {
+        LineWord::Front(count) => count >= END_WORD.len(),
+        LineWord::Whole => true,
+        LineWord::Other => false,
+    }
+}
+
+/// How long a text is.
+#[derive(Clone, Copy)]
+pub struct Size {
+    /// How many bytes it has, or one more than a text may have.
+    len: usize,
+    /// There was memory for all of them.
+    is_kept: bool,
+}
+
+/// Puts a byte at the end of a text of this size. Answers the size of the longer text.
+fn put(bytes: &mut Vec<u8>, size: Size, byte: u8) -> Size
+    ensures stored { (text : List ℕ) → IsStored bytes.old.items size text → IsStored bytes.new.items result (text ++ byte ∷ []) }
+    ensures front { (more : List ℕ) × (bytes.new.items ≡ bytes.old.items ++ more) }
+{
+    if size.len >= MAX_TEXT_BYTES {
+        return Size {
+            len: MAX_TEXT_BYTES + 1,
+            is_kept: size.is_kept,
+        };
+    }
+    Size {
+        len: size.len + 1,
+        is_kept: size.is_kept && bytes.push(byte).is_ok(),
+    }
+}
+
+/// A text that source lines are put into.
+#[derive(Drop)]
+pub struct SourceText {
+    /// The bytes of all lines, and of the line that isn't ended yet.
+    bytes: Vec<u8>,
+    /// The size of both.
+    size: Size,
+    /// The size of all lines.
+    lines: Size,
+    /// The last byte was a CR. It isn't among the bytes, since an LF may follow.
+    holds_cr: bool,
+    /// What the line that isn't ended has so far.
+    word: LineWord,
+}
+
+impl SourceText {
+    /// The text of no lines.
+    pub fn new(alloc: Global) -> SourceText
+        ensures { Holds result [] [] }
+    {
+        let size = Size {
+            len: 0,
+            is_kept: true,
+        };
+        SourceText {
+            bytes: Vec::new(alloc),
+            size,
+            lines: size,
+            holds_cr: false,
+            word: LineWord::Front(0),
+        }
+    }
+
+    /// Puts a byte into the line that isn't ended.
+    fn put(&mut self, byte: u8)
+        ensures line { (text line : List ℕ) → HoldsLine self.old text line → HoldsLine self.new text (line ++ byte ∷ []) }
+        ensures cr { self.new.holds_cr ≡ self.old.holds_cr }
+    {
+        self.size = put(&mut self.bytes, self.size, byte);
+        self.word = with_byte(self.word, byte);
+    }
+
+    /// Puts the CR that was held back.
+    fn put_cr(&mut self)
+        ensures line { (text part : List ℕ) → Holds self.old text part → HoldsLine self.new text part }
+        ensures cr { self.new.holds_cr ≡ false }
+    {
+        if self.holds_cr {
+            self.put(b'\r');
+            self.holds_cr = false;
+        }
+    }
+
+    /// Takes a byte of a line.
+    pub fn take(&mut self, byte: u8)
+        ensures { (text part : List ℕ) → Holds self.old text part → Holds self.new text (part ++ byte ∷ []) }
+    {
+        self.put_cr();
+        if byte == b'\r' {
+            self.holds_cr = true;
+        } else {
+            self.put(byte);
+        }
+    }
+
+    /// Tests whether the line that isn't ended is the one that ends the text, and takes it off then.
+    fn ends(&mut self) -> bool
+        ensures end { (text line : List ℕ) → HoldsLine self.old text line → result ≡ is_end (words_of line) }
+        ensures text { result ≡ true → (text line : List ℕ) → HoldsLine self.old text line → HoldsText self.new text }
+        ensures same { result ≡ false → self.new ≡ self.old }
+    {
+        let is_last = is_text_end(self.word);
+        if is_last {
+            self.bytes.truncate(self.lines.len);
+        }
+        is_last
+    }
+
+    /// Ends a line at its LF. Answers whether it is the one that ends the text.
+    pub fn end_line(&mut self) -> bool
+        ensures end { (text part : List ℕ) → Holds self.old text part → result ≡ ends_text (ended_line part) }
+        ensures text { result ≡ true → (text part : List ℕ) → Holds self.old text part → HoldsText self.new text }
+        ensures line { result ≡ false → (text part : List ℕ) → Holds self.old text part
+            → Holds self.new (text ++ (ended_line part).text ++ 10 ∷ []) [] }
+    {
+        if self.ends() {
+            return true;
+        }
+        self.size = put(&mut self.bytes, self.size, b'\n');
+        self.lines = self.size;
+        self.holds_cr = false;
+        self.word = LineWord::Front(0);
+        false
+    }
+
+    /// Ends the last line, which has no LF. Answers whether it is the one that ends the text.
+    pub fn end_input(&mut self) -> bool
+        ensures end { (text part : List ℕ) → Holds self.old text part → result ≡ ends_text (last_line part) }
+        ensures text { result ≡ true → (text part : List ℕ) → Holds self.old text part → HoldsText self.new text }
+    {
+        self.put_cr();
+        self.ends()
+    }
+
+    /// The bytes of the text, or why there are none: it is too long, or there was no memory for it.
+    pub fn bytes(&self) -> Result<&[u8], Refusal>
+        ensures ok { IfOk result (λ bytes. (text : List ℕ) → HoldsText self.now text → bytes.now ≡ text) }
+        ensures short { IfOk result (λ bytes. (text : List ℕ) → HoldsText self.now text → length text ≤ 2 ^ 20) }
+        ensures err { IfErr result (λ refusal. (text main : List ℕ) → HoldsText self.now text → IsCheckedAs text main (Err refusal)) }
+    {
+        if self.lines.len > MAX_TEXT_BYTES {
+            return Err(Refusal::S { number: 4, line: 1 });
+        }
+        if !self.lines.is_kept {
+            return Err(Refusal::M);
+        }
+        Ok(self.bytes.as_slice())
+    }
+}
+
+/// Reads source lines into a text, up to the line that ends it. Answers whether there is one.
+///
+/// Where the source fails, only a part of the text was read, and it is lost.
+pub fn read_text<R: Source>(
+    input: &mut Input,
+    source: &mut R,
+    text: &mut SourceText,
+) -> Result<bool, DeviceFault>
+    requires works { R.has_failed source.old ≡ false }
+    requires empty { Holds text.old [] [] }
+    ensures ok { (renames : List Rename) → IfOk result (λ is_ended. OnReading
+        (pending input.old (R.rest source.old)) (pending input.new (R.rest source.new))
+        (TakesText renames is_ended input.new.at_end text.new)) }
+    ensures err { (renames : List Rename) → OnErr result (OnReading
+        (pending input.old (R.rest source.old)) (R.rest source.new) (TakesPartOf (Some (new_change renames)))) }
+    ensures not_ended { OnErr result (input.old.at_end ≡ false) }
+    ensures steady { OnOk result (left input.new (R.reads_left source.new) ≤ left input.old (R.reads_left source.old)) }
+    ensures ended { input.old.at_end ≡ true → input.new.at_end ≡ true }
+    ensures failed { R.has_failed source.new ≡ is_err result }
+{
+    while let Some(byte) = input.next_byte(source)? {
+        if byte != b'\n' {
+            text.take(byte);
+        } else if text.end_line() {
+            return Ok(true);
+        }
+    }
+    Ok(text.end_input())
+}
