@@ -1,0 +1,23 @@
+//! Laws of the operators and the standard functions.
+ghost use Rattle.st_operators.specs.Laws.{QuotientAndRemainderAreTheDividend, RemainderHasTheDividendsSign, RemainderIsSmaller, RotationIsTakenBack, ShiftsLeftEndInZero, ShiftsRightEndInZero, WholeTurnLeftChangesNothing, WholeTurnRightChangesNothing};
+
+/// `/` and `MOD` belong together, before their results wrap: a quotient times the divisor, and the remainder, are the dividend;
+/// the remainder is smaller than the divisor and has the sign of the dividend.
+pub fn division_leaves_its_remainder()
+    ensures dividend { QuotientAndRemainderAreTheDividend }
+    ensures smaller { RemainderIsSmaller }
+    ensures sign { RemainderHasTheDividendsSign }
+{}
+
+/// A shift by the width or more gives 0.
+pub fn shifts_end_in_zero()
+    ensures left { ShiftsLeftEndInZero }
+    ensures right { ShiftsRightEndInZero }
+{}
+
+/// A rotation by the width gives the same value, and a rotation to the right takes the same rotation to the left back.
+pub fn rotations_go_round()
+    ensures left { WholeTurnLeftChangesNothing }
+    ensures right { WholeTurnRightChangesNothing }
+    ensures back { RotationIsTakenBack }
+{}
