@@ -1,15 +1,17 @@
--- Shifts and rotations of bits.
-use Rattle.std.proofs.Common.{◌≡◌, ◌∙◌, ℕ, ◌+◌, ◌-◌, ◌*◌, ◌/◌, ◌%◌, ◌^◌, ◌<◌, ◌≤◌, ℤ, pos, negsuc, unsigned_abs, IsTrue, refl, sym, ap, ap₂, subst, arith, lit<, mod-lt, div-add-mod', mul_assoc, mul-le-mul_right, one-mul, pow_pos, pow_mono, pow-add, shl_exact, shr_lt, lt_of_lt_of_le}
+-- Shifts and rotations of bits, and NOT.
+use Rattle.std.proofs.Common.{◌≡◌, ◌∙◌, ℕ, zero, suc, ◌+◌, ◌-◌, ◌*◌, ◌/◌, ◌%◌, ◌^◌, ◌<◌, ◌≤◌, ℤ, pos, negsuc, unsigned_abs, IsTrue, refl, sym, ap, ap₂, subst, arith, lit<, mod-lt, div-add-mod', mul_assoc, mul-le-mul_right, one-mul, pow_pos, pow_mono, pow-add, shl_exact, shr_lt, lt_of_lt_of_le}
 use Rattle.std.proofs.Math.Nat.{mul-mod_left}
 use Rattle.std.proofs.lemmas.Grind.{common_steps}
 use Rattle.std.proofs.lemmas.Nat.{div_below, mod_low, shr_high}
+use Rattle.std.proofs.lemmas.Nat.Bits.{bit_at_not}
+use Rattle.std.specs.Int.{bit_at, w8, w16, w32, w64}
 use Rattle.st_values.specs.Types.{bits_of}
 use Rattle.st_values.specs.Values.{in_range, IsValue}
 use Rattle.st_values.specs.declared.elem.Elem.{Elem}
 use Rattle.st_values.specs.declared.elem.Elem.TheVariants as elems
 use Rattle.st_values.specs.declared.value.Value.{Value}
 use Rattle.st_operators.specs.Functions.{shifted_left_by, shifted_right_by, rotated_left_by, rotated_right_by, turned}
-use Rattle.st_operators.specs.Operators.{bits_in, is_bits, of_bits}
+use Rattle.st_operators.specs.Operators.{bits_in, complemented, complements, is_bits, of_bits}
 use Rattle.st_operators.proofs.Wrapping.{few_bits}
 
 -- 2 to the width, in two parts
@@ -47,24 +49,30 @@ turned_back w k x h few =
     ∙ ap₂ (λ r d. r * 2 ^ (w - k) + d) (mod_low low k high small) (shr_high low k high small)
     ∙ div-add-mod' x (2 ^ (w - k))
 
--- the number of a bit string isn't below 0, and has no more bits than its type
-natural_of : (e : Elem) (z : ℤ) → IsTrue (is_bits e) → IsTrue (in_range e z) → (pos (unsigned_abs z) ≡ z) × (unsigned_abs z < 2 ^ bits_of e)
+-- the number of a BOOL or a bit string isn't below 0, and has no more bits than its type
+natural_of : (e : Elem) (z : ℤ) → IsTrue (complements e) → IsTrue (in_range e z) → (pos (unsigned_abs z) ≡ z) × (unsigned_abs z < 2 ^ bits_of e)
+natural_of elems.Bool (pos n) bits value = (refl, grind (arith, common_steps))
 natural_of elems.Byte (pos n) bits value = (refl, grind (arith, common_steps))
 natural_of elems.Word (pos n) bits value = (refl, grind (arith, common_steps))
 natural_of elems.Dword (pos n) bits value = (refl, grind (arith, common_steps))
 natural_of elems.Lword (pos n) bits value = (refl, grind (arith, common_steps))
+natural_of elems.Bool (negsuc n) bits value = cc
 natural_of elems.Byte (negsuc n) bits value = cc
 natural_of elems.Word (negsuc n) bits value = cc
 natural_of elems.Dword (negsuc n) bits value = cc
 natural_of elems.Lword (negsuc n) bits value = cc
 natural_of e z bits value = cc
 
+-- NOT takes what is shifted
+bits_complement : (e : Elem) → IsTrue (is_bits e) → IsTrue (complements e)
+bits_complement e h = grind (arith, common_steps)
+
 pub rotated_back : (a : Value) (places : ℕ) → IsTrue (is_bits a.elem) → IsValue a → rotated_right_by (rotated_left_by a places) places ≡ a
 rotated_back a places bits value =
     let w = bits_of a.elem in
     let k = places % w in
     let some = few_bits a.elem in
-    let natural = natural_of a.elem a.bits bits value in
+    let natural = natural_of a.elem a.bits (bits_complement a.elem bits) value in
     let below : k < w = mod-lt places (omega arith) in
     ap (λ n. of_bits a.elem n) (turned_back w k (bits_in a) (omega arith) natural.1) ∙ ap (λ z. record { elem = a.elem; bits = z }) natural.0
 
@@ -86,4 +94,23 @@ pub shifted_left_far : (a : Value) (places : ℕ) → bits_of a.elem ≤ places 
 shifted_left_far a places h = ap (λ n. of_bits a.elem n) (shl_far (bits_of a.elem) places (bits_in a) h)
 
 pub shifted_right_far : (a : Value) (places : ℕ) → IsTrue (is_bits a.elem) → IsValue a → bits_of a.elem ≤ places → shifted_right_by a places ≡ of_bits a.elem 0
-shifted_right_far a places bits value h = ap (λ n. of_bits a.elem n) (shr_far (bits_of a.elem) places (bits_in a) h (natural_of a.elem a.bits bits value).1)
+shifted_right_far a places bits value h = ap (λ n. of_bits a.elem n) (shr_far (bits_of a.elem) places (bits_in a) h (natural_of a.elem a.bits (bits_complement a.elem bits) value).1)
+
+-- ---- NOT, bit by bit
+
+complement_of_bit : (n i : ℕ) → n < 2 → i < 1 → bit_at (2 ^ 1 - 1 - n) i ≡ 1 - bit_at n i
+complement_of_bit zero zero few only = refl
+complement_of_bit (suc zero) zero few only = refl
+complement_of_bit (suc (suc n)) i few only = absurd (omega arith)
+complement_of_bit n (suc i) few only = absurd (omega arith)
+
+complement_of_bits : (e : Elem) (n i : ℕ) → IsTrue (complements e) → n < 2 ^ bits_of e → i < bits_of e → bit_at (2 ^ bits_of e - 1 - n) i ≡ 1 - bit_at n i
+complement_of_bits elems.Bool n i bits few within = complement_of_bit n i few within
+complement_of_bits elems.Byte n i bits few within = bit_at_not w8 n i few within
+complement_of_bits elems.Word n i bits few within = bit_at_not w16 n i few within
+complement_of_bits elems.Dword n i bits few within = bit_at_not w32 n i few within
+complement_of_bits elems.Lword n i bits few within = bit_at_not w64 n i few within
+complement_of_bits e n i bits few within = cc
+
+pub complemented_bit : (a : Value) (i : ℕ) → IsTrue (complements a.elem) → IsValue a → i < bits_of a.elem → bit_at (bits_in (complemented a)) i ≡ 1 - bit_at (bits_in a) i
+complemented_bit a i bits value within = complement_of_bits a.elem (bits_in a) i bits (natural_of a.elem a.bits bits value).1 within

@@ -1,5 +1,5 @@
 //! Laws of the operators and the standard functions.
-ghost use Rattle.st_operators.specs.Laws.{QuotientAndRemainderAreTheDividend, RemainderHasTheDividendsSign, RemainderIsSmaller, RotationIsTakenBack, ShiftsLeftEndInZero, ShiftsRightEndInZero, WholeTurnLeftChangesNothing, WholeTurnRightChangesNothing};
+ghost use Rattle.st_operators.specs.Laws.{AndGoesBitByBit, NotGoesBitByBit, OrGoesBitByBit, QuotientAndRemainderAreTheDividend, RemainderHasTheDividendsSign, RemainderIsSmaller, RotationIsTakenBack, ShiftsLeftEndInZero, ShiftsRightEndInZero, WholeTurnLeftChangesNothing, WholeTurnRightChangesNothing, XorGoesBitByBit};
 
 /// `/` and `MOD` belong together, before their results wrap: a quotient times the divisor, and the remainder, are the dividend;
 /// the remainder is smaller than the divisor and has the sign of the dividend.
@@ -7,6 +7,14 @@ pub fn division_leaves_its_remainder()
     ensures dividend { QuotientAndRemainderAreTheDividend }
     ensures smaller { RemainderIsSmaller }
     ensures sign { RemainderHasTheDividendsSign }
+{}
+
+/// `AND`, `OR`, `XOR` and `NOT` go bit by bit.
+pub fn bits_are_taken_apart()
+    ensures and { AndGoesBitByBit }
+    ensures or { OrGoesBitByBit }
+    ensures xor { XorGoesBitByBit }
+    ensures not { NotGoesBitByBit }
 {}
 
 /// A shift by the width or more gives 0.
