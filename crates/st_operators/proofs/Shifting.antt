@@ -50,7 +50,7 @@ turned_back w k x h few =
     ∙ div-add-mod' x (2 ^ (w - k))
 
 -- the number of a BOOL or a bit string isn't below 0, and has no more bits than its type
-natural_of : (e : Elem) (z : ℤ) → IsTrue (complements e) → IsTrue (in_range e z) → (pos (unsigned_abs z) ≡ z) × (unsigned_abs z < 2 ^ bits_of e)
+pub natural_of : (e : Elem) (z : ℤ) → IsTrue (complements e) → IsTrue (in_range e z) → (pos (unsigned_abs z) ≡ z) × (unsigned_abs z < 2 ^ bits_of e)
 natural_of elems.Bool (pos n) bits value = (refl, grind (arith, common_steps))
 natural_of elems.Byte (pos n) bits value = (refl, grind (arith, common_steps))
 natural_of elems.Word (pos n) bits value = (refl, grind (arith, common_steps))
@@ -64,7 +64,7 @@ natural_of elems.Lword (negsuc n) bits value = cc
 natural_of e z bits value = cc
 
 -- NOT takes what is shifted
-bits_complement : (e : Elem) → IsTrue (is_bits e) → IsTrue (complements e)
+pub bits_complement : (e : Elem) → IsTrue (is_bits e) → IsTrue (complements e)
 bits_complement e h = grind (arith, common_steps)
 
 pub rotated_back : (a : Value) (places : ℕ) → IsTrue (is_bits a.elem) → IsValue a → rotated_right_by (rotated_left_by a places) places ≡ a

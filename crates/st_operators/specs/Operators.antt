@@ -15,10 +15,12 @@ use Rattle.st_operators.specs.declared.binary.ZeroDivisor.{ZeroDivisor}
 
 -- ---- which types an operator takes
 
+-- values of the class are written as decimal numbers
 abbrev pub is_integer_class : Class → Bool
 is_integer_class classes.Integer = true
 is_integer_class _ = false
 
+-- values of the class are written as bits
 abbrev pub is_bits_class : Class → Bool
 is_bits_class classes.BitString = true
 is_bits_class _ = false

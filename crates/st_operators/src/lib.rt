@@ -14,5 +14,8 @@ pub use binary::{ZeroDivisor, apply};
 pub use bits::complement;
 pub use choices::{greatest, least, limited, selected};
 pub use conversion::converted;
-pub use laws::{bits_are_taken_apart, division_leaves_its_remainder, rotations_go_round, shifts_end_in_zero};
+pub use laws::{
+    bits_are_taken_apart, division_leaves_its_remainder, functions_give_values,
+    operators_give_values, rotations_go_round, shifts_end_in_zero, zero_divisors_alone_are_refused,
+};
 pub use shifts::{rotated_left, rotated_right, shifted_left, shifted_right};
