@@ -3,6 +3,7 @@ use Rattle.std.proofs.Common.{◌≡◌, ◌∙◌, ◌⊎◌, inl, inr, ⊎_eli
 use Rattle.std.proofs.lemmas.Grind.{common_steps}
 use Rattle.std.proofs.lemmas.Int.{ints}
 use Rattle.std.proofs.lemmas.Nat.{and_le_l, or_lt, xor_lt}
+use Rattle.st_values.proofs.Cases.{is_below}
 use Rattle.st_values.specs.Types.{bits_of, is_signed, limit_of}
 use Rattle.st_values.specs.Values.{in_range, wrapped, wrapped_number, IsValue}
 use Rattle.st_values.specs.declared.elem.Elem.{Elem}
@@ -34,9 +35,6 @@ halves elems.Byte = inl refl
 halves elems.Word = inl refl
 halves elems.Dword = inl refl
 halves elems.Lword = inl refl
-
-is_below : (a b : ℕ) → a < b → nat_lt a b ≡ true
-is_below a b h = grind (arith, common_steps)
 
 not_below : (a b : ℕ) → nat_lt a b ≡ false → b ≤ a
 not_below a b h = grind (arith, common_steps)
