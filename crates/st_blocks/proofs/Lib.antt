@@ -1,1 +1,7 @@
+pub mod CellLemmas
+pub mod CountLemmas
+pub mod DelayLemmas
+pub mod EdgeLemmas
+pub mod PulseLemmas
 pub mod SameKind
+pub mod TimeLemmas

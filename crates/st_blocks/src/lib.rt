@@ -5,6 +5,7 @@ mod bistable;
 mod block;
 mod cells;
 mod counter;
+mod laws;
 mod time;
 mod timer;
 mod ton;
@@ -13,6 +14,10 @@ mod trigger;
 pub use bistable::Bistable;
 pub use block::block_step;
 pub use counter::Counter;
+pub use laws::{
+    cells_are_read, counters_move_by_one, edges_are_found, inputs_dominate, outputs_are_delayed,
+    pulses_are_as_long_as_preset, times_stay_within_preset,
+};
 pub use timer::Timer;
 pub use ton::Ton;
 pub use trigger::Trigger;
