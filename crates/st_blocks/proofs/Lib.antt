@@ -5,3 +5,4 @@ pub mod EdgeLemmas
 pub mod PulseLemmas
 pub mod SameKind
 pub mod TimeLemmas
+pub mod Worked
