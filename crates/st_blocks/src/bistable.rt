@@ -21,7 +21,7 @@ pub struct Bistable {
 impl Bistable {
     /// The block with these leaves.
     pub fn read(cells: &[Value]) -> Bistable
-        requires { length cells.now ≡ 3 }
+        requires { AreLeavesOf StandardBlock.Sr cells.now }
         ensures { result ≡ bistable_in cells.now }
     {
         Bistable {

@@ -28,9 +28,7 @@ pub struct Counter {
 impl Counter {
     /// The block with these leaves.
     pub fn read(cells: &[Value]) -> Counter
-        requires length { length cells.now ≡ 6 }
-        requires pv { IsTrue (in_range Elem.Int (number_at cells.now 2)) }
-        requires cv { IsTrue (in_range Elem.Int (number_at cells.now 4)) }
+        requires { AreLeavesOf StandardBlock.Ctu cells.now }
         ensures { result ≡ counter_in cells.now }
     {
         Counter {

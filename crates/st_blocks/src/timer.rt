@@ -31,10 +31,7 @@ pub struct Timer {
 impl Timer {
     /// The block with these leaves.
     pub fn read(cells: &[Value]) -> Timer
-        requires length { length cells.now ≡ 7 }
-        requires pt { IsTrue (in_range Elem.Time (number_at cells.now 1)) }
-        requires et { IsTrue (in_range Elem.Time (number_at cells.now 3)) }
-        requires start { IsTrue (in_range Elem.Time (number_at cells.now 6)) }
+        requires { AreLeavesOf StandardBlock.Tof cells.now }
         ensures { result ≡ timer_in cells.now }
     {
         Timer {

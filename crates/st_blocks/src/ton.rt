@@ -29,10 +29,7 @@ pub struct Ton {
 impl Ton {
     /// The block with these leaves.
     pub fn read(cells: &[Value]) -> Ton
-        requires length { length cells.now ≡ 6 }
-        requires pt { IsTrue (in_range Elem.Time (number_at cells.now 1)) }
-        requires et { IsTrue (in_range Elem.Time (number_at cells.now 3)) }
-        requires start { IsTrue (in_range Elem.Time (number_at cells.now 5)) }
+        requires { AreLeavesOf StandardBlock.Ton cells.now }
         ensures { result ≡ ton_in cells.now }
     {
         Ton {

@@ -21,7 +21,7 @@ pub struct Trigger {
 impl Trigger {
     /// The block with these leaves.
     pub fn read(cells: &[Value]) -> Trigger
-        requires { length cells.now ≡ 3 }
+        requires { AreLeavesOf StandardBlock.RTrig cells.now }
         ensures { result ≡ trigger_in cells.now }
     {
         Trigger {
