@@ -28,7 +28,7 @@ number_read : (elem : Elem) (v : Value) → IsOfType elem v → of_type elem v.b
 number_read elem v h = sym (typed elem v h.0)
 
 -- lists of as many values as a block has leaves
-trigger_read : (cells : List Value) → AreLeavesOf blocks.RTrig cells → trigger_cells (trigger_in cells) ≡ cells
+pub trigger_read : (cells : List Value) → AreLeavesOf blocks.RTrig cells → trigger_cells (trigger_in cells) ≡ cells
 trigger_read [] h = absurd h
 trigger_read (a ∷ []) h = absurd h.1
 trigger_read (a ∷ b ∷ []) h = absurd h.1.1
@@ -36,7 +36,7 @@ trigger_read (a ∷ b ∷ c ∷ []) h =
     let x = flag_read a h.0 in let y = flag_read b h.1.0 in let z = flag_read c h.1.1.0 in cc
 trigger_read (a ∷ b ∷ c ∷ d ∷ more) h = absurd h.1.1.1
 
-bistable_read : (cells : List Value) → AreLeavesOf blocks.Sr cells → bistable_cells (bistable_in cells) ≡ cells
+pub bistable_read : (cells : List Value) → AreLeavesOf blocks.Sr cells → bistable_cells (bistable_in cells) ≡ cells
 bistable_read [] h = absurd h
 bistable_read (a ∷ []) h = absurd h.1
 bistable_read (a ∷ b ∷ []) h = absurd h.1.1
@@ -44,7 +44,7 @@ bistable_read (a ∷ b ∷ c ∷ []) h =
     let x = flag_read a h.0 in let y = flag_read b h.1.0 in let z = flag_read c h.1.1.0 in cc
 bistable_read (a ∷ b ∷ c ∷ d ∷ more) h = absurd h.1.1.1
 
-counter_read : (cells : List Value) → AreLeavesOf blocks.Ctu cells → counter_cells (counter_in cells) ≡ cells
+pub counter_read : (cells : List Value) → AreLeavesOf blocks.Ctu cells → counter_cells (counter_in cells) ≡ cells
 counter_read [] h = absurd h
 counter_read (a ∷ []) h = absurd h.1
 counter_read (a ∷ b ∷ []) h = absurd h.1.1
@@ -61,7 +61,7 @@ counter_read (a ∷ b ∷ c ∷ d ∷ e ∷ f ∷ []) h =
     cc
 counter_read (a ∷ b ∷ c ∷ d ∷ e ∷ f ∷ g ∷ more) h = absurd h.1.1.1.1.1.1
 
-ton_read : (cells : List Value) → AreLeavesOf blocks.Ton cells → ton_cells (ton_in cells) ≡ cells
+pub ton_read : (cells : List Value) → AreLeavesOf blocks.Ton cells → ton_cells (ton_in cells) ≡ cells
 ton_read [] h = absurd h
 ton_read (a ∷ []) h = absurd h.1
 ton_read (a ∷ b ∷ []) h = absurd h.1.1
@@ -78,7 +78,7 @@ ton_read (a ∷ b ∷ c ∷ d ∷ e ∷ f ∷ []) h =
     cc
 ton_read (a ∷ b ∷ c ∷ d ∷ e ∷ f ∷ g ∷ more) h = absurd h.1.1.1.1.1.1
 
-timer_read : (cells : List Value) → AreLeavesOf blocks.Tof cells → timer_cells (timer_in cells) ≡ cells
+pub timer_read : (cells : List Value) → AreLeavesOf blocks.Tof cells → timer_cells (timer_in cells) ≡ cells
 timer_read [] h = absurd h
 timer_read (a ∷ []) h = absurd h.1
 timer_read (a ∷ b ∷ []) h = absurd h.1.1

@@ -1,10 +1,16 @@
 -- Laws of the standard function blocks, in the standard's words (2.5.2.3).
-use Rattle.std.specs.Prelude.{◌≡◌, ◌↔◌, ℤ, pos, negsuc, ◌+ℤ◌, ◌-ℤ◌, ◌<ℤ◌, ◌≤ℤ◌, Bool, false, ◌&&◌, ◌||◌, not, IsTrue, IsFalse, List, [], ◌∷◌, if◌then◌else◌}
+use Rattle.std.specs.Prelude.{ℕ, map, take, count_by, true, ◌≡◌, ◌↔◌, ℤ, pos, negsuc, ◌+ℤ◌, ◌-ℤ◌, ◌<ℤ◌, ◌≤ℤ◌, Bool, false, ◌&&◌, ◌||◌, not, IsTrue, IsFalse, List, [], ◌∷◌, if◌then◌else◌}
 use Rattle.std.specs.List.{All, list_any}
 use Rattle.st_values.specs.declared.value.Value.{Value}
+use Rattle.st_types.specs.Standard.{pins_of}
+use Rattle.st_types.specs.declared.base.Purpose.{Purpose}
+use Rattle.st_types.specs.declared.base.Purpose.TheVariants as purposes
+use Rattle.st_types.specs.declared.standard.StandardBlock.{StandardBlock}
 use Rattle.st_types.specs.declared.standard.StandardBlock.TheVariants as blocks
+use Rattle.st_leaves.specs.LeavesIn.{block_leaves}
 use Rattle.st_blocks.specs.Blocks.{counted_down, counted_up, fallen, is_edge, is_over, off_delay, on_delay, preset, pulse, reset_dominant, risen, set_dominant, shown}
 use Rattle.st_blocks.specs.Cells.{AreLeavesOf, bistable_cells, bistable_in, counter_cells, counter_in, timer_cells, timer_in, ton_cells, ton_in, trigger_cells, trigger_in}
+use Rattle.st_blocks.specs.Steps.{stepped}
 use Rattle.st_blocks.specs.declared.bistable.Bistable.{Bistable}
 use Rattle.st_blocks.specs.declared.counter.Counter.{Counter}
 use Rattle.st_blocks.specs.declared.timer.Timer.{Timer}
@@ -196,3 +202,23 @@ pub record AreRead (cells : List Value) : Type 0 where
 
 abbrev pub CellsAreRead : Type 0
 CellsAreRead = (cells : List Value) → AreRead cells
+
+-- ---- inputs, and the values before the first call
+
+abbrev pub is_input : Purpose → Bool
+is_input purposes.Input = true
+is_input _ = false
+
+-- how many inputs a block has, which are its first leaves
+abbrev pub inputs_of : StandardBlock → ℕ
+inputs_of kind = count_by (λ p. is_input p.purpose) (pins_of kind)
+
+-- No call changes an input.
+abbrev pub InputsStay : Type 0
+InputsStay =
+    (kind : StandardBlock) (cells : List Value) (now : ℤ) → AreLeavesOf kind cells
+    → take (inputs_of kind) (stepped kind cells now) ≡ take (inputs_of kind) cells
+
+-- The leaves that a program lists for a block begin with values of their types.
+abbrev pub BlocksBegin : Type 0
+BlocksBegin = (kind : StandardBlock) → AreLeavesOf kind (map (λ leaf. leaf.initial) (block_leaves kind))

@@ -1,8 +1,10 @@
 //! Laws of the standard function blocks, in the standard's words.
 ghost use Rattle.st_blocks.specs.Laws.{
+  BlocksBegin,
   CellsAreRead,
   CountersMoveByOne,
   EdgesAreFound,
+  InputsStay,
   OffIsDelayed,
   OnIsDelayed,
   PulsesAreKept,
@@ -15,6 +17,16 @@ ghost use Rattle.st_blocks.specs.Laws.{
 /// The values of a block's leaves are what its record says, and the record loses nothing of them.
 pub fn cells_are_read()
     ensures { CellsAreRead }
+{}
+
+/// No call of a block changes its inputs.
+pub fn inputs_stay()
+    ensures { InputsStay }
+{}
+
+/// The leaves that a program lists for a block begin with values that its first call takes.
+pub fn blocks_begin_with_their_leaves()
+    ensures { BlocksBegin }
 {}
 
 /// The output of an edge detector is TRUE for one call at an edge (2.5.2.3.2).
