@@ -53,6 +53,7 @@ counts_up c = record {
   last = λ r b. held_last c.restart (is_edge c) (int_lt c.cv (pos 32767)) (pos 0) (c.cv +ℤ pos 1) c.cv r (not_less c.cv (pos 32767) b);
   none = λ r e. held_none c.restart (is_edge c) (int_lt c.cv (pos 32767)) (pos 0) (c.cv +ℤ pos 1) c.cv r e;
   once = λ r p. held_none c.restart (c.pulse && not c.pulse) _ (pos 0) _ _ r (no_edge c.pulse);
+  edges = λ later. refl;
   begun = λ r. held_begun c.restart (is_edge c) (int_lt c.cv (pos 32767)) (pos 0) (c.cv +ℤ pos 1) c.cv r;
   output = (is_at_most _ _, at_most _ _);
 }
@@ -63,6 +64,7 @@ counts_down c = record {
   last = λ r b. held_last c.restart (is_edge c) (int_lt (negsuc 32767) c.cv) c.pv (c.cv -ℤ pos 1) c.cv r (not_less (negsuc 32767) c.cv b);
   none = λ r e. held_none c.restart (is_edge c) (int_lt (negsuc 32767) c.cv) c.pv (c.cv -ℤ pos 1) c.cv r e;
   once = λ r p. held_none c.restart (c.pulse && not c.pulse) _ c.pv _ _ r (no_edge c.pulse);
+  edges = λ later. refl;
   begun = λ r. held_begun c.restart (is_edge c) (int_lt (negsuc 32767) c.cv) c.pv (c.cv -ℤ pos 1) c.cv r;
   output = (is_at_most _ _, at_most _ _);
 }

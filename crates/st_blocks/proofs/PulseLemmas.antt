@@ -4,7 +4,7 @@ use Rattle.std.proofs.lemmas.Int.{clamps, ints}
 use Rattle.std.proofs.lemmas.List.Elements.{All-head, All-tail}
 use Rattle.std.specs.List.{All}
 use Rattle.st_blocks.specs.Blocks.{is_over, preset, pulse, shown}
-use Rattle.st_blocks.specs.Laws.{Call, ComesBefore, PulsesAreKept, PulsesEnd, tp_after}
+use Rattle.st_blocks.specs.Laws.{Call, IsBegun, ComesBefore, PulsesAreKept, PulsesEnd, tp_after}
 use Rattle.st_blocks.specs.declared.timer.Timer.{Timer}
 use Rattle.st_blocks.proofs.TimeLemmas.{pulse_by}
 
@@ -65,27 +65,45 @@ ends_running over false true false t now o h = begins_below t.pt now h
 ends_running over false true true t now o h = cc
 ends_running over false false memory t now o h = cc
 
-ends_over : (over running input memory : Bool) (t : Timer) (now : ℤ) → IsTrue over
-    → let to = pulse_by over (record t { running = running; input = input; memory = memory }) now in
-    IsTrue to.q → IsTrue (input && not memory) × (to.start ≡ now)
-ends_over true true true false t now o h = (refl, refl)
-ends_over true false true false t now o h = (refl, refl)
-ends_over true true true true t now o h = cc
-ends_over true true false memory t now o h = cc
-ends_over true false true true t now o h = cc
-ends_over true false false memory t now o h = cc
-ends_over false running input memory t now o h = cc
+-- no pulse runs, and there is an edge
+begun_by : (over running input memory : Bool) (t : Timer) (now : ℤ) → IsFalse (running && not over) → IsTrue (input && not memory)
+    → pulse_by over (record t { running = running; input = input; memory = memory }) now
+    ≡ record t { input = input; q = int_lt (pos 0) (preset t.pt); et = pos 0; memory = true; running = true; start = now }
+begun_by over false true false t now r h = refl
+begun_by true true true false t now r h = refl
+begun_by false true true false t now r h = cc
+begun_by over running true true t now r h = cc
+begun_by over running false memory t now r h = cc
 
-begun : (over running input memory : Bool) (t : Timer) (now : ℤ) → IsFalse running → IsTrue (input && not memory)
-    → (pulse_by over (record t { running = running; input = input; memory = memory }) now).start ≡ now
-begun over false true false t now r h = refl
-begun over false true true t now r h = cc
-begun over false false memory t now r h = cc
-begun over true input memory t now r h = cc
+begun : (t : Timer) (now : ℤ) → IsFalse (t.running && not (is_over t.pt t.start now)) → IsTrue (t.input && not t.memory) → IsBegun t now
+begun t now r h =
+    let e = begun_by (is_over t.pt t.start now) t.running t.input t.memory t now r h in
+    record { q = ap (λ (u : Timer). u.q) e; et = ap (λ (u : Timer). u.et) e; running = ap (λ (u : Timer). u.running) e; start = ap (λ (u : Timer). u.start) e }
+
+none_by : (over running input memory : Bool) (t : Timer) (now : ℤ) → IsFalse (running && not over) → IsFalse (input && not memory)
+    → IsFalse (pulse_by over (record t { running = running; input = input; memory = memory }) now).q
+none_by true true true true t now r h = refl
+none_by true true false memory t now r h = refl
+none_by over false true true t now r h = refl
+none_by over false false memory t now r h = refl
+none_by over running true false t now r h = cc
+none_by false true true true t now r h = cc
+none_by false true false memory t now r h = cc
+
+memory_by : (over running input memory : Bool) (t : Timer) (now : ℤ)
+    → (pulse_by over (record t { running = running; input = input; memory = memory }) now).memory ≡ input
+memory_by false true input memory t now = refl
+memory_by true true true true t now = refl
+memory_by true true true false t now = refl
+memory_by true true false memory t now = refl
+memory_by over false true false t now = refl
+memory_by over false true true t now = refl
+memory_by over false false memory t now = refl
 
 pub pulses_end : PulsesEnd
 pulses_end t now = record {
+  begins = begun t now;
+  none = none_by (is_over t.pt t.start now) t.running t.input t.memory t now;
   runs = ends_running (is_over t.pt t.start now) t.running t.input t.memory t now refl;
-  over = ends_over (is_over t.pt t.start now) t.running t.input t.memory t now;
-  begins = begun (is_over t.pt t.start now) t.running t.input t.memory t now;
+  memory = memory_by (is_over t.pt t.start now) t.running t.input t.memory t now;
 }

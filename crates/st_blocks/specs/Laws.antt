@@ -1,5 +1,5 @@
 -- Laws of the standard function blocks, in the standard's words (2.5.2.3).
-use Rattle.std.specs.Prelude.{ℕ, map, take, count_by, true, ◌≡◌, ◌↔◌, ℤ, pos, negsuc, ◌+ℤ◌, ◌-ℤ◌, ◌<ℤ◌, ◌≤ℤ◌, Bool, false, ◌&&◌, ◌||◌, not, IsTrue, IsFalse, List, [], ◌∷◌, if◌then◌else◌}
+use Rattle.std.specs.Prelude.{int_lt, ℕ, map, take, count_by, true, ◌≡◌, ◌↔◌, ℤ, pos, negsuc, ◌+ℤ◌, ◌-ℤ◌, ◌<ℤ◌, ◌≤ℤ◌, Bool, false, ◌&&◌, ◌||◌, not, IsTrue, IsFalse, List, [], ◌∷◌, if◌then◌else◌}
 use Rattle.std.specs.List.{All, list_any}
 use Rattle.st_values.specs.declared.value.Value.{Value}
 use Rattle.st_types.specs.Standard.{pins_of}
@@ -65,8 +65,10 @@ pub record CountsUp (c : Counter) : Type 0 where
   pub last : IsFalse c.restart → pos 32767 ≤ℤ c.cv → (counted_up c).cv ≡ c.cv
   -- none without an edge,
   pub none : IsFalse c.restart → IsFalse (is_edge c) → (counted_up c).cv ≡ c.cv
-  -- so none while the input stays TRUE;
+  -- so none while the input stays TRUE,
   pub once : IsFalse c.restart → IsTrue c.pulse → (counted_up (counted_up c)).cv ≡ (counted_up c).cv
+  -- and an edge is an input that is TRUE behind a call at which it was FALSE;
+  pub edges : (later : Bool) → is_edge (record (counted_up c) { pulse = later }) ≡ (later && not c.pulse)
   -- 0 where it is reset;
   pub begun : IsTrue c.restart → (counted_up c).cv ≡ pos 0
   -- and Q says whether PV has been counted.
@@ -79,8 +81,10 @@ pub record CountsDown (c : Counter) : Type 0 where
   pub last : IsFalse c.restart → c.cv ≤ℤ negsuc 32767 → (counted_down c).cv ≡ c.cv
   -- none without an edge,
   pub none : IsFalse c.restart → IsFalse (is_edge c) → (counted_down c).cv ≡ c.cv
-  -- so none while the input stays TRUE;
+  -- so none while the input stays TRUE,
   pub once : IsFalse c.restart → IsTrue c.pulse → (counted_down (counted_down c)).cv ≡ (counted_down c).cv
+  -- and an edge is an input that is TRUE behind a call at which it was FALSE;
+  pub edges : (later : Bool) → is_edge (record (counted_down c) { pulse = later }) ≡ (later && not c.pulse)
   -- PV where it is loaded;
   pub begun : IsTrue c.restart → (counted_down c).cv ≡ c.pv
   -- and Q says whether nothing is left.
@@ -179,17 +183,27 @@ abbrev pub PulsesAreKept : Type 0
 PulsesAreKept =
     (t : Timer) (last : Call) (earlier : List Call) → IsTrue t.running → All (ComesBefore t.start) (last ∷ earlier) → IsKept t last earlier
 
-pub record PulseEnds (t : Timer) (now : ℤ) : Type 0 where
+-- A pulse has begun at this call.
+pub record IsBegun (t : Timer) (now : ℤ) : Type 0 where
+  -- Q is TRUE unless the pulse has no length.
+  pub q : (pulse t now).q ≡ int_lt (pos 0) (preset t.pt)
+  pub et : (pulse t now).et ≡ pos 0
+  pub running : IsTrue (pulse t now).running
+  pub start : (pulse t now).start ≡ now
+
+pub record IsTimed (t : Timer) (now : ℤ) : Type 0 where
+  -- Where no pulse runs, an edge of the input begins one,
+  pub begins : IsFalse (t.running && not (is_over t.pt t.start now)) → IsTrue (t.input && not t.memory) → IsBegun t now
+  -- and without an edge Q is FALSE.
+  pub none : IsFalse (t.running && not (is_over t.pt t.start now)) → IsFalse (t.input && not t.memory) → IsFalse (pulse t now).q
   -- Where Q is TRUE, PT isn't over since the start.
   pub runs : IsTrue (pulse t now).q → IsFalse (is_over t.pt (pulse t now).start now)
-  -- Where it is over, only an edge of the input makes Q TRUE, and the pulse starts with it.
-  pub over : IsTrue (is_over t.pt t.start now) → IsTrue (pulse t now).q → IsTrue (t.input && not t.memory) × ((pulse t now).start ≡ now)
-  -- Without a pulse an edge starts one.
-  pub begins : IsFalse t.running → IsTrue (t.input && not t.memory) → (pulse t now).start ≡ now
+  -- An edge is seen against the call before.
+  pub memory : (pulse t now).memory ≡ t.input
 
--- A pulse isn't made longer by the input.
+-- A pulse begins at an edge and isn't made longer by the input.
 abbrev pub PulsesEnd : Type 0
-PulsesEnd = (t : Timer) (now : ℤ) → PulseEnds t now
+PulsesEnd = (t : Timer) (now : ℤ) → IsTimed t now
 
 -- ---- the leaves as records: nothing is lost, and what a block doesn't change stays
 
