@@ -30,9 +30,12 @@ returns-in_err-newest-clause-step g c =
     (goes_over_never c.args.self.now (after c.change.new.self) c.args.image c.args.renames (ap after c.in_err-newest.ensures.err ∙ c.self.view_is))
 
 pub invariant_of-self-2 : goal.invariant_of-self-2
-invariant_of-self-2 g c =
-    (omega arith, grind (arith, nat_tests, c.in_ok-plan.ensures.not_full), rw c.keep.ensures.items
-    (coherent-kept c.self.inside.state c.change.new.self c.self.inside.records.items c.in_ok-newest.newest c.in_ok-newest.ensures.back c.in_ok-newest.ensures.fitting c.self.invariant.2))
+invariant_of-self-2 g c = (
+  omega arith,
+  grind (arith, nat_tests, c.in_ok-plan.ensures.not_full),
+  rw c.keep.ensures.items
+      (coherent-kept c.self.inside.state c.change.new.self c.self.inside.records.items c.in_ok-newest.newest c.in_ok-newest.ensures.back c.in_ok-newest.ensures.fitting c.self.invariant.2),
+)
 
 pub returns-clause-step : goal.returns-clause-step
 returns-clause-step g c =
