@@ -75,9 +75,12 @@ pub goes_over_done : {A : Type 0} (c : ControllerView) (program : ProgramView) (
     → GoesOver {A = A} program renames c (Ok made) (kept c s left)
 goes_over_done c program renames full s left made full_is allowed is back of_change =
     let new = accept (machine_of c) true (changed c.state renames program) in
-    let accepted = all_made (change_causes c.state full renames program) tt tt new allowed in
-    (Ok program, inl refl, rw (full_is, accepted)
-    (refl, machine_of-kept c s left back ∙ (ap (λ (by_change : Bool). accept (machine_of c) by_change s) of_change ∙ ap (accept (machine_of c) true) is)))
+    let accepted = all_made (change_causes c.state full renames program) tt tt new allowed in (
+      Ok program,
+      inl refl,
+      rw (full_is, accepted)
+          (refl, machine_of-kept c s left back ∙ (ap (λ (by_change : Bool). accept (machine_of c) by_change s) of_change ∙ ap (accept (machine_of c) true) is)),
+    )
 
 -- ---- renames in upper case
 
@@ -86,9 +89,9 @@ abbrev by_pairs : Machine → ProgramView → Pairs → Bool → Result Machine 
 by_pairs m program pairs pairable =
     unless
     ((undo_full, is_full m)
-        ∷ (not_paired, not pairable)
-        ∷ (no_active_step, loses_active_step (leaves_of m.state) pairs.targets m.state.content.values)
-        ∷ [])
+    ∷ (not_paired, not pairable)
+    ∷ (no_active_step, loses_active_step (leaves_of m.state) pairs.targets m.state.content.values)
+    ∷ [])
     (accept m true (record { program = program; content = moved (leaves_of_program program) pairs m.state.content; now = m.state.now; status = m.state.status }))
 
 step-raised : (renames : List Rename) (read : Result ProgramView Refusal) (m : Machine) → change_step (raised_renames renames) read m ≡ change_step renames read m

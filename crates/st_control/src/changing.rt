@@ -2,6 +2,7 @@
 ghost use Rattle.std.specs.Prelude.{◌≡◌, ◌<◌, ◌&&◌, ◌||◌, ℕ, IfOk, OnErr, OnOk, false, length, not, replicate, true};
 ghost use Rattle.st_check.specs.Programs.{leaves_of_program};
 ghost use Rattle.st_control.specs.Changes.{AreMarks, active_chart, changed, counts_of_pairs, gives_pairs, is_chart, is_kept, loses_active_step, mark_at, pairs_of, raised_renames};
+ghost use Rattle.st_control.specs.Controllers.{is_of_change};
 ghost use Rattle.st_control.specs.Machine.{Heeds, change_causes};
 ghost use Rattle.st_control.specs.States.{FitsRecord, leaves_of, undone};
 ghost use Rattle.st_layout.specs.Layout.{leaf_at};
@@ -44,7 +45,13 @@ impl Counts {
 
 impl<M: Memory> State<M> {
     /// The plan of an online change to a program, or why it is refused.
-    pub(crate) fn plan_of_change(&self, alloc: Global, full: bool, image: &Image, renames: &[Rename]) -> Result<Plan, Refusal>
+    pub(crate) fn plan_of_change(
+        &self,
+        alloc: Global,
+        full: bool,
+        image: &Image,
+        renames: &[Rename],
+    ) -> Result<Plan, Refusal>
         ensures plan { IfOk result (λ plan. plan ≡ pairs_of self.entry.now renames.now image.now) }
         ensures pairable { OnOk result (gives_pairs self.entry.now renames.now image.now ≡ true) }
         ensures pairing { IfOk result (λ plan. IsPairing (leaves_of self.entry.now) (leaves_of_program image.now) plan) }
@@ -63,7 +70,13 @@ impl<M: Memory> State<M> {
 
     /// Goes over to another program by a plan, and answers what undoes it. It is refused for want of memory alone, and then
     /// all is as before.
-    pub(crate) fn change(&mut self, alloc: Global, plan: &Plan, image: Image, renames: List<Rename>) -> Result<Record, AllocError>
+    pub(crate) fn change(
+        &mut self,
+        alloc: Global,
+        plan: &Plan,
+        image: Image,
+        renames: List<Rename>,
+    ) -> Result<Record, AllocError>
         requires plan { plan.now ≡ pairs_of self.old renames image }
         requires pairable { gives_pairs self.old renames image ≡ true }
         requires pairing { IsPairing (leaves_of self.old) (leaves_of_program image) plan.now }
@@ -71,11 +84,22 @@ impl<M: Memory> State<M> {
         ensures new { OnOk result (self.new ≡ changed self.old renames image) }
         ensures back { IfOk result (λ newest. undone self.new newest ≡ self.old) }
         ensures fitting { IfOk result (λ newest. FitsRecord self.new newest) }
+        ensures kind { IfOk result (λ newest. is_of_change newest ≡ true) }
         ensures err { OnErr result (self.new ≡ self.old) }
     {
-        let saved = carry_over(alloc, &mut self.memory, plan, self.image.layout(), image.layout())?;
+        let saved = carry_over(
+            alloc,
+            &mut self.memory,
+            plan,
+            self.image.layout(),
+            image.layout(),
+        )?;
         let old = mem::replace(&mut self.image, image);
-        Ok(Record::Change { old, saved, renames })
+        Ok(Record::Change {
+            old,
+            saved,
+            renames,
+        })
     }
 }
 

@@ -238,13 +238,20 @@ impl<M: Memory> Controller<M> {
     /// Goes over to a program that was read. The renames are in upper case.
     ///
     /// Every growth comes before anything is replaced.
-    fn go_over(&mut self, alloc: Global, image: Image, renames: List<Rename>) -> Result<Counts, Refusal>
+    fn go_over(
+        &mut self,
+        alloc: Global,
+        image: Image,
+        renames: List<Rename>,
+    ) -> Result<Counts, Refusal>
         ensures step { GoesOver image renames self.old result self.new }
         ensures counts { IfOk result (λ counts. counts ≡ counts_of self.old.state renames self.new.state.program) }
         ensures record { OnOk result (Keeps self.old self.new (change_record self.old.state renames self.new.state.program)) }
     {
         let full = self.records.len() >= MAX_RECORDS;
-        let plan = self.state.plan_of_change(alloc, full, &image, renames.as_slice())?;
+        let plan = self
+            .state
+            .plan_of_change(alloc, full, &image, renames.as_slice())?;
         let counts = Counts::of(&plan);
         let newest = self.state.change(alloc, &plan, image, renames)?;
         keep(&mut self.records, newest);

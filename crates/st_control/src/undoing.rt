@@ -36,9 +36,20 @@ pub fn revert<M: Memory>(alloc: Global, state: &mut State<M>, newest: Record) ->
             renames,
         } => {
             let memory = &mut state.memory;
-            match move_back(alloc, memory, old.layout(), state.image.layout(), &saved, renames.as_slice()) {
+            match move_back(
+                alloc,
+                memory,
+                old.layout(),
+                state.image.layout(),
+                &saved,
+                renames.as_slice(),
+            ) {
                 Ok(()) => state.image = old,
-                Err(_) => return Err(Record::Change { old, saved, renames }),
+                Err(_) => return Err(Record::Change {
+                    old,
+                    saved,
+                    renames,
+                }),
             }
         }
     }
@@ -47,7 +58,14 @@ pub fn revert<M: Memory>(alloc: Global, state: &mut State<M>, newest: Record) ->
 
 /// Moves a memory back to the layout before an online change, by the plan that its renames give again. It is refused for want
 /// of memory alone, and then all is as before.
-fn move_back<M: Memory>(alloc: Global, memory: &mut M, old: &Layout, new: &Layout, saved: &Saved, renames: &[Rename]) -> Result<(), AllocError>
+fn move_back<M: Memory>(
+    alloc: Global,
+    memory: &mut M,
+    old: &Layout,
+    new: &Layout,
+    saved: &Saved,
+    renames: &[Rename],
+) -> Result<(), AllocError>
     requires over { M.IsOver new.now memory.old }
     requires fits { FitsSaved old.now new.now saved.now renames.now }
     ensures over { OnOk result (M.IsOver old.now memory.new) }
