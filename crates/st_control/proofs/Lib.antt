@@ -1,5 +1,6 @@
 pub mod Causes
 pub mod ChangeSteps
+pub mod ChangedStates
 pub mod Charts
 pub mod Histories
 pub mod Names

@@ -1,5 +1,5 @@
 -- Renames in upper case say the same as in any other case.
-use Rattle.std.proofs.Common.{ℕ, ◌≡◌, Bool, true, false, cond, ◌==◌, ◌||◌, List, [], ◌∷◌, length, map, Option, Some, None, refl, sym, ◌∙◌, ap, arith, nat_lt}
+use Rattle.std.proofs.Common.{ℕ, ◌≡◌, Bool, true, false, cond, ◌==◌, List, [], ◌∷◌, length, Option, Some, None, refl, ap, arith, nat_lt}
 use Rattle.std.specs.Char.{to_ascii_uppercase}
 use Rattle.std.specs.List.{list_any}
 use Rattle.std.specs.Option.{option_map, option_map_or}
@@ -9,7 +9,7 @@ use Rattle.std.proofs.lemmas.Bool.Decides.{nat_tests}
 use Rattle.std.proofs.lemmas.List.{length-map}
 use Rattle.st_control.specs.Changes.{raised_rename, raised_renames}
 use Rattle.st_layout.proofs.Maps.{raised-raised}
-use Rattle.st_layout.specs.Pairs.{has_dollar, is_no_part, is_pairable, names_hidden, names_nothing, pairs_between, renames_twice, target_of, targets_of}
+use Rattle.st_layout.specs.Pairs.{has_dollar, is_pairable, names_hidden, names_nothing, pairs_between, renames_twice, targets_of}
 use Rattle.st_layout.specs.Renames.{is_in, longest, renamed, renamed_by, renames_over}
 use Rattle.st_layout.specs.declared.renames.Rename.{Rename}
 use Rattle.st_tree.specs.declared.leaf.Leaf.{Leaf}

@@ -2,6 +2,7 @@
 ghost use Rattle.std.specs.Prelude.{◌≡◌, ◌<◌, ◌&&◌, ◌||◌, ℕ, IfOk, OnErr, OnOk, false, length, not, replicate, true};
 ghost use Rattle.st_check.specs.Programs.{leaves_of_program};
 ghost use Rattle.st_control.specs.Changes.{AreMarks, active_chart, changed, counts_of_pairs, gives_pairs, is_chart, is_kept, loses_active_step, mark_at, pairs_of, raised_renames};
+ghost use Rattle.st_control.specs.Controllers.{is_of_change};
 ghost use Rattle.st_control.specs.Machine.{Heeds, change_causes};
 ghost use Rattle.st_control.specs.States.{FitsRecord, leaves_of, undone};
 ghost use Rattle.st_layout.specs.Layout.{leaf_at};
@@ -83,6 +84,7 @@ impl<M: Memory> State<M> {
         ensures new { OnOk result (self.new ≡ changed self.old renames image) }
         ensures back { IfOk result (λ newest. undone self.new newest ≡ self.old) }
         ensures fitting { IfOk result (λ newest. FitsRecord self.new newest) }
+        ensures kind { IfOk result (λ newest. is_of_change newest ≡ true) }
         ensures err { OnErr result (self.new ≡ self.old) }
     {
         let saved = carry_over(

@@ -78,6 +78,7 @@ impl<M: Memory> Model for State<M> {
 
 impl<M: Memory> State<M> {
     ghost use Rattle.st_control.specs.States.{FitsRecord, IsWhole, forced, leaf_of, leaves_of, released, undone, written};
+    ghost use Rattle.st_control.specs.Controllers.{is_of_change};
     ghost use Rattle.st_control.specs.Machine.{leaf_to_force, leaf_to_release, leaf_to_write};
 
     /// The leaf that a write would set, or its refusal.
@@ -173,6 +174,7 @@ impl<M: Memory> State<M> {
         ensures new { self.new ≡ written self.old leaf value }
         ensures back { undone self.new result ≡ self.old }
         ensures fitting { FitsRecord self.new result }
+        ensures kind { is_of_change result ≡ false }
     {
         let old = self.memory.get(self.image.layout(), leaf);
         self.memory.set(self.image.layout(), leaf, value);
@@ -189,6 +191,7 @@ impl<M: Memory> State<M> {
         ensures new { self.new ≡ forced self.old leaf value }
         ensures back { undone self.new result ≡ self.old }
         ensures fitting { FitsRecord self.new result }
+        ensures kind { is_of_change result ≡ false }
     {
         let old = self.memory.get(self.image.layout(), leaf);
         let was = self.memory.forced(self.image.layout(), leaf);
@@ -206,6 +209,7 @@ impl<M: Memory> State<M> {
         ensures new { self.new ≡ released self.old leaf }
         ensures back { undone self.new result ≡ self.old }
         ensures fitting { FitsRecord self.new result }
+        ensures kind { is_of_change result ≡ false }
     {
         self.memory.mark(self.image.layout(), leaf, false);
         Record::Release { leaf }

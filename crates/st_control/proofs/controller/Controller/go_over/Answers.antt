@@ -1,10 +1,10 @@
-use Rattle.std.proofs.Common.{◌≡◌, ◌∙◌, Bool, List, ap, arith, nat_le, subst}
+use Rattle.std.proofs.Common.{◌∙◌, Bool, List, ap, arith, nat_le, subst}
 use Rattle.std.specs.Prelude.{Err, Ok}
 use Rattle.std.proofs.lemmas.Bool.Decides.{nat_tests}
 use Rattle.std.proofs.lemmas.Result.{err_from_is_err_and}
 use Rattle.st_control.proofs.ChangeSteps.{goes_over_done, goes_over_never, goes_over_refused}
 use Rattle.st_control.proofs.Histories.{coherent-kept, is_full-records}
-use Rattle.st_control.specs.Controllers.{ControllerView, GoesOver, is_of_change}
+use Rattle.st_control.specs.Controllers.{ControllerView, GoesOver}
 use Rattle.st_control.specs.Machine.{Heeds, change_causes}
 use Rattle.st_control.specs.States.{StateView}
 use Rattle.st_layout.specs.Pairs.{Pairs}
@@ -47,4 +47,4 @@ returns-clause-step g c =
     (rw c.keep.ensures.items
     (goes_over_done before c.args.image c.args.renames full c.change.new.self c.in_ok-newest.newest c.of-counts.result
     (is_full-records before c.len-full.result (c.len-full.ensures ∙ c.self.inside.records.ok.0)) causes c.in_ok-newest.ensures.new c.in_ok-newest.ensures.back
-    (ap is_of_change c.in_ok-newest.ensures.record)))
+    c.in_ok-newest.ensures.kind))
