@@ -1,10 +1,10 @@
 //! Bistable function blocks (2.5.2.3.1, table 34).
-ghost use Rattle.std.specs.Prelude.{◌≡◌, length};
+ghost use Rattle.std.specs.Prelude.{◌≡◌};
+ghost use Rattle.st_types.specs.declared.standard.StandardBlock.TheVariants as blocks;
 ghost use Rattle.st_blocks.specs.Blocks.{reset_dominant, set_dominant};
 ghost use Rattle.st_blocks.specs.Cells.{AreLeavesOf, bistable_cells, bistable_in};
 
 use crate::cells::{flag, truth};
-use st_types::StandardBlock;
 use st_values::Value;
 
 /// The leaves of SR and RS.
@@ -21,7 +21,7 @@ pub struct Bistable {
 impl Bistable {
     /// The block with these leaves.
     pub fn read(cells: &[Value]) -> Bistable
-        requires { AreLeavesOf StandardBlock.Sr cells.now }
+        requires { AreLeavesOf blocks.Sr cells.now }
         ensures { result ≡ bistable_in cells.now }
     {
         Bistable {
@@ -34,7 +34,7 @@ impl Bistable {
     /// The values of its leaves.
     pub fn cells(self) -> [Value; 3]
         ensures value { result ≡ bistable_cells self }
-        ensures typed { AreLeavesOf StandardBlock.Sr result }
+        ensures typed { AreLeavesOf blocks.Sr result }
     {
         [truth(self.set), truth(self.reset), truth(self.q)]
     }

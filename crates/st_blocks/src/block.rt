@@ -1,6 +1,6 @@
 //! One invocation of a standard function block (2.5.2.3).
-ghost use Rattle.std.specs.Prelude.{◌≡◌};
-ghost use Rattle.st_blocks.specs.Cells.{AreLeavesOf};
+ghost use Rattle.std.specs.Prelude.{◌≡◌, ◌≤◌, length};
+ghost use Rattle.st_blocks.specs.Cells.{AreLeavesOf, types_of};
 ghost use Rattle.st_blocks.specs.Steps.{stepped};
 
 use crate::bistable::Bistable;
@@ -10,6 +10,21 @@ use crate::ton::Ton;
 use crate::trigger::Trigger;
 use st_types::StandardBlock;
 use st_values::Value;
+
+/// How many leaves a block has at most.
+pub const MOST_LEAVES: usize = 7;
+
+/// How many leaves a block has.
+pub fn leaf_count(kind: StandardBlock) -> usize
+    ensures value { result ≡ length (types_of kind) }
+    ensures few { result ≤ MOST_LEAVES }
+{
+    match kind {
+        StandardBlock::RTrig | StandardBlock::FTrig | StandardBlock::Sr | StandardBlock::Rs => 3,
+        StandardBlock::Ctu | StandardBlock::Ctd | StandardBlock::Ton => 6,
+        StandardBlock::Tof | StandardBlock::Tp => 7,
+    }
+}
 
 /// Does what one invocation of a block does to the values of its leaves at a moment, in milliseconds. Its inputs are stored
 /// there already.

@@ -1,12 +1,11 @@
 //! Counters (2.5.2.3.3, table 36).
-ghost use Rattle.std.specs.Prelude.{◌≡◌, IsTrue, length};
+ghost use Rattle.std.specs.Prelude.{◌≡◌};
+ghost use Rattle.st_types.specs.declared.standard.StandardBlock.TheVariants as blocks;
 ghost use Rattle.st_blocks.specs.Blocks.{count_down, count_up, counted_down, counted_up, is_edge};
-ghost use Rattle.st_blocks.specs.Cells.{AreLeavesOf, counter_cells, counter_in, number_at};
-ghost use Rattle.st_values.specs.Values.{in_range};
+ghost use Rattle.st_blocks.specs.Cells.{AreLeavesOf, counter_cells, counter_in};
 
 use crate::cells::{flag, integer, of_integer, truth};
-use st_types::StandardBlock;
-use st_values::{Elem, Value};
+use st_values::Value;
 
 /// The leaves of CTU and CTD.
 #[derive(Clone, Copy, Debug, PartialEq, Eq)]
@@ -28,7 +27,7 @@ pub struct Counter {
 impl Counter {
     /// The block with these leaves.
     pub fn read(cells: &[Value]) -> Counter
-        requires { AreLeavesOf StandardBlock.Ctu cells.now }
+        requires { AreLeavesOf blocks.Ctu cells.now }
         ensures { result ≡ counter_in cells.now }
     {
         Counter {
@@ -44,7 +43,7 @@ impl Counter {
     /// The values of its leaves.
     pub fn cells(self) -> [Value; 6]
         ensures value { result ≡ counter_cells self }
-        ensures typed { AreLeavesOf StandardBlock.Ctu result }
+        ensures typed { AreLeavesOf blocks.Ctu result }
     {
         [
             truth(self.pulse),

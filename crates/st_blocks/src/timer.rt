@@ -1,13 +1,12 @@
 //! The off-delay timer TOF and the pulse timer TP (2.5.2.3.4, table 37 and figure 15).
-ghost use Rattle.std.specs.Prelude.{◌≡◌, IsTrue, length};
+ghost use Rattle.std.specs.Prelude.{◌≡◌};
+ghost use Rattle.st_types.specs.declared.standard.StandardBlock.TheVariants as blocks;
 ghost use Rattle.st_blocks.specs.Blocks.{off_delay, off_start, pulse};
-ghost use Rattle.st_blocks.specs.Cells.{AreLeavesOf, number_at, timer_cells, timer_in};
-ghost use Rattle.st_values.specs.Values.{in_range};
+ghost use Rattle.st_blocks.specs.Cells.{AreLeavesOf, timer_cells, timer_in};
 
 use crate::cells::{duration, flag, of_duration, truth};
 use crate::time::{is_over, preset, shown};
-use st_types::StandardBlock;
-use st_values::{Elem, Value};
+use st_values::Value;
 
 /// The leaves of TOF and TP.
 #[derive(Clone, Copy, Debug, PartialEq, Eq)]
@@ -31,7 +30,7 @@ pub struct Timer {
 impl Timer {
     /// The block with these leaves.
     pub fn read(cells: &[Value]) -> Timer
-        requires { AreLeavesOf StandardBlock.Tof cells.now }
+        requires { AreLeavesOf blocks.Tof cells.now }
         ensures { result ≡ timer_in cells.now }
     {
         Timer {
@@ -48,7 +47,7 @@ impl Timer {
     /// The values of its leaves.
     pub fn cells(self) -> [Value; 7]
         ensures value { result ≡ timer_cells self }
-        ensures typed { AreLeavesOf StandardBlock.Tof result }
+        ensures typed { AreLeavesOf blocks.Tof result }
     {
         [
             truth(self.input),

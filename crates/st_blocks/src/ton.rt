@@ -1,13 +1,12 @@
 //! The on-delay timer TON (2.5.2.3.4, table 37 and figure 15).
-ghost use Rattle.std.specs.Prelude.{◌≡◌, IsTrue, length};
+ghost use Rattle.std.specs.Prelude.{◌≡◌};
+ghost use Rattle.st_types.specs.declared.standard.StandardBlock.TheVariants as blocks;
 ghost use Rattle.st_blocks.specs.Blocks.{on_delay};
-ghost use Rattle.st_blocks.specs.Cells.{AreLeavesOf, number_at, ton_cells, ton_in};
-ghost use Rattle.st_values.specs.Values.{in_range};
+ghost use Rattle.st_blocks.specs.Cells.{AreLeavesOf, ton_cells, ton_in};
 
 use crate::cells::{duration, flag, of_duration, truth};
 use crate::time::{is_over, shown};
-use st_types::StandardBlock;
-use st_values::{Elem, Value};
+use st_values::Value;
 
 /// The leaves of TON.
 #[derive(Clone, Copy, Debug, PartialEq, Eq)]
@@ -29,7 +28,7 @@ pub struct Ton {
 impl Ton {
     /// The block with these leaves.
     pub fn read(cells: &[Value]) -> Ton
-        requires { AreLeavesOf StandardBlock.Ton cells.now }
+        requires { AreLeavesOf blocks.Ton cells.now }
         ensures { result ≡ ton_in cells.now }
     {
         Ton {
@@ -45,7 +44,7 @@ impl Ton {
     /// The values of its leaves.
     pub fn cells(self) -> [Value; 6]
         ensures value { result ≡ ton_cells self }
-        ensures typed { AreLeavesOf StandardBlock.Ton result }
+        ensures typed { AreLeavesOf blocks.Ton result }
     {
         [
             truth(self.input),

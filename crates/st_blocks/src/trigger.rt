@@ -1,10 +1,10 @@
 //! Edge detectors (2.5.2.3.2, table 35).
-ghost use Rattle.std.specs.Prelude.{◌≡◌, length};
+ghost use Rattle.std.specs.Prelude.{◌≡◌};
+ghost use Rattle.st_types.specs.declared.standard.StandardBlock.TheVariants as blocks;
 ghost use Rattle.st_blocks.specs.Blocks.{fallen, risen};
 ghost use Rattle.st_blocks.specs.Cells.{AreLeavesOf, trigger_cells, trigger_in};
 
 use crate::cells::{flag, truth};
-use st_types::StandardBlock;
 use st_values::Value;
 
 /// The leaves of R_TRIG and F_TRIG.
@@ -21,7 +21,7 @@ pub struct Trigger {
 impl Trigger {
     /// The block with these leaves.
     pub fn read(cells: &[Value]) -> Trigger
-        requires { AreLeavesOf StandardBlock.RTrig cells.now }
+        requires { AreLeavesOf blocks.RTrig cells.now }
         ensures { result ≡ trigger_in cells.now }
     {
         Trigger {
@@ -34,7 +34,7 @@ impl Trigger {
     /// The values of its leaves.
     pub fn cells(self) -> [Value; 3]
         ensures value { result ≡ trigger_cells self }
-        ensures typed { AreLeavesOf StandardBlock.RTrig result }
+        ensures typed { AreLeavesOf blocks.RTrig result }
     {
         [truth(self.clk), truth(self.q), truth(self.memory)]
     }
