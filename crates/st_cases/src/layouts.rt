@@ -1,10 +1,7 @@
 //! Layouts of whole texts, and sessions over their leaves.
-//!
-//! A table of cases is one text. A case begins with a line of `#` and a remark, behind which the lines of the program stand.
-//! In a table of layouts a line of `=` follows, and then the lines that have to be written. In a table of sessions lines of `?`
-//! and `=` follow: what an operator types, and what is replied.
 use crate::running::run;
-use st_session::{ACCEPTED, DEVICE_FAILED, LINE_REFUSED, NO_PROGRAM, Sheet, Sink, layout_text};
+use crate::tables::{cases_of, status_of};
+use st_session::{ACCEPTED, DEVICE_FAILED, NO_PROGRAM, Sheet, Sink, layout_text};
 use std::alloc::{AllocError, Global};
 use std::process::Abort;
 use std::test::Fail;
@@ -206,7 +203,23 @@ END_PROGRAM
 45 1 BOOL Main.S1.X
 46 8 TIME Main.S1.T
 54 8 TIME Main.S1.$M
-62 1 BOOL Main.open.$S";
+62 1 BOOL Main.open.$S
+# a function's variables have no leaves, and a program that isn't run has none
+FUNCTION Sq : INT VAR_INPUT X : INT; END_VAR VAR Y : DINT; END_VAR Sq := X * X; END_FUNCTION
+PROGRAM Other VAR Z : INT; END_VAR END_PROGRAM
+PROGRAM Main VAR A : INT; T1 : TP; END_VAR
+T1(IN := TRUE, PT := T#0ms);
+A := Sq(3);
+IF T1.Q THEN A := A + 1; END_IF; END_PROGRAM
+=
+0 2 INT Main.A
+2 1 BOOL Main.T1.IN
+3 8 TIME Main.T1.PT
+11 1 BOOL Main.T1.Q
+12 8 TIME Main.T1.ET
+20 1 BOOL Main.T1.$M
+21 1 BOOL Main.T1.$RUN
+22 8 TIME Main.T1.$START";
 
 /// Programs whose statements are not run, and what an operator does with their leaves.
 const SESSIONS: &[u8] =
@@ -296,72 +309,33 @@ END_PROGRAM
 ? write Main.Lamp.$S TRUE
 = refused O2
 ? write Main.Lamp TRUE
-= ok";
-
-/// A case as it is read so far.
-#[derive(Drop)]
-struct Case {
-    program: Vec<u8>,
-    session: Vec<u8>,
-    wanted: Vec<u8>,
-    /// Whether the line of `=` of a layout was read.
-    is_listing: bool,
-}
-
-impl Case {
-    fn new(alloc: Global) -> Case {
-        Case {
-            program: Vec::new(alloc),
-            session: Vec::new(alloc),
-            wanted: Vec::new(alloc),
-            is_listing: false,
-        }
-    }
-
-    /// Takes one line more.
-    fn add(&mut self, line: &[u8]) -> Result<(), AllocError> {
-        if line == b"=".as_slice() {
-            self.is_listing = true;
-            return Ok(());
-        }
-        if let Some(typed) = line.strip_prefix(b"? ") {
-            return put_line(&mut self.session, typed);
-        }
-        if let Some(reply) = line.strip_prefix(b"= ") {
-            return put_line(&mut self.wanted, reply);
-        }
-        if self.is_listing {
-            put_line(&mut self.wanted, line)
-        } else {
-            put_line(&mut self.program, line)
-        }
-    }
-}
-
-/// Puts a line and its end behind others.
-fn put_line(lines: &mut Vec<u8>, line: &[u8]) -> Result<(), AllocError> {
-    lines.extend_from_slice(line)?;
-    lines.push(b'\n')?;
-    Ok(())
-}
-
-/// The cases of a table.
-fn cases_of(alloc: Global, table: &[u8]) -> Result<Vec<Case>, AllocError> {
-    let mut cases = Vec::new(alloc);
-    let mut case = Case::new(alloc);
-    for line in table.split(|byte| *byte == b'\n') {
-        if line.starts_with(b"# ") {
-            if !case.program.is_empty() {
-                cases.push(case)?;
-            }
-            case = Case::new(alloc);
-        } else {
-            case.add(line)?;
-        }
-    }
-    cases.push(case)?;
-    Ok(cases)
-}
+= ok
+# outputs of an instance, and of one in it, are written, forced and undone as all others
+FUNCTION_BLOCK Valve VAR_INPUT Open : BOOL; END_VAR VAR_OUTPUT Travel : TIME := T#2s; END_VAR VAR Run : TON; END_VAR
+Run(IN := Open, PT := T#1s); END_FUNCTION_BLOCK
+PROGRAM Main VAR Left, Right : Valve; END_VAR Left(Open := TRUE); END_PROGRAM
+? write Main.Right.Travel T#3s
+= ok
+? force main.right.run.q TRUE
+= ok
+? write Main.Right.Run.Q FALSE
+= refused O4
+? show Main.Right.Run.Q
+= Main.Right.Run.Q = TRUE forced
+? show Main.Left.Travel
+= Main.Left.Travel = T#2000ms
+? status
+= running 0 forces 1 undo 2
+? undo
+= ok
+? show Main.Right.Run.Q
+= Main.Right.Run.Q = FALSE
+? undo
+= ok
+? show Main.Right.Travel
+= Main.Right.Travel = T#2000ms
+? undo
+= refused O7";
 
 /// What a layout of a text writes, as the program `Main`, and its status.
 #[derive(Drop)]
@@ -377,18 +351,10 @@ fn lay_out(alloc: Global, text: &[u8]) -> Result<Told, AllocError> {
     Ok(Told { status, written })
 }
 
-/// The status of a session with these replies.
-fn status_of(replies: &[u8]) -> u8 {
-    let is_refused = replies
-        .split(|byte| *byte == b'\n')
-        .any(|reply| reply.starts_with(b"refused"));
-    if is_refused { LINE_REFUSED } else { ACCEPTED }
-}
-
 #[test]
 fn leaves_are_listed(rt: HostRuntime) -> Result<(), Fail> {
     let cases = cases_of(rt.alloc(), LAYOUTS)?;
-    assert_eq!(rt; cases.len(), 12);
+    assert_eq!(rt; cases.len(), 13);
     for case in &cases {
         let told = lay_out(rt.alloc(), &case.program)?;
         assert_eq!(rt; told.written.as_slice(), case.wanted.as_slice());
@@ -400,7 +366,7 @@ fn leaves_are_listed(rt: HostRuntime) -> Result<(), Fail> {
 #[test]
 fn leaves_are_shown_written_and_forced(rt: HostRuntime) -> Result<(), Fail> {
     let cases = cases_of(rt.alloc(), SESSIONS)?;
-    assert_eq!(rt; cases.len(), 3);
+    assert_eq!(rt; cases.len(), 4);
     for case in &cases {
         let ran = run(rt.alloc(), &case.program, &case.session, 4096)?;
         assert_eq!(rt; ran.written.as_slice(), case.wanted.as_slice());

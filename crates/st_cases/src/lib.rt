@@ -20,6 +20,10 @@ mod loading;
 #[cfg(test)]
 mod memory;
 #[cfg(test)]
+mod online_changes;
+#[cfg(test)]
 mod refused_texts;
 #[cfg(test)]
 mod running;
+#[cfg(test)]
+mod tables;

@@ -1,10 +1,9 @@
 //! Loads: texts that are loaded, and texts that are refused.
+use crate::running::FIRST;
 use st_control::{Controller, Refusal};
 use st_layout::Cells;
 use std::alloc::Global;
 use std::test::Fail;
-
-const FIRST: &[u8] = b"PROGRAM Main VAR A : INT := 3; B : BOOL; END_VAR END_PROGRAM";
 
 /// Why a text isn't loaded as the program `Main`, or nothing where it is.
 fn refusal_of(alloc: Global, text: &[u8]) -> Option<Refusal> {

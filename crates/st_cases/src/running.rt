@@ -5,7 +5,8 @@ use st_session::{Bytes, Sheet, run_text};
 use std::alloc::{AllocError, Global};
 
 /// The program of most cases.
-pub const FIRST: &[u8] = b"PROGRAM Main VAR A : INT := 3; B : BOOL; END_VAR END_PROGRAM";
+pub const FIRST: &[u8] =
+    b"PROGRAM Main VAR A : INT := 3; B : BOOL; END_VAR A := A + 1; END_PROGRAM";
 
 /// More calls than a session makes.
 const ALL_GOOD: u64 = 1 << 40;

@@ -32,7 +32,7 @@ pub length-history : (c : ControllerView) → length (machine_of c).history ≡ 
 length-history c = length-states_before c.state (reverse c.records) ∙ length-reverse c.records
 
 -- the list of records is full where the machine's history is
-is_full-records : (c : ControllerView) (len : ℕ) → len ≡ length c.records → is_full (machine_of c) ≡ nat_le 256 len
+pub is_full-records : (c : ControllerView) (len : ℕ) → len ≡ length c.records → is_full (machine_of c) ≡ nat_le 256 len
 is_full-records c len len_is = ap (nat_le 256) (length-history c ∙ sym len_is)
 
 -- a command for which no leaf was found is refused

@@ -1,9 +1,12 @@
 pub mod Causes
 pub mod ChangeSteps
+pub mod ChangedStates
+pub mod Charts
 pub mod Histories
 pub mod Names
 pub mod OnePath
 pub mod Open
+pub mod RaisedRenames
 pub mod Records
 pub mod Steps
 pub mod Texts

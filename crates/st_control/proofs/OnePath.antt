@@ -1,16 +1,16 @@
--- What a command that is accepted at one leaf changes.
+-- What a command that is accepted changes.
 use Rattle.std.proofs.Common.{ℕ, Bool, true, false, ◌≡◌, List, refl, sym, ap, subst}
 use Rattle.std.specs.Prelude.{Err, None, Ok, Option, Result, Some, if◌then◌else◌}
 use Rattle.std.specs.Option.{option_map_or}
 use Rattle.std.specs.Str.{bytes_eq}
 use Rattle.st_control.specs.Causes.{no_such_path}
-use Rattle.st_control.specs.Laws.{Changes, ChangesOnePath, is_same_path}
+use Rattle.st_control.specs.Laws.{Changes, ChangesByPath, is_same_path}
 use Rattle.st_control.specs.Machine.{Cause, Machine, accept, accept_at, force_causes, is_full, leaf_unless, release_causes, step, unless, write_causes}
 use Rattle.st_control.specs.Machine.Command.{change, force, release, write}
 use Rattle.st_control.specs.States.{IsWhole, StateView, forced, leaf_of, leaves_of, released, written}
 use Rattle.st_control.specs.declared.refusal.Refusal.{Refusal}
 use Rattle.st_control.proofs.Causes.{NoneHolds, unless_allows, unless_gives}
-use Rattle.st_control.proofs.ChangeSteps.{change_accepts}
+use Rattle.st_control.proofs.ChangedStates.{change_carries}
 use Rattle.st_layout.proofs.Maps.{mark_changes_one_force, set_changes_one_value}
 use Rattle.st_layout.proofs.Paths.{number-Some}
 use Rattle.st_layout.specs.Layout.{leaf_at}
@@ -76,19 +76,17 @@ gets_force s path on leaf whole found other =
     (same_path s path other leaf found)
     (mark_changes_one_force (leaves_of s) s.content leaf on other whole.sound whole.fits (number-Some (leaves_of s) path leaf found).0).0
 
-pub changes_one_path : ChangesOnePath
-changes_one_path (write path value) m next whole accepted =
+pub changes_by_path : ChangesByPath
+changes_by_path (write path value) m next sound whole accepted =
     let a = write_accepts path value m next accepted in
     subst (λ (s : StateView). Changes (write path value) m.state s) a.next_is
     (gets_value m.state path value a.leaf whole a.found, λ other. refl, record { program = refl; now = refl; status = refl })
-changes_one_path (force path value) m next whole accepted =
+changes_by_path (force path value) m next sound whole accepted =
     let a = force_accepts path value m next accepted in
     subst (λ (s : StateView). Changes (force path value) m.state s) a.next_is
     (gets_value m.state path value a.leaf whole a.found, gets_force m.state path true a.leaf whole a.found, record { program = refl; now = refl; status = refl })
-changes_one_path (release path) m next whole accepted =
+changes_by_path (release path) m next sound whole accepted =
     let a = release_accepts path m next accepted in
     subst (λ (s : StateView). Changes (release path) m.state s) a.next_is
     (λ other. refl, gets_force m.state path false a.leaf whole a.found, record { program = refl; now = refl; status = refl })
-changes_one_path (change renames read) m next whole accepted =
-    let a = change_accepts renames read m next accepted in
-    (a.program, a.read_is, sym a.next_is)
+changes_by_path (change renames read) m next sound whole accepted = change_carries renames read m next sound whole accepted

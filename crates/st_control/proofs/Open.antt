@@ -2,8 +2,16 @@
 use Rattle.std.proofs.Common.{ℕ, ◌≡◌, Bool, true, false, inl, inr, List, zero, suc, length, set, replicate, pos, subst, sym, ◌∙◌, arith}
 use Rattle.std.proofs.lemmas.Bool.Decides.{eqb_tells}
 use Rattle.std.proofs.lemmas.List.{get_or-set_other}
-use Rattle.st_control.specs.States.{ForcesAreOpen, IsMoment, IsOpenAt}
-use Rattle.st_layout.specs.Memory.{forced_at}
+use Rattle.st_control.specs.States.{IsMoment}
+use Rattle.st_layout.specs.Layout.{IsOpenAt}
+use Rattle.std.specs.List.{All}
+use Rattle.std.specs.Prelude.{Err, Ok, OnOk, Result}
+use Rattle.std.specs.declared.alloc.AllocError.{AllocError}
+use Rattle.st_layout.proofs.OpenForces.{returned_forces_are_open}
+use Rattle.st_layout.specs.Memory.{Content, ForcesAreOpen, forced_at}
+use Rattle.st_layout.specs.Moves.{unmoved}
+use Rattle.st_layout.specs.Pairs.{IsPairing, Pairs}
+use Rattle.st_layout.specs.declared.saved.Saved.{Saved}
 use Rattle.st_tree.specs.declared.leaf.Leaf.{Leaf}
 
 -- an open leaf may be forced or let go
@@ -23,3 +31,11 @@ initial_open leaves leaf is_forced = absurd (none_forced (length leaves) leaf is
 -- the first moment is one
 pub first_moment : IsMoment (pos 0)
 first_moment = record { early = omega arith; late = omega arith }
+
+-- what was moved back is forced only where an operator may force it
+pub opens_back : (result : Result (Unit {0}) AllocError) (old new : List Leaf) (pairs : Pairs) (content after : Content) (saved : Saved)
+    → IsPairing old new pairs → All (λ leaf. IsOpenAt old leaf) saved.forced → OnOk result (after ≡ unmoved old pairs content saved)
+    → ForcesAreOpen new content.forced → OnOk result (ForcesAreOpen old after.forced)
+opens_back (Ok done) old new pairs content after saved pairing opens moved before =
+    subst (λ (it : Content). ForcesAreOpen old it.forced) (sym moved) (returned_forces_are_open old new pairs content saved pairing before opens)
+opens_back (Err e) old new pairs content after saved pairing opens moved before = tt

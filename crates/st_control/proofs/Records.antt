@@ -1,27 +1,26 @@
 -- What an accepted command leaves in its record, and that states stay whole.
-use Rattle.std.proofs.Common.{ℕ, ◌≡◌, ◌∙◌, ◌<◌, Bool, true, List, [], ◌∷◌, get_or, length, false, refl, sym, ap, subst, unwrap_or, ◌&&◌}
+use Rattle.std.proofs.Common.{ℕ, ◌≡◌, ◌∙◌, ◌<◌, Bool, true, List, length, false, sym, ap, subst, unwrap_or}
 use Rattle.std.specs.Prelude.{Ok, Some}
-use Rattle.std.proofs.lemmas.Bool.{not-false}
-use Rattle.std.proofs.lemmas.Bool.Decides.{Decides-eqb}
+use Rattle.std.proofs.lemmas.Bool.{and_parts, not-false}
 use Rattle.std.proofs.lemmas.List.{length-set}
 use Rattle.st_control.specs.Controllers.{force_record, leaf_at_path, release_record, write_record}
 use Rattle.st_control.specs.Laws.{RecordFits, RecordUndoesCommand, StepsKeepWhole}
 use Rattle.st_control.specs.Machine.{force_causes, is_value_of, leaf_to_force}
 use Rattle.st_control.specs.Machine.Command.{change, force, release, write}
-use Rattle.st_control.specs.States.{FitsRecord, IsOpenAt, IsWhole, StateView, forced, leaf_of, leaves_of, released, undone, written}
+use Rattle.st_control.specs.States.{FitsRecord, IsWhole, StateView, forced, leaf_of, leaves_of, released, undone, written}
 use Rattle.st_control.specs.declared.record.Record.TheVariants.{Force, Release, Write}
+use Rattle.st_control.proofs.ChangedStates.{change_fits, change_undoes, change_whole}
 use Rattle.st_control.proofs.OnePath.{force_accepts, found_at, release_accepts, write_accepts}
 use Rattle.st_control.proofs.Open.{mark_keeps_open}
 use Rattle.st_control.proofs.Undone.{undone_forced, undone_released, undone_written}
 use Rattle.st_layout.proofs.Contents.{value_fits, with_value_fits}
+use Rattle.st_layout.proofs.Paired.{same_elem}
 use Rattle.st_layout.proofs.Paths.{number-Some}
-use Rattle.st_layout.specs.Layout.{IsValueAt, is_open, leaf_at}
+use Rattle.st_layout.specs.Layout.{IsOpenAt, IsValueAt, is_open, leaf_at}
 use Rattle.st_layout.specs.Memory.{forced_at, value_at}
 use Rattle.st_tree.specs.declared.leaf.Leaf.{Leaf}
-use Rattle.st_values.specs.Types.{is_same, place_of}
+use Rattle.st_values.specs.Types.{is_same}
 use Rattle.st_values.specs.Values.{is_value}
-use Rattle.st_values.specs.declared.elem.Elem.{Elem}
-use Rattle.st_values.specs.declared.elem.Elem.TheVariants as elems
 use Rattle.st_values.specs.declared.value.Value.{Value}
 
 -- ---- what a command leaves
@@ -46,20 +45,20 @@ pub force_leaves : (s : StateView) (path : List ℕ) (value : Value) (full : Boo
 force_leaves s path value full leaf is = force_record-is s path leaf (found_at (leaf_of s path) (force_causes s full value) leaf (sym is))
 
 pub record_undoes : RecordUndoesCommand
-record_undoes (write path value) m next at_leaf accepted =
+record_undoes (write path value) m next free accepted =
     let a = write_accepts path value m next accepted in
     subst (λ s. undone s (write_record m.state path) ≡ m.state) a.next_is
     (subst (λ left. undone (written m.state a.leaf value) left ≡ m.state) (write_record-is m.state path a.leaf a.found) (undone_written m.state a.leaf value))
-record_undoes (force path value) m next at_leaf accepted =
+record_undoes (force path value) m next free accepted =
     let a = force_accepts path value m next accepted in
     subst (λ s. undone s (force_record m.state path) ≡ m.state) a.next_is
     (subst (λ left. undone (forced m.state a.leaf value) left ≡ m.state) (force_record-is m.state path a.leaf a.found) (undone_forced m.state a.leaf value))
-record_undoes (release path) m next at_leaf accepted =
+record_undoes (release path) m next free accepted =
     let a = release_accepts path m next accepted in
     subst (λ s. undone s (release_record m.state path) ≡ m.state) a.next_is
     (subst (λ left. undone (released m.state a.leaf) left ≡ m.state) (release_record-is m.state path a.leaf a.found)
     (undone_released m.state a.leaf (not-false (forced_at m.state.content.forced a.leaf) a.allowed.0)))
-record_undoes (change renames read) m next at_leaf accepted = absurd (cc)
+record_undoes (change renames read) m next whole accepted = change_undoes renames read m next whole accepted
 
 -- ---- where it fits
 
@@ -68,67 +67,35 @@ value_at-fits : (s : StateView) (leaf : ℕ) → IsWhole s → leaf < length (le
 value_at-fits s leaf whole below = value_fits (leaves_of s) s.content.values leaf whole.fits.types below
 
 pub record_fits : RecordFits
-record_fits (write path value) m next at_leaf whole accepted =
+record_fits (write path value) m next whole accepted =
     let a = write_accepts path value m next accepted in
     let below = (number-Some (leaves_of m.state) path a.leaf a.found).0 in
     subst (λ s. FitsRecord s (write_record m.state path)) a.next_is
     (subst (FitsRecord (written m.state a.leaf value)) (write_record-is m.state path a.leaf a.found)
     (below, not-false (is_open (leaf_at (leaves_of m.state) a.leaf).role) a.allowed.0, value_at-fits m.state a.leaf whole below))
-record_fits (force path value) m next at_leaf whole accepted =
+record_fits (force path value) m next whole accepted =
     let a = force_accepts path value m next accepted in
     let below = (number-Some (leaves_of m.state) path a.leaf a.found).0 in
     subst (λ s. FitsRecord s (force_record m.state path)) a.next_is
     (subst (FitsRecord (forced m.state a.leaf value)) (force_record-is m.state path a.leaf a.found)
     (below, not-false (is_open (leaf_at (leaves_of m.state) a.leaf).role) a.allowed.0, value_at-fits m.state a.leaf whole below))
-record_fits (release path) m next at_leaf whole accepted =
+record_fits (release path) m next whole accepted =
     let a = release_accepts path m next accepted in
     subst (λ s. FitsRecord s (release_record m.state path)) a.next_is
     (subst (FitsRecord (released m.state a.leaf)) (release_record-is m.state path a.leaf a.found)
     ((number-Some (leaves_of m.state) path a.leaf a.found).0, whole.forces a.leaf (not-false (forced_at m.state.content.forced a.leaf) a.allowed.0)))
-record_fits (change renames read) m next at_leaf whole accepted = absurd (cc)
+record_fits (change renames read) m next whole accepted = change_fits renames read m next whole accepted
 
 -- ---- whole states
-
--- the types in the order of their places
-all_elems : List Elem
-all_elems = elems.Bool ∷ elems.Sint ∷ elems.Int ∷ elems.Dint ∷ elems.Lint ∷ elems.Usint ∷ elems.Uint ∷ elems.Udint ∷ elems.Ulint ∷ elems.Byte ∷ elems.Word ∷ elems.Dword ∷ elems.Lword ∷ elems.Time ∷ []
-
--- a type is the one at its place
-elem_at_place : (elem : Elem) → get_or all_elems (place_of elem) elems.Bool ≡ elem
-unfolding all_elems
-elem_at_place elems.Bool = refl
-elem_at_place elems.Sint = refl
-elem_at_place elems.Int = refl
-elem_at_place elems.Dint = refl
-elem_at_place elems.Lint = refl
-elem_at_place elems.Usint = refl
-elem_at_place elems.Uint = refl
-elem_at_place elems.Udint = refl
-elem_at_place elems.Ulint = refl
-elem_at_place elems.Byte = refl
-elem_at_place elems.Word = refl
-elem_at_place elems.Dword = refl
-elem_at_place elems.Lword = refl
-elem_at_place elems.Time = refl
-
-both : (a b : Bool) → a && b ≡ true → (a ≡ true) × (b ≡ true)
-both true true is = (refl, refl)
-both true false is = absurd (cc)
-both false b is = absurd (cc)
-
-same_elem : (a b : Elem) → is_same a b ≡ true → a ≡ b
-same_elem a b same =
-    let place : place_of a ≡ place_of b = (Decides-eqb (place_of a) (place_of b)).0 same in
-    sym (elem_at_place a) ∙ ap (λ place. get_or all_elems place elems.Bool) place ∙ elem_at_place b
 
 -- what is tested to be a value of a leaf is one
 takes_value : (leaves : List Leaf) (i : ℕ) (value : Value) → is_value_of (leaf_at leaves i) value ≡ true → IsValueAt leaves i value
 takes_value leaves i value takes =
-    let both = both (is_same value.elem (leaf_at leaves i).elem) (is_value value) takes in
+    let both = and_parts (is_same value.elem (leaf_at leaves i).elem) (is_value value) takes in
     record { elem = same_elem value.elem (leaf_at leaves i).elem both.0; in_range = both.1 }
 
 pub whole_after : StepsKeepWhole
-whole_after (write path value) m next at_leaf whole accepted =
+whole_after (write path value) m next sound whole accepted =
     let a = write_accepts path value m next accepted in
     subst IsWhole a.next_is (record {
       sound = whole.sound;
@@ -137,7 +104,7 @@ whole_after (write path value) m next at_leaf whole accepted =
       forces = whole.forces;
       moment = whole.moment;
     })
-whole_after (force path value) m next at_leaf whole accepted =
+whole_after (force path value) m next sound whole accepted =
     let a = force_accepts path value m next accepted in
     let here : IsOpenAt (leaves_of m.state) a.leaf = not-false (is_open (leaf_at (leaves_of m.state) a.leaf).role) a.allowed.0 in
     let valued = with_value_fits (leaves_of m.state) m.state.content a.leaf value whole.fits
@@ -148,7 +115,7 @@ whole_after (force path value) m next at_leaf whole accepted =
       forces = mark_keeps_open (leaves_of m.state) m.state.content.forced a.leaf true whole.forces here;
       moment = whole.moment;
     })
-whole_after (release path) m next at_leaf whole accepted =
+whole_after (release path) m next sound whole accepted =
     let a = release_accepts path m next accepted in
     let here : IsOpenAt (leaves_of m.state) a.leaf = whole.forces a.leaf (not-false (forced_at m.state.content.forced a.leaf) a.allowed.0) in
     subst IsWhole a.next_is (record {
@@ -157,4 +124,4 @@ whole_after (release path) m next at_leaf whole accepted =
       forces = mark_keeps_open (leaves_of m.state) m.state.content.forced a.leaf false whole.forces here;
       moment = whole.moment;
     })
-whole_after (change renames read) m next at_leaf whole accepted = absurd (cc)
+whole_after (change renames read) m next sound whole accepted = change_whole renames read m next sound whole accepted

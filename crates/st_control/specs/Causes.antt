@@ -1,6 +1,8 @@
 -- Refusals, each by its name.
 use Rattle.st_control.specs.declared.refusal.Refusal.{Refusal}
 use Rattle.st_control.specs.declared.refusal.Refusal.TheVariants.{M, O, S}
+use Rattle.st_layout.specs.declared.plan_fault.PlanFault.{PlanFault}
+use Rattle.st_layout.specs.declared.plan_fault.PlanFault.TheVariants.{Memory, NotPaired}
 
 -- ---- of an operator's command (O)
 
@@ -55,3 +57,8 @@ too_long = S 4 1
 -- there is no memory
 abbrev pub no_memory : Refusal
 no_memory = M
+
+-- how it is answered that an online change has no plan
+abbrev pub refusal_of_plan : PlanFault → Refusal
+refusal_of_plan Memory = no_memory
+refusal_of_plan NotPaired = not_paired

@@ -1,5 +1,5 @@
 -- Online changes: what one makes of a state, which renames it takes, and when it would leave a chart without an active step.
-use Rattle.std.specs.Prelude.{ℕ, Bool, true, false, not, ◌&&◌, List, length, map, Option}
+use Rattle.std.specs.Prelude.{ℕ, ◌≡◌, ◌<◌, Bool, true, false, not, ◌&&◌, if◌then◌else◌, List, get_or, length, map, Option, None}
 use Rattle.std.specs.List.{list_any, range_with_len}
 use Rattle.std.specs.Option.{is_some}
 use Rattle.st_check.specs.Programs.{ProgramView, leaves_of_program}
@@ -32,12 +32,11 @@ changed s renames program = record {
 }
 
 -- how many leaves are kept, dropped and fresh
+abbrev pub counts_of_pairs : Pairs → Counts
+counts_of_pairs pairs = record { kept = kept_count pairs; dropped = dropped_count pairs; fresh = fresh_count pairs }
+
 abbrev pub counts_of : StateView → List Rename → ProgramView → Counts
-counts_of s renames program = record {
-  kept = kept_count (pairs_of s renames program);
-  dropped = dropped_count (pairs_of s renames program);
-  fresh = fresh_count (pairs_of s renames program);
-}
+counts_of s renames program = counts_of_pairs (pairs_of s renames program)
 
 -- a part's two paths in upper case
 abbrev pub raised_rename : Rename → Rename
@@ -57,24 +56,36 @@ abbrev pub is_chart : Role → Bool
 is_chart ChartBegun = true
 is_chart _ = false
 
--- a leaf of this role tells of a step of this chart whether it is active
-abbrev pub is_step_of : ℕ → Role → Bool
-is_step_of chart role = is_number chart (chart_of role)
-
 -- the old leaf of this number is kept
 abbrev pub is_kept : List (Option ℕ) → ℕ → Bool
 is_kept targets i = is_some (number_at targets i)
 
+-- the number of the `$CHART` of the chart whose step this old leaf tells to be active, where the leaf is kept
+abbrev pub active_chart : List Leaf → List (Option ℕ) → List Value → ℕ → Option ℕ
+active_chart old targets values i = if is_kept targets i && is_true (value_at values i) then chart_of (leaf_at old i).role else None
+
 -- a step of the chart is kept that is active
 abbrev pub keeps_active_step : List Leaf → List (Option ℕ) → List Value → ℕ → Bool
-keeps_active_step old targets values chart =
-    list_any (λ i. is_step_of chart (leaf_at old i).role && (is_kept targets i && is_true (value_at values i))) (range_with_len 0 (length old))
+keeps_active_step old targets values chart = list_any (λ i. is_number chart (active_chart old targets values i)) (range_with_len 0 (length old))
 
--- a chart is kept, and no step of it that is active
+-- a chart is kept that keeps no active step
+abbrev pub stops : List Leaf → List (Option ℕ) → List Value → ℕ → Bool
+stops old targets values i = is_kept targets i && (is_chart (leaf_at old i).role && not (keeps_active_step old targets values i))
+
 abbrev pub loses_active_step : List Leaf → List (Option ℕ) → List Value → Bool
-loses_active_step old targets values =
-    list_any (λ i. is_chart (leaf_at old i).role && (is_kept targets i && not (keeps_active_step old targets values i))) (range_with_len 0 (length old))
+loses_active_step old targets values = list_any (stops old targets values) (range_with_len 0 (length old))
 
 -- a chart that both programs have would keep no active step
 abbrev pub stops_chart : StateView → List Rename → ProgramView → Bool
 stops_chart s renames program = loses_active_step (leaves_of s) (pairs_of s renames program).targets s.content.values
+
+-- ---- how that is found
+
+-- whether the mark of this number is set
+abbrev pub mark_at : List Bool → ℕ → Bool
+mark_at marks k = get_or marks k false
+
+-- each old leaf has a mark: whether it is the chart of a kept and active step, one of the first n leaves
+pub record AreMarks (old : List Leaf) (targets : List (Option ℕ)) (values : List Value) (n : ℕ) (marks : List Bool) : Type 0 where
+  pub long : length marks ≡ length old
+  pub marked : (k : ℕ) → k < length old → mark_at marks k ≡ list_any (λ i. is_number k (active_chart old targets values i)) (range_with_len 0 n)

@@ -2,7 +2,7 @@
 use Rattle.std.specs.Prelude.{ℕ, ◌≡◌, ◌⊎◌, Bool, true, false, List, [], ◌∷◌, ◌++◌, reverse, count_by, unwrap_or, Option, Some, None, Result, Ok, Err, IsOk}
 use Rattle.std.specs.Result.{result_unwrap_or}
 use Rattle.st_check.specs.Programs.{ProgramView}
-use Rattle.st_control.specs.Causes.{no_such_path}
+use Rattle.st_control.specs.Causes.{no_memory, no_such_path}
 use Rattle.st_control.specs.Changes.{pairs_of, raised_renames}
 use Rattle.st_control.specs.Machine.{Command, HasChangeFirst, Machine, Past, step, undo_step}
 use Rattle.st_control.specs.Machine.Command.{change, force, release, write}
@@ -64,6 +64,11 @@ abbrev pub TakesUndo : {A : Type 0} → ControllerView → Result A Refusal → 
 TakesUndo old result new =
     (granted : Bool) × ((granted ≡ true) ⊎ HasChangeFirst (machine_of old).history) × Takes (undo_step granted (machine_of old)) old result new
 
+-- the call did what the machine does with an online change to a program that was read, or there was no memory
+abbrev pub GoesOver : {A : Type 0} → ProgramView → List Rename → ControllerView → Result A Refusal → ControllerView → Type 0
+GoesOver program renames old result new =
+    (read : Result ProgramView Refusal) × ((read ≡ Ok program) ⊎ (read ≡ Err no_memory)) × Takes (step (change renames read) (machine_of old)) old result new
+
 -- The call did what the machine does with an online change to what the text was read as.
 abbrev pub TakesChange : {A : Type 0} → List ℕ → List Rename → ControllerView → Result A Refusal → ControllerView → Type 0
 TakesChange text renames old result new =
@@ -88,16 +93,17 @@ abbrev pub release_record : StateView → List ℕ → Record
 release_record s path = Release (leaf_at_path s path)
 
 -- An online change: the program that ran before, the values of the leaves that are dropped with the numbers of those that
--- are forced, and the renames in upper case.
+-- are forced, and the renames as they are given.
 abbrev pub change_record : StateView → List Rename → ProgramView → Record
-change_record s renames program = Change s.program (saved (pairs_of s renames program) s.content) (raised_renames renames)
+change_record s renames program = Change s.program (saved (pairs_of s renames program) s.content) renames
 
--- what an accepted command leaves; an online change to a text that isn't read is never accepted
+-- What an accepted command leaves: of an online change the renames are kept in upper case. One to a text that isn't read is
+-- never accepted.
 abbrev pub record_of : Command → StateView → Record
 record_of (write path value) s = write_record s path
 record_of (force path value) s = force_record s path
 record_of (release path) s = release_record s path
-record_of (change renames read) s = change_record s renames (result_unwrap_or read s.program)
+record_of (change renames read) s = change_record s (raised_renames renames) (result_unwrap_or read s.program)
 
 -- the records have one more, which is this
 abbrev pub Keeps : ControllerView → ControllerView → Record → Type 0

@@ -1,6 +1,6 @@
 -- The machine that a controller stands for: a state, and the states to go back to. It keeps whole states; a controller
 -- has records instead.
-use Rattle.std.specs.Prelude.{ℕ, ◌≡◌, ◌+◌, Bool, true, false, not, ◌&&◌, ◌||◌, if◌then◌else◌, nat_le, List, [], ◌∷◌, ◌++◌, length, Result, Ok, Err}
+use Rattle.std.specs.Prelude.{ℕ, ◌≡◌, ◌⊎◌, ◌+◌, Bool, true, false, not, ◌&&◌, ◌||◌, if◌then◌else◌, nat_le, List, [], ◌∷◌, ◌++◌, length, Result, Ok, Err}
 use Rattle.std.specs.Option.{option_map_or}
 use Rattle.std.specs.Result.{result_unwrap_or}
 use Rattle.st_check.specs.Programs.{ProgramView}
@@ -47,6 +47,11 @@ Cause = Refusal × Bool
 abbrev pub unless : {A : Type 0} → List Cause → A → Result A Refusal
 unless [] result = Ok result
 unless (cause ∷ causes) result = if cause.1 then Err cause.0 else unless causes result
+
+-- a call heeds the causes: none holds where it succeeds, and else the first that does is named, or there is no memory
+abbrev pub Heeds : {A : Type 0} → List Cause → Result A Refusal → Type 0
+Heeds causes (Ok made) = unless {A = Unit {0}} causes tt ≡ Ok tt
+Heeds causes (Err refusal) = (refusal ≡ no_memory) ⊎ (unless {A = Unit {0}} causes tt ≡ Err refusal)
 
 -- whether the value is one of the leaf's type
 abbrev pub is_value_of : Leaf → Value → Bool

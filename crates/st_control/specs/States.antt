@@ -1,5 +1,5 @@
 -- The state of a controller, and what commands make of it.
-use Rattle.std.specs.Prelude.{ℕ, ℤ, pos, ◌≡◌, ◌<◌, ◌≤ℤ◌, ◌^◌, Bool, true, false, List, Option, length}
+use Rattle.std.specs.Prelude.{ℕ, ℤ, pos, ◌≡◌, ◌<◌, ◌≤ℤ◌, ◌^◌, true, false, List, Option, length}
 use Rattle.std.specs.List.{All}
 use Rattle.st_check.specs.Programs.{ProgramView, leaves_of_program}
 use Rattle.st_control.specs.declared.record.Record.{Record}
@@ -7,8 +7,8 @@ use Rattle.st_control.specs.declared.record.Record.TheVariants.{Write, Force, Re
 use Rattle.st_control.specs.declared.state.Status.{Status}
 use Rattle.st_control.specs.declared.state.Status.TheVariants.{Running}
 use Rattle.st_leaves.specs.Sound.{IsSound}
-use Rattle.st_layout.specs.Layout.{IsValueAt, is_open, leaf_at, number_of}
-use Rattle.st_layout.specs.Memory.{Content, Fits, forced_at, initial_content, with_value, with_force}
+use Rattle.st_layout.specs.Layout.{IsOpenAt, IsValueAt, number_of}
+use Rattle.st_layout.specs.Memory.{Content, Fits, ForcesAreOpen, initial_content, with_value, with_force}
 use Rattle.st_layout.specs.Moves.{HoldsValues, unmoved}
 use Rattle.st_layout.specs.Pairs.{is_pairable, pairs_between}
 use Rattle.st_layout.specs.declared.renames.Rename.{Rename}
@@ -26,14 +26,6 @@ pub record StateView : Type 0 where
 -- the leaves of a state's program
 abbrev pub leaves_of : StateView → List Leaf
 leaves_of s = leaves_of_program s.program
-
--- an operator may write and force the leaf of this number
-abbrev pub IsOpenAt : List Leaf → ℕ → Type 0
-IsOpenAt leaves leaf = is_open (leaf_at leaves leaf).role ≡ true
-
--- only open leaves are forced
-abbrev pub ForcesAreOpen : List Leaf → List Bool → Type 0
-ForcesAreOpen leaves forced = (leaf : ℕ) → forced_at forced leaf ≡ true → IsOpenAt leaves leaf
 
 -- a moment, in milliseconds
 pub record IsMoment (now : ℤ) : Type 0 where

@@ -1,10 +1,10 @@
 //! The controller.
 ghost use Rattle.std.specs.Prelude.{◌≡◌, ◌+◌, ◌<◌, ◌≤◌, ◌^◌, ◌++◌, ◌∷◌, [], Err, IfErr, IfOk, IfSome, List, MatchResult, Ok, OnOk, length, vec_capacity, vec_len};
 ghost use Rattle.st_control.specs.Changes.{counts_of};
-ghost use Rattle.st_control.specs.Controllers.{DropsNewest, Keeps, Takes, TakesChange, TakesUndo, change_record, first_controller, force_count, machine_of, record_of, shown_to};
+ghost use Rattle.st_control.specs.Controllers.{DropsNewest, GoesOver, Keeps, Takes, TakesChange, TakesUndo, change_record, first_controller, force_count, machine_of, record_of, shown_to};
 ghost use Rattle.st_control.specs.Loads.{IsLoaded};
 ghost use Rattle.st_control.specs.Machine.{step};
-ghost use Rattle.st_control.specs.Machine.Command.{force, release, write};
+ghost use Rattle.st_control.specs.Machine.Command.{change, force, release, write};
 ghost use Rattle.st_control.specs.States.{IsWhole, leaf_of, leaves_of};
 ghost use Rattle.st_control.specs.Texts.{IsCheckedAs};
 ghost use Rattle.st_layout.specs.Layout.{leaf_at};
@@ -12,14 +12,14 @@ ghost use Rattle.st_check.specs.Programs.{text_of};
 ghost use Rattle.st_tree.specs.declared.tree.unit.Unit.{Unit as ProgramUnit};
 ghost use Rattle.st_values.specs.Values.{IsValue};
 
-use crate::changing::Counts;
+use crate::changing::{Counts, raised};
 use crate::image::Image;
 use crate::record::Record;
 use crate::refusal::{NO_SUCH_PATH, NOTHING_TO_UNDO, Refusal};
 use crate::state::{State, Status};
 use crate::undoing::revert;
 use st_layout::{Memory, Rename};
-use st_tree::Name;
+use st_tree::{List, Name};
 use st_values::{Elem, Value};
 use std::alloc::{AllocError, Global};
 use std::marker::Model;
@@ -209,7 +209,7 @@ impl<M: Memory> Controller<M> {
     pub fn change(&mut self, alloc: Global, text: &[u8]) -> Result<Counts, Refusal>
         ensures step { TakesChange text.now [] self.old result self.new }
         ensures counts { IfOk result (λ counts. counts ≡ counts_of self.old.state [] self.new.state.program) }
-        ensures record { OnOk result (Keeps self.old self.new (change_record self.old.state [] self.new.state.program)) }
+        ensures record { OnOk result (Keeps self.old self.new (record_of (change [] (Ok self.new.state.program)) self.old.state)) }
     {
         self.change_named(alloc, text, Vec::new(alloc))
     }
@@ -221,14 +221,41 @@ impl<M: Memory> Controller<M> {
     /// Refused as `check_program` refuses the text, O6 where the undo list is full, O13 where the renames give no pairs, O8
     /// where a chart that both programs have would keep no active step, and for want of memory. What is refused keeps nothing
     /// that it made.
-    pub fn change_named(&mut self, alloc: Global, text: &[u8], renames: Vec<Rename>) -> Result<Counts, Refusal>
+    pub fn change_named(
+        &mut self,
+        alloc: Global,
+        text: &[u8],
+        renames: Vec<Rename>,
+    ) -> Result<Counts, Refusal>
         ensures step { TakesChange text.now renames.items self.old result self.new }
         ensures counts { IfOk result (λ counts. counts ≡ counts_of self.old.state renames.items self.new.state.program) }
-        ensures record { OnOk result (Keeps self.old self.new (change_record self.old.state renames.items self.new.state.program)) }
+        ensures record { OnOk result (Keeps self.old self.new (record_of (change renames.items (Ok self.new.state.program)) self.old.state)) }
     {
-        let _renames = renames;
-        let _image = Image::load(alloc, text, self.main.bytes())?;
-        Err(Refusal::M)
+        let image = Image::load(alloc, text, self.main.bytes())?;
+        self.go_over(alloc, image, raised(renames))
+    }
+
+    /// Goes over to a program that was read. The renames are in upper case.
+    ///
+    /// Every growth comes before anything is replaced.
+    fn go_over(
+        &mut self,
+        alloc: Global,
+        image: Image,
+        renames: List<Rename>,
+    ) -> Result<Counts, Refusal>
+        ensures step { GoesOver image renames self.old result self.new }
+        ensures counts { IfOk result (λ counts. counts ≡ counts_of self.old.state renames self.new.state.program) }
+        ensures record { OnOk result (Keeps self.old self.new (change_record self.old.state renames self.new.state.program)) }
+    {
+        let full = self.records.len() >= MAX_RECORDS;
+        let plan = self
+            .state
+            .plan_of_change(alloc, full, &image, renames.as_slice())?;
+        let counts = Counts::of(&plan);
+        let newest = self.state.change(alloc, &plan, image, renames)?;
+        keep(&mut self.records, newest);
+        Ok(counts)
     }
 
     /// Takes back the newest command that isn't undone. It leaves no record itself.

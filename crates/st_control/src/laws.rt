@@ -1,7 +1,8 @@
 //! What holds of all lists of commands.
-ghost use Rattle.st_control.specs.Laws.{ChangesOnePath, GoesThroughStates, IsGivenBack, LoadStays, RecordFits, RecordUndoesCommand, StepsKeepWhole};
+ghost use Rattle.st_control.specs.Laws.{ChangesByPath, GoesThroughStates, IsGivenBack, LoadStays, RecordFits, RecordUndoesCommand, StepsKeepWhole};
 
-/// Whatever commands are given, as many undos as were accepted give back the states before, in order, and the history.
+/// Whatever commands are given, as many undos that are accepted as commands were give back the states before, in order, and the
+/// history: whatever programs were changed for others between them, and whatever was refused, undos for want of memory too.
 ///
 /// The laws speak of the machine that the calls of a controller are equations with.
 pub fn undos_give_back_states()
@@ -9,9 +10,10 @@ pub fn undos_give_back_states()
     ensures in_order { GoesThroughStates }
 {}
 
-/// A command that is accepted changes the value or the force at its own path, and at no other.
-pub fn command_changes_one_path()
-    ensures { ChangesOnePath }
+/// A write, a force or a release that is accepted changes the value or the force at its own path, and at no other. An online
+/// change carries values and forces from path to path.
+pub fn command_changes_by_path()
+    ensures { ChangesByPath }
 {}
 
 /// What a command that is accepted leaves in its record fits the state after, and gives back the state before from it alone.

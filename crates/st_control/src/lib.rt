@@ -16,8 +16,7 @@ pub use check::{check_program, texts_give_one_list};
 pub use controller::{Controller, MAX_RECORDS, Report};
 pub use image::Image;
 pub use laws::{
-    command_changes_one_path, record_undoes_command, steps_keep_states_whole,
-    undos_give_back_states,
+    command_changes_by_path, record_undoes_command, steps_keep_states_whole, undos_give_back_states,
 };
 pub use record::Record;
 pub use refusal::{

@@ -1,9 +1,11 @@
 //! Why a command is refused.
 ghost use Rattle.std.specs.Prelude.{◌≡◌};
+ghost use Rattle.st_control.specs.Causes.{refusal_of_plan};
 ghost use Rattle.st_control.specs.Texts.{refusal_of, refusal_of_rules};
 ghost use Rattle.st_control.specs.declared.refusal.Refusal.TheVariants as refusals;
 
 use st_check::CheckFault;
+use st_layout::PlanFault;
 use st_tokens::SyntaxFault;
 use std::alloc::AllocError;
 
@@ -75,6 +77,17 @@ impl From<CheckFault> for Refusal {
                 line: fault.line(),
             },
             None => Refusal::M,
+        }
+    }
+}
+
+impl From<PlanFault> for Refusal {
+    ghost from_gives = { λ fault refusal. refusal ≡ refusal_of_plan fault };
+
+    fn from(fault: PlanFault) -> Refusal {
+        match fault {
+            PlanFault::Memory => Refusal::M,
+            PlanFault::NotPaired => Refusal::O(NOT_PAIRED),
         }
     }
 }

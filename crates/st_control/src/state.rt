@@ -2,7 +2,7 @@
 ghost use Rattle.std.specs.Prelude.{◌≡◌, ◌<◌, IfOk, IsTrue, OnOk, count_by, false, true, length};
 ghost use Rattle.st_control.specs.Machine.{is_value_of};
 ghost use Rattle.st_leaves.specs.Sound.{IsValueOf};
-ghost use Rattle.st_layout.specs.Layout.{IsValueAt, is_open};
+ghost use Rattle.st_layout.specs.Layout.{IsOpenAt, IsValueAt, is_open};
 ghost use Rattle.st_layout.specs.Memory.{forced_at, value_at};
 
 use crate::image::Image;
@@ -62,7 +62,8 @@ pub struct State<M: Memory> {
 impl<M: Memory> Model for State<M> {
     ghost use Rattle.std.specs.Coded.{codes};
     ghost use Rattle.st_check.specs.Programs.{leaves_of_program};
-    ghost use Rattle.st_control.specs.States.{ForcesAreOpen, IsMoment, StateView};
+    ghost use Rattle.st_control.specs.States.{IsMoment, StateView};
+    ghost use Rattle.st_layout.specs.Memory.{ForcesAreOpen};
     ghost use Rattle.st_tree.specs.contracts.tree.expression.Expression as expression;
     ghost use Rattle.st_tree.specs.contracts.tree.statement.Statement as statement;
 
@@ -76,7 +77,8 @@ impl<M: Memory> Model for State<M> {
 }
 
 impl<M: Memory> State<M> {
-    ghost use Rattle.st_control.specs.States.{FitsRecord, IsOpenAt, IsWhole, forced, leaf_of, leaves_of, released, undone, written};
+    ghost use Rattle.st_control.specs.States.{FitsRecord, IsWhole, forced, leaf_of, leaves_of, released, undone, written};
+    ghost use Rattle.st_control.specs.Controllers.{is_of_change};
     ghost use Rattle.st_control.specs.Machine.{leaf_to_force, leaf_to_release, leaf_to_write};
 
     /// The leaf that a write would set, or its refusal.
@@ -172,6 +174,7 @@ impl<M: Memory> State<M> {
         ensures new { self.new ≡ written self.old leaf value }
         ensures back { undone self.new result ≡ self.old }
         ensures fitting { FitsRecord self.new result }
+        ensures kind { is_of_change result ≡ false }
     {
         let old = self.memory.get(self.image.layout(), leaf);
         self.memory.set(self.image.layout(), leaf, value);
@@ -188,6 +191,7 @@ impl<M: Memory> State<M> {
         ensures new { self.new ≡ forced self.old leaf value }
         ensures back { undone self.new result ≡ self.old }
         ensures fitting { FitsRecord self.new result }
+        ensures kind { is_of_change result ≡ false }
     {
         let old = self.memory.get(self.image.layout(), leaf);
         let was = self.memory.forced(self.image.layout(), leaf);
@@ -205,6 +209,7 @@ impl<M: Memory> State<M> {
         ensures new { self.new ≡ released self.old leaf }
         ensures back { undone self.new result ≡ self.old }
         ensures fitting { FitsRecord self.new result }
+        ensures kind { is_of_change result ≡ false }
     {
         self.memory.mark(self.image.layout(), leaf, false);
         Record::Release { leaf }

@@ -1,16 +1,19 @@
 //! Undoing one record.
-ghost use Rattle.std.specs.Prelude.{◌≡◌, IfErr, IsOk, OnOk, false};
+ghost use Rattle.std.specs.Prelude.{◌≡◌, IfErr, IsOk, OnErr, OnOk, false};
 ghost use Rattle.st_control.specs.Controllers.{is_of_change};
-ghost use Rattle.st_control.specs.States.{FitsRecord, undone};
+ghost use Rattle.st_control.specs.States.{FitsRecord, FitsSaved, undone};
+ghost use Rattle.st_layout.specs.Memory.{ForcesAreOpen};
+ghost use Rattle.st_layout.specs.Moves.{unmoved};
+ghost use Rattle.st_layout.specs.Pairs.{pairs_between};
 
 use crate::record::Record;
 use crate::state::State;
-use st_layout::Memory;
-use std::alloc::Global;
+use st_layout::{Layout, Memory, Plan, PlanFault, Rename, Saved};
+use std::alloc::{AllocError, Global};
 
 /// Gives back the state before the command that left this record. Only where that is an online change it may be refused, for
 /// want of memory; then the record is handed back, and the state is as before.
-pub fn revert<M: Memory>(_alloc: Global, state: &mut State<M>, newest: Record) -> Result<(), Record>
+pub fn revert<M: Memory>(alloc: Global, state: &mut State<M>, newest: Record) -> Result<(), Record>
     requires { FitsRecord state.old newest }
     ensures ok { OnOk result (state.new ≡ undone state.old newest) }
     ensures always { is_of_change newest ≡ false → IsOk result }
@@ -27,7 +30,52 @@ pub fn revert<M: Memory>(_alloc: Global, state: &mut State<M>, newest: Record) -
         Record::Release { leaf } => {
             state.memory.mark(state.image.layout(), leaf, true);
         }
-        Record::Change { .. } => return Err(newest),
+        Record::Change {
+            old,
+            saved,
+            renames,
+        } => {
+            let memory = &mut state.memory;
+            match move_back(
+                alloc,
+                memory,
+                old.layout(),
+                state.image.layout(),
+                &saved,
+                renames.as_slice(),
+            ) {
+                Ok(()) => state.image = old,
+                Err(_) => return Err(Record::Change {
+                    old,
+                    saved,
+                    renames,
+                }),
+            }
+        }
     }
     Ok(())
+}
+
+/// Moves a memory back to the layout before an online change, by the plan that its renames give again. It is refused for want
+/// of memory alone, and then all is as before.
+fn move_back<M: Memory>(
+    alloc: Global,
+    memory: &mut M,
+    old: &Layout,
+    new: &Layout,
+    saved: &Saved,
+    renames: &[Rename],
+) -> Result<(), AllocError>
+    requires over { M.IsOver new.now memory.old }
+    requires fits { FitsSaved old.now new.now saved.now renames.now }
+    ensures over { OnOk result (M.IsOver old.now memory.new) }
+    ensures unmoved { OnOk result (M.content old.now memory.new ≡ unmoved old.now (pairs_between old.now new.now renames.now) (M.content new.now memory.old) saved.now) }
+    ensures open { ForcesAreOpen new.now (M.content new.now memory.old).forced → OnOk result (ForcesAreOpen old.now (M.content old.now memory.new).forced) }
+    ensures err { OnErr result (memory.new ≡ memory.old) }
+{
+    match Plan::between(alloc, old, new, renames) {
+        Ok(plan) => memory.back(alloc, &plan, old, new, saved),
+        Err(PlanFault::Memory) => Err(AllocError),
+        Err(PlanFault::NotPaired) => unreachable!(),
+    }
 }

@@ -1,6 +1,5 @@
--- The table as the code keeps it: of references.
-use Rattle.std.proofs.Common.{◌≡◌, ◌∙◌, ◌⊎◌, ℕ, suc, ◌+◌, ◌<◌, ◌≤◌, List, length, get_or, set, take, map, replicate, Option, Some, None, refl, ap, sym, subst, arith, inl, inr, Bor}
-use Rattle.std.specs.Option.{option_copied}
+-- The table as the code keeps it: of the units that write the values.
+use Rattle.std.proofs.Common.{◌≡◌, ◌∙◌, ◌⊎◌, ℕ, suc, ◌+◌, ◌<◌, ◌≤◌, List, length, get_or, set, take, map, replicate, Option, Some, None, refl, ap, sym, subst, arith, inl, inr}
 use Rattle.std.proofs.Math.ListN.{get_or-map}
 use Rattle.std.proofs.lemmas.Bool.{cases_lt}
 use Rattle.std.proofs.lemmas.List.{get_or-replicate, get_or_past, length-map, length-replicate, map-set}
@@ -9,7 +8,7 @@ use Rattle.st_order.specs.Graphs.{IsOrder}
 use Rattle.st_references.specs.References.{graph_of, references}
 use Rattle.st_types.specs.Initials.{known, unit_initial}
 use Rattle.st_types.specs.Names.{Named, unit_at}
-use Rattle.st_initials.specs.Tables.{by_table, initial_in}
+use Rattle.st_initials.specs.Tables.{by_table, initial_in, written_at}
 use Rattle.st_initials.proofs.Known.{Knows, knows_more}
 
 same_everywhere : {X : Type 0} (n i : ℕ) (x : X) → get_or (replicate n x) i x ≡ x
@@ -25,20 +24,20 @@ only_none IsCopy other None is = refl
 only_none IsCopy other (Some x) is = absurd (other x is)
 
 -- a table of none
-pub none_in : (n i : ℕ) → initial_in (map (option_copied {T = Initial}) (replicate n None)) i ≡ None
-none_in n i = get_or-map option_copied (replicate n None) i None ∙ ap option_copied (same_everywhere n i None)
+pub none_in : (all : List (Option Initial)) (n i : ℕ) → initial_in (map (written_at all) (replicate n None)) i ≡ None
+none_in all n i = get_or-map (written_at all) (replicate n None) i None ∙ ap (written_at all) (same_everywhere n i None)
 
 module _ (units : List Named) (order : List ℕ) (ordered : IsOrder (graph_of units) order) (place : ℕ) (below : place < length order) where
   -- with what is found of the unit at the place
-  pub knows_next : (items slice : List (Option (Bor Initial))) (found : Option (Bor Initial)) → slice ≡ items → length items ≡ length units
-      → Knows units (take place order) (suc place) (map option_copied items)
-      → option_copied found ≡ known units (unit_initial units (by_table (map option_copied slice)) (unit_at units (get_or order place 0)))
-      → Knows units (take (place + 1) order) (suc (place + 1)) (map option_copied (set items (get_or order place 0) found))
-  knows_next items slice found same len knows is =
-      let own : option_copied found ≡ known units (unit_initial units (by_table (map option_copied items)) (unit_at units (get_or order place 0))) =
-      subst (λ xs. option_copied found ≡ known units (unit_initial units (by_table (map option_copied xs)) (unit_at units (get_or order place 0)))) same is in
+  pub knows_next : (all : List (Option Initial)) (items slice : List (Option ℕ)) (found : Option ℕ) → slice ≡ items → length items ≡ length units
+      → Knows units (take place order) (suc place) (map (written_at all) items)
+      → written_at all found ≡ known units (unit_initial units (by_table (map (written_at all) slice)) (unit_at units (get_or order place 0)))
+      → Knows units (take (place + 1) order) (suc (place + 1)) (map (written_at all) (set items (get_or order place 0) found))
+  knows_next all items slice found same len knows is =
+      let own : written_at all found ≡ known units (unit_initial units (by_table (map (written_at all) items)) (unit_at units (get_or order place 0))) =
+      subst (λ xs. written_at all found ≡ known units (unit_initial units (by_table (map (written_at all) xs)) (unit_at units (get_or order place 0)))) same is in
       let one : suc place ≡ place + 1 = omega arith in
-      subst (λ p. Knows units (take p order) (suc p) (map option_copied (set items (get_or order place 0) found))) one
-      (subst (Knows units (take (suc place) order) (suc (suc place))) (sym (map-set option_copied items (get_or order place 0) found ∙ ap (set (map option_copied items) (get_or order place 0)) own))
-      (knows_more units order ordered place below (map option_copied items) knows
-      (omega (arith, ordered.rows place 0 below, length-map units (λ u. references units u.declares), length-map items (option_copied {T = Initial}), len))))
+      subst (λ p. Knows units (take p order) (suc p) (map (written_at all) (set items (get_or order place 0) found))) one
+      (subst (Knows units (take (suc place) order) (suc (suc place))) (sym (map-set (written_at all) items (get_or order place 0) found ∙ ap (set (map (written_at all) items) (get_or order place 0)) own))
+      (knows_more units order ordered place below (map (written_at all) items) knows
+      (omega (arith, ordered.rows place 0 below, length-map units (λ u. references units u.declares), length-map items (written_at all), len))))

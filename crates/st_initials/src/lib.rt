@@ -5,7 +5,9 @@ mod constant;
 mod first;
 mod lookup;
 mod table;
+mod types;
 
 pub use constant::value_written;
-pub use first::FirstValues;
+pub use first::{FirstValues, Written};
 pub use table::Initials;
+pub use types::{types_written, written};

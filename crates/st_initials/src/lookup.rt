@@ -1,32 +1,27 @@
-//! Initial values, where the types of units have those of a table.
-ghost use Rattle.std.specs.Prelude.{◌≡◌, ◌<◌, length, map};
-ghost use Rattle.std.specs.Option.{option_copied};
-ghost use Rattle.st_types.specs.Initials.{known, name_initial, specified_initial, unit_initial, written_or};
+//! By which units initial values are written, where the types of units begin with what these units write.
+ghost use Rattle.std.specs.Prelude.{◌≡◌, ◌<◌, List, Option as Maybe, length, map};
+ghost use Rattle.st_tree.specs.declared.tree.declaration.Initial.{Initial};
+ghost use Rattle.st_types.specs.Initials.{known, name_initial, specified_initial, unit_initial};
 ghost use Rattle.st_types.specs.Names.{unit_at, units_of};
-ghost use Rattle.st_initials.specs.Tables.{by_table, initial_in};
+ghost use Rattle.st_initials.specs.Tables.{by_table, initial_in, written_at, written_by};
 
 use st_scopes::Tables;
-use st_tree::Boxed;
-use st_tree::tree::{DeclaredType, Initial, Specification, TypeName};
+use st_tree::tree::{DeclaredType, Specification, TypeName};
 use st_types::{UnitKind, standard_of};
 
 /// Of what has the type of this number.
-pub fn type_initial<'a>(types: &[Option<&'a Initial>], unit: usize) -> Option<&'a Initial>
-    ensures { option_copied result ≡ initial_in (map option_copied types.now) unit }
+fn type_source(types: &[Option<usize>], unit: usize) -> Option<usize>
+    ensures { (all : List (Maybe Initial)) → written_at all result ≡ initial_in (map (written_at all) types.now) unit }
 {
     match types.get(unit) {
-        Some(initial) => *initial,
+        Some(source) => *source,
         None => None,
     }
 }
 
 /// Of what has a type of this name.
-pub fn name_initial<'a>(
-    tables: &Tables<'_>,
-    types: &[Option<&'a Initial>],
-    name: &TypeName,
-) -> Option<&'a Initial>
-    ensures { option_copied result ≡ known (units_of tables.now) (name_initial (units_of tables.now) (by_table (map option_copied types.now)) name.now) }
+pub fn name_source(tables: &Tables<'_>, types: &[Option<usize>], name: &TypeName) -> Option<usize>
+    ensures { (all : List (Maybe Initial)) → written_at all result ≡ known (units_of tables.now) (name_initial (units_of tables.now) (by_table (map (written_at all) types.now)) name.now) }
 {
     let TypeName::Declared(identifier) = name else {
         return None;
@@ -36,54 +31,37 @@ pub fn name_initial<'a>(
         return None;
     }
     match tables.number_of(spelling) {
-        Some(unit) => type_initial(types, unit),
+        Some(unit) => type_source(types, unit),
         None => None,
     }
 }
 
 /// Of what is specified so. An array has none.
-fn specified_initial<'a>(
+pub fn specified_source(
     tables: &Tables<'_>,
-    types: &[Option<&'a Initial>],
+    types: &[Option<usize>],
     specification: &Specification,
-) -> Option<&'a Initial>
-    ensures { option_copied result ≡ known (units_of tables.now) (specified_initial (units_of tables.now) (by_table (map option_copied types.now)) specification.now) }
+) -> Option<usize>
+    ensures { (all : List (Maybe Initial)) → written_at all result ≡ known (units_of tables.now) (specified_initial (units_of tables.now) (by_table (map (written_at all) types.now)) specification.now) }
 {
     match specification {
-        Specification::Simple(name) => name_initial(tables, types, name),
+        Specification::Simple(name) => name_source(tables, types, name),
         Specification::Array(..) => None,
     }
 }
 
-/// Of what is declared so: the one that is written, or else that of what is specified.
-pub fn declared_initial<'a>(
-    tables: &Tables<'_>,
-    types: &[Option<&'a Initial>],
-    specification: &Specification,
-    initial: &'a Option<Boxed<Initial>>,
-) -> Option<&'a Initial>
-    ensures { option_copied result ≡ known (units_of tables.now)
-        (written_or (specified_initial (units_of tables.now) (by_table (map option_copied types.now)) specification.now) initial.now) }
-{
-    match initial {
-        Some(initial) => Some(initial.get()),
-        None => specified_initial(tables, types, specification),
-    }
-}
-
-/// Of what has the unit of this number as its type.
-pub fn unit_initial<'a>(
-    tables: &Tables<'a>,
-    types: &[Option<&'a Initial>],
-    unit: usize,
-) -> Option<&'a Initial>
+/// Of what has the unit of this number as its type: the unit itself, or else that of what is specified.
+pub fn unit_source(tables: &Tables<'_>, types: &[Option<usize>], unit: usize) -> Option<usize>
     requires { unit < length (units_of tables.now) }
-    ensures { option_copied result ≡ known (units_of tables.now)
-        (unit_initial (units_of tables.now) (by_table (map option_copied types.now)) (unit_at (units_of tables.now) unit)) }
+    ensures { (all : List (Maybe Initial)) → all ≡ map written_by (units_of tables.now)
+        → written_at all result ≡ known (units_of tables.now) (unit_initial (units_of tables.now) (by_table (map (written_at all) types.now)) (unit_at (units_of tables.now) unit)) }
 {
     match tables.unit(unit).kind {
         UnitKind::Type(DeclaredType::Derived(specification, initial)) => {
-            declared_initial(tables, types, specification, initial)
+            match initial {
+                Some(_) => Some(unit),
+                None => specified_source(tables, types, specification),
+            }
         }
         UnitKind::Type(DeclaredType::Structure(..))
         | UnitKind::Function(_)

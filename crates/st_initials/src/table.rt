@@ -3,14 +3,14 @@ ghost use Rattle.std.specs.Prelude.{◌≡◌, ◌<◌, IfOk, length, map};
 ghost use Rattle.std.specs.Option.{option_copied};
 ghost use Rattle.st_order.specs.Graphs.{IsOrder};
 ghost use Rattle.st_references.specs.References.{graph_of};
-ghost use Rattle.st_scopes.specs.Declarations.{seen};
 ghost use Rattle.st_types.specs.Initials.{element_initial, initial_of, unit_element_initial};
-ghost use Rattle.st_types.specs.Names.{unit_at, units_of};
-ghost use Rattle.st_initials.specs.Tables.{AreInitials};
+ghost use Rattle.st_types.specs.Names.{Declared, unit_at, units_of};
+ghost use Rattle.st_initials.specs.Tables.{AreInitials, written_at, written_by};
 
-use crate::lookup::{declared_initial, name_initial, unit_initial};
-use st_scopes::{Declared, Tables};
-use st_tree::tree::{DeclaredType, Initial, Specification};
+use crate::first::Written;
+use crate::lookup::{name_source, specified_source, unit_source};
+use st_scopes::Tables;
+use st_tree::tree::{DeclaredType, Specification};
 use st_types::UnitKind;
 use std::alloc::{AllocError, Global};
 use std::marker::Model;
@@ -18,47 +18,57 @@ use std::marker::Model;
 /// The initial values of the types of a text, by the numbers of the units.
 #[derive(Drop)]
 pub struct Initials<'a> {
-    types: Vec<Option<&'a Initial>>,
+    /// What the units write themselves.
+    written: &'a [Option<Written<'a>>],
+    /// The unit that writes the initial value of each type.
+    types: Vec<Option<usize>>,
 }
 
 impl<'a> Model for Initials<'a> {
     ghost use Rattle.std.specs.Prelude.{List, Option, map};
-    ghost use Rattle.std.specs.Option.{option_copied};
-    ghost use Rattle.st_tree.specs.declared.tree.declaration.Initial.{Initial as Written};
+    ghost use Rattle.st_tree.specs.declared.tree.declaration.Initial.{Initial};
 
-    ghost Value = { List (Option Written) };
+    ghost Value = { List (Option Initial) };
 
-    ghost view = { λ t. map option_copied t.types.items };
+    ghost use Rattle.st_initials.specs.Tables.{written_at};
+
+    ghost view = { λ t. map (written_at t.written.now) t.types.items };
 }
 
 impl<'a> Initials<'a> {
-    /// The table of a text. In the order each unit stands after all that it refers to.
+    /// The table of a text, where this is what its types write themselves. In the order each unit stands after all that it refers
+    /// to.
     ///
     /// Each unit is read once, so the time is linear, however many types are declared as one another.
     pub fn new(
         alloc: Global,
-        tables: &Tables<'a>,
+        tables: &Tables<'_>,
+        written: &'a [Option<Written<'a>>],
         order: &[usize],
     ) -> Result<Initials<'a>, AllocError>
-        requires { IsOrder (graph_of (units_of tables.now)) order.now }
+        requires written { written.now ≡ map written_by (units_of tables.now) }
+        requires order { IsOrder (graph_of (units_of tables.now)) order.now }
         ensures { IfOk result (λ initials. AreInitials (units_of tables.now) initials) }
     {
-        let types = initials_of(alloc, tables, order)?;
-        Ok(Initials { types })
+        let types = sources_of(alloc, tables, written, order)?;
+        Ok(Initials { written, types })
     }
 
-    /// With what a declared name begins, where a value is written for it or its type.
-    pub fn of(&self, tables: &Tables<'_>, declared: &Declared<'a>) -> Option<&'a Initial>
+    /// With what a declared name begins: with the value that its declaration writes, or else with that of its type.
+    pub fn of(
+        &self,
+        tables: &Tables<'_>,
+        specification: &Specification,
+        written: Option<&'a Written<'a>>,
+    ) -> Option<&'a Written<'a>>
         requires { AreInitials (units_of tables.now) self.now }
-        ensures { option_copied result ≡ initial_of (units_of tables.now) (seen declared.now) }
+        ensures { (v : Declared) → v.specification ≡ specification.now → v.initial ≡ option_copied written.entry → option_copied result ≡ initial_of (units_of tables.now) v }
     {
-        let declaration = declared.declaration;
-        declared_initial(
-            tables,
-            &self.types,
-            &declaration.specification,
-            &declaration.initial,
-        )
+        if written.is_some() {
+            return written;
+        }
+        let source = specified_source(tables, &self.types, specification);
+        written_at(self.written, source)
     }
 
     /// With what each element begins of what is declared as an array.
@@ -66,18 +76,21 @@ impl<'a> Initials<'a> {
         &self,
         tables: &Tables<'_>,
         specification: &Specification,
-    ) -> Option<&'a Initial>
+    ) -> Option<&'a Written<'a>>
         requires { AreInitials (units_of tables.now) self.now }
         ensures { option_copied result ≡ element_initial (units_of tables.now) specification.now }
     {
         match specification {
             Specification::Simple(_) => None,
-            Specification::Array(_, _, name) => name_initial(tables, &self.types, name.get()),
+            Specification::Array(_, _, name) => {
+                let source = name_source(tables, &self.types, name.get());
+                written_at(self.written, source)
+            }
         }
     }
 
-    /// With what each element of an array type begins, whose unit has this number.
-    pub fn of_array(&self, tables: &Tables<'_>, unit: usize) -> Option<&'a Initial>
+    /// With what each element begins of an array type, whose unit has this number.
+    pub fn of_array(&self, tables: &Tables<'_>, unit: usize) -> Option<&'a Written<'a>>
         requires initials { AreInitials (units_of tables.now) self.now }
         requires unit { unit < length (units_of tables.now) }
         ensures { option_copied result ≡ unit_element_initial (units_of tables.now) (unit_at (units_of tables.now) unit) }
@@ -94,18 +107,33 @@ impl<'a> Initials<'a> {
     }
 }
 
-/// The initial value of each type.
-fn initials_of<'a>(
+/// The unit that writes the initial value of each type, where this is what the units write themselves.
+fn sources_of(
     alloc: Global,
-    tables: &Tables<'a>,
+    tables: &Tables<'_>,
+    written: &[Option<Written<'_>>],
     order: &[usize],
-) -> Result<Vec<Option<&'a Initial>>, AllocError>
-    requires { IsOrder (graph_of (units_of tables.now)) order.now }
-    ensures { IfOk result (λ types. AreInitials (units_of tables.now) (map option_copied types.items)) }
+) -> Result<Vec<Option<usize>>, AllocError>
+    requires written { written.now ≡ map written_by (units_of tables.now) }
+    requires order { IsOrder (graph_of (units_of tables.now)) order.now }
+    ensures { IfOk result (λ types. AreInitials (units_of tables.now) (map (written_at written.now) types.items)) }
 {
     let mut types = vec![in alloc; None; tables.len()]?;
     'units: for &unit in order {
-        types[unit] = unit_initial(tables, &types, unit);
+        types[unit] = unit_source(tables, &types, unit);
     }
     Ok(types)
+}
+
+/// What the unit of this number writes.
+fn written_at<'a>(
+    written: &'a [Option<Written<'a>>],
+    source: Option<usize>,
+) -> Option<&'a Written<'a>>
+    ensures { option_copied result ≡ written_at written.now source }
+{
+    match written.get(source?) {
+        Some(one) => one.as_ref(),
+        None => None,
+    }
 }

@@ -2,7 +2,7 @@
 use Rattle.std.proofs.Common.{inl, inr, ℕ, ◌≡◌, ◌≢◌, ◌+◌, ◌<◌, ◌≤◌, Bool, true, false, not, ◌&&◌, ◌||◌, ltb, List, [], ◌∷◌, suc, length, map, get_or, set, take, drop, Option, Some, None, refl, sym, ◌∙◌, ap, arith}
 use Rattle.std.specs.Char.{to_ascii_uppercase}
 use Rattle.std.specs.List.{list_any}
-use Rattle.std.proofs.lemmas.Bool.{and_right, both_ways, cases_eq, lt-ltb, or_right}
+use Rattle.std.proofs.lemmas.Bool.{cases_eq, lt-ltb, or_right}
 use Rattle.std.proofs.lemmas.Bool.Decides.{nat_tests}
 use Rattle.std.proofs.lemmas.List.Folds.{list_any_more}
 use Rattle.std.proofs.lemmas.List.{get_or-map, get_or-set_other, get_or-set_same, length-map, length-take}
@@ -11,10 +11,10 @@ use Rattle.st_tree.specs.declared.leaf.Leaf.{Leaf}
 use Rattle.st_values.specs.Words.{raised}
 use Rattle.st_layout.specs.Layout.{leaf_at, no_leaf}
 use Rattle.st_layout.specs.Pairs.{is_no_part, names_nothing}
-use Rattle.st_layout.specs.Parts.{AreFilled, IsFilledBy, is_filled, names_unfilled}
+use Rattle.st_layout.specs.Parts.{AreFilled, IsFilledBy, is_filled, names_unfilled, part_at_front}
 use Rattle.st_layout.specs.Renames.{begins_part, is_in}
 use Rattle.st_layout.specs.declared.renames.Rename.{Rename}
-use Rattle.st_layout.proofs.Fronts.{ends_there, first-None, first-Some, first-same, front_of, in_front, is_in_below, looked_up, no_rename, raised_front, rename_at}
+use Rattle.st_layout.proofs.Fronts.{at_front-Some, ends_there, first-None, first-Some, first-same, front_of, in_front, is_in_below, looked_up, no_rename, raised_front, rename_at}
 
 -- ---- one path
 
@@ -25,9 +25,6 @@ below_same path part end apart = by (is_in part path) refl
     by : (is : Bool) → is_in part path ≡ is → (is && ltb (length part) (end + 1)) ≡ (is && ltb (length part) end)
     by false fails = refl
     by true is = let other = apart is in grind (arith, nat_tests)
-
-pub below_none : (path part : List ℕ) → is_in_below 0 part path ≡ false
-below_none path part = and_right (is_in part path) (ltb (length part) 0) (grind (arith, nat_tests))
 
 pub below_all : (path part : List ℕ) (end : ℕ) → length path < end → is_in_below end part path ≡ is_in part path
 below_all path part end past = by (is_in part path) refl
@@ -40,34 +37,40 @@ module _ (path : List ℕ) (upper : raised path ≡ path) (parts : List (List �
   long_raised : (part : List ℕ) → length (raised part) ≡ end → length part ≡ end
   long_raised part long = sym (length-map part to_ascii_uppercase) ∙ long
 
-  -- the path has no front of this length
-  pub none_here : (part : List ℕ) → begins_part (drop end path) ≡ false → is_in_below (end + 1) (raised part) path ≡ is_in_below end (raised part) path
-  none_here part fails = below_same path (raised part) end (λ is long. both_ways (begins_part (drop end path)) fails (ends_there path upper part end is (long_raised part long)))
-
-  -- the front of this length is no part
-  pub missing_here : (part : List ℕ) (i : ℕ) → first_of parts part ≡ Some i → first_of parts (take end path) ≡ None → is_in_below (end + 1) (raised part) path ≡ is_in_below end (raised part) path
-  missing_here part i there none = below_same path (raised part) end (λ is long. let same = first-same parts part (take end path) (looked_up path upper part end is (long_raised part long)) in absurd (cc))
+  -- no part is the front of this length
+  pub missing_here : (part : List ℕ) (i : ℕ) → first_of parts part ≡ Some i → part_at_front parts path end ≡ None → is_in_below (end + 1) (raised part) path ≡ is_in_below end (raised part) path
+  missing_here part i there none = below_same path (raised part) end (λ is long.
+      let ends : begins_part (drop end path) ≡ true = ends_there path upper part end is (long_raised part long) in
+      let missing : first_of parts (take end path) ≡ None = rw ends at none in
+      let same = first-same parts part (take end path) (looked_up path upper part end is (long_raised part long)) in
+      cc)
 
   -- the front of this length is a part
-  pub found_here : (filled old : List Bool) (n : ℕ) → end ≤ length path → begins_part (drop end path) ≡ true → first_of parts (take end path) ≡ Some n → length filled ≡ length parts
+  pub found_here : (filled old : List Bool) (n : ℕ) → end ≤ length path → part_at_front parts path end ≡ Some n → length filled ≡ length parts
       → (part : List ℕ) (i : ℕ) → first_of parts part ≡ Some i → get_or filled i false ≡ (get_or old i false || is_in_below end (raised part) path)
       → get_or (set filled n true) i false ≡ (get_or old i false || is_in_below (end + 1) (raised part) path)
-  found_here filled old n short ends found count part i there before = elim (cases_eq i n) [ inl same ↦ here same | inr other ↦ elsewhere other ]
+  found_here filled old n short found count part i there before = elim (cases_eq i n) [ inl same ↦ here same | inr other ↦ elsewhere other ]
     where
+      ends : begins_part (drop end path) ≡ true
+      ends = (at_front-Some parts path end n found).ends
+
+      first : first_of parts (take end path) ≡ Some n
+      first = (at_front-Some parts path end n found).first
+
       here : i ≡ n → get_or (set filled n true) i false ≡ (get_or old i false || is_in_below (end + 1) (raised part) path)
       here same =
           let front : raised part ≡ take end path =
-          sym (first-Some parts part i there).same ∙ (ap (λ (k : ℕ). raised (get_or parts k [])) same ∙ ((first-Some parts (take end path) n found).same ∙ raised_front path upper end)) in
+          sym (first-Some parts part i there).same ∙ (ap (λ (k : ℕ). raised (get_or parts k [])) same ∙ ((first-Some parts (take end path) n first).same ∙ raised_front path upper end)) in
           let long : length (take end path) ≡ end = omega (arith, length-take end path, short) in
           let is : is_in (raised part) path ≡ true = rw front (in_front path end short ends) in
           let below : ltb (length (raised part)) (end + 1) ≡ true = rw (front, long) (lt-ltb end (end + 1) (omega arith)) in
           let all : is_in_below (end + 1) (raised part) path ≡ true = rw (is, below) refl in
-          rw (same, get_or-set_same filled n true false (omega (arith, count, (first-Some parts (take end path) n found).below))) (sym (rw (← same) (or_right (get_or old i false) (is_in_below (end + 1) (raised part) path) all)))
+          rw (same, get_or-set_same filled n true false (omega (arith, count, (first-Some parts (take end path) n first).below))) (sym (rw (← same) (or_right (get_or old i false) (is_in_below (end + 1) (raised part) path) all)))
 
       elsewhere : i ≢ n → get_or (set filled n true) i false ≡ (get_or old i false || is_in_below (end + 1) (raised part) path)
       elsewhere other =
           let same : is_in_below (end + 1) (raised part) path ≡ is_in_below end (raised part) path =
-          below_same path (raised part) end (λ is long. let first = first-same parts part (take end path) (looked_up path upper part end is (long_raised part long)) in other (cc)) in
+          below_same path (raised part) end (λ is long. let same = first-same parts part (take end path) (looked_up path upper part end is (long_raised part long)) in other (cc first)) in
           get_or-set_other filled n i true false other ∙ (before ∙ ap (λ (b : Bool). get_or old i false || b) (sym same))
 
 -- ---- all leaves

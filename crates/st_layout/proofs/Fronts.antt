@@ -1,5 +1,5 @@
 -- Parts that a path is in, and tables of parts.
-use Rattle.std.proofs.Common.{ℕ, ◌≡◌, ◌≢◌, ◌<◌, ◌≤◌, Bool, true, ◌&&◌, nat_lt, List, [], ◌∷◌, length, map, get_or, take, drop, Some, None, refl, sym, ◌∙◌, ap, arith}
+use Rattle.std.proofs.Common.{ℕ, ◌≡◌, ◌≢◌, ◌<◌, ◌≤◌, Bool, true, false, cond, ◌&&◌, nat_lt, List, [], ◌∷◌, length, map, get_or, take, drop, Option, Some, None, refl, sym, ◌∙◌, ap, arith}
 use Rattle.std.specs.Bool.{Decides}
 use Rattle.std.specs.Char.{to_ascii_lowercase, to_ascii_uppercase}
 use Rattle.std.specs.List.{position}
@@ -12,6 +12,7 @@ use Rattle.std.proofs.lemmas.Slice.Eq.{bytes_eq-Decides}
 use Rattle.st_leaves.proofs.RaisedWords.{same_raised}
 use Rattle.st_names.specs.Tables.{first_of}
 use Rattle.st_values.specs.Words.{is_word, raised}
+use Rattle.st_layout.specs.Parts.{part_at_front}
 use Rattle.st_layout.specs.Renames.{begins_part, is_in}
 use Rattle.st_layout.specs.declared.renames.Rename.{Rename}
 use Rattle.st_layout.proofs.Paths.{position-None}
@@ -99,3 +100,32 @@ module _ (path : List ℕ) (upper : raised path ≡ path) where
 
   pub ends_there : (part : List ℕ) (end : ℕ) → is_in (raised part) path ≡ true → length part ≡ end → begins_part (drop end path) ≡ true
   ends_there part end is long = rw (length-map part to_ascii_uppercase, long) at ((front_of (raised part) path is).ends)
+
+-- ---- fronts that are looked up
+
+-- what is found is a part at its end
+pub record IsAtFront (parts : List (List ℕ)) (path : List ℕ) (end i : ℕ) : Type 0 where
+  pub ends : begins_part (drop end path) ≡ true
+  pub first : first_of parts (take end path) ≡ Some i
+
+pub at_front-Some : (parts : List (List ℕ)) (path : List ℕ) (end i : ℕ) → part_at_front parts path end ≡ Some i → IsAtFront parts path end i
+at_front-Some parts path end i found = by (begins_part (drop end path)) refl found
+  where
+    by : (ends : Bool) → begins_part (drop end path) ≡ ends → cond ends (first_of parts (take end path)) None ≡ Some i → IsAtFront parts path end i
+    by true ends first = record { ends = ends; first = first }
+    by false ends none = cc
+
+-- no part has the length of the front
+pub front-None : (parts : List (List ℕ)) (lengths : List Bool) (path : List ℕ) (end : ℕ) → end ≤ length path → end < 256
+    → ((k : ℕ) → k < length parts → length (get_or parts k []) < 256 → get_or lengths (length (get_or parts k [])) false ≡ true) → get_or lengths end false ≡ false → None ≡ part_at_front parts path end
+front-None parts lengths path end within small marked unmarked = by (begins_part (drop end path)) (first_of parts (take end path)) refl
+  where
+    by : (ends : Bool) (first : Option ℕ) → first_of parts (take end path) ≡ first → None ≡ cond ends first None
+    by false first is = refl
+    by true None is = refl
+    by true (Some k) is =
+        let at = first-Some parts (take end path) k is in
+        let long : length (get_or parts k []) ≡ end =
+        omega (arith, ap length at.same, length-map (get_or parts k []) to_ascii_uppercase, length-map (take end path) to_ascii_uppercase, length-take end path, within) in
+        let told : get_or lengths end false ≡ true = rw long at (marked k at.below (omega (arith, long, small))) in
+        absurd (both_ways (get_or lengths end false) unmarked told)

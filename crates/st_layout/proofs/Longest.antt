@@ -3,13 +3,14 @@ use Rattle.std.proofs.Common.{ℕ, zero, suc, ◌≡◌, ◌≢◌, ◌+◌, ◌
 use Rattle.std.specs.Char.{to_ascii_uppercase}
 use Rattle.std.specs.List.{filter}
 use Rattle.std.specs.Option.{option_map_or}
-use Rattle.std.proofs.lemmas.Bool.{both_ways, false_from_ne_true, le-ltb, lt-ltb}
+use Rattle.std.proofs.lemmas.Bool.{false_from_ne_true, le-ltb, lt-ltb}
 use Rattle.std.proofs.lemmas.List.{get_or-map, length-map, length-take}
 use Rattle.st_names.specs.Tables.{first_of}
 use Rattle.st_values.specs.Words.{raised}
+use Rattle.st_layout.specs.Parts.{part_at_front}
 use Rattle.st_layout.specs.Renames.{begins_part, is_in, longest, renames_over}
 use Rattle.st_layout.specs.declared.renames.Rename.{Rename}
-use Rattle.st_layout.proofs.Fronts.{ends_there, first-None, first-Some, in_front, looked_up, no_rename, raised_front, rename_at}
+use Rattle.st_layout.proofs.Fronts.{at_front-Some, ends_there, first-None, first-Some, in_front, looked_up, no_rename, raised_front, rename_at}
 
 abbrev longer : Rename → Rename → Rename
 longer rename other = cond (nat_lt (length rename.old) (length other.old)) other rename
@@ -27,11 +28,11 @@ module _ (test : Rename → Bool) where
   abbrev IsFound : List Rename → Rename → Type 0
   IsFound renames x = (k : ℕ) × (k < length renames) × (rename_at renames k ≡ x) × (test x ≡ true)
 
-  later : (rename : Rename) (renames : List Rename) (x : Rename) → IsFound renames x → IsFound (rename ∷ renames) x
-  later rename renames x at = (suc at.0, omega (arith, at.1), at.2, at.3)
+  in_rest : (rename : Rename) (renames : List Rename) (x : Rename) → IsFound renames x → IsFound (rename ∷ renames) x
+  in_rest rename renames x at = (suc at.0, omega (arith, at.1), at.2, at.3)
 
-  first : (rename : Rename) (renames : List Rename) (x : Rename) → test rename ≡ true → Some rename ≡ Some x → IsFound (rename ∷ renames) x
-  first rename renames x passes same = let is : rename ≡ x = cc in (0, omega arith, is, ap test (sym is) ∙ passes)
+  in_first : (rename : Rename) (renames : List Rename) (x : Rename) → test rename ≡ true → Some rename ≡ Some x → IsFound (rename ∷ renames) x
+  in_first rename renames x passes same = let is : rename ≡ x = cc in (0, omega arith, is, ap test (sym is) ∙ passes)
 
   found : (renames : List Rename) (x : Rename) → longest (filter test renames) ≡ Some x → IsFound renames x
   found [] x is = cc
@@ -39,15 +40,15 @@ module _ (test : Rename → Bool) where
     where
       by : (passes : Bool) → test rename ≡ passes → (rest : Option Rename) → longest (filter test renames) ≡ rest → longest (cond passes (rename ∷ filter test renames) (filter test renames)) ≡ Some x
           → (longest (filter test renames) ≡ Some x → IsFound renames x) → IsFound (rename ∷ renames) x
-      by false fails rest is_rest is in_rest = later rename renames x (in_rest is)
-      by true passes None is_rest is in_rest = let same : Some rename ≡ Some x = rw is_rest at is in first rename renames x passes same
-      by true passes (Some other) is_rest is in_rest =
+      by false fails rest is_rest is told = in_rest rename renames x (told is)
+      by true passes None is_rest is told = let same : Some rename ≡ Some x = rw is_rest at is in in_first rename renames x passes same
+      by true passes (Some other) is_rest is told =
           let same : Some (longer rename other) ≡ Some x = rw is_rest at is in
           pick (nat_lt (length rename.old) (length other.old)) same
         where
           pick : (b : Bool) → Some (cond b other rename) ≡ Some x → IsFound (rename ∷ renames) x
-          pick true same = later rename renames x (in_rest (is_rest ∙ same))
-          pick false same = first rename renames x passes same
+          pick true same = in_rest rename renames x (told (is_rest ∙ same))
+          pick false same = in_first rename renames x passes same
 
   -- the first of the longest that pass
   pub longest_is : (renames : List Rename) (n : ℕ) → n < length renames → test (rename_at renames n) ≡ true
@@ -87,20 +88,22 @@ module _ (renames : List Rename) (path : List ℕ) (upper : raised path ≡ path
 
   -- a part of this length is none of those that are there
   module _ (end : ℕ) (all : (k : ℕ) → k < length renames → is_in (raised (rename_at renames k).old) path ≡ true → length (rename_at renames k).old < end + 1) where
-    pub shorter_none : begins_part (drop end path) ≡ false → (k : ℕ) → k < length renames → is_in (raised (rename_at renames k).old) path ≡ true → length (rename_at renames k).old < end
-    shorter_none fails k below is =
-        let within = all k below is in
-        let apart : length (rename_at renames k).old ≢ end = λ long. both_ways (begins_part (drop end path)) fails (ends_there path upper (rename_at renames k).old end is long) in
-        omega arith
-
-    pub shorter_missing : first_of (parts_of renames) (take end path) ≡ None → (k : ℕ) → k < length renames → is_in (raised (rename_at renames k).old) path ≡ true → length (rename_at renames k).old < end
+    pub shorter_missing : part_at_front (parts_of renames) path end ≡ None → (k : ℕ) → k < length renames → is_in (raised (rename_at renames k).old) path ≡ true → length (rename_at renames k).old < end
     shorter_missing none k below is =
         let within = all k below is in
-        let apart : length (rename_at renames k).old ≢ end =
-        λ long. first-None (parts_of renames) (take end path) none k (omega (arith, below, count_parts)) (ap raised (part_at k below) ∙ looked_up path upper (rename_at renames k).old end is long) in
+        let apart : length (rename_at renames k).old ≢ end = λ long.
+        (let ends : begins_part (drop end path) ≡ true = ends_there path upper (rename_at renames k).old end is long in
+        let missing : first_of (parts_of renames) (take end path) ≡ None = rw ends at none in
+        first-None (parts_of renames) (take end path) missing k (omega (arith, below, count_parts)) (ap raised (part_at k below) ∙ looked_up path upper (rename_at renames k).old end is long)) in
         omega arith
 
-    module _ (i : ℕ) (short : end ≤ length path) (ends : begins_part (drop end path) ≡ true) (first : first_of (parts_of renames) (take end path) ≡ Some i) where
+    module _ (i : ℕ) (short : end ≤ length path) (found : part_at_front (parts_of renames) path end ≡ Some i) where
+      ends : begins_part (drop end path) ≡ true
+      ends = (at_front-Some (parts_of renames) path end i found).ends
+
+      first : first_of (parts_of renames) (take end path) ≡ Some i
+      first = (at_front-Some (parts_of renames) path end i found).first
+
       pub here_below : i < length renames
       here_below = omega (arith, (first-Some (parts_of renames) (take end path) i first).below, count_parts)
 

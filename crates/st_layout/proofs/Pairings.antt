@@ -11,7 +11,7 @@ use Rattle.std.proofs.lemmas.List.Quantifiers.{position-Some}
 use Rattle.st_names.proofs.Positions.{position-push}
 use Rattle.st_tree.specs.declared.leaf.Leaf.{Leaf}
 use Rattle.st_layout.specs.Layout.{leaf_at, no_leaf, number_of}
-use Rattle.st_layout.specs.Pairs.{IsPairing, are_alike, if_alike, is_number, is_pairable, is_same_number, names_hidden, names_nothing, number_at, pairs_between, renames_twice, shares_target, some_leaves_chart, sources_of, target_of, targets_of}
+use Rattle.st_layout.specs.Pairs.{IsPairing, are_alike, if_alike, is_number, is_pairable, is_same_number, names_wrongly, number_at, pairs_between, shares_target, some_leaves_chart, sources_of, target_of, targets_of}
 use Rattle.st_layout.specs.Renames.{renamed}
 use Rattle.st_layout.specs.declared.renames.Rename.{Rename}
 use Rattle.st_layout.proofs.Paths.{number-Some, position-None}
@@ -224,12 +224,8 @@ module _ (old new : List Leaf) (renames : List Rename) where
   pairable-apart is =
       let shares : Bool = shares_target (targets_of old new renames) in
       let leaves : Bool = some_leaves_chart old new (targets_of old new renames) in
-      let none : (names_nothing old new renames || (names_hidden renames || (renames_twice renames || (shares || leaves)))) ≡ false =
-      not-true (names_nothing old new renames || (names_hidden renames || (renames_twice renames || (shares || leaves)))) is in
-      let named = or_parts (names_nothing old new renames) (names_hidden renames || (renames_twice renames || (shares || leaves))) none in
-      let shown = or_parts (names_hidden renames) (renames_twice renames || (shares || leaves)) named.1 in
-      let once = or_parts (renames_twice renames) (shares || leaves) shown.1 in
-      (or_parts shares leaves once.1).0
+      let none = or_parts (names_wrongly old new renames) (shares || leaves) (not-true (names_wrongly old new renames || (shares || leaves)) is) in
+      (or_parts shares leaves none.1).0
 
 pub pairing_made : (old new : List Leaf) (renames : List Rename) (targets sources : List (Option ℕ)) → targets ≡ targets_of old new renames → sources ≡ sources_of targets (length new) → shares_target targets ≡ false
     → IsPairing old new (record { targets = targets; sources = sources })

@@ -1,5 +1,6 @@
 pub mod Bytes
 pub mod Inside
+pub mod InsideParts
 pub mod Laws
 pub mod Layout
 pub mod Memory

@@ -88,6 +88,10 @@ abbrev pub renames_twice : List Rename → Bool
 renames_twice [] = false
 renames_twice (rename ∷ renames) = list_any (λ other. bytes_eq (raised rename.old) (raised other.old)) renames || renames_twice renames
 
+-- the renames name parts that they may not name
+abbrev pub names_wrongly : List Leaf → List Leaf → List Rename → Bool
+names_wrongly old new renames = names_nothing old new renames || (names_hidden renames || renames_twice renames)
+
 -- one new leaf would take the place of two
 abbrev pub shares_target : List (Option ℕ) → Bool
 shares_target [] = false
@@ -108,8 +112,7 @@ some_leaves_chart old new targets = list_any (λ pair. leaves_chart new targets 
 
 abbrev pub is_pairable : List Leaf → List Leaf → List Rename → Bool
 is_pairable old new renames =
-    not (names_nothing old new renames || (names_hidden renames || (renames_twice renames
-    || (shares_target (targets_of old new renames) || some_leaves_chart old new (targets_of old new renames)))))
+    not (names_wrongly old new renames || (shares_target (targets_of old new renames) || some_leaves_chart old new (targets_of old new renames)))
 
 -- ---- pairings
 

@@ -1,12 +1,16 @@
 -- Parts of programs, by their paths.
-use Rattle.std.specs.Prelude.{ℕ, ◌≡◌, ◌||◌, Bool, false, not, List, get_or, length, Some}
+use Rattle.std.specs.Prelude.{ℕ, ◌≡◌, ◌||◌, Bool, false, not, if◌then◌else◌, List, drop, get_or, length, take, Option, None, Some}
 use Rattle.std.specs.List.{list_any}
 use Rattle.std.specs.Option.{option_map_or}
-use Rattle.st_layout.specs.Renames.{is_in}
+use Rattle.st_layout.specs.Renames.{begins_part, is_in}
 use Rattle.st_layout.specs.declared.renames.Rename.{Rename}
 use Rattle.st_names.specs.Tables.{first_of}
 use Rattle.st_tree.specs.declared.leaf.Leaf.{Leaf}
 use Rattle.st_values.specs.Words.{raised}
+
+-- the place of the part that is the front of so many bytes, where the path ends there or goes on with a member or an element
+abbrev pub part_at_front : List (List ℕ) → List ℕ → ℕ → Option ℕ
+part_at_front parts path end = if begins_part (drop end path) then first_of parts (take end path) else None
 
 -- what is marked of a part
 abbrev pub is_filled : List Bool → List (List ℕ) → List ℕ → Bool

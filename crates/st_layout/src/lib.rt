@@ -9,6 +9,7 @@ mod laws;
 mod layout;
 mod memory;
 mod pairing;
+mod part_table;
 mod parts;
 mod plan;
 mod plan_fault;

@@ -1,28 +1,17 @@
 //! Parts of programs, and which of them a leaf is in.
-ghost use Rattle.std.specs.Prelude.{◌≡◌, IfOk, length};
+ghost use Rattle.std.specs.Prelude.{◌≡◌, ◌≤◌, IfOk, length};
 ghost use Rattle.st_layout.specs.Parts.{AreFilled, IsFilledBy, is_filled};
-ghost use Rattle.st_layout.specs.Renames.{begins_part};
 ghost use Rattle.st_values.specs.Words.{raised};
 
 use crate::layout::Layout;
-use st_names::NameTable;
+use crate::part_table::PartTable;
 use std::alloc::{AllocError, Global};
-
-/// Tests whether a path may go on with this after a part: not at all, or with a member or an element.
-pub fn begins_part(rest: &[u8]) -> bool
-    ensures { result ≡ begins_part rest.now }
-{
-    match rest {
-        [] => true,
-        [byte, ..] => *byte == b'.' || *byte == b'[',
-    }
-}
 
 /// Of each of these parts, whether a leaf is in it. Where a part stands there twice, the first is told.
 pub fn filled_parts(
     alloc: Global,
     layout: &Layout,
-    parts: &NameTable,
+    parts: &PartTable,
 ) -> Result<Vec<bool>, AllocError>
     ensures { IfOk result (λ filled. AreFilled layout.now parts.now filled.items) }
 {
@@ -34,22 +23,21 @@ pub fn filled_parts(
 }
 
 /// Marks the parts that a path is in.
-fn fill_parts(filled: &mut [bool], parts: &NameTable, path: &[u8])
+fn fill_parts(filled: &mut [bool], parts: &PartTable, path: &[u8])
     requires count { length filled.old ≡ length parts.now }
     requires upper { raised path.now ≡ path.now }
+    requires short { length path.now ≤ 255 }
     ensures { IsFilledBy path.now parts.now filled.old filled.new }
 {
     for end in 0..path.len() + 1 {
-        if begins_part(&path[end..]) {
-            if let Some(part) = parts.find(&path[..end]) {
-                filled[part] = true;
-            }
+        if let Some(part) = parts.front(path, end) {
+            filled[part] = true;
         }
     }
 }
 
 /// Tests whether a part is marked.
-pub fn is_filled(filled: &[bool], parts: &NameTable, part: &[u8]) -> bool
+pub fn is_filled(filled: &[bool], parts: &PartTable, part: &[u8]) -> bool
     requires { length filled.now ≡ length parts.now }
     ensures { result ≡ is_filled filled.now parts.now part.now }
 {

@@ -67,6 +67,7 @@ impl Plan {
     {
         self.sources[leaf as usize]
     }
+
     /// How many leaves are kept.
     pub fn kept(&self) -> u32
         ensures { result ≡ kept_count self.now }

@@ -1,16 +1,16 @@
 //! Renames that name parts, in a table by their old parts.
-ghost use Rattle.std.specs.Prelude.{◌≡◌, ◌≤◌, ◌||◌, false, IfOk, IfSome, OnOk, length, map, true};
+ghost use Rattle.std.specs.Prelude.{◌≡◌, ◌≤◌, false, IfOk, IfSome, OnOk, length, map, true};
 ghost use Rattle.std.specs.Option.{option_copied};
-ghost use Rattle.st_layout.specs.Pairs.{has_dollar, names_hidden, names_nothing, renames_twice};
+ghost use Rattle.st_layout.specs.Pairs.{has_dollar, names_hidden, names_nothing, names_wrongly, renames_twice};
 ghost use Rattle.st_layout.specs.Parts.{names_unfilled};
 ghost use Rattle.st_layout.specs.Renames.{longest, renames_over};
 ghost use Rattle.st_values.specs.Words.{raised};
 
 use crate::layout::Layout;
-use crate::parts::{begins_part, filled_parts, is_filled};
+use crate::part_table::PartTable;
+use crate::parts::{filled_parts, is_filled};
 use crate::plan_fault::PlanFault;
 use crate::renames::Rename;
-use st_names::NameTable;
 use std::alloc::{AllocError, Global};
 use std::marker::Model;
 
@@ -19,7 +19,7 @@ use std::marker::Model;
 pub struct RenameTable<'a> {
     renames: &'a [Rename],
     /// The old part of each.
-    parts: NameTable<'a>,
+    parts: PartTable<'a>,
 }
 
 impl<'a> Model for RenameTable<'a> {
@@ -42,8 +42,8 @@ impl<'a> RenameTable<'a> {
         renames: &'a [Rename],
     ) -> Result<RenameTable<'a>, PlanFault>
         ensures ok { IfOk result (λ table. table ≡ renames.now) }
-        ensures accepted { OnOk result ((names_nothing old.now new.now renames.now || (names_hidden renames.now || renames_twice renames.now)) ≡ false) }
-        ensures refused { result ≡ Err PlanFault.NotPaired → (names_nothing old.now new.now renames.now || (names_hidden renames.now || renames_twice renames.now)) ≡ true }
+        ensures accepted { OnOk result (names_wrongly old.now new.now renames.now ≡ false) }
+        ensures refused { result ≡ Err PlanFault.NotPaired → names_wrongly old.now new.now renames.now ≡ true }
     {
         if names_hidden(renames) {
             return Err(PlanFault::NotPaired);
@@ -57,7 +57,8 @@ impl<'a> RenameTable<'a> {
 
     /// The rename of the longest part that a path in upper case is in.
     pub fn longest_over(&self, path: &[u8]) -> Option<&'a Rename>
-        requires { raised path.now ≡ path.now }
+        requires upper { raised path.now ≡ path.now }
+        requires short { length path.now ≤ 255 }
         ensures value { option_copied result ≡ longest (renames_over self.now path.now) }
         ensures within { IfSome result (λ rename. length rename.now.old ≤ length path.now) }
     {
@@ -65,10 +66,8 @@ impl<'a> RenameTable<'a> {
             return None;
         }
         for end in (0..path.len() + 1).rev() {
-            if begins_part(&path[end..]) {
-                if let Some(place) = self.parts.find(&path[..end]) {
-                    return Some(&self.renames[place]);
-                }
+            if let Some(place) = self.parts.front(path, end) {
+                return Some(&self.renames[place]);
             }
         }
         None
@@ -91,12 +90,12 @@ fn has_dollar(part: &[u8]) -> bool
 }
 
 /// The old parts, each of which is there once.
-fn old_parts<'a>(alloc: Global, renames: &'a [Rename]) -> Result<NameTable<'a>, PlanFault>
+fn old_parts<'a>(alloc: Global, renames: &'a [Rename]) -> Result<PartTable<'a>, PlanFault>
     ensures ok { IfOk result (λ parts. parts ≡ map (λ rename. rename.old) renames.now) }
     ensures once { OnOk result (renames_twice renames.now ≡ false) }
     ensures twice { result ≡ Err PlanFault.NotPaired → renames_twice renames.now ≡ true }
 {
-    let mut parts = NameTable::new(alloc);
+    let mut parts = PartTable::new(alloc);
     for rename in renames {
         let part = rename.old.as_slice();
         if parts.find(part).is_some() {
@@ -108,10 +107,10 @@ fn old_parts<'a>(alloc: Global, renames: &'a [Rename]) -> Result<NameTable<'a>, 
 }
 
 /// The new parts.
-fn new_parts<'a>(alloc: Global, renames: &'a [Rename]) -> Result<NameTable<'a>, AllocError>
+fn new_parts<'a>(alloc: Global, renames: &'a [Rename]) -> Result<PartTable<'a>, AllocError>
     ensures { IfOk result (λ parts. parts ≡ map (λ rename. rename.new) renames.now) }
 {
-    let mut parts = NameTable::new(alloc);
+    let mut parts = PartTable::new(alloc);
     for rename in renames {
         parts.push(rename.new.as_slice())?;
     }
@@ -124,7 +123,7 @@ fn names_nothing(
     old: &Layout,
     new: &Layout,
     renames: &[Rename],
-    olds: &NameTable,
+    olds: &PartTable,
 ) -> Result<bool, AllocError>
     requires { olds.now ≡ map (λ rename. rename.old) renames.now }
     ensures { IfOk result (λ nothing. nothing ≡ names_nothing old.now new.now renames.now) }
@@ -141,9 +140,9 @@ fn names_nothing(
 /// Tests whether a part is named that isn't marked.
 fn names_unfilled(
     renames: &[Rename],
-    olds: &NameTable,
+    olds: &PartTable,
     olds_filled: &[bool],
-    news: &NameTable,
+    news: &PartTable,
     news_filled: &[bool],
 ) -> bool
     requires olds { length olds_filled.now ≡ length olds.now }

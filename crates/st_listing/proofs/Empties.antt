@@ -1,8 +1,7 @@
 -- What has no leaves through all units has none through fewer.
-use Rattle.std.proofs.Common.{◌≡◌, ℕ, zero, suc, ◌+◌, ◌≤◌, Bool, true, false, ℤ, List, [], ◌∷◌, ◌++◌, codes, drop, length, Option, Some, None, if◌then◌else◌, refl, ap, sym, ◌∙◌, subst, arith}
+use Rattle.std.proofs.Common.{◌≡◌, ℕ, zero, suc, ◌+◌, ◌*◌, ◌≤◌, Bool, true, false, List, [], ◌∷◌, length, Option, Some, None, if◌then◌else◌, refl, ap, sym, ◌∙◌, subst, arith}
 use Rattle.std.proofs.lemmas.List.{length-map}
-use Rattle.std.proofs.Math.Nat.{mul-le-mul_left}
-use Rattle.st_tree.specs.declared.tree.constant.Constant.{Constant}
+use Rattle.std.proofs.Math.Nat.{mul-le-mul_left, mul-zero}
 use Rattle.st_tree.specs.declared.tree.declaration.DeclaredType.TheVariants as declared_types
 use Rattle.st_tree.specs.declared.tree.declaration.Initial.{Initial}
 use Rattle.st_tree.specs.declared.tree.declaration.Initial.TheVariants as initials
@@ -19,9 +18,7 @@ use Rattle.st_types.specs.declared.base.Base.TheVariants as bases
 use Rattle.st_leaves.specs.Charts.{LeafBelow}
 use Rattle.st_leaves.specs.Compositions.{counted}
 use Rattle.st_leaves.specs.Leaves.{leaves_within}
-use Rattle.st_leaves.specs.LeavesIn.{LeafIn, first_written, leaves_in, starting, within}
-use Rattle.st_leaves.specs.LeavesIn as leaves
-use Rattle.st_leaves.specs.Paths.{index}
+use Rattle.st_leaves.specs.LeavesIn.{leaves_in}
 use Rattle.st_leaves.specs.Limits.{size_of, sizes_of}
 use Rattle.st_leaves.specs.Places.{chart_count, count, counts, extent}
 use Rattle.st_leaves.proofs.Composed.{leaves_of_bases}
@@ -109,7 +106,7 @@ none_of [] h = refl
 none_of (x ∷ xs) h = absurd (omega (arith, h))
 
 -- what has no leaves through all units has none here
-pub none_within : (units : List Named) (depth : ℕ) (base : Base) (initial : Option Initial) → depth ≤ suc (length units) → type_leaves units base ≡ [] → leaves_in (started initial (composition_within units depth base)) ≡ []
+none_within : (units : List Named) (depth : ℕ) (base : Base) (initial : Option Initial) → depth ≤ suc (length units) → type_leaves units base ≡ [] → leaves_in (started initial (composition_within units depth base)) ≡ []
 none_within units depth base initial within none =
     let all = composition_within units (suc (length units)) base in
     let part = composition_within units depth base in
@@ -136,14 +133,16 @@ empty_unknown units (bases.Structure i) is = absurd (cc)
 empty_unknown units (bases.Block i) is = absurd (cc)
 empty_unknown units (bases.Standard b) is = absurd (cc)
 
--- ---- what has no leaves is listed at once
+-- ---- declared names without leaves
 
-starting_none : (first : Option Constant) → starting first [] ≡ []
-starting_none None = refl
-starting_none (Some c) = refl
+none_subscripted : (ranges : Option (List Subrange)) (c : Composition) → count c ≡ 0 → count (subscripted ranges c) ≡ 0
+none_subscripted None c none = none
+none_subscripted (Some ranges) c none = ap (λ n. extent ranges * n) none ∙ mul-zero (extent ranges)
 
-pub no_elements : (choices : List (List ℤ)) (firsts : List (Option Constant)) (ls : List LeafIn) → ls ≡ [] → leaves.elements_in choices firsts ls ≡ []
-no_elements choices firsts ls none = ap (leaves.elements_in choices firsts) none ∙ each choices firsts where
-  each : (choices : List (List ℤ)) (firsts : List (Option Constant)) → leaves.elements_in choices firsts [] ≡ []
-  each [] firsts = refl
-  each (is ∷ others) firsts = ap (λ ls. within (index is) (codes "array") ls ++ leaves.elements_in others (drop 1 firsts) []) (starting_none (first_written firsts)) ∙ each others (drop 1 firsts)
+pub none_declared : (units : List Named) (depth : ℕ) (v : Declared) → depth ≤ suc (length units) → type_leaves units (shape_of units v.specification).base ≡ [] → leaves_in (declared_composition units (composition_within units depth) v) ≡ []
+none_declared units depth v within none =
+    let shape = shape_of units v.specification in
+    let one = started (element_initial units v.specification) (composition_within units depth shape.base) in
+    let none_in_one : count one ≡ 0 = sym (leaves_are_counted one).0 ∙ ap length (none_within units depth shape.base (element_initial units v.specification) within none) in
+    none_of (leaves_in (declared_composition units (composition_within units depth) v))
+    (omega (arith, (leaves_are_counted (declared_composition units (composition_within units depth) v)).0, count_started (initial_of units v) (subscripted shape.subscripts one), none_subscripted shape.subscripts one none_in_one))

@@ -1,6 +1,7 @@
 pub mod BlockListings
 pub mod ChartListings
 pub mod Choices
+pub mod DeclaredNames
 pub mod Empties
 pub mod Listings
 pub mod NamesStored

@@ -1,5 +1,5 @@
 -- The variables of a program, listed one after the other, and then its chart.
-use Rattle.std.proofs.Common.{◌≡◌, ℕ, suc, ◌+◌, ◌<◌, ◌≤◌, Bool, true, false, List, [], ◌∷◌, ◌++◌, Some, Result, Ok, Err, OnOk, codes, drop, get_or, length, map, refl, ap, sym, ◌∙◌, subst, arith, length-append}
+use Rattle.std.proofs.Common.{◌≡◌, ℕ, suc, ◌+◌, ◌<◌, ◌≤◌, Bool, false, List, [], ◌∷◌, ◌++◌, Some, Result, Ok, Err, OnOk, codes, drop, get_or, length, map, refl, ap, sym, ◌∙◌, subst, arith, length-append}
 use Rattle.std.proofs.lemmas.List.{drop_all, drop_more, length-map}
 use Rattle.std.proofs.lemmas.List.Elements.{All-cons, All-head, All-tail}
 use Rattle.st_values.specs.Words.{AreWordBytes}
@@ -17,14 +17,13 @@ use Rattle.st_leaves.specs.Charts.{stored_of}
 use Rattle.st_leaves.specs.LeavesIn.{LeafIn, as_input, leaves_of_whole, used_as, within}
 use Rattle.st_leaves.specs.LeavesIn as leaves
 use Rattle.st_leaves.specs.Paths.{HasWords, field}
-use Rattle.st_scopes.specs.Declarations.{names_at, names_in, seen}
-use Rattle.st_scopes.specs.declared.declaration.Declared.{Declared as Row}
+use Rattle.st_scopes.specs.Declarations.{names_at, names_in}
 use Rattle.st_listing.specs.Kinds.{is_input}
 use Rattle.st_listing.specs.Listings.{AreWays, ListingView, as_inputs, inside, listed, outside}
-use Rattle.st_listing.specs.Walks.{declared_leaves, variable_leaves}
+use Rattle.st_listing.specs.Walks.{ListsTheSame, declared_leaves, variable_leaves}
 use Rattle.st_listing.proofs.Listings.{length_listed, length_used, length_within, listed_inputs, listed_twice, listed_within, ways_append, ways_none, ways_within}
 use Rattle.st_listing.proofs.ProgramLeaves.{same_unit}
-use Rattle.st_listing.proofs.Walks.{constant_variable, names_of_unit, other_variable, variables_more, with_chart}
+use Rattle.st_listing.proofs.Walks.{names_of_unit, other_variable, variables_more, with_chart}
 
 abbrev pub program : List ℕ
 program = codes "PROGRAM"
@@ -78,33 +77,30 @@ module _ (units : List Named) (depth : ℕ) (v : Declared) (other : is_constant 
       subst AreWays (sym (other_variable units depth program v other))
       (ways_within (field v.name.spelling) program (used_as v.kind (declared_leaves units depth v)) (subst AreWordBytes named word) (ways_used v.kind (declared_leaves units depth v) ways))
 
-pub constant_ways : (units : List Named) (depth : ℕ) (v : Declared) → is_constant v.kind ≡ true → AreWays (variable_leaves units depth program (v ∷ []))
-constant_ways units depth v is = subst AreWays (sym (constant_variable units depth program v is)) ways_none
-
 -- ---- one after the other
 
 drop_one : {X : Type 0} (xs : List X) (i : ℕ) (x : X) → i < length xs → get_or xs i x ≡ x → drop i xs ≡ x ∷ drop (i + 1) xs
 drop_one xs i x within at = drop_more xs i x within ∙ ap (λ y. y ∷ drop (i + 1) xs) at
 
-pub variables_left : (units : List Named) (depth : ℕ) (rows : List Row) (i : ℕ) (row : Row) → i < length rows → row ≡ get_or rows i row
-    → variable_leaves units depth program (map seen (drop i rows)) ≡ variable_leaves units depth program (seen row ∷ []) ++ variable_leaves units depth program (map seen (drop (i + 1) rows))
-variables_left units depth rows i row within at =
-    ap (λ rs. variable_leaves units depth program (map seen rs)) (drop_one rows i row within (sym at)) ∙ variables_more units depth program (seen row) (map seen (drop (i + 1) rows))
+pub variables_left : (units : List Named) (depth : ℕ) (vs : List Declared) (i : ℕ) (v : Declared) → i < length vs → v ≡ get_or vs i v
+    → variable_leaves units depth program (drop i vs) ≡ variable_leaves units depth program (v ∷ []) ++ variable_leaves units depth program (drop (i + 1) vs)
+variables_left units depth vs i v within at = ap (variable_leaves units depth program) (drop_one vs i v within (sym at)) ∙ variables_more units depth program v (drop (i + 1) vs)
 
-pub variables_end : (units : List Named) (depth : ℕ) (rows : List Row) (i : ℕ) → length rows ≤ i → variable_leaves units depth program (map seen (drop i rows)) ≡ []
-variables_end units depth rows i above = ap (λ rs. variable_leaves units depth program (map seen rs)) (drop_all i rows above)
+pub variables_end : (units : List Named) (depth : ℕ) (vs : List Declared) (i : ℕ) → length vs ≤ i → variable_leaves units depth program (drop i vs) ≡ []
+variables_end units depth vs i above = ap (variable_leaves units depth program) (drop_all i vs above)
 
 pub all_ways : (left whole : List LeafIn) → left ≡ [] → (AreWays left → AreWays whole) → AreWays whole
 all_ways left whole none each = each (subst AreWays (sym none) ways_none)
 
 -- ---- the program
 
-pub program_split : (units : List Named) (depth i : ℕ) (u : Named) (vs : List Declared) (stored : List (List ℕ)) (elements : List ChartElement) → unit_at units i ≡ Some u → depth ≡ length units + 1 → vs ≡ names_at units i
+pub program_split : (units : List Named) (depth i : ℕ) (u : Named) (vs : List Declared) (stored : List (List ℕ)) (elements : List ChartElement) → unit_at units i ≡ Some u → depth ≡ length units + 1 → ListsTheSame units vs (names_at units i)
     → stored ≡ stored_of u.declares → elements ≡ chart_in u.declares → leaves_of_whole (composition_of units u.declares) ≡ variable_leaves units depth program vs ++ leaves.chart_in program stored elements
 unfolding composition_of
-program_split units depth i u vs stored elements at deep vs_are stored_are elements_are =
+program_split units depth i u vs stored elements at deep same stored_are elements_are =
     by u.declares ∙ ap (λ n. variable_leaves units n program (names_in u.declares) ++ leaves.chart_in program (stored_of u.declares) (chart_in u.declares)) (omega (arith, deep))
-    ∙ ap (λ ds. variable_leaves units depth program ds ++ leaves.chart_in program (stored_of u.declares) (chart_in u.declares)) (sym (vs_are ∙ names_of_unit units i u at))
+    ∙ ap (λ ds. variable_leaves units depth program ds ++ leaves.chart_in program (stored_of u.declares) (chart_in u.declares)) (sym (names_of_unit units i u at))
+    ∙ ap (λ ls. ls ++ leaves.chart_in program (stored_of u.declares) (chart_in u.declares)) (sym (same.variables depth program (omega (arith, deep))))
     ∙ ap (λ ns. variable_leaves units depth program vs ++ leaves.chart_in program ns (chart_in u.declares)) (sym stored_are)
     ∙ ap (λ es. variable_leaves units depth program vs ++ leaves.chart_in program stored es) (sym elements_are) where
       inside : Base → Composition
@@ -118,10 +114,10 @@ program_split units depth i u vs stored elements at deep vs_are stored_are eleme
       by (names.program p) = with_chart units inside program (variable_leaves units (suc (length units)) program (variables_of p.variables)) (names.program p)
 
 pub program_parts : (units : List Named) (rows : List NamedUnit) (i : ℕ) (read : NamedUnit) (u : Named) (vs : List Declared) (stored : List (List ℕ)) (elements : List ChartElement) → map named_by rows ≡ units
-    → Some (named_by read) ≡ unit_at units i → unit_at units i ≡ Some u → vs ≡ names_at units i → stored ≡ stored_of u.declares → elements ≡ chart_in (declared_by read.kind)
+    → Some (named_by read) ≡ unit_at units i → unit_at units i ≡ Some u → ListsTheSame units vs (names_at units i) → stored ≡ stored_of u.declares → elements ≡ chart_in (declared_by read.kind)
     → leaves_of_whole (composition_of units u.declares) ≡ variable_leaves units (length rows + 1) program vs ++ leaves.chart_in program stored elements
-program_parts units rows i read u vs stored elements are read_at at vs_are stored_are elements_are =
-    program_split units (length rows + 1) i u vs stored elements at (ap (λ n. n + 1) (sym (length-map rows named_by) ∙ ap length are)) vs_are stored_are
+program_parts units rows i read u vs stored elements are read_at at same stored_are elements_are =
+    program_split units (length rows + 1) i u vs stored elements at (ap (λ n. n + 1) (sym (length-map rows named_by) ∙ ap length are)) same stored_are
     (elements_are ∙ ap (λ (v : Named). chart_in v.declares) (same_unit (named_by read) u (read_at ∙ at)))
 
 pub first_room : (s : ListingView) (a b whole : List LeafIn) → whole ≡ a ++ b → length s.leaves + length whole ≤ 65536 → length s.leaves + length a ≤ 65536

@@ -2,7 +2,7 @@
 use Rattle.std.proofs.Common.{◌⊎◌, inl, inr, ◌≡◌, ◌≢◌, ◌≤◌, ◌<◌, ◌+◌, ◌-◌, ℕ, zero, suc, ℤ, Bool, true, false, List, [], ◌∷◌, ◌++◌, Option, Some, None, map, codes, drop, get_or, length, if◌then◌else◌, refl, ap, sym, ◌∙◌, append-nil, length-append, subst, arith, take, slice_set}
 use Rattle.std.specs.Option.{option_map, option_map_or}
 use Rattle.std.specs.Prelude.{slice_index_or}
-use Rattle.std.proofs.lemmas.List.{drop_all, drop_more, length-drop, length-map, take-append-drop, take_all}
+use Rattle.std.proofs.lemmas.List.{get_or_default, drop_all, drop_more, length-drop, length-map, take-append-drop, take_all}
 use Rattle.st_values.specs.declared.elem.Elem.TheVariants as elems
 use Rattle.std.proofs.Math.Seq.{drop-append_seam}
 use Rattle.st_tree.specs.declared.leaf.Leaf.{Leaf}
@@ -19,8 +19,6 @@ use Rattle.st_types.specs.Names.{Declared, Declares, Named, chart_in, variables_
 use Rattle.st_types.specs.Names as names
 use Rattle.st_types.specs.Names.{unit_at}
 use Rattle.st_types.specs.Initials.{element_initial, initial_of, value_written}
-use Rattle.st_tree.specs.declared.tree.declaration.VarKind.{VarKind}
-use Rattle.st_tree.specs.declared.tree.declaration.VarKind.TheVariants as var_kinds
 use Rattle.st_types.specs.Types.{Elements, Shape, is_unknown, name_stands_for, optional_elements, shape_of, type_named, without_instance}
 use Rattle.st_types.specs.Types as types
 use Rattle.st_types.specs.declared.base.Base.TheVariants as bases
@@ -34,11 +32,10 @@ use Rattle.st_leaves.specs.LeavesIn.{LeafIn, block_leaves, elements_in, first_wr
 use Rattle.st_leaves.specs.LeavesIn as leaves
 use Rattle.st_leaves.specs.Paths.{field, index, selector_text}
 use Rattle.st_initials.specs.Lists.{values_of}
-use Rattle.st_scopes.specs.Declarations.{names_at, names_in, seen}
-use Rattle.st_scopes.specs.declared.declaration.Declared.{Declared as Row}
+use Rattle.st_scopes.specs.Declarations.{names_at, names_in}
 use Rattle.st_leaves.proofs.Spellings.{variables_are_members}
 use Rattle.st_listing.specs.Listings.{AreWays, ListingView, behind, inside, leaf_behind, leaves_behind, listed, outside}
-use Rattle.st_listing.specs.Walks.{begins_with, array_leaves, declared_leaves, member_leaves, started_value, unit_leaves, variable_leaves}
+use Rattle.st_listing.specs.Walks.{AreRows, ListsTheSame, begins_with, array_leaves, declared_leaves, member_leaves, started_value, unit_leaves, variable_leaves}
 use Rattle.st_listing.proofs.Listings.{ways_append, ways_none, ways_starting, ways_within, length_listed, length_starting, length_within, listed_count, listed_none, listed_twice, listed_within, ways_more}
 
 -- what can't be known has no leaf
@@ -78,6 +75,12 @@ unit_has units inside u = by u.declares where
   by (names.program p) = with_chart units inside (raised u.name.spelling) (members_in (raised u.name.spelling) (members_by units inside (variables_of p.variables))) (names.program p)
 
 -- ---- members
+
+pub constant_member : (units : List Named) (depth : ℕ) (of : List ℕ) (v : Declared) → is_constant v.kind ≡ true → member_leaves units depth of (v ∷ []) ≡ []
+constant_member units depth of v is = by (is_constant v.kind) is where
+  by : (b : Bool) → b ≡ true → members_in of (if b then members_by units (composition_within units depth) [] else member v.name.spelling v.kind (declared_composition units (composition_within units depth) v) (members_by units (composition_within units depth) [])) ≡ []
+  by true is = refl
+  by false is = absurd (cc)
 
 pub other_member : (units : List Named) (depth : ℕ) (of : List ℕ) (v : Declared) → is_constant v.kind ≡ false
     → member_leaves units depth of (v ∷ []) ≡ within (field v.name.spelling) of (declared_leaves units depth v)
@@ -313,24 +316,26 @@ unit_read f g (v ∷ us) (x ∷ xs) (suc n) u d at are =
     unit_read f g us xs n u d at rest
 
 pub unit_split : (units : List Named) (depth i : ℕ) (u : Named) (name : List ℕ) (vs : List Declared) (stored : List (List ℕ)) (elements : List ChartElement) → unit_at units i ≡ Some u → name ≡ raised u.name.spelling
-    → vs ≡ names_at units i → stored ≡ stored_of u.declares → elements ≡ chart_in u.declares → unit_leaves units depth i ≡ member_leaves units depth name vs ++ leaves.chart_in name stored elements
-unit_split units depth i u name vs stored elements at named vs_are stored_are elements_are =
+    → ListsTheSame units vs (names_at units i) → depth ≤ suc (length units) → stored ≡ stored_of u.declares → elements ≡ chart_in u.declares
+    → unit_leaves units depth i ≡ member_leaves units depth name vs ++ leaves.chart_in name stored elements
+unit_split units depth i u name vs stored elements at named same within stored_are elements_are =
     ap (λ o. leaves_in (optional_composition units (composition_within units depth) o)) at ∙ unit_has units (composition_within units depth) u
     ∙ ap (λ n. member_leaves units depth n (names_in u.declares) ++ leaves.chart_in n (stored_of u.declares) (chart_in u.declares)) (sym named)
-    ∙ ap (λ ds. member_leaves units depth name ds ++ leaves.chart_in name (stored_of u.declares) (chart_in u.declares)) (sym (vs_are ∙ names_of_unit units i u at))
+    ∙ ap (λ ds. member_leaves units depth name ds ++ leaves.chart_in name (stored_of u.declares) (chart_in u.declares)) (sym (names_of_unit units i u at))
+    ∙ ap (λ ls. ls ++ leaves.chart_in name (stored_of u.declares) (chart_in u.declares)) (sym (same.members depth name within))
     ∙ ap (λ ns. member_leaves units depth name vs ++ leaves.chart_in name ns (chart_in u.declares)) (sym stored_are)
     ∙ ap (λ es. member_leaves units depth name vs ++ leaves.chart_in name stored es) (sym elements_are)
 
-pub members_left : (units : List Named) (depth : ℕ) (of : List ℕ) (rows : List Row) (i : ℕ) (row : Row) → i < length rows → get_or rows i row ≡ row
-    → member_leaves units depth of (map seen (drop i rows)) ≡ member_leaves units depth of (seen row ∷ []) ++ member_leaves units depth of (map seen (drop (i + 1) rows))
-members_left units depth of rows i row within at =
-    ap (λ rs. member_leaves units depth of (map seen rs)) (drop_more rows i row within ∙ ap (λ x. x ∷ drop (i + 1) rows) at) ∙ members_more units depth of (seen row) (map seen (drop (i + 1) rows))
+-- the names of a unit that are listed, in the table of all
+pub rows_at : (units : List Named) (rows : List (List Declared)) (i : ℕ) (vs other : List Declared) → AreRows units rows → i < length units → vs ≡ get_or rows i other → ListsTheSame units vs (names_at units i)
+rows_at units rows i vs other are below at = subst (λ ds. ListsTheSame units ds (names_at units i)) (sym (at ∙ get_or_default rows i other [] (omega (arith, below, are.len)))) (are.each i below)
+
+pub members_left : (units : List Named) (depth : ℕ) (of : List ℕ) (vs : List Declared) (i : ℕ) (v : Declared) → i < length vs → get_or vs i v ≡ v
+    → member_leaves units depth of (drop i vs) ≡ member_leaves units depth of (v ∷ []) ++ member_leaves units depth of (drop (i + 1) vs)
+members_left units depth of vs i v within at =
+    ap (member_leaves units depth of) (drop_more vs i v within ∙ ap (λ x. x ∷ drop (i + 1) vs) at) ∙ members_more units depth of v (drop (i + 1) vs)
 
 -- a member's leaves are listed within it
-pub isnt_constant : (kind : VarKind) → kind ≢ var_kinds.Constant → is_constant kind ≡ false
-isnt_constant var_kinds.Constant other = absurd (other refl)
-isnt_constant kind other = refl
-
 pub member_listed : (units : List Named) (depth : ℕ) (of name : List ℕ) (v : Declared) (s inner now outer : ListingView) → is_constant v.kind ≡ false → name ≡ v.name.spelling → inner ≡ inside s (field name) of
     → now ≡ listed inner (declared_leaves units depth v) → outer ≡ outside now (length s.text) → outer ≡ listed s (member_leaves units depth of (v ∷ []))
 member_listed units depth of name v s inner now outer other named inner_is now_is outer_is =

@@ -1,5 +1,5 @@
 -- What a walk through what variables consist of lists.
-use Rattle.std.specs.Prelude.{◌≡◌, ℕ, List, Option, Some, map}
+use Rattle.std.specs.Prelude.{◌≡◌, ◌<◌, ◌≤◌, ℕ, suc, List, [], Option, Some, get_or, length, map}
 use Rattle.std.specs.Option.{option_copied}
 use Rattle.st_values.specs.Words.{raised}
 use Rattle.st_values.specs.declared.elem.Elem.{Elem}
@@ -18,21 +18,11 @@ use Rattle.st_leaves.specs.Charts.{stored_of}
 use Rattle.st_leaves.specs.LeavesIn.{LeafIn, leaves_in, members_in, variables_in}
 use Rattle.st_initials.specs.Tables.{AreInitials}
 use Rattle.st_program_sizes.specs.Sized.{IsSized}
+use Rattle.st_scopes.specs.Declarations.{names_at}
 use Rattle.st_listing.specs.Listings.{spelled}
+use Rattle.st_listing.specs.declared.rows.Sieve.{Sieve}
 use Rattle.st_listing.specs.declared.walk.Part.{Part}
 use Rattle.st_listing.specs.declared.walk.Walk.{Walk}
-
--- the units of the text that is walked through
-abbrev pub units_in : Walk → List Named
-units_in walk = units_of walk.tables.now
-
--- the tables have the initial values of the text, the names of its units in upper case, the names that their charts store, and the
--- sizes of its types
-pub record IsWalk (walk : Walk) : Type 0 where
-  pub initials : AreInitials (units_in walk) walk.initials.now
-  pub names : walk.names.now ≡ map (λ u. raised u.name.spelling) (units_in walk)
-  pub stored : map (λ names. spelled names.items) walk.stored.now ≡ map (λ u. stored_of u.declares) (units_in walk)
-  pub sizes : (i : ℕ) → IsSized (units_in walk) walk.sizes.now (type_at (units_in walk) i)
 
 -- of a value of this type, where this is written
 abbrev pub started_value : Elem → Option Initial → Value
@@ -67,3 +57,33 @@ member_leaves units depth name vs = members_in name (members_by units (compositi
 -- of the variables of the program
 abbrev pub variable_leaves : List Named → ℕ → List ℕ → List Declared → List LeafIn
 variable_leaves units depth name vs = variables_in name (members_by units (composition_within units depth) vs)
+
+-- ---- which declared names are listed
+
+-- these names list the same leaves as those, through no more units than there are
+pub record ListsTheSame (units : List Named) (these those : List Declared) : Type 0 where
+  pub members : (depth : ℕ) (name : List ℕ) → depth ≤ suc (length units) → member_leaves units depth name these ≡ member_leaves units depth name those
+  pub variables : (depth : ℕ) (name : List ℕ) → depth ≤ suc (length units) → variable_leaves units depth name these ≡ variable_leaves units depth name those
+
+-- of each unit some that list the same as all that it declares
+pub record AreRows (units : List Named) (rows : List (List Declared)) : Type 0 where
+  pub len : length rows ≡ length units
+  pub each : (i : ℕ) → i < length units → ListsTheSame units (get_or rows i []) (names_at units i)
+
+-- the table has the sizes of the types of the text
+abbrev pub IsSieve : Sieve → Type 0
+IsSieve sieve = (i : ℕ) → IsSized (units_of sieve.tables.now) sieve.sizes.now (type_at (units_of sieve.tables.now) i)
+
+-- ---- the tables of a text
+
+-- the units of the text that is walked through
+abbrev pub units_in : Walk → List Named
+units_in walk = units_of walk.tables.now
+
+-- the tables have the initial values of the text, the names of its units in upper case, the declared names that are listed, and the names
+-- that the charts store
+pub record IsWalk (walk : Walk) : Type 0 where
+  pub initials : AreInitials (units_in walk) walk.initials.now
+  pub names : walk.names.now ≡ map (λ u. raised u.name.spelling) (units_in walk)
+  pub rows : AreRows (units_in walk) walk.rows.now
+  pub stored : map (λ names. spelled names.items) walk.stored.now ≡ map (λ u. stored_of u.declares) (units_in walk)

@@ -1,25 +1,15 @@
-//! Parts without leaves, by the sizes of types.
+//! Types without leaves, by their sizes.
 ghost use Rattle.std.specs.Prelude.{◌≡◌, [], ℕ, IsTrue};
-ghost use Rattle.st_listing.specs.Walks.{part_leaves};
 ghost use Rattle.st_program_sizes.specs.Sized.{IsSized, size_at, type_leaves, unit_of};
 ghost use Rattle.st_types.specs.Names.{units_of};
 ghost use Rattle.st_types.specs.Types.{type_at};
 
-use crate::walk::Part;
 use st_scopes::Tables;
 use st_sizes::Size;
 use st_types::Base;
 
-/// Whether the sizes tell that a part has no leaves. The table has the sizes of types, by the numbers of the units.
-pub(crate) fn has_no_leaves(tables: &Tables<'_>, sizes: &[Size], part: Part<'_>) -> bool
-    requires { (i : ℕ) → IsSized (units_of tables.now) sizes.now (type_at (units_of tables.now) i) }
-    ensures { IsTrue result → part_leaves (units_of tables.now) part.entry ≡ [] }
-{
-    part.depth.saturating_sub(1) <= tables.len() && is_empty(tables, sizes, part.base)
-}
-
-/// Whether the sizes tell that what has this base has no leaves.
-fn is_empty(tables: &Tables<'_>, sizes: &[Size], base: Base) -> bool
+/// Whether the sizes tell that what has this base has no leaves. The table has the sizes of types, by the numbers of the units.
+pub(crate) fn is_empty(tables: &Tables<'_>, sizes: &[Size], base: Base) -> bool
     requires { (i : ℕ) → IsSized (units_of tables.now) sizes.now (type_at (units_of tables.now) i) }
     ensures { IsTrue result → type_leaves (units_of tables.now) base ≡ [] }
 {

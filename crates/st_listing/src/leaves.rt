@@ -14,10 +14,11 @@ ghost use Rattle.st_types.specs.Names.{Named, unit_at, units_of};
 ghost use Rattle.st_values.specs.Words.{raised};
 
 use crate::listing::{Listing, upper_case};
+use crate::rows::rows_of;
 use crate::stored::names_stored;
 use crate::walk::Walk;
 use st_check::{Program, checked_program_has_sound_leaves};
-use st_initials::Initials;
+use st_initials::{Initials, types_written};
 use st_leaves::leaves_follow_the_composition;
 use st_program_sizes::type_sizes;
 use st_scopes::Tables;
@@ -49,21 +50,21 @@ fn main_leaves(
     ensures leaves { IfOk result (λ leaves. (u : Named) → unit_at (units_of tables.now) main ≡ Some u → leaves.items ≡ program_leaves (units_of tables.now) u) }
     ensures ways { IfOk result (λ _. (u : Named) → unit_at (units_of tables.now) main ≡ Some u → AreWays (leaves_of_whole (composition_of (units_of tables.now) u.declares))) }
 {
-    let initials = Initials::new(alloc, tables, order)?;
+    let written = types_written(alloc, tables)?;
+    let initials = Initials::new(alloc, tables, &written, order)?;
     let sizes = type_sizes(alloc, tables, order)?;
     let names = upper_names(alloc, tables.units())?;
+    let rows = rows_of(alloc, tables, sizes.as_slice())?;
     let stored = names_stored(alloc, tables)?;
-    walked_leaves(
-        Walk {
-            alloc,
-            tables,
-            initials: &initials,
-            names: names.as_slice(),
-            stored: stored.as_slice(),
-            sizes: sizes.as_slice(),
-        },
-        main,
-    )
+    let walk = Walk {
+        alloc,
+        tables,
+        initials: &initials,
+        names: names.as_slice(),
+        rows: rows.as_slice(),
+        stored: stored.as_slice(),
+    };
+    walked_leaves(walk, main)
 }
 
 /// The leaves that a walk through the unit of this number lists, which is a program.

@@ -8,6 +8,7 @@ mod leaf_use;
 mod leaves;
 mod listing;
 mod program;
+mod rows;
 mod spellings;
 mod stored;
 mod subscripts;

@@ -1,16 +1,15 @@
 //! The leaves of a program's variables and of its chart.
-ghost use Rattle.std.specs.Prelude.{◌≡◌, ◌+◌, ◌≤◌, ◌<◌, ◌∷◌, [], OnOk, Some, codes, false, length, map};
+ghost use Rattle.std.specs.Prelude.{◌≡◌, ◌+◌, ◌≤◌, ◌<◌, ◌∷◌, [], OnOk, Some, codes, false, length, suc};
 ghost use Rattle.st_leaves.specs.LeavesIn.{leaves_of_whole};
 ghost use Rattle.st_listing.specs.Listings.{AreWays, listed};
 ghost use Rattle.st_listing.specs.Walks.{IsWalk, units_in, variable_leaves};
-ghost use Rattle.st_scopes.specs.Declarations.{seen};
 ghost use Rattle.st_listing.specs.Kinds.{is_input};
 ghost use Rattle.st_types.specs.Compositions.{composition_of, is_constant};
 ghost use Rattle.st_types.specs.Names.{Named, unit_at};
 
 use crate::listing::Listing;
+use crate::rows::Row;
 use crate::walk::{Walk, chart_of};
-use st_scopes::Declared;
 use st_tree::tree::VarKind;
 use std::alloc::AllocError;
 
@@ -28,7 +27,7 @@ impl<'a, 't> Walk<'a, 't> {
         let elements = chart_of(program.kind);
         let stored = self.stored[unit].as_slice();
         let depth = self.tables.units().len() + 1;
-        self.list_variables(depth, self.tables.declared(unit), listing)?;
+        self.list_variables(depth, self.rows[unit].as_slice(), listing)?;
         listing.list_chart(self.alloc, b"PROGRAM", elements, stored)
     }
 
@@ -36,14 +35,15 @@ impl<'a, 't> Walk<'a, 't> {
     fn list_variables(
         self,
         depth: usize,
-        variables: &[Declared<'a>],
+        variables: &'t [Row<'a>],
         listing: &mut Listing<'t>,
     ) -> Result<(), AllocError>
         requires walk { IsWalk self }
         requires input { listing.old.is_input ≡ false }
-        requires room { length listing.old.leaves + length (variable_leaves (units_in self) depth (codes "PROGRAM") (map seen variables.now)) ≤ 65536 }
-        ensures listed { OnOk result (listing.new ≡ listed listing.old (variable_leaves (units_in self.entry) depth (codes "PROGRAM") (map seen variables.now))) }
-        ensures ways { OnOk result (AreWays (variable_leaves (units_in self.entry) depth (codes "PROGRAM") (map seen variables.now))) }
+        requires depth { depth ≤ suc (length (units_in self)) }
+        requires room { length listing.old.leaves + length (variable_leaves (units_in self) depth (codes "PROGRAM") variables.now) ≤ 65536 }
+        ensures listed { OnOk result (listing.new ≡ listed listing.old (variable_leaves (units_in self.entry) depth (codes "PROGRAM") variables.now)) }
+        ensures ways { OnOk result (AreWays (variable_leaves (units_in self.entry) depth (codes "PROGRAM") variables.now)) }
     {
         'each: for variable in variables {
             self.list_variable(depth, variable, listing)?;
@@ -51,25 +51,23 @@ impl<'a, 't> Walk<'a, 't> {
         Ok(())
     }
 
-    /// Lists a variable of the program. A constant has no leaf, and those of an input may be set from outside.
+    /// Lists a variable of the program. The leaves of an input may be set from outside.
     fn list_variable(
         self,
         depth: usize,
-        variable: &Declared<'a>,
+        variable: &'t Row<'a>,
         listing: &mut Listing<'t>,
     ) -> Result<(), AllocError>
         requires walk { IsWalk self }
         requires input { listing.old.is_input ≡ false }
-        requires room { length listing.old.leaves + length (variable_leaves (units_in self) depth (codes "PROGRAM") (seen variable.now ∷ [])) ≤ 65536 }
-        ensures listed { OnOk result (listing.new ≡ listed listing.old (variable_leaves (units_in self.entry) depth (codes "PROGRAM") (seen variable.now ∷ []))) }
-        ensures ways { OnOk result (AreWays (variable_leaves (units_in self.entry) depth (codes "PROGRAM") (seen variable.now ∷ []))) }
+        requires depth { depth ≤ suc (length (units_in self)) }
+        requires room { length listing.old.leaves + length (variable_leaves (units_in self) depth (codes "PROGRAM") (variable.now ∷ [])) ≤ 65536 }
+        ensures listed { OnOk result (listing.new ≡ listed listing.old (variable_leaves (units_in self.entry) depth (codes "PROGRAM") (variable.now ∷ []))) }
+        ensures ways { OnOk result (AreWays (variable_leaves (units_in self.entry) depth (codes "PROGRAM") (variable.now ∷ []))) }
     {
-        if is_constant(variable.kind) {
-            return Ok(());
-        }
         let mark = listing.mark();
-        listing.enter(variable.name.spelling.letters(), b"PROGRAM")?;
-        listing.set_input(is_input(variable.kind));
+        listing.enter(variable.name().spelling.letters(), b"PROGRAM")?;
+        listing.set_input(is_input(variable.kind()));
         self.list_declared(depth, variable, listing)?;
         listing.set_input(false);
         listing.leave(mark);

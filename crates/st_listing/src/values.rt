@@ -6,7 +6,7 @@ ghost use Rattle.st_types.specs.Initials.{zero_of};
 ghost use Rattle.st_listing.specs.Walks.{started_value};
 ghost use Rattle.st_leaves.specs.LeavesIn.{truth};
 
-use st_initials::value_written;
+use st_initials::{Written, value_written};
 use st_tree::tree::Initial;
 use st_values::{Elem, Value};
 
@@ -28,11 +28,14 @@ pub(crate) fn truth(is_true: bool) -> Value
 }
 
 /// With what a value of this type begins: with the one that is written, or else with that of the type.
-pub(crate) fn started_value(elem: Elem, initial: Option<&Initial>) -> Value
+pub(crate) fn started_value(elem: Elem, initial: Option<&Written<'_>>) -> Value
     ensures { result ≡ started_value elem (option_copied initial.entry) }
 {
-    match initial {
-        Some(Initial::Constant(constant)) => value_written(elem, constant),
-        Some(Initial::Array(..)) | None => zero_of(elem),
+    let Some(written) = initial else {
+        return zero_of(elem);
+    };
+    match written.initial() {
+        Initial::Constant(constant) => value_written(elem, constant),
+        Initial::Array(..) => zero_of(elem),
     }
 }

@@ -1,28 +1,26 @@
 //! The walk through what variables consist of: each function lists the leaves of one kind of part.
 //!
-//! What has no leaves is passed at once, however many parts it has.
+//! Only what has leaves is walked through.
 //! A part is walked through with a depth, as its composition is defined: at most so many units stand inside one another. In a
 //! checked program no part is deeper.
 ghost use Rattle.std.specs.Option.{option_copied};
-ghost use Rattle.std.specs.Prelude.{◌≡◌, ◌+◌, ◌≤◌, ◌<◌, ◌∷◌, [], ℤ, List, Some, OnOk, codes, length, map};
+ghost use Rattle.std.specs.Prelude.{◌≡◌, ◌+◌, ◌≤◌, ◌<◌, ◌∷◌, [], ℤ, List, Some, OnOk, codes, length, suc};
 ghost use Rattle.st_initials.specs.Lists.{values_of};
 ghost use Rattle.st_leaves.specs.LeavesIn.{elements_in, starting, subscript_lists, within};
 ghost use Rattle.st_leaves.specs.Paths.{index, selector_text};
 ghost use Rattle.st_listing.specs.Listings.{AreWays, listed};
 ghost use Rattle.st_listing.specs.Walks.{IsWalk, array_leaves, declared_leaves, member_leaves, part_leaves, unit_leaves, units_in};
-ghost use Rattle.st_scopes.specs.Declarations.{seen};
 ghost use Rattle.st_types.specs.Inside.{declared_by};
 ghost use Rattle.st_types.specs.Names.{chart_in};
 
-use crate::empty::has_no_leaves;
 use crate::leaf_use::LeafUse;
 use crate::listing::Listing;
+use crate::rows::Row;
 use crate::subscripts::Subscripts;
 use crate::values::started_value;
-use st_initials::{FirstValues, Initials};
-use st_scopes::{Declared, Tables};
-use st_sizes::Size;
-use st_tree::tree::{Body, ChartElement, Constant, Initial, Subrange, VarKind};
+use st_initials::{FirstValues, Initials, Written};
+use st_scopes::Tables;
+use st_tree::tree::{Body, ChartElement, Constant, Subrange};
 use st_tree::{List, Word};
 use st_types::{Base, UnitKind};
 use std::alloc::{AllocError, Global};
@@ -34,7 +32,7 @@ pub(crate) struct Part<'a> {
     pub depth: usize,
     pub base: Base,
     /// With what it begins, where a value is written.
-    pub initial: Option<&'a Initial>,
+    pub initial: Option<&'a Written<'a>>,
 }
 
 /// The tables of a text whose parts are listed.
@@ -42,27 +40,25 @@ pub(crate) struct Part<'a> {
 pub(crate) struct Walk<'a, 't> {
     pub alloc: Global,
     pub tables: &'t Tables<'a>,
-    pub initials: &'t Initials<'a>,
+    pub initials: &'t Initials<'t>,
     /// The names of the units, in upper case.
     pub names: &'t [List<u8>],
+    /// The declared names that are listed, by the numbers of the units.
+    pub rows: &'t [List<Row<'a>>],
     /// The names that the charts of the units store.
     pub stored: &'t [Vec<&'a Word>],
-    /// The sizes of types, by the numbers of the units.
-    pub sizes: &'t [Size],
 }
 
 impl<'a, 't> Walk<'a, 't> {
     /// Lists what has a base.
     #[cycle(walk)]
-    fn list_part(self, part: Part<'a>, listing: &mut Listing<'t>) -> Result<(), AllocError>
+    fn list_part(self, part: Part<'t>, listing: &mut Listing<'t>) -> Result<(), AllocError>
         requires walk { IsWalk self }
+        requires depth { part.depth ≤ suc (length (units_in self)) }
         requires room { length listing.old.leaves + length (part_leaves (units_in self) part) ≤ 65536 }
         ensures listed { OnOk result (listing.new ≡ listed listing.old (part_leaves (units_in self.entry) part.entry)) }
         ensures ways { OnOk result (AreWays (part_leaves (units_in self.entry) part.entry)) }
     {
-        if has_no_leaves(self.tables, self.sizes, part) {
-            return Ok(());
-        }
         if part.depth == 0 {
             return Ok(());
         }
@@ -85,10 +81,11 @@ impl<'a, 't> Walk<'a, 't> {
         self,
         depth: usize,
         unit: usize,
-        initial: Option<&'a Initial>,
+        initial: Option<&'t Written<'t>>,
         listing: &mut Listing<'t>,
     ) -> Result<(), AllocError>
         requires walk { IsWalk self }
+        requires depth { depth ≤ suc (length (units_in self)) }
         requires room { length listing.old.leaves + length (array_leaves (units_in self) depth unit (option_copied initial)) ≤ 65536 }
         ensures listed { OnOk result (listing.new ≡ listed listing.old (array_leaves (units_in self.entry) depth unit (option_copied initial.entry))) }
         ensures ways { OnOk result (AreWays (array_leaves (units_in self.entry) depth unit (option_copied initial.entry))) }
@@ -110,18 +107,16 @@ impl<'a, 't> Walk<'a, 't> {
     fn list_elements(
         self,
         ranges: &[Subrange],
-        mut firsts: FirstValues<'a>,
-        element: Part<'a>,
+        mut firsts: FirstValues<'t>,
+        element: Part<'t>,
         listing: &mut Listing<'t>,
     ) -> Result<(), AllocError>
         requires walk { IsWalk self }
+        requires depth { element.depth ≤ suc (length (units_in self)) }
         requires room { length listing.old.leaves + length (elements_in (subscript_lists ranges.now) firsts (part_leaves (units_in self) element)) ≤ 65536 }
         ensures listed { OnOk result (listing.new ≡ listed listing.old (elements_in (subscript_lists ranges.now) firsts.entry (part_leaves (units_in self.entry) element.entry))) }
         ensures ways { OnOk result (AreWays (elements_in (subscript_lists ranges.now) firsts.entry (part_leaves (units_in self.entry) element.entry))) }
     {
-        if has_no_leaves(self.tables, self.sizes, element) {
-            return Ok(());
-        }
         let mut choices = Subscripts::of(self.alloc, ranges)?;
         'elements: while !choices.is_done() {
             let first = firsts.next();
@@ -137,11 +132,12 @@ impl<'a, 't> Walk<'a, 't> {
     fn list_element(
         self,
         subscripts: &[u8],
-        first: Option<&'a Constant>,
-        element: Part<'a>,
+        first: Option<&'t Constant>,
+        element: Part<'t>,
         listing: &mut Listing<'t>,
     ) -> Result<(), AllocError>
         requires walk { IsWalk self }
+        requires depth { element.depth ≤ suc (length (units_in self)) }
         requires room { length listing.old.leaves + length (part_leaves (units_in self) element) ≤ 65536 }
         ensures listed { OnOk result ((is : List ℤ) → subscripts.now ≡ selector_text (index is)
             → listing.new ≡ listed listing.old (within (index is) (codes "array") (starting (option_copied first.entry) (part_leaves (units_in self.entry) element.entry)))) }
@@ -165,6 +161,7 @@ impl<'a, 't> Walk<'a, 't> {
         listing: &mut Listing<'t>,
     ) -> Result<(), AllocError>
         requires walk { IsWalk self }
+        requires depth { depth ≤ suc (length (units_in self)) }
         requires room { length listing.old.leaves + length (unit_leaves (units_in self) depth unit) ≤ 65536 }
         ensures listed { OnOk result (listing.new ≡ listed listing.old (unit_leaves (units_in self.entry) depth unit)) }
         ensures ways { OnOk result (AreWays (unit_leaves (units_in self.entry) depth unit)) }
@@ -175,7 +172,7 @@ impl<'a, 't> Walk<'a, 't> {
         let name = self.names[unit].as_slice();
         let stored = self.stored[unit].as_slice();
         let elements = chart_of(self.tables.unit(unit).kind);
-        self.list_members(depth, name, self.tables.declared(unit), listing)?;
+        self.list_members(depth, name, self.rows[unit].as_slice(), listing)?;
         listing.list_chart(self.alloc, name, elements, stored)
     }
 
@@ -185,13 +182,14 @@ impl<'a, 't> Walk<'a, 't> {
         self,
         depth: usize,
         of: &'t [u8],
-        members: &[Declared<'a>],
+        members: &'t [Row<'a>],
         listing: &mut Listing<'t>,
     ) -> Result<(), AllocError>
         requires walk { IsWalk self }
-        requires room { length listing.old.leaves + length (member_leaves (units_in self) depth of.now (map seen members.now)) ≤ 65536 }
-        ensures listed { OnOk result (listing.new ≡ listed listing.old (member_leaves (units_in self.entry) depth of.now (map seen members.now))) }
-        ensures ways { OnOk result (AreWays (member_leaves (units_in self.entry) depth of.now (map seen members.now))) }
+        requires depth { depth ≤ suc (length (units_in self)) }
+        requires room { length listing.old.leaves + length (member_leaves (units_in self) depth of.now members.now) ≤ 65536 }
+        ensures listed { OnOk result (listing.new ≡ listed listing.old (member_leaves (units_in self.entry) depth of.now members.now)) }
+        ensures ways { OnOk result (AreWays (member_leaves (units_in self.entry) depth of.now members.now)) }
     {
         'members: for member in members {
             self.list_member(depth, of, member, listing)?;
@@ -199,25 +197,23 @@ impl<'a, 't> Walk<'a, 't> {
         Ok(())
     }
 
-    /// Lists a member of a whole of that name. A constant has no leaf.
+    /// Lists a member of a whole of that name.
     #[cycle(walk)]
     fn list_member(
         self,
         depth: usize,
         of: &'t [u8],
-        member: &Declared<'a>,
+        member: &'t Row<'a>,
         listing: &mut Listing<'t>,
     ) -> Result<(), AllocError>
         requires walk { IsWalk self }
-        requires room { length listing.old.leaves + length (member_leaves (units_in self) depth of.now (seen member.now ∷ [])) ≤ 65536 }
-        ensures listed { OnOk result (listing.new ≡ listed listing.old (member_leaves (units_in self.entry) depth of.now (seen member.now ∷ []))) }
-        ensures ways { OnOk result (AreWays (member_leaves (units_in self.entry) depth of.now (seen member.now ∷ []))) }
+        requires depth { depth ≤ suc (length (units_in self)) }
+        requires room { length listing.old.leaves + length (member_leaves (units_in self) depth of.now (member.now ∷ [])) ≤ 65536 }
+        ensures listed { OnOk result (listing.new ≡ listed listing.old (member_leaves (units_in self.entry) depth of.now (member.now ∷ []))) }
+        ensures ways { OnOk result (AreWays (member_leaves (units_in self.entry) depth of.now (member.now ∷ []))) }
     {
-        if member.kind == VarKind::Constant {
-            return Ok(());
-        }
         let mark = listing.mark();
-        listing.enter(member.name.spelling.letters(), of)?;
+        listing.enter(member.name().spelling.letters(), of)?;
         self.list_declared(depth, member, listing)?;
         listing.leave(mark);
         Ok(())
@@ -228,16 +224,17 @@ impl<'a, 't> Walk<'a, 't> {
     pub fn list_declared(
         self,
         depth: usize,
-        declared: &Declared<'a>,
+        row: &'t Row<'a>,
         listing: &mut Listing<'t>,
     ) -> Result<(), AllocError>
         requires walk { IsWalk self }
-        requires room { length listing.old.leaves + length (declared_leaves (units_in self) depth (seen declared.now)) ≤ 65536 }
-        ensures listed { OnOk result (listing.new ≡ listed listing.old (declared_leaves (units_in self.entry) depth (seen declared.now))) }
-        ensures ways { OnOk result (AreWays (declared_leaves (units_in self.entry) depth (seen declared.now))) }
+        requires depth { depth ≤ suc (length (units_in self)) }
+        requires room { length listing.old.leaves + length (declared_leaves (units_in self) depth row.now) ≤ 65536 }
+        ensures listed { OnOk result (listing.new ≡ listed listing.old (declared_leaves (units_in self.entry) depth row.now)) }
+        ensures ways { OnOk result (AreWays (declared_leaves (units_in self.entry) depth row.now)) }
     {
-        let specification = &declared.declaration.specification;
-        let initial = self.initials.of(self.tables, declared);
+        let specification = row.specification();
+        let initial = self.initials.of(self.tables, specification, row.written());
         let shape = self.tables.shape_of(specification);
         let base = shape.base;
         let Some(ranges) = shape.subscripts else {

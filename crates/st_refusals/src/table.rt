@@ -151,7 +151,7 @@ static COMMANDS: [Row; 13] = [
     (
         13,
         "The renames of a change don't fit the old and the new program.",
-        "Let each rename `OLD=NEW` name a path of the old program and one of the new, no path twice, and none with a `$`.",
+        "Let each rename `OLD=NEW` name a part of the old program and one of the new, without `$`: no old part twice, no new variable for two old ones, and each step in the place of its chart.",
     ),
 ];
 

@@ -36,11 +36,11 @@ fn heading(family: Family) -> &'static str {
     }
 }
 
-/// Whether a number is answered today. The others wait for what scans and replaces programs.
+/// Whether a number is answered today. The others wait for what scans.
 fn is_answered(family: Family, number: u8) -> bool {
     match family {
         Family::Syntax | Family::Check => true,
-        Family::Operator => !matches!(number, 8..=10 | 12 | 13),
+        Family::Operator => !matches!(number, 9 | 10 | 12),
         Family::Fault => false,
     }
 }

@@ -24,6 +24,11 @@ grade_status Accepted = 0
 grade_status Refused = 3
 grade_status Memory = 5
 
+-- the status is that of the replies to the commands of the bytes, or of the refusal of the load
+abbrev pub HasStatus : List ℕ → ℕ → Loaded → Type 0
+HasStatus bytes status (Ok c) = (taken : List Taken) × Follows (asked_of bytes) taken (machine_of c) × (status ≡ grade_status (worst taken (machine_of c)))
+HasStatus bytes status (Err refusal) = status ≡ refusal_status refusal
+
 -- ---- what is written
 
 -- all was written, with its status: the replies to all commands of the bytes, or the refusal of the load

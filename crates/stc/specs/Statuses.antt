@@ -9,8 +9,7 @@ use Rattle.st_control.specs.Loads.{OfLoad}
 use Rattle.st_control.specs.Texts.{OfCheck}
 use Rattle.st_session.specs.Checks.{check_status}
 use Rattle.st_session.specs.Layouts.{OfLayout, layout_status}
-use Rattle.st_session.specs.Lines.{Line}
-use Rattle.st_session.specs.Runs.{status_of}
+use Rattle.st_session.specs.Runs.{HasStatus}
 use Rattle.st_words.specs.Words.{AreInOrder, HasLimit, IsOrder, chosen_by, faults_of, limit_of}
 use Rattle.st_words.specs.declared.words.Order.{Order}
 use Rattle.st_words.specs.declared.words.Verb.TheVariants.{Check, Layout, Run}
@@ -35,9 +34,9 @@ EndsAsChecked text main status = OfCheck text main (λ checked. status ≡ check
 abbrev pub EndsAsLaidOut : List ℕ → List ℕ → ℕ → Type 0
 EndsAsLaidOut text main status = OfLayout text main (λ laid. status ≡ layout_status laid)
 
--- the text is loaded under this name and limit, and of some lines the status is theirs
+-- the text is loaded under this name and limit, and of the commands of some bytes the status is theirs
 abbrev pub EndsAsLoaded : List ℕ → List ℕ → ℕ → ℕ → Type 0
-EndsAsLoaded text main limit status = OfLoad text main limit (λ loaded. (lines : List Line) × (status ≡ status_of loaded lines))
+EndsAsLoaded text main limit status = OfLoad text main limit (λ loaded. (bytes : List ℕ) × HasStatus bytes status loaded)
 
 -- where the order is to check: memory ran out, or the file couldn't be read or a device failed, or some text is checked as the
 -- order says
@@ -50,7 +49,7 @@ abbrev pub EndsAsLayout : Order → ℕ → Type 0
 EndsAsLayout order status = order.verb ≡ Layout → status ≢ 4 → status ≢ 5 → (text : List ℕ) × EndsAsLaidOut text order.main.now status
 
 -- where the order is to run: memory ran out, or the file couldn't be read or a device failed, or some text is loaded as the
--- order says, and of some lines the status is theirs
+-- order says, and of the commands of some bytes the status is theirs
 abbrev pub EndsAsRun : Order → ℕ → Type 0
 EndsAsRun order status = order.verb ≡ Run → status ≢ 4 → status ≢ 5 → (text : List ℕ) × EndsAsLoaded text order.main.now order.steps status
 

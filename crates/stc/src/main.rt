@@ -9,7 +9,6 @@ ghost use Rattle.st_control.specs.Loads.{OfLoad};
 ghost use Rattle.st_control.specs.Texts.{OfCheck};
 ghost use Rattle.st_session.specs.Checks.{TellsAll, TellsPart};
 ghost use Rattle.st_session.specs.Layouts.{ListsAll, ListsPart, OfLayout};
-ghost use Rattle.st_session.specs.Lines.{lines_of};
 ghost use Rattle.st_session.specs.Pending.{OnBytes, OnReading};
 ghost use Rattle.st_session.specs.Replies.{ended};
 ghost use Rattle.st_session.specs.Runs.{OfProgram, WritesAll, WritesPart, WritesRead};
@@ -155,7 +154,7 @@ fn read_text<R: Read + Drop>(alloc: Global, reader: R) -> io::Result<Vec<u8>>
 
 /// Does with the source text what is ordered, on standard input and output.
 ///
-/// No clause knows the bytes of standard input. So of some lines the status is theirs.
+/// No clause knows the bytes of standard input. So of some commands the status is theirs.
 fn serve<R: Input + Print + AllocGlobal>(rt: &R, order: Order<'_>, text: &[u8]) -> u8
     ensures check_status { order.entry.verb ≡ Verb.Check → result ≢ DEVICE_FAILED → result ≢ NO_MEMORY
         → EndsAsChecked text.now order.entry.main.now result }
@@ -201,18 +200,21 @@ fn obey_text<R: Source, W: Sink>(
         → OfLayout text.now order.entry.main.now (ListsPart (W.taken sink.old) (W.taken sink.new)) }
     ensures layout_source { order.entry.verb ≡ Verb.Layout → source.new ≡ source.old }
 
-    // The replies to all lines are written, or the refusal of the load.
+    // The replies to all commands are written, or the refusal of the load; but for want of memory for the session's own
+    // buffers nothing is.
     ensures run_all { order.entry.verb ≡ Verb.Run → result ≢ DEVICE_FAILED → result ≢ NO_MEMORY
         → OnBytes (R.rest source.old) (λ bytes. OfLoad text.now order.entry.main.now order.entry.steps
-        (WritesAll (lines_of bytes) result (W.taken sink.old) (W.taken sink.new))) }
-    ensures run_memory { order.entry.verb ≡ Verb.Run → result ≡ NO_MEMORY → Appends (W.taken sink.old) (W.taken sink.new) []
-        ⊎ Appends (W.taken sink.old) (W.taken sink.new) (ended (codes "refused M")) }
+        (WritesAll bytes result (W.taken sink.old) (W.taken sink.new))) }
+    ensures run_memory { order.entry.verb ≡ Verb.Run → result ≡ NO_MEMORY
+        → OnBytes (R.rest source.old) (λ bytes. OfLoad text.now order.entry.main.now order.entry.steps
+        (WritesAll bytes NO_MEMORY (W.taken sink.old) (W.taken sink.new)))
+        ⊎ Appends (W.taken sink.old) (W.taken sink.new) [] }
 
-    // A device has failed, and the run ended there. Where it is the source, the text was loaded, and of the lines that were
+    // A device has failed, and the run ended there. Where it is the source, the text was loaded, and of the commands that were
     // read whole none is lost.
     ensures run_part { order.entry.verb ≡ Verb.Run → result ≡ DEVICE_FAILED
         → OnBytes (R.rest source.old) (λ bytes. OfLoad text.now order.entry.main.now order.entry.steps
-        (WritesPart (lines_of bytes) (W.taken sink.old) (W.taken sink.new))) }
+        (WritesPart bytes (W.taken sink.old) (W.taken sink.new))) }
     ensures run_read { order.entry.verb ≡ Verb.Run → R.has_failed source.new ≡ true
         → OnReading (R.rest source.old) (R.rest source.new) (λ bytes rest. OfProgram text.now order.entry.main.now
         order.entry.steps (WritesRead bytes rest (W.taken sink.old) (W.taken sink.new))) }

@@ -5,12 +5,16 @@ use Rattle.st_types.specs.Names.{units_of}
 use Rattle.st_types.specs.Types.{type_at}
 use Rattle.st_values.specs.Words.{raised}
 use Rattle.st_listing.specs.Listings.{spelled}
+use Rattle.st_listing.specs.Walks.{AreRows}
 use Rattle.st_listing.proofs.leaves.main_leaves.Goals as goal
+
+pub rows_of-requires : goal.rows_of-requires
+rows_of-requires c = λ i. subst (λ (sizes : List Size). IsSized (units_of c.args.tables.now) sizes (type_at (units_of c.args.tables.now) i)) (sym c.as_slice.ensures.value) (c.in_ok-sizes.ensures i)
 
 pub walked_leaves-requires-clause-walk : goal.walked_leaves-requires-clause-walk
 walked_leaves-requires-clause-walk c = record {
   initials = c.in_ok-initials.ensures;
-  names = c.as_slice.ensures.value ∙ c.in_ok-names.ensures ∙ ap (map (λ u. raised u.name.spelling)) c.units.ensures;
-  stored = ap (map (λ names. spelled names.items)) c.as_slice-2.ensures.value ∙ c.in_ok-stored.ensures;
-  sizes = λ i. subst (λ (sizes : List Size). IsSized (units_of c.args.tables.now) sizes (type_at (units_of c.args.tables.now) i)) (sym c.as_slice-3.ensures.value) (c.in_ok-sizes.ensures i);
+  names = c.as_slice-2.ensures.value ∙ c.in_ok-names.ensures ∙ ap (map (λ u. raised u.name.spelling)) c.units.ensures;
+  rows = subst (AreRows (units_of c.args.tables.now)) (sym c.as_slice-3.ensures.value) c.in_ok-rows.ensures;
+  stored = ap (map (λ names. spelled names.items)) c.as_slice-4.ensures.value ∙ c.in_ok-stored.ensures;
 }

@@ -1,17 +1,18 @@
-use Rattle.std.proofs.Common.{ℕ, List, ◌∙◌, ap, refl, subst}
-use Rattle.std.specs.Prelude.{Err}
-use Rattle.st_check.specs.Programs.{text_of}
-use Rattle.st_control.proofs.Texts.{memory_refuses}
-use Rattle.st_control.specs.Controllers.{ControllerView}
-use Rattle.st_control.specs.Texts.{IsCheckedAs}
-use Rattle.st_control.specs.declared.refusal.Refusal.TheVariants as refusals
+use Rattle.std.proofs.Common.{ℕ, List, ◌∙◌, ap, subst}
+use Rattle.st_control.proofs.ChangeSteps.{same_counts, takes_change}
+use Rattle.st_control.specs.Controllers.{ControllerView, GoesOver}
+use Rattle.st_control.specs.Texts.{IsProgramOf}
+use Rattle.st_layout.specs.declared.renames.Rename.{Rename}
 use Rattle.st_control.proofs.controller.Controller.change_named.Goals as goal
 
 pub returns-clause-step : goal.returns-clause-step
 returns-clause-step g c =
-    let text = c.args.text.now in
-    let refused : IsCheckedAs text c.bytes.result.now (Err refusals.M) =
-        memory_refuses text c.bytes.result.now (text_of c.in_ok-_image._image) c.in_ok-_image.ensures.ok.accepted in
-    (Err refusals.M,
-    subst (λ (main : List ℕ). IsCheckedAs text main (Err refusals.M)) (c.bytes.ensures.bytes ∙ ap (λ (it : ControllerView). it.main) c.self.view_is) refused,
-    (refl, refl))
+    let program = c.in_ok-image.image in
+    let old : ControllerView = c.args.self.now in
+    takes_change c.args.text.now program c.args.renames.items old c.go_over.new.self c.go_over.result
+    (subst (λ (main : List ℕ). IsProgramOf c.args.text.now main program) (c.bytes.ensures.bytes ∙ ap (λ (it : ControllerView). it.main) c.self.view_is) c.in_ok-image.ensures.ok)
+    (subst (λ (renames : List Rename). GoesOver program renames old c.go_over.result c.go_over.new.self) c.raised.ensures c.go_over.ensures.step)
+
+pub returns-clause-counts : goal.returns-clause-counts
+returns-clause-counts g c =
+    same_counts c.go_over.result c.args.self.now.state c.args.renames.items c.raised.result c.go_over.new.self.state.program c.raised.ensures c.go_over.ensures.counts

@@ -1,7 +1,7 @@
 use Rattle.std.proofs.Common.{◌∙◌, ◌∷◌, ◌++◌, [], ap, nat_le}
 use Rattle.st_control.proofs.Histories.{takes_accepted, takes_refused}
 use Rattle.st_control.proofs.Records.{force_leaves}
-use Rattle.st_control.specs.Controllers.{ControllerView, is_of_change}
+use Rattle.st_control.specs.Controllers.{ControllerView}
 use Rattle.st_control.specs.Machine.{leaf_to_force}
 use Rattle.st_control.specs.States.{forced}
 use Rattle.st_control.proofs.controller.Controller.force.Goals as goal
@@ -19,7 +19,7 @@ returns-in-Ok-clause-step g c =
     rw (c.keep.ensures.items, ← c.self.view_is)
     (takes_accepted before (λ leaf. forced before.state leaf c.args.value) (λ full. leaf_to_force before.state full c.args.path.now c.args.value)
     c.len-full.result c.in-Ok.leaf c.force-newest.new.self c.force-newest.result
-    (c.len-full.ensures ∙ c.self.inside.records.ok.0) c.in-Ok.ensures.value c.force-newest.ensures.new c.force-newest.ensures.back (ap is_of_change c.force-newest.ensures.record))
+    (c.len-full.ensures ∙ c.self.inside.records.ok.0) c.in-Ok.ensures.value c.force-newest.ensures.new c.force-newest.ensures.back c.force-newest.ensures.kind)
 
 pub returns-in-Ok-clause-record : goal.returns-in-Ok-clause-record
 returns-in-Ok-clause-record g c =

@@ -1,6 +1,6 @@
-use Rattle.std.proofs.Common.{◌∙◌, ap}
+use Rattle.std.proofs.Common.{◌∙◌}
 use Rattle.st_control.proofs.Histories.{takes_accepted, takes_refused}
-use Rattle.st_control.specs.Controllers.{ControllerView, is_of_change}
+use Rattle.st_control.specs.Controllers.{ControllerView}
 use Rattle.st_control.specs.Machine.{leaf_to_release}
 use Rattle.st_control.specs.States.{released}
 use Rattle.st_control.proofs.controller.Controller.release.Goals as goal
@@ -18,4 +18,4 @@ returns-in-Ok-clause-step g c =
     rw (c.keep.ensures.items, ← c.self.view_is)
     (takes_accepted before (λ leaf. released before.state leaf) (λ full. leaf_to_release before.state full c.args.path.now)
     c.len-full.result c.in-Ok.leaf c.release-newest.new.self c.release-newest.result
-    (c.len-full.ensures ∙ c.self.inside.records.ok.0) c.in-Ok.ensures.value c.release-newest.ensures.new c.release-newest.ensures.back (ap is_of_change c.release-newest.ensures.record))
+    (c.len-full.ensures ∙ c.self.inside.records.ok.0) c.in-Ok.ensures.value c.release-newest.ensures.new c.release-newest.ensures.back c.release-newest.ensures.kind)

@@ -1,6 +1,6 @@
-use Rattle.std.proofs.Common.{◌∙◌, ap}
+use Rattle.std.proofs.Common.{◌∙◌}
 use Rattle.st_control.proofs.Histories.{takes_accepted, takes_refused}
-use Rattle.st_control.specs.Controllers.{ControllerView, is_of_change}
+use Rattle.st_control.specs.Controllers.{ControllerView}
 use Rattle.st_control.specs.Machine.{leaf_to_write}
 use Rattle.st_control.specs.States.{written}
 use Rattle.st_control.proofs.controller.Controller.write.Goals as goal
@@ -18,4 +18,4 @@ returns-in-Ok-clause-step g c =
     rw (c.keep.ensures.items, ← c.self.view_is)
     (takes_accepted before (λ leaf. written before.state leaf c.args.value) (λ full. leaf_to_write before.state full c.args.path.now c.args.value)
     c.len-full.result c.in-Ok.leaf c.write-newest.new.self c.write-newest.result
-    (c.len-full.ensures ∙ c.self.inside.records.ok.0) c.in-Ok.ensures.value c.write-newest.ensures.new c.write-newest.ensures.back (ap is_of_change c.write-newest.ensures.record))
+    (c.len-full.ensures ∙ c.self.inside.records.ok.0) c.in-Ok.ensures.value c.write-newest.ensures.new c.write-newest.ensures.back c.write-newest.ensures.kind)

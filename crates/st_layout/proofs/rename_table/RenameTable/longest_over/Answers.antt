@@ -1,11 +1,11 @@
-use Rattle.std.proofs.Common.{ℕ, ◌≡◌, ◌∙◌, ◌<◌, ◌-◌, ◌+◌, None, Some, true, false, List, length, drop, take, sym, ap, arith}
-use Rattle.std.proofs.lemmas.List.{get_or_default, take_rest}
-use Rattle.st_names.specs.Tables.{first_of}
+use Rattle.std.proofs.Common.{ℕ, ◌≡◌, ◌∙◌, ◌<◌, ◌-◌, ◌+◌, None, Some, true, List, length, sym, ap, arith}
+use Rattle.std.proofs.lemmas.List.{get_or_default}
 use Rattle.st_values.specs.Words.{raised}
-use Rattle.st_layout.specs.Renames.{begins_part, is_in, longest, renames_over}
+use Rattle.st_layout.specs.Parts.{part_at_front}
+use Rattle.st_layout.specs.Renames.{is_in, longest, renames_over}
 use Rattle.st_layout.specs.declared.renames.Rename.{Rename}
 use Rattle.st_layout.proofs.Fronts.{no_rename, rename_at}
-use Rattle.st_layout.proofs.Longest.{here_below, long_here, longest_here, longest_none, parts_of, shorter_missing, shorter_none}
+use Rattle.st_layout.proofs.Longest.{here_below, long_here, longest_here, longest_none, parts_of, shorter_missing}
 use Rattle.st_layout.proofs.rename_table.RenameTable.longest_over.Goals as goal
 use Rattle.st_layout.proofs.rename_table.RenameTable.longest_over.Goals.{In-Some}
 
@@ -23,20 +23,17 @@ module _ (c : In-Some) where
   all : (k : ℕ) → k < length renames → is_in (raised (rename_at renames k).old) path ≡ true → length (rename_at renames k).old < end + 1
   all k below is = omega (arith, c.loop-end.invariant k below is)
 
-  ends : begins_part (drop end path) ≡ true
-  ends = ap begins_part (sym (take_rest path end)) ∙ (sym c.begins_part.ensures ∙ c.if-begins_part.true)
-
-  first : first_of (parts_of renames) (take end path) ≡ Some c.in-Some.place
-  first = ap (λ (parts : List (List ℕ)). first_of parts (take end path)) (sym c.self.invariant) ∙ (sym c.find.ensures.number ∙ c.in-Some.is)
+  found : part_at_front (parts_of renames) path end ≡ Some c.in-Some.place
+  found = ap (λ (parts : List (List ℕ)). part_at_front parts path end) (sym c.self.invariant) ∙ (sym c.front.ensures.place ∙ c.in-Some.is)
 
   below : c.in-Some.place < length renames
-  below = here_below renames path c.requires end all c.in-Some.place (omega arith) ends first
+  below = here_below renames path c.requires.upper end all c.in-Some.place (omega arith) found
 
   answer : longest (renames_over renames path) ≡ Some (rename_at renames c.in-Some.place)
-  answer = longest_here renames path c.requires end all c.in-Some.place (omega arith) ends first
+  answer = longest_here renames path c.requires.upper end all c.in-Some.place (omega arith) found
 
   long : length (rename_at renames c.in-Some.place).old ≡ end
-  long = long_here renames path c.requires end all c.in-Some.place (omega arith) ends first
+  long = long_here renames path c.requires.upper end all c.in-Some.place (omega arith) found
 
 pub returns-in-Some-clause-value : goal.returns-in-Some-clause-value
 returns-in-Some-clause-value c =
@@ -51,18 +48,12 @@ returns-in-Some-clause-within c =
     let short : length (rename_at c.self.inside.renames.now c.in-Some.place).old ≡ c.loop-end.end - 1 = long it in
     omega (arith, ap (λ (rename : Rename). length rename.old) same)
 
--- the front that is looked up is no part
-pub loop-end-preserved-in_default : goal.loop-end-preserved-in_default
-loop-end-preserved-in_default c =
-    let missing : first_of (parts_of c.self.inside.renames.now) (take (c.loop-end.end - 1) c.args.path.now) ≡ None =
-    ap (λ (parts : List (List ℕ)). first_of parts (take (c.loop-end.end - 1) c.args.path.now)) (sym c.self.invariant) ∙ (sym c.find.ensures.number ∙ c.in_default.is) in
-    shorter_missing c.self.inside.renames.now c.args.path.now c.requires (c.loop-end.end - 1) (λ k below is. omega (arith, c.loop-end.invariant k below is)) missing
-
--- the path doesn't go on there with a member or an element
+-- no part is the front that is looked up
 pub loop-end-preserved : goal.loop-end-preserved
 loop-end-preserved c =
-    let fails : begins_part (drop (c.loop-end.end - 1) c.args.path.now) ≡ false = ap begins_part (sym (take_rest c.args.path.now (c.loop-end.end - 1))) ∙ (sym c.begins_part.ensures ∙ c.if-begins_part.false) in
-    shorter_none c.self.inside.renames.now c.args.path.now c.requires (c.loop-end.end - 1) (λ k below is. omega (arith, c.loop-end.invariant k below is)) fails
+    let missing : part_at_front (parts_of c.self.inside.renames.now) c.args.path.now (c.loop-end.end - 1) ≡ None =
+    ap (λ (parts : List (List ℕ)). part_at_front parts c.args.path.now (c.loop-end.end - 1)) (sym c.self.invariant) ∙ (sym c.front.ensures.place ∙ c.in_default.is) in
+    shorter_missing c.self.inside.renames.now c.args.path.now c.requires.upper (c.loop-end.end - 1) (λ k below is. omega (arith, c.loop-end.invariant k below is)) missing
 
 pub returns-clause-value : goal.returns-clause-value
 returns-clause-value c =

@@ -1,16 +1,15 @@
-use Rattle.std.proofs.Common.{rules, ◌+◌, ◌-◌, [], ◌∷◌, ap, arith, drop, length, map, refl, subst, sym, ◌∙◌}
+use Rattle.std.proofs.Common.{rules, ◌+◌, ◌-◌, [], ◌∷◌, ap, arith, drop, length, refl, subst, sym, ◌∙◌}
 use Rattle.std.specs.Option.{option_copied}
 use Rattle.std.proofs.lemmas.Result.{on_ok_weaker}
 use Rattle.st_leaves.specs.Charts.{stored_of}
 use Rattle.st_leaves.specs.LeavesIn.{chart_in, elements_in, plain, subscript_lists}
 use Rattle.st_listing.specs.Listings.{AreWays, listed, outside, spelled}
 use Rattle.st_listing.specs.Walks.{declared_leaves, member_leaves, part_leaves, started_value, unit_leaves, units_in}
-use Rattle.st_scopes.specs.Declarations.{seen}
 use Rattle.st_types.specs.Inside.{named_by}
+use Rattle.st_types.specs.Types.{shape_of}
 use Rattle.st_types.specs.declared.base.Base.TheVariants as bases
-use Rattle.st_listing.proofs.Empties.{no_elements}
 use Rattle.st_listing.proofs.Listings.{listed_more, ways_by, ways_more}
-use Rattle.st_listing.proofs.Walks.{declared_part_of, element_listed, elementary_listed, elements_within, first_room, isnt_constant, left_more, left_room, left_ways, member_listed, member_ways, members_left, next_element, next_element_room, next_element_ways, no_depth, nothing_listed, nothing_ways, part_array, part_elementary, part_of, part_standard, part_unit, part_unknown, room_of, second_room, some_left, unit_name, unit_none, unit_read, unit_split}
+use Rattle.st_listing.proofs.Walks.{declared_part_of, element_listed, elementary_listed, elements_within, first_room, left_more, left_room, left_ways, member_listed, member_ways, members_left, next_element, next_element_room, next_element_ways, no_depth, nothing_listed, nothing_ways, part_array, part_elementary, part_of, part_standard, part_unit, part_unknown, room_of, rows_at, second_room, some_left, unit_name, unit_none, unit_read, unit_split}
 use Rattle.st_listing.proofs.walk.Walk.+walk.Goals as goal
 
 pub list_array-of_array-requires-clause-unit : goal.list_array-of_array-requires-clause-unit
@@ -18,17 +17,17 @@ list_array-of_array-requires-clause-unit t c = elements_within (units_in c.args.
 
 pub list_declared-list_part-requires : goal.list_declared-list_part-requires
 list_declared-list_part-requires t c =
-    let same = declared_part_of (units_in c.args.self) c.args.depth (seen c.args.declared.now) (option_copied c.of-initial.result) _ (c.shape.view_is ∙ c.shape_of-shape.ensures) (ap option_copied c.in_default.is) c.of-initial.ensures in
-    (omega (arith, c.decreases), (c.requires.walk, room_of c.args.listing.now (declared_leaves (units_in c.args.self) c.args.depth (seen c.args.declared.now)) _ same c.requires.room))
+    let same = declared_part_of (units_in c.args.self) c.args.depth c.args.row.now (option_copied c.of-initial.result) _ (c.shape.view_is ∙ c.shape_of-shape.ensures ∙ ap (shape_of (units_in c.args.self)) c.specification-specification.ensures) (ap option_copied c.in_default.is) (c.of-initial.ensures c.args.row.now (sym c.specification-specification.ensures) (sym c.written.ensures)) in
+    (omega (arith, c.decreases), (c.requires.walk, (c.requires.depth, room_of c.args.listing.now (declared_leaves (units_in c.args.self) c.args.depth c.args.row.now) _ same c.requires.room)))
 
 pub list_declared-returns-in_default-clause-listed : goal.list_declared-returns-in_default-clause-listed
 list_declared-returns-in_default-clause-listed t c =
-    let same = declared_part_of (units_in c.args.self) c.args.depth (seen c.args.declared.now) (option_copied c.of-initial.result) _ (c.shape.view_is ∙ c.shape_of-shape.ensures) (ap option_copied c.in_default.is) c.of-initial.ensures in
+    let same = declared_part_of (units_in c.args.self) c.args.depth c.args.row.now (option_copied c.of-initial.result) _ (c.shape.view_is ∙ c.shape_of-shape.ensures ∙ ap (shape_of (units_in c.args.self)) c.specification-specification.ensures) (ap option_copied c.in_default.is) (c.of-initial.ensures c.args.row.now (sym c.specification-specification.ensures) (sym c.written.ensures)) in
     on_ok_weaker c.list_part.result (λ h. h ∙ ap (listed c.args.listing.now) (sym same)) c.list_part.ensures.listed
 
 pub list_declared-returns-in_default-clause-ways : goal.list_declared-returns-in_default-clause-ways
 list_declared-returns-in_default-clause-ways t c =
-    let same = declared_part_of (units_in c.args.self) c.args.depth (seen c.args.declared.now) (option_copied c.of-initial.result) _ (c.shape.view_is ∙ c.shape_of-shape.ensures) (ap option_copied c.in_default.is) c.of-initial.ensures in
+    let same = declared_part_of (units_in c.args.self) c.args.depth c.args.row.now (option_copied c.of-initial.result) _ (c.shape.view_is ∙ c.shape_of-shape.ensures ∙ ap (shape_of (units_in c.args.self)) c.specification-specification.ensures) (ap option_copied c.in_default.is) (c.of-initial.ensures c.args.row.now (sym c.specification-specification.ensures) (sym c.written.ensures)) in
     on_ok_weaker c.list_part.result (λ h. subst AreWays (sym same) h) c.list_part.ensures.ways
 
 pub list_element-returns-clause-listed : goal.list_element-returns-clause-listed
@@ -42,7 +41,7 @@ pub list_elements-list_element-requires : goal.list_elements-list_element-requir
 list_elements-list_element-requires t c =
     let some = some_left c.elements.choices c.elements-test.ensures.1 in
     let room = next_element_room c.args.listing.now c.elements.listing c.elements.choices c.elements.firsts (part_leaves (units_in c.args.self) c.args.element) _ some c.elements.invariant.left c.requires.room in
-    (omega (arith, c.decreases), (c.requires.walk, room))
+    (omega (arith, c.decreases), (c.requires.walk, (c.requires.depth, room)))
 
 pub list_elements-elements-preserved : goal.list_elements-elements-preserved
 list_elements-elements-preserved t c =
@@ -58,31 +57,29 @@ list_elements-elements-preserved t c =
 
 pub list_member-returns-clause-listed : goal.list_member-returns-clause-listed
 list_member-returns-clause-listed t c =
-    let other = isnt_constant c.args.member.now.kind (grind (arith, c.eq.ensures, c.if-eq.ensures, c.if-eq.false)) in
-    member_listed (units_in c.args.self) c.args.depth c.args.of.now c.letters.result.now (seen c.args.member.now) c.args.listing.now c.enter.new.self c.list_declared.new.listing c.leave.new.self other c.letters.ensures.bytes c.in_ok-enter.ensures
+    member_listed (units_in c.args.self) c.args.depth c.args.of.now c.letters.result.now c.args.member.now c.args.listing.now c.enter.new.self c.list_declared.new.listing c.leave.new.self c.name.ensures.variable (c.letters.ensures.bytes ∙ ap (λ name. name.spelling) c.name.ensures.name) c.in_ok-enter.ensures
     c.in_ok-list_declared.ensures.listed (c.leave.ensures ∙ ap (outside c.list_declared.new.listing) c.mark-mark.ensures)
 
 pub list_member-returns-clause-ways : goal.list_member-returns-clause-ways
 list_member-returns-clause-ways t c =
-    let other = isnt_constant c.args.member.now.kind (grind (arith, c.eq.ensures, c.if-eq.ensures, c.if-eq.false)) in
-    member_ways (units_in c.args.self) c.args.depth c.args.of.now c.letters.result.now (seen c.args.member.now) other c.letters.ensures.bytes c.letters.ensures.word c.in_ok-list_declared.ensures.ways
+    member_ways (units_in c.args.self) c.args.depth c.args.of.now c.letters.result.now c.args.member.now c.name.ensures.variable (c.letters.ensures.bytes ∙ ap (λ name. name.spelling) c.name.ensures.name) c.letters.ensures.word c.in_ok-list_declared.ensures.ways
 
 pub list_members-list_member-requires : goal.list_members-list_member-requires
 list_members-list_member-requires t c =
     let units = units_in c.args.self in
     let split = members_left units c.args.depth c.args.of.now c.args.members.now c.members.member-index c.member-item.result c.members-test.true (sym c.member-item.is) in
-    let room = left_room c.args.listing.now c.members.listing (member_leaves units c.args.depth c.args.of.now (seen c.member-item.result ∷ []))
-    (member_leaves units c.args.depth c.args.of.now (map seen (drop (c.members.member-index + 1) c.args.members.now))) (member_leaves units c.args.depth c.args.of.now (map seen (drop c.members.member-index c.args.members.now)))
-    (member_leaves units c.args.depth c.args.of.now (map seen c.args.members.now)) split c.members.invariant.left c.requires.room in
+    let room = left_room c.args.listing.now c.members.listing (member_leaves units c.args.depth c.args.of.now (c.member-item.result ∷ []))
+    (member_leaves units c.args.depth c.args.of.now (drop (c.members.member-index + 1) c.args.members.now)) (member_leaves units c.args.depth c.args.of.now (drop c.members.member-index c.args.members.now))
+    (member_leaves units c.args.depth c.args.of.now c.args.members.now) split c.members.invariant.left c.requires.room in
     search (rules, room)
 
 pub list_members-members-preserved : goal.list_members-members-preserved
 list_members-members-preserved t c =
     let units = units_in c.args.self in
-    let part = member_leaves units c.args.depth c.args.of.now (seen c.member-item.result ∷ []) in
-    let rest = member_leaves units c.args.depth c.args.of.now (map seen (drop (c.members.member-index + 1) c.args.members.now)) in
-    let left = member_leaves units c.args.depth c.args.of.now (map seen (drop c.members.member-index c.args.members.now)) in
-    let whole = member_leaves units c.args.depth c.args.of.now (map seen c.args.members.now) in
+    let part = member_leaves units c.args.depth c.args.of.now (c.member-item.result ∷ []) in
+    let rest = member_leaves units c.args.depth c.args.of.now (drop (c.members.member-index + 1) c.args.members.now) in
+    let left = member_leaves units c.args.depth c.args.of.now (drop c.members.member-index c.args.members.now) in
+    let whole = member_leaves units c.args.depth c.args.of.now c.args.members.now in
     let split = members_left units c.args.depth c.args.of.now c.args.members.now c.members.member-index c.member-item.result c.members-test.true (sym c.member-item.is) in record {
       left = left_more c.args.listing.now c.members.listing c.list_member.new.listing part rest left whole split c.in_ok-list_member.ensures.listed c.members.invariant.left;
       ways = left_ways part rest left whole split c.in_ok-list_member.ensures.ways c.members.invariant.ways;
@@ -107,7 +104,7 @@ pub list_part-list_array-requires : goal.list_part-list_array-requires
 list_part-list_array-requires t c =
     let same = part_of (units_in c.args.self) c.args.part.depth c.args.part.base (bases.Array c.in-Array.unit) (option_copied c.args.part.initial) _ c.in-Array.is
     (part_array (units_in c.args.self) c.args.part.depth (c.args.part.depth - 1) c.in-Array.unit (option_copied c.args.part.initial) (omega (arith, c.if-part-eq0.false))) in
-    (omega (arith, c.decreases, c.if-part-eq0.false), (c.requires.walk, room_of c.args.listing.now (part_leaves (units_in c.args.self) c.args.part) _ same c.requires.room))
+    (omega (arith, c.decreases, c.if-part-eq0.false), (c.requires.walk, (omega (arith, c.requires.depth), room_of c.args.listing.now (part_leaves (units_in c.args.self) c.args.part) _ same c.requires.room)))
 
 pub list_part-list_block-requires : goal.list_part-list_block-requires
 list_part-list_block-requires t c =
@@ -119,7 +116,7 @@ list_part-list_block-requires t c =
 pub list_part-list_unit-requires : goal.list_part-list_unit-requires
 list_part-list_unit-requires t c =
     let same = part_unit (units_in c.args.self) c.args.part.depth (c.args.part.depth - 1) c.in-Structure.unit c.args.part.base (option_copied c.args.part.initial) c.in-Structure.is (omega (arith, c.if-part-eq0.false)) in
-    (omega (arith, c.decreases, c.if-part-eq0.false), (c.requires.walk, room_of c.args.listing.now (part_leaves (units_in c.args.self) c.args.part) _ same c.requires.room))
+    (omega (arith, c.decreases, c.if-part-eq0.false), (c.requires.walk, (omega (arith, c.requires.depth), room_of c.args.listing.now (part_leaves (units_in c.args.self) c.args.part) _ same c.requires.room)))
 
 pub list_part-returns-in-Unknown-clause-listed : goal.list_part-returns-in-Unknown-clause-listed
 list_part-returns-in-Unknown-clause-listed t c =
@@ -191,13 +188,14 @@ list_unit-list_members-requires t c =
     let units = units_in c.args.self in
     let u = named_by c.unit.result in
     let named = c.as_slice-name.ensures ∙ unit_name units c.args.self.names.now c.args.unit u c.index-self-unit.result (sym c.unit.ensures) c.requires.walk.names in
+    let rows = rows_at units c.args.self.rows.now c.args.unit c.as_slice.result.now c.index-self-unit-3.result c.requires.walk.rows (omega (arith, c.len.ensures, c.if-unit-len.false)) c.as_slice.ensures in
     let stored = ap spelled c.as_slice-stored.ensures.value
     ∙ unit_read (λ names. spelled names.items) (λ u. stored_of u.declares) units c.args.self.stored.now c.args.unit u c.index-self-unit-2.result (sym c.unit.ensures) c.requires.walk.stored in
-    let split = unit_split units c.args.depth c.args.unit u c.as_slice-name.result.now (map seen c.declared.result.now) (spelled c.as_slice-stored.result.now) c.chart_of-elements.result.now (sym c.unit.ensures) named c.declared.ensures stored c.chart_of-elements.ensures in (
+    let split = unit_split units c.args.depth c.args.unit u c.as_slice-name.result.now c.as_slice.result.now (spelled c.as_slice-stored.result.now) c.chart_of-elements.result.now (sym c.unit.ensures) named rows c.requires.depth stored c.chart_of-elements.ensures in (
       omega (arith, c.decreases),
       (
         c.requires.walk,
-        first_room c.args.listing.now (member_leaves units c.args.depth c.as_slice-name.result.now (map seen c.declared.result.now)) (chart_in c.as_slice-name.result.now (spelled c.as_slice-stored.result.now) c.chart_of-elements.result.now) _ split c.requires.room,
+        (c.requires.depth, first_room c.args.listing.now (member_leaves units c.args.depth c.as_slice-name.result.now c.as_slice.result.now) (chart_in c.as_slice-name.result.now (spelled c.as_slice-stored.result.now) c.chart_of-elements.result.now) _ split c.requires.room),
       ),
     )
 
@@ -206,11 +204,12 @@ list_unit-list_chart-requires t c =
     let units = units_in c.args.self in
     let u = named_by c.unit.result in
     let named = c.as_slice-name.ensures ∙ unit_name units c.args.self.names.now c.args.unit u c.index-self-unit.result (sym c.unit.ensures) c.requires.walk.names in
+    let rows = rows_at units c.args.self.rows.now c.args.unit c.as_slice.result.now c.index-self-unit-3.result c.requires.walk.rows (omega (arith, c.len.ensures, c.if-unit-len.false)) c.as_slice.ensures in
     let stored = ap spelled c.as_slice-stored.ensures.value
     ∙ unit_read (λ names. spelled names.items) (λ u. stored_of u.declares) units c.args.self.stored.now c.args.unit u c.index-self-unit-2.result (sym c.unit.ensures) c.requires.walk.stored in
-    let split = unit_split units c.args.depth c.args.unit u c.as_slice-name.result.now (map seen c.declared.result.now) (spelled c.as_slice-stored.result.now) c.chart_of-elements.result.now (sym c.unit.ensures) named c.declared.ensures stored c.chart_of-elements.ensures in record {
+    let split = unit_split units c.args.depth c.args.unit u c.as_slice-name.result.now c.as_slice.result.now (spelled c.as_slice-stored.result.now) c.chart_of-elements.result.now (sym c.unit.ensures) named rows c.requires.depth stored c.chart_of-elements.ensures in record {
       room =
-          second_room c.args.listing.now c.list_members.new.listing (member_leaves units c.args.depth c.as_slice-name.result.now (map seen c.declared.result.now)) (chart_in c.as_slice-name.result.now (spelled c.as_slice-stored.result.now) c.chart_of-elements.result.now) _ split
+          second_room c.args.listing.now c.list_members.new.listing (member_leaves units c.args.depth c.as_slice-name.result.now c.as_slice.result.now) (chart_in c.as_slice-name.result.now (spelled c.as_slice-stored.result.now) c.chart_of-elements.result.now) _ split
           c.in_ok-list_members.ensures.listed c.requires.room;
     }
 
@@ -219,11 +218,12 @@ list_unit-returns-clause-listed t c =
     let units = units_in c.args.self in
     let u = named_by c.unit.result in
     let named = c.as_slice-name.ensures ∙ unit_name units c.args.self.names.now c.args.unit u c.index-self-unit.result (sym c.unit.ensures) c.requires.walk.names in
+    let rows = rows_at units c.args.self.rows.now c.args.unit c.as_slice.result.now c.index-self-unit-3.result c.requires.walk.rows (omega (arith, c.len.ensures, c.if-unit-len.false)) c.as_slice.ensures in
     let stored = ap spelled c.as_slice-stored.ensures.value
     ∙ unit_read (λ names. spelled names.items) (λ u. stored_of u.declares) units c.args.self.stored.now c.args.unit u c.index-self-unit-2.result (sym c.unit.ensures) c.requires.walk.stored in
-    let split = unit_split units c.args.depth c.args.unit u c.as_slice-name.result.now (map seen c.declared.result.now) (spelled c.as_slice-stored.result.now) c.chart_of-elements.result.now (sym c.unit.ensures) named c.declared.ensures stored c.chart_of-elements.ensures in
+    let split = unit_split units c.args.depth c.args.unit u c.as_slice-name.result.now c.as_slice.result.now (spelled c.as_slice-stored.result.now) c.chart_of-elements.result.now (sym c.unit.ensures) named rows c.requires.depth stored c.chart_of-elements.ensures in
     on_ok_weaker c.list_chart.result
-    (λ h. listed_more c.args.listing.now c.list_members.new.listing c.list_chart.new.self (member_leaves units c.args.depth c.as_slice-name.result.now (map seen c.declared.result.now))
+    (λ h. listed_more c.args.listing.now c.list_members.new.listing c.list_chart.new.self (member_leaves units c.args.depth c.as_slice-name.result.now c.as_slice.result.now)
     (chart_in c.as_slice-name.result.now (spelled c.as_slice-stored.result.now) c.chart_of-elements.result.now) (unit_leaves units c.args.depth c.args.unit) split c.in_ok-list_members.ensures.listed h) c.list_chart.ensures.listed
 
 pub list_unit-returns-clause-ways : goal.list_unit-returns-clause-ways
@@ -231,25 +231,10 @@ list_unit-returns-clause-ways t c =
     let units = units_in c.args.self in
     let u = named_by c.unit.result in
     let named = c.as_slice-name.ensures ∙ unit_name units c.args.self.names.now c.args.unit u c.index-self-unit.result (sym c.unit.ensures) c.requires.walk.names in
+    let rows = rows_at units c.args.self.rows.now c.args.unit c.as_slice.result.now c.index-self-unit-3.result c.requires.walk.rows (omega (arith, c.len.ensures, c.if-unit-len.false)) c.as_slice.ensures in
     let stored = ap spelled c.as_slice-stored.ensures.value
     ∙ unit_read (λ names. spelled names.items) (λ u. stored_of u.declares) units c.args.self.stored.now c.args.unit u c.index-self-unit-2.result (sym c.unit.ensures) c.requires.walk.stored in
-    let split = unit_split units c.args.depth c.args.unit u c.as_slice-name.result.now (map seen c.declared.result.now) (spelled c.as_slice-stored.result.now) c.chart_of-elements.result.now (sym c.unit.ensures) named c.declared.ensures stored c.chart_of-elements.ensures in
+    let split = unit_split units c.args.depth c.args.unit u c.as_slice-name.result.now c.as_slice.result.now (spelled c.as_slice-stored.result.now) c.chart_of-elements.result.now (sym c.unit.ensures) named rows c.requires.depth stored c.chart_of-elements.ensures in
     on_ok_weaker c.list_chart.result
-    (λ h. ways_more (member_leaves units c.args.depth c.as_slice-name.result.now (map seen c.declared.result.now)) (chart_in c.as_slice-name.result.now (spelled c.as_slice-stored.result.now) c.chart_of-elements.result.now) (unit_leaves units c.args.depth c.args.unit) split
+    (λ h. ways_more (member_leaves units c.args.depth c.as_slice-name.result.now c.as_slice.result.now) (chart_in c.as_slice-name.result.now (spelled c.as_slice-stored.result.now) c.chart_of-elements.result.now) (unit_leaves units c.args.depth c.args.unit) split
     c.in_ok-list_members.ensures.ways h) c.list_chart.ensures.ways
-
-pub list_part-returns-then-has_no_leaves-clause-listed : goal.list_part-returns-then-has_no_leaves-clause-listed
-list_part-returns-then-has_no_leaves-clause-listed t c = nothing_listed c.args.listing.now (part_leaves (units_in c.args.self) c.args.part) (c.has_no_leaves.ensures c.if-has_no_leaves.true)
-
-pub list_part-returns-then-has_no_leaves-clause-ways : goal.list_part-returns-then-has_no_leaves-clause-ways
-list_part-returns-then-has_no_leaves-clause-ways t c = nothing_ways (part_leaves (units_in c.args.self) c.args.part) (c.has_no_leaves.ensures c.if-has_no_leaves.true)
-
-pub list_elements-returns-then-has_no_leaves-clause-listed : goal.list_elements-returns-then-has_no_leaves-clause-listed
-list_elements-returns-then-has_no_leaves-clause-listed t c =
-    nothing_listed c.args.listing.now (elements_in (subscript_lists c.args.ranges.now) c.args.firsts (part_leaves (units_in c.args.self) c.args.element))
-    (no_elements (subscript_lists c.args.ranges.now) c.args.firsts (part_leaves (units_in c.args.self) c.args.element) (c.has_no_leaves.ensures c.if-has_no_leaves.true))
-
-pub list_elements-returns-then-has_no_leaves-clause-ways : goal.list_elements-returns-then-has_no_leaves-clause-ways
-list_elements-returns-then-has_no_leaves-clause-ways t c =
-    nothing_ways (elements_in (subscript_lists c.args.ranges.now) c.args.firsts (part_leaves (units_in c.args.self) c.args.element))
-    (no_elements (subscript_lists c.args.ranges.now) c.args.firsts (part_leaves (units_in c.args.self) c.args.element) (c.has_no_leaves.ensures c.if-has_no_leaves.true))

@@ -1,0 +1,80 @@
+//! Tables of cases.
+//!
+//! A table is one text. A case begins with a line of `#` and a remark, behind which the lines of the program stand. In a table of
+//! layouts a line of `=` follows, and then the lines that have to be written. In a table of sessions lines of `?` and `=` follow:
+//! what an operator types, and what is replied.
+use st_session::{ACCEPTED, LINE_REFUSED};
+use std::alloc::{AllocError, Global};
+
+/// A case as it is read so far.
+#[derive(Drop)]
+pub struct Case {
+    pub program: Vec<u8>,
+    pub session: Vec<u8>,
+    pub wanted: Vec<u8>,
+    /// Whether the line of `=` of a layout was read.
+    is_listing: bool,
+}
+
+impl Case {
+    fn new(alloc: Global) -> Case {
+        Case {
+            program: Vec::new(alloc),
+            session: Vec::new(alloc),
+            wanted: Vec::new(alloc),
+            is_listing: false,
+        }
+    }
+
+    /// Takes one line more.
+    fn add(&mut self, line: &[u8]) -> Result<(), AllocError> {
+        if line == b"=".as_slice() {
+            self.is_listing = true;
+            return Ok(());
+        }
+        if let Some(typed) = line.strip_prefix(b"? ") {
+            return put_line(&mut self.session, typed);
+        }
+        if let Some(reply) = line.strip_prefix(b"= ") {
+            return put_line(&mut self.wanted, reply);
+        }
+        if self.is_listing {
+            put_line(&mut self.wanted, line)
+        } else {
+            put_line(&mut self.program, line)
+        }
+    }
+}
+
+/// Puts a line and its end behind others.
+fn put_line(lines: &mut Vec<u8>, line: &[u8]) -> Result<(), AllocError> {
+    lines.extend_from_slice(line)?;
+    lines.push(b'\n')?;
+    Ok(())
+}
+
+/// The cases of a table.
+pub fn cases_of(alloc: Global, table: &[u8]) -> Result<Vec<Case>, AllocError> {
+    let mut cases = Vec::new(alloc);
+    let mut case = Case::new(alloc);
+    for line in table.split(|byte| *byte == b'\n') {
+        if line.starts_with(b"# ") {
+            if !case.program.is_empty() {
+                cases.push(case)?;
+            }
+            case = Case::new(alloc);
+        } else {
+            case.add(line)?;
+        }
+    }
+    cases.push(case)?;
+    Ok(cases)
+}
+
+/// The status of a session with these replies.
+pub fn status_of(replies: &[u8]) -> u8 {
+    let is_refused = replies
+        .split(|byte| *byte == b'\n')
+        .any(|reply| reply.starts_with(b"refused"));
+    if is_refused { LINE_REFUSED } else { ACCEPTED }
+}

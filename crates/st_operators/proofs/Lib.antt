@@ -1,0 +1,4 @@
+pub mod Results
+pub mod Shifting
+pub mod Worked
+pub mod Wrapping

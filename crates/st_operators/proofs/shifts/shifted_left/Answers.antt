@@ -1,0 +1,10 @@
+use Rattle.std.proofs.Common.{◌∙◌, ◌≤◌, sym, rules}
+use Rattle.st_values.specs.Types.{bits_of}
+use Rattle.st_operators.specs.Functions.{places_of}
+use Rattle.st_operators.proofs.Shifting.{shifted_left_far}
+use Rattle.st_operators.proofs.shifts.shifted_left.Goals as goal
+
+pub returns-then-places-from-clause-value : goal.returns-then-places-from-clause-value
+returns-then-places-from-clause-value c =
+    let far : bits_of c.args.a.elem ≤ places_of c.args.count.bits = search rules in
+    c.of_bits.ensures.value ∙ sym (shifted_left_far c.args.a (places_of c.args.count.bits) far)

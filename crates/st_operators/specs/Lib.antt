@@ -1,0 +1,3 @@
+pub mod Functions
+pub mod Laws
+pub mod Operators
