@@ -11,6 +11,7 @@ mod Passing
 mod ShortRanges
 mod ShortSubscripts
 mod ShortUnits
+mod Small
 mod SoundLeaves
 mod Thinned
 mod UnitsApart

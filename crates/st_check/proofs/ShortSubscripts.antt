@@ -10,6 +10,7 @@ use Rattle.st_tree.specs.declared.tree.unit.Step.{Step}
 use Rattle.st_types.specs.Compositions.{Composition, unknown, elementary, array, composed, standard, Members, none, member}
 use Rattle.st_types.specs.Names.{steps_in}
 use Rattle.st_types.specs.Standard.{Pin, pins_of}
+use Rattle.st_leaves.specs.Bounds.{IsBounded}
 use Rattle.st_leaves.specs.Charts.{is_pulse, stored_by}
 use Rattle.st_leaves.specs.Leaves.{numbers_in}
 use Rattle.st_leaves.specs.LeavesIn.{Kept, LeafIn, all_steps_in, block_name, chart_in, elements_in, first_written, kept_by, kept_leaf, leaves_in, leaves_of_whole, member_names, members_in, one, pin_leaf, starting, state_in, step_in, stored_in, subscript_lists, truth, begun, used_as, variables_in, within}
@@ -17,9 +18,9 @@ use Rattle.st_leaves.specs.Paths.{field, index, kept}
 use Rattle.st_leaves.specs.Distinct.{AreShort, HasShortSubscripts}
 use Rattle.st_leaves.proofs.Pairs.{each_append}
 
--- all numbers of a range are short
+-- all numbers of a range are short, since its bounds are numbers of LINT
 abbrev pub IsShortRange : Subrange → Type 0
-IsShortRange r = Each (λ i. nat_abs i < 10 ^ 64) (numbers_in r)
+IsShortRange r = Each (λ i. nat_abs i < 10 ^ 64) (numbers_in r) × IsBounded r
 
 -- all ranges in a whole are
 abbrev mutual
@@ -72,7 +73,7 @@ short_choices (i ∷ is) lists short all =
 
 short_lists : (ranges : List Subrange) → Each IsShortRange ranges → Each AreShort (subscript_lists ranges)
 short_lists [] all = (tt, tt)
-short_lists (r ∷ rs) all = short_choices (numbers_in r) (subscript_lists rs) all.0 (short_lists rs all.1)
+short_lists (r ∷ rs) all = short_choices (numbers_in r) (subscript_lists rs) all.0.0 (short_lists rs all.1)
 
 short_elements : (lists : List (List ℤ)) (firsts : List (Option Constant)) (leaves : List LeafIn) → Each AreShort lists → Each IsShort leaves → Each IsShort (elements_in lists firsts leaves)
 short_elements [] firsts leaves short all = tt

@@ -1,5 +1,5 @@
 -- What follows of the definitions of the checks.
-use Rattle.std.specs.Prelude.{◌≡◌, ℕ, ◌++◌, ◌⊎◌, List, Some}
+use Rattle.std.specs.Prelude.{◌≡◌, ℕ, ◌++◌, ◌⊎◌, ◌≤◌, List, Some, length}
 use Rattle.std.specs.List.{All, Contains}
 use Rattle.st_tree.specs.declared.tree.unit.Unit.{Unit as Section}
 use Rattle.st_faults.specs.declared.fault.Fault.{Fault}
@@ -7,10 +7,12 @@ use Rattle.st_types.specs.Compositions.{composition_of}
 use Rattle.st_types.specs.Names.{Named, chart_in, unit_at, units_of, variables_in}
 use Rattle.st_order.specs.Graphs.{Reaches}
 use Rattle.st_references.specs.References.{graph_of}
+use Rattle.st_leaves.specs.Bounds.{HasBounds}
 use Rattle.st_leaves.specs.Charts.{action_names, stored_of, variable_names}
 use Rattle.st_leaves.specs.Distinct.{HasDistinctNames}
 use Rattle.st_leaves.specs.LeavesIn.{leaves_of_whole}
 use Rattle.st_leaves.specs.Paths.{HasWords}
+use Rattle.st_leaves.specs.Places.{count}
 use Rattle.st_leaves.specs.Sound.{IsSound}
 use Rattle.st_check.specs.Faults.{HasNoProgram, IsAccepted, IsFirst}
 use Rattle.st_check.specs.Programs.{IsChecked, ProgramView, leaves_of_program, main_of, text_of}
@@ -49,6 +51,16 @@ CheckedHasDistinctNames = (program : ProgramView) → IsChecked program → (uni
 abbrev pub CheckedStoresDeclaredNames : Type 0
 CheckedStoresDeclaredNames = (program : ProgramView) → IsChecked program → (i : ℕ) (unit : Named) → unit_at (units_of (text_of program)) i ≡ Some unit
     → All (Contains (variable_names (variables_in unit.declares) ++ action_names (chart_in unit.declares))) (stored_of unit.declares)
+
+-- a checked program is small: its arrays have bounds in the range of LINT, it has at most 65536 leaves, and its name at most 128 bytes
+pub record IsSmallProgram (units : List Named) (unit : Named) : Type 0 where
+  pub bounds : HasBounds (composition_of units unit.declares)
+  pub few : count (composition_of units unit.declares) ≤ 65536
+  pub short : length unit.name.spelling ≤ 128
+
+abbrev pub CheckedIsSmall : Type 0
+CheckedIsSmall = (program : ProgramView) → IsChecked program → (unit : Named) → unit_at (units_of (text_of program)) (main_of program) ≡ Some unit
+    → IsSmallProgram (units_of (text_of program)) unit
 
 -- the leaves of a checked program are sound, where the names on the ways to them are words
 abbrev pub CheckedHasSoundLeaves : Type 0

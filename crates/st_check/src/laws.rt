@@ -1,5 +1,5 @@
 //! Laws of checked texts.
-ghost use Rattle.st_check.specs.Laws.{AcceptedOnce, CheckedHasDistinctNames, CheckedHasSoundLeaves, CheckedStoresDeclaredNames, FirstIsOne, FirstIsNotAccepted, HasNoRecursion, IsDecided, MissingIsNotAccepted, MissingIsNotFirst};
+ghost use Rattle.st_check.specs.Laws.{AcceptedOnce, CheckedHasDistinctNames, CheckedHasSoundLeaves, CheckedIsSmall, CheckedStoresDeclaredNames, FirstIsOne, FirstIsNotAccepted, HasNoRecursion, IsDecided, MissingIsNotAccepted, MissingIsNotFirst};
 
 /// As a program of a name, a text is accepted, or has a first fault, or has no such program: exactly one of the three. It is
 /// accepted for one number, and all first faults stand at one token and break one rule.
@@ -32,4 +32,9 @@ pub fn checked_program_stores_declared_names()
 /// there are at most 65536 leaves, and each begins with a value of its type.
 pub fn checked_program_has_sound_leaves()
     ensures { CheckedHasSoundLeaves }
+{}
+
+/// The bounds of all arrays of a checked program are numbers of LINT, it has at most 65536 leaves, and its name at most 128 bytes.
+pub fn checked_program_is_small()
+    ensures { CheckedIsSmall }
 {}

@@ -1,3 +1,4 @@
+pub mod Bounds
 pub mod Charts
 pub mod Compositions
 pub mod Distinct
@@ -8,5 +9,6 @@ pub mod Limits
 pub mod Paths
 pub mod Places
 pub mod Programs
+pub mod Selected
 pub mod Sound
 pub mod Steps

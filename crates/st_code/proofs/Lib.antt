@@ -1,0 +1,10 @@
+pub mod Beside
+pub mod Cells
+pub mod Counters
+pub mod Depths
+pub mod Expressions
+pub mod Loops
+pub mod Parts
+pub mod Runs
+pub mod Statements
+pub mod Steps

@@ -1,0 +1,24 @@
+-- Code does as commands mean.
+use Rattle.std.specs.Prelude.{ℕ, ◌≤◌, Bool, List, [], length}
+use Rattle.st_types.specs.Compositions.{Composition}
+use Rattle.st_meaning.specs.Meaning.{Values}
+use Rattle.st_meaning.specs.Offsets.{IsSmall}
+use Rattle.st_meaning.specs.Sound.{AreSoundCommands, AreValuesOf, HasOneLeafEach}
+use Rattle.st_meaning.specs.Statements.{body_meaning}
+use Rattle.st_meaning.specs.Terms.{Commands}
+use Rattle.st_code.specs.Code.{Line, body_code}
+use Rattle.st_code.specs.Depth.{commands_depth}
+use Rattle.st_code.specs.Machine.{Reaches, state}
+
+-- From any values, any forces and any steps left, on a stack with so much room, the code ends as the body does: with the same
+-- values and steps left, or at the same fault. It is never stuck.
+pub record DoesAs (root : Composition) (body : Commands) (room : ℕ) (code : List Line) : Type 0 where
+  pub same : (forced : List Bool) (values : Values) (left : ℕ) → AreValuesOf root values
+      → Reaches forced room code (body_meaning root forced body values left) (state 0 [] values left)
+
+abbrev pub CodeDoesAsCommandsMean : Type 0
+CodeDoesAsCommandsMean = (root : Composition) (body : Commands) (room : ℕ) → IsSmall root → HasOneLeafEach root → AreSoundCommands root body
+    → commands_depth body ≤ room → DoesAs root body room (body_code root body)
+
+abbrev pub DepthIsAtMostTheLength : Type 0
+DepthIsAtMostTheLength = (root : Composition) (body : Commands) → commands_depth body ≤ length (body_code root body)

@@ -1,0 +1,47 @@
+-- How many cells the code of terms and commands puts on the stack at most, beside those that stand there before.
+use Rattle.std.specs.Prelude.{ℕ, ◌+◌, max}
+use Rattle.st_meaning.specs.Terms.{Term, constant, stored, unary, binary, selection, Terms, no_terms, more_terms, Parts, whole, field_part, element_part, Command, nothing, assign, choice, cases, count_loop, while_loop, repeat_loop, exit, finish, Commands, no_commands, more_commands, Branches, no_branches, more_branches, Cases, no_cases, more_cases}
+
+abbrev mutual
+  pub term_depth : Term → ℕ
+  term_depth (constant v) = 1
+  term_depth (stored ps) = max 1 (parts_depth ps)
+  term_depth (unary o a) = term_depth a
+  term_depth (binary o line a b) = max (term_depth a) (1 + term_depth b)
+  term_depth (selection g a b) = max (term_depth g) (max (1 + term_depth a) (2 + term_depth b))
+
+  -- one after the other
+  pub terms_depth : Terms → ℕ
+  terms_depth no_terms = 0
+  terms_depth (more_terms t ts) = max (term_depth t) (1 + terms_depth ts)
+
+  -- above a distance that may stand there, to which one is added
+  pub parts_depth : Parts → ℕ
+  parts_depth whole = 0
+  parts_depth (field_part name ps) = parts_depth ps
+  parts_depth (element_part line ts ps) = max 2 (max (1 + terms_depth ts) (parts_depth ps))
+
+abbrev mutual
+  pub command_depth : Command → ℕ
+  command_depth (nothing line) = 0
+  command_depth (assign line ps t) = max (term_depth t) (1 + parts_depth ps)
+  command_depth (choice line bs others) = max (branches_depth bs) (commands_depth others)
+  command_depth (cases line t cs others) = max (term_depth t) (max (cases_depth cs) (commands_depth others))
+  command_depth (count_loop line ps a b c cs) = max (term_depth a) (max (1 + term_depth b) (max (2 + term_depth c) (3 + commands_depth cs)))
+  command_depth (while_loop line t cs) = max (term_depth t) (commands_depth cs)
+  command_depth (repeat_loop line cs t) = max (term_depth t) (commands_depth cs)
+  command_depth (exit line) = 0
+  command_depth (finish line) = 0
+
+  pub commands_depth : Commands → ℕ
+  commands_depth no_commands = 0
+  commands_depth (more_commands c cs) = max (command_depth c) (commands_depth cs)
+
+  pub branches_depth : Branches → ℕ
+  branches_depth no_branches = 0
+  branches_depth (more_branches t cs bs) = max (term_depth t) (max (commands_depth cs) (branches_depth bs))
+
+  -- the selector, whether it has a label, and the two ends of one
+  pub cases_depth : Cases → ℕ
+  cases_depth no_cases = 0
+  cases_depth (more_cases labels cs more) = max 4 (max (commands_depth cs) (cases_depth more))

@@ -1,0 +1,60 @@
+//! Instructions.
+use st_meaning::{Binary, Unary};
+use st_values::Elem;
+
+/// An instruction of the stack machine. It takes what it needs off the operand stack and puts what it gives on it.
+///
+/// A cell of the stack is the number of a value as a two's complement of 64 bits; the instructions know the types. The line that
+/// a fault is at stands beside the instruction. Leaves have their numbers in the layout, and a jump goes over so many instructions.
+#[derive(Clone, Copy)]
+pub enum Instr {
+    /// Puts a number on the stack.
+    Push(i64),
+    /// Puts the value of a leaf on it.
+    Get(u32),
+    /// Takes a distance, and puts the value of the leaf that stands so far behind this one.
+    GetAt(u32),
+    /// Takes a value of the type, and stores it in the leaf, unless that is forced.
+    Put(Elem, u32),
+    /// Takes a distance and then a value of the type, and stores it in the leaf that stands so far behind this one.
+    PutAt(Elem, u32),
+    /// Takes a subscript of the type. Its distance from the lower bound, `low`, may be at most `last`; the distance times the
+    /// stride is put.
+    Index(Elem, u16, u32, i64),
+    /// Takes a distance, and then a subscript as `Index` does. The sum of both distances is put.
+    IndexBelow(Elem, u16, u32, i64),
+    /// Adds two distances.
+    Add,
+    /// Takes an operand of the type.
+    Apply(Unary, Elem),
+    /// Takes the second operand and then the first. The types are those of the first and of the second.
+    Combine(Binary, Elem, Elem),
+    /// Takes two values and a BOOL, and puts the first where the BOOL is FALSE, else the second.
+    Select,
+    /// Counts a step.
+    Step,
+    /// Goes on behind so many further instructions.
+    GoOn(usize),
+    /// Takes a BOOL, and goes on behind so many further instructions where it is FALSE.
+    SkipUnless(usize),
+    /// Takes a BOOL, and goes on behind so many further instructions where it is TRUE.
+    SkipIf(usize),
+    /// Counts a step, and goes back over so many instructions.
+    GoBack(usize),
+    /// Takes the greatest and the least number of a label, and a BOOL; keeps the number of the type below them, and puts whether
+    /// the BOOL is TRUE or the number lies between them.
+    Within(Elem),
+    /// Takes a value away.
+    Drop,
+    /// FOR: keeps its step, its last value and its counter, of the type, with the step on top. It stores the counter in the
+    /// leaf.
+    Begin(Elem, u32),
+    /// FOR: where the counter hasn't passed the last value it is stored in the leaf, and else it goes on behind so many further
+    /// instructions.
+    Test(Elem, u32, usize),
+    /// FOR: counts a step, and adds the step to the counter. Where that hasn't passed the last value it becomes the counter and is
+    /// stored in the leaf, and it goes back over so many instructions.
+    Next(Elem, u32, usize),
+    /// FOR: takes its three values away.
+    Leave,
+}

@@ -1,0 +1,7 @@
+pub mod Ends
+pub mod Nearer
+pub mod Operands
+pub mod Readiness
+pub mod Stores
+pub mod Turns
+pub mod Way

@@ -1,0 +1,45 @@
+use Rattle.std.proofs.Common.{rules, w64}
+use Rattle.std.proofs.lemmas.Int.{to_z-of_z}
+use Rattle.st_machine.proofs.run.perform.Goals as goal
+
+pub returns-in-Push-clause-does : goal.returns-in-Push-clause-does
+returns-in-Push-clause-does g c = let content = g.M.Memory.content c.args.layout.now c.args.memory.now in λ line place. rw c.in-Push.is (rw (to_z-of_z w64 c.in-Push.number (search rules)) at (c.push.ensures.does content.forced line place content.values c.args.left.now))
+
+pub returns-in-Index-clause-does : goal.returns-in-Index-clause-does
+returns-in-Index-clause-does g c = let content = g.M.Memory.content c.args.layout.now c.args.memory.now in λ line place. rw c.in-Index.is (rw (to_z-of_z w64 c.in-Index.low (search rules)) at (c.index.ensures.does content.forced line place content.values c.args.left.now))
+
+pub returns-in-IndexBelow-clause-does : goal.returns-in-IndexBelow-clause-does
+returns-in-IndexBelow-clause-does g c = let content = g.M.Memory.content c.args.layout.now c.args.memory.now in λ line place. rw c.in-IndexBelow.is (rw (to_z-of_z w64 c.in-IndexBelow.low (search rules)) at (c.index_below.ensures.does content.forced line place content.values c.args.left.now))
+
+pub returns-in-Add-clause-does : goal.returns-in-Add-clause-does
+returns-in-Add-clause-does g c = let content = g.M.Memory.content c.args.layout.now c.args.memory.now in λ line place. rw c.in-Add.is (c.add.ensures.does content.forced line place content.values c.args.left.now)
+
+pub returns-in-Apply-clause-does : goal.returns-in-Apply-clause-does
+returns-in-Apply-clause-does g c = let content = g.M.Memory.content c.args.layout.now c.args.memory.now in λ line place. rw c.in-Apply.is (c.apply.ensures.does content.forced line place content.values c.args.left.now)
+
+pub returns-in-Combine-clause-does : goal.returns-in-Combine-clause-does
+returns-in-Combine-clause-does g c = let content = g.M.Memory.content c.args.layout.now c.args.memory.now in λ line place. rw c.in-Combine.is (c.combine.ensures.does content.forced line place content.values c.args.left.now)
+
+pub returns-in-Select-clause-does : goal.returns-in-Select-clause-does
+returns-in-Select-clause-does g c = let content = g.M.Memory.content c.args.layout.now c.args.memory.now in λ line place. rw c.in-Select.is (c.select.ensures.does content.forced line place content.values c.args.left.now)
+
+pub returns-in-SkipUnless-clause-does : goal.returns-in-SkipUnless-clause-does
+returns-in-SkipUnless-clause-does g c = let content = g.M.Memory.content c.args.layout.now c.args.memory.now in λ line place. rw c.in-SkipUnless.is (c.skip_unless.ensures.does content.forced line place content.values c.args.left.now)
+
+pub returns-in-SkipIf-clause-does : goal.returns-in-SkipIf-clause-does
+returns-in-SkipIf-clause-does g c = let content = g.M.Memory.content c.args.layout.now c.args.memory.now in λ line place. rw c.in-SkipIf.is (c.skip_if.ensures.does content.forced line place content.values c.args.left.now)
+
+pub returns-in-Within-clause-does : goal.returns-in-Within-clause-does
+returns-in-Within-clause-does g c = let content = g.M.Memory.content c.args.layout.now c.args.memory.now in λ line place. rw c.in-Within.is (c.within.ensures.does content.forced line place content.values c.args.left.now)
+
+pub returns-in-Drop-clause-does : goal.returns-in-Drop-clause-does
+returns-in-Drop-clause-does g c = let content = g.M.Memory.content c.args.layout.now c.args.memory.now in λ line place. rw c.in-Drop.is (c.drop_one.ensures.does content.forced line place content.values c.args.left.now)
+
+pub returns-in-Leave-clause-does : goal.returns-in-Leave-clause-does
+returns-in-Leave-clause-does g c = let content = g.M.Memory.content c.args.layout.now c.args.memory.now in λ line place. rw c.in-Leave.is (c.leave.ensures.does content.forced line place content.values c.args.left.now)
+
+pub returns-in-Step-clause-does : goal.returns-in-Step-clause-does
+returns-in-Step-clause-does g c = let content = g.M.Memory.content c.args.layout.now c.args.memory.now in λ line place. rw c.in-Step.is (c.step.ensures content.forced c.args.stack.now.1 line place c.args.stack.now.0 content.values)
+
+pub returns-in-GoBack-clause-does : goal.returns-in-GoBack-clause-does
+returns-in-GoBack-clause-does g c = let content = g.M.Memory.content c.args.layout.now c.args.memory.now in λ line place. rw c.in-GoBack.is (c.go_back.ensures content.forced c.args.stack.now.1 line place c.args.stack.now.0 content.values)

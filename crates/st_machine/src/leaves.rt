@@ -1,0 +1,33 @@
+//! Leaves of a memory, as cells.
+ghost use Rattle.std.specs.Prelude.{◌≡◌, ◌<◌, get_or, length, IsTrue, Some};
+ghost use Rattle.st_code.specs.Code.{cell_of};
+ghost use Rattle.st_code.specs.Machine.{has_leaf, is_cell_of, value_in};
+ghost use Rattle.st_layout.specs.Memory.{Content};
+ghost use Rattle.st_meaning.specs.Meaning.{no_value, stored_to};
+
+use crate::cells::{cell, value_in};
+use st_layout::{Layout, Memory};
+use st_values::Elem;
+
+/// The value of a leaf, as a cell.
+pub fn load<M: Memory>(memory: &M, layout: &Layout, leaf: u32) -> i64
+    requires over { M.IsOver layout.now memory.now }
+    requires below { leaf < length (M.content layout.now memory.now).values }
+    ensures { result ≡ cell_of (get_or (M.content layout.now memory.now).values leaf no_value).bits }
+{
+    cell(memory.get(layout, leaf))
+}
+
+/// Stores a cell, which is a value of the leaf's type, unless the leaf is forced.
+pub fn store<M: Memory>(memory: &mut M, layout: &Layout, elem: Elem, leaf: u32, cell: i64)
+    requires over { M.IsOver layout.now memory.old }
+    requires leaf { IsTrue (has_leaf (M.content layout.now memory.old).values elem leaf) }
+    requires cell { IsTrue (is_cell_of elem cell) }
+    ensures over { M.IsOver layout.now memory.new }
+    ensures values { (M.content layout.now memory.new).values ≡ stored_to (M.content layout.now memory.old).forced (M.content layout.now memory.old).values (value_in elem cell) (Some leaf) }
+    ensures forced { (M.content layout.now memory.new).forced ≡ (M.content layout.now memory.old).forced }
+{
+    if !memory.forced(layout, leaf) {
+        memory.set(layout, leaf, value_in(elem, cell));
+    }
+}

@@ -1,0 +1,63 @@
+//! The operand stack, whose room is made before a run.
+ghost use Rattle.std.specs.Prelude.{◌≡◌, ◌<◌, [], ◌∷◌, length, IfOk};
+
+use std::alloc::{AllocError, Global};
+use std::marker::Model;
+
+/// Numbers, the newest first, and for how many there is room.
+#[derive(Drop)]
+pub struct Stack {
+    cells: Vec<i64>,
+    /// How many of the cells are taken.
+    top: usize,
+}
+
+impl Model for Stack {
+    ghost use Rattle.std.specs.Prelude.{ℕ, ℤ, ◌≤◌, length, reverse, take, List};
+
+    ghost Value = { List ℤ × ℕ };
+
+    ghost view = { λ stack. (reverse (take stack.top stack.cells.items), length stack.cells.items) };
+
+    ghost invariant = { λ stack. stack.top ≤ length stack.cells.items };
+}
+
+impl Stack {
+    /// An empty stack with so much room.
+    pub fn with_room(alloc: Global, room: usize) -> Result<Stack, AllocError>
+        ensures { IfOk result (λ stack. stack ≡ ([], room)) }
+    {
+        let mut cells = Vec::new(alloc);
+        cells.resize(room, 0)?;
+        Ok(Stack { cells, top: 0 })
+    }
+
+    /// Takes all numbers away.
+    pub fn clear(&mut self)
+        ensures cells { self.new.0 ≡ [] }
+        ensures room { self.new.1 ≡ self.old.1 }
+    {
+        self.top = 0;
+    }
+
+    /// Puts a number on top.
+    pub fn push(&mut self, number: i64)
+        requires { length self.old.0 < self.old.1 }
+        ensures cells { self.new.0 ≡ number ∷ self.old.0 }
+        ensures room { self.new.1 ≡ self.old.1 }
+    {
+        self.cells[self.top] = number;
+        self.top += 1;
+    }
+
+    /// Takes the newest number.
+    pub fn pop(&mut self) -> i64
+        requires { 0 < length self.old.0 }
+        ensures cells { self.old.0 ≡ result ∷ self.new.0 }
+        ensures spare { length self.new.0 < self.new.1 }
+        ensures room { self.new.1 ≡ self.old.1 }
+    {
+        self.top -= 1;
+        self.cells[self.top]
+    }
+}

@@ -1,0 +1,114 @@
+-- Statements keep the frame (3.3.2).
+use Rattle.std.proofs.Common.{◌≡◌, ℕ, suc, ℤ, Bool, true, List, IsTrue, sym, ◌∙◌, subst, if◌then◌else◌}
+use Rattle.st_values.specs.Values.{in_range}
+use Rattle.st_values.specs.declared.elem.Elem.{Elem}
+use Rattle.st_values.specs.declared.value.Value.{Value}
+use Rattle.st_types.specs.Compositions.{Composition}
+use Rattle.st_leaves.specs.Paths.{Path}
+use Rattle.st_operators.specs.Laws.{IsOf}
+use Rattle.st_meaning.specs.Laws.{CommandsKeepTheFrame, HasLeaf, StaysInFrame}
+use Rattle.st_meaning.specs.Meaning.{Values, located, stored_at, value_of}
+use Rattle.st_meaning.specs.Sound.{AreSoundBranches, AreSoundCases, AreSoundCommands, AreValuesOf, HasOneLeafEach, IsCount, IsSoundCommand, term_type}
+use Rattle.st_meaning.specs.Statements.{Outcome, done, exited, returned, alike, branches_meaning, cases_meaning, command_meaning, commands_meaning, count_turns, given, goes_on, has_label, is_true, repeat_turns, while_turns}
+use Rattle.st_meaning.specs.Terms.{Term, Parts, Command, nothing, assign, choice, cases, count_loop, while_loop, repeat_loop, exit, finish, Commands, no_commands, more_commands, Branches, no_branches, more_branches, Cases, no_cases, more_cases}
+use Rattle.st_meaning.proofs.Frames.{AlwaysStays, either_stays, given_stays, nothing_done, stays_after, step_stays, store_keeps, then_stays}
+use Rattle.st_meaning.proofs.Places.{places_have_leaves}
+use Rattle.st_meaning.proofs.Ranges.{IsBehind, begins_behind, counter_in_range}
+use Rattle.st_meaning.proofs.TermValues.{term_value}
+use Rattle.st_meaning.proofs.Turns.{count_stays, repeat_stays, while_stays}
+
+-- the counter is stored as a value of the type of the first value
+counter_is : (e : Elem) (a b : Value) (counter step : ℤ) → IsOf e a → IsOf e b → IsBehind a.bits counter step → goes_on counter b.bits step ≡ true → IsOf e (alike a counter)
+counter_is e a b counter step is is' behind on =
+    let last : IsTrue (in_range a.elem b.bits) = subst (λ t. IsTrue (in_range t b.bits)) (is'.of_type ∙ sym is.of_type) is'.in_range in
+    record { in_range = counter_in_range a.elem a.bits b.bits counter step is.in_range last behind on; of_type = is.of_type }
+
+module _ (root : Composition) (forced : List Bool) (one : HasOneLeafEach root) where
+  -- ---- assignments
+
+  assign_stays : (line : ℕ) (ps : Parts) (t : Term) → IsSoundCommand root (assign line ps t) → AlwaysStays root forced (command_meaning root forced (assign line ps t))
+  assign_stays line ps t sound values left all =
+      step_stays root forced values line left (λ n. given (value_of root values t) (λ v. given (located root values root ps) (λ path. done (stored_at root forced values path v) n))) all
+      (λ n. given_stays root forced values n (value_of root values t) (λ v. given (located root values root ps) (λ path. done (stored_at root forced values path v) n))
+      (λ v h. given_stays root forced values n (located root values root ps) (λ path. done (stored_at root forced values path v) n)
+      (λ path k. store_keeps root forced values (term_type root t) path v n one all (places_have_leaves root values (term_type root t) ps path sound.0 k)
+      (term_value root values one all t v sound.1 h))))
+
+  -- ---- FOR
+
+  -- the turns, from three values of one type
+  turns_stay : (line : ℕ) (body : Values → ℕ → Outcome) → AlwaysStays root forced body → (e : Elem) (path : Path) → HasLeaf root e path → (a b c : Value) → IsOf e a → IsOf e b
+      → (values : Values) (n : ℕ) → AreValuesOf root values
+      → StaysInFrame root forced values n (count_turns (suc n) line (λ others i. stored_at root forced others path (alike a i)) b.bits c.bits body a.bits (stored_at root forced values path a) n)
+  turns_stay line body stays e path leaf a b c is is' values n all =
+      let store : Values → ℤ → Values = (λ others i. stored_at root forced others path (alike a i)) in
+      let start = store_keeps root forced values e path a n one all leaf is in
+      stays_after root forced values (stored_at root forced values path a) n n (count_turns (suc n) line store b.bits c.bits body a.bits (stored_at root forced values path a) n) start
+      (count_stays root forced line body stays (suc n) store a.bits b.bits c.bits
+      (λ counter behind on others left whole. store_keeps root forced others e path (alike a counter) left one whole leaf (counter_is e a b counter c.bits is is' behind on))
+      a.bits (begins_behind a.bits c.bits) (stored_at root forced values path a) n start.all)
+
+  count_loop_stays : (line : ℕ) (ps : Parts) (first last step : Term) (cs : Commands) → IsCount root ps first last step → AlwaysStays root forced (commands_meaning root forced cs)
+      → AlwaysStays root forced (command_meaning root forced (count_loop line ps first last step cs))
+  count_loop_stays line ps first last step cs sound stays values left all =
+      let body = commands_meaning root forced cs in
+      let e = term_type root first in
+      let turns : ℕ → Value → Value → Value → Path → Outcome = (λ n a b c path.
+      count_turns (suc n) line (λ others i. stored_at root forced others path (alike a i)) b.bits c.bits body a.bits (stored_at root forced values path a) n) in
+      let from_step : ℕ → Value → Value → Value → Outcome = (λ n a b c. given (located root values root ps) (λ path. turns n a b c path)) in
+      let from_last : ℕ → Value → Value → Outcome = (λ n a b. given (value_of root values step) (λ c. from_step n a b c)) in
+      let from_first : ℕ → Value → Outcome = (λ n a. given (value_of root values last) (λ b. from_last n a b)) in
+      step_stays root forced values line left (λ n. given (value_of root values first) (λ a. from_first n a)) all
+      (λ n. given_stays root forced values n (value_of root values first) (λ a. from_first n a)
+      (λ a h. given_stays root forced values n (value_of root values last) (λ b. from_last n a b)
+      (λ b k. given_stays root forced values n (value_of root values step) (λ c. from_step n a b c)
+      (λ c l. given_stays root forced values n (located root values root ps) (λ path. turns n a b c path)
+      (λ path m. turns_stay line body stays e path (places_have_leaves root values e ps path sound.variable m) a b c
+      (term_value root values one all first a sound.first h)
+      (subst (λ t. IsOf t b) sound.last.type (term_value root values one all last b sound.last.sound k))
+      values n all)))))
+
+  -- ---- all statements
+
+  mutual
+    command_stays : (c : Command) → IsSoundCommand root c → AlwaysStays root forced (command_meaning root forced c)
+    command_stays (nothing line) sound values left all = step_stays root forced values line left (λ n. done values n) all (λ n. nothing_done root forced values n all)
+    command_stays (assign line ps t) sound values left all = assign_stays line ps t sound values left all
+    command_stays (choice line bs others) sound values left all =
+        step_stays root forced values line left (branches_meaning root forced bs (commands_meaning root forced others) values) all
+        (λ n. branches_stay bs sound.0 (commands_meaning root forced others) (commands_stay others sound.1) values n all)
+    command_stays (cases line t cs others) sound values left all =
+        step_stays root forced values line left (λ n. given (value_of root values t) (λ v. cases_meaning root forced cs (commands_meaning root forced others) v.bits values n)) all
+        (λ n. given_stays root forced values n (value_of root values t) (λ v. cases_meaning root forced cs (commands_meaning root forced others) v.bits values n)
+        (λ v h. cases_stay cs (term_type root t) sound.1 (commands_meaning root forced others) (commands_stay others sound.2) v.bits values n all))
+    command_stays (count_loop line ps first last step cs) sound values left all = count_loop_stays line ps first last step cs sound.0 (commands_stay cs sound.1) values left all
+    command_stays (while_loop line t cs) sound values left all =
+        step_stays root forced values line left (λ n. while_turns (suc n) line (λ others. value_of root others t) (commands_meaning root forced cs) values n) all
+        (λ n. while_stays root forced line (commands_meaning root forced cs) (commands_stay cs sound.1) (suc n) (λ others. value_of root others t) values n all)
+    command_stays (repeat_loop line cs t) sound values left all =
+        step_stays root forced values line left (λ n. repeat_turns (suc n) line (λ others. value_of root others t) (commands_meaning root forced cs) values n) all
+        (λ n. repeat_stays root forced line (commands_meaning root forced cs) (commands_stay cs sound.0) (suc n) (λ others. value_of root others t) values n all)
+    command_stays (exit line) sound values left all = step_stays root forced values line left (λ n. exited values n) all (λ n. nothing_done root forced values n all)
+    command_stays (finish line) sound values left all = step_stays root forced values line left (λ n. returned values n) all (λ n. nothing_done root forced values n all)
+
+    commands_stay : (cs : Commands) → AreSoundCommands root cs → AlwaysStays root forced (commands_meaning root forced cs)
+    commands_stay no_commands sound values left all = nothing_done root forced values left all
+    commands_stay (more_commands c cs) sound values left all =
+        then_stays root forced values left (command_meaning root forced c values left) (commands_meaning root forced cs) (command_stays c sound.0 values left all) (commands_stay cs sound.1)
+
+    branches_stay : (bs : Branches) → AreSoundBranches root bs → (others : Values → ℕ → Outcome) → AlwaysStays root forced others → AlwaysStays root forced (branches_meaning root forced bs others)
+    branches_stay no_branches sound others stays values left all = stays values left all
+    branches_stay (more_branches t cs bs) sound others stays values left all =
+        given_stays root forced values left (value_of root values t) (λ v. if is_true v then commands_meaning root forced cs values left else branches_meaning root forced bs others values left)
+        (λ v h. either_stays root forced values left (is_true v) (commands_meaning root forced cs values left) (branches_meaning root forced bs others values left)
+        (λ e. commands_stay cs sound.1 values left all) (branches_stay bs sound.2 others stays values left all))
+
+    cases_stay : (cs : Cases) (e : Elem) → AreSoundCases root e cs → (others : Values → ℕ → Outcome) → AlwaysStays root forced others → (i : ℤ)
+        → AlwaysStays root forced (cases_meaning root forced cs others i)
+    cases_stay no_cases e sound others stays i values left all = stays values left all
+    cases_stay (more_cases labels cs more) e sound others stays i values left all =
+        either_stays root forced values left (has_label labels i) (commands_meaning root forced cs values left) (cases_meaning root forced more others i values left)
+        (λ h. commands_stay cs sound.1 values left all) (cases_stay more e sound.2 others stays i values left all)
+
+pub commands_keep_the_frame : CommandsKeepTheFrame
+commands_keep_the_frame root forced cs values left one all sound = commands_stay root forced one cs sound values left all

@@ -1,0 +1,16 @@
+pub mod Commands
+pub mod Constants
+pub mod Elements
+pub mod Frames
+pub mod Giving
+pub mod LeafTypes
+pub mod Operands
+pub mod Places
+pub mod Ranges
+pub mod TermValues
+pub mod Turns
+pub mod TypedExpressions
+pub mod TypedStatements
+pub mod TypedTerms
+pub mod Typing
+pub mod Worked

@@ -1,0 +1,186 @@
+-- Where a place is found, a leaf of its type stands.
+use Rattle.std.proofs.Common.{◌≡◌, ℕ, suc, ◌+◌, ◌*◌, ◌<◌, ℤ, Bool, true, false, List, [], ◌∷◌, ◌++◌, length, Option, Some, None, refl, ap, sym, ◌∙◌, subst, if◌then◌else◌, arith}
+use Rattle.st_values.specs.Words.{is_word}
+use Rattle.st_values.specs.declared.elem.Elem.{Elem}
+use Rattle.st_types.specs.Compositions.{Composition, unknown, elementary, array, composed, standard, Members, none, member}
+use Rattle.st_types.specs.Initials.{zero_of}
+use Rattle.st_types.specs.Standard.{Pin, pin_named, pins_of}
+use Rattle.st_leaves.specs.Charts.{stored_by}
+use Rattle.st_leaves.specs.LeavesIn.{block_name, chart_in, elements_in, kept_by, kept_leaf, leaves_in, member_names, members_in, pin_leaf, subscript_lists, within}
+use Rattle.st_leaves.specs.Paths.{Path, field, index}
+use Rattle.st_leaves.specs.Places.{IsMember, here, later, IsPart, first, behind, LeadsTo, end, element, into, pin, count, counts}
+use Rattle.st_leaves.specs.Selected.{element_of, member_selected, pin_selected, selected_by, subscripts_of, takes_subscripts, value_type}
+use Rattle.st_leaves.proofs.Numbers.{length_is_count, length_is_counts, length_within, subscripts_length}
+use Rattle.st_leaves.proofs.Places.{places_are_numbers}
+use Rattle.std.specs.List.{flat_map}
+use Rattle.st_meaning.specs.Laws.{HasLeaf, PlacesHaveLeaves}
+use Rattle.st_meaning.specs.Meaning.{Values, are_within, located, numbers_in, values_of, when_within}
+use Rattle.st_meaning.specs.Operations.{gives, then_with}
+use Rattle.st_meaning.specs.Sound.{type_at}
+use Rattle.st_meaning.specs.Terms.{Parts, whole, field_part, element_part, how_many}
+use Rattle.st_meaning.specs.Wholes.{type_of}
+use Rattle.st_meaning.proofs.Giving.{given_in, same_given, within_given}
+use Rattle.st_meaning.proofs.Elements.{element_within}
+use Rattle.st_meaning.proofs.LeafTypes.{elem_at, elem_elements, elem_left, elem_right, elem_within}
+
+-- ---- nowhere
+
+nothing_leads : (path : Path) (n : ℕ) → LeadsTo unknown path n → ⊥
+nothing_leads path n h = elim h [ ]
+
+no_leaf_in : (c : Composition) (e : Elem) (path : Path) → c ≡ unknown → HasLeaf c e path → ⊥
+no_leaf_in c e path same h = nothing_leads path h.number (subst (λ d. LeadsTo d path h.number) same h.leads)
+
+leaf_below : (c : Composition) (e : Elem) (path : Path) (h : HasLeaf c e path) → h.number < count c
+leaf_below c e path h = (places_are_numbers c path h.number h.leads).0
+
+-- ---- members
+
+data Selected (name : List ℕ) (ms : Members) : Type 0 where
+  missing : member_selected ms name ≡ unknown → Selected name ms
+  found : (d : ℕ) → IsMember name ms d (member_selected ms name) → Selected name ms
+
+select : (name : List ℕ) (ms : Members) → Selected name ms
+select name none = missing refl
+select name (member other kind c ms) = by (is_word other name) refl (select name ms) where
+  by : (b : Bool) → is_word other name ≡ b → Selected name ms → Selected name (member other kind c ms)
+  by true q more =
+      let e : c ≡ member_selected (member other kind c ms) name = ap (λ b. if b then c else member_selected ms name) (sym q) in
+      found 0 (subst (λ d. IsMember name (member other kind c ms) 0 d) e (here q))
+  by false q (missing h) = missing (ap (λ b. if b then c else member_selected ms name) q ∙ h)
+  by false q (found d h) =
+      let e : member_selected ms name ≡ member_selected (member other kind c ms) name = ap (λ b. if b then c else member_selected ms name) (sym q) in
+      found (count c + d) (subst (λ x. IsMember name (member other kind c ms) (count c + d) x) e (later q h))
+
+-- the leaves of a member have the types that they have by themselves
+member_type : (whole' name : List ℕ) (ms : Members) (d : ℕ) (c : Composition) (k : ℕ) → IsMember name ms d c → k < count c
+    → (elem_at (members_in whole' ms) (d + k) ≡ elem_at (leaves_in c) k) × (d + k < counts ms)
+member_type whole' name ms d c k (here {other = other} {ms = more} e) few =
+    let z : 0 + k ≡ k = omega arith in
+    let less : k < length (within (field other) whole' (leaves_in c)) = subst (λ n. k < n) (sym (length_within (field other) whole' (leaves_in c) ∙ length_is_count c)) few in (
+      ap (elem_at (within (field other) whole' (leaves_in c) ++ members_in whole' more)) z ∙ elem_left (within (field other) whole' (leaves_in c)) (members_in whole' more) k less
+          ∙ elem_within (field other) whole' (leaves_in c) k,
+      omega arith,
+    )
+member_type whole' name ms d c k (later {other = other} {c = b} {ms = more} {k = n} e h) few =
+    let z : count b + n + k ≡ count b + (n + k) = omega arith in
+    let rest = member_type whole' name more n c k h few in (
+      ap (elem_at (within (field other) whole' (leaves_in b) ++ members_in whole' more)) z
+          ∙ elem_right (within (field other) whole' (leaves_in b)) (members_in whole' more) (count b) (n + k) (length_within (field other) whole' (leaves_in b) ∙ length_is_count b)
+          ∙ rest.0,
+      omega (arith, rest.1),
+    )
+
+-- ---- inputs and outputs
+
+record PinAt (whole' name : List ℕ) (pins : List Pin) (p : Pin) : Type 0 where
+  number : ℕ
+  part : IsPart (λ q. q.name) (λ q. 1) name pins number
+  type : elem_at (flat_map (pin_leaf whole') pins) number ≡ p.elem
+  few : number < length (flat_map (pin_leaf whole') pins)
+
+pin_at : (whole' name : List ℕ) (pins : List Pin) (p : Pin) → pin_named pins name ≡ Some p → PinAt whole' name pins p
+pin_at whole' name [] p h = cc
+pin_at whole' name (q ∷ qs) p h = by (is_word q.name name) refl (pin_at whole' name qs p) where
+  by : (b : Bool) → is_word q.name name ≡ b → (pin_named qs name ≡ Some p → PinAt whole' name qs p) → PinAt whole' name (q ∷ qs) p
+  by true e more =
+      let same : Some q ≡ Some p = ap (λ b. if b then Some q else pin_named qs name) (sym e) ∙ h in
+      let one : q ≡ p = cc in
+      record { number = 0; part = first e; type = ap (λ x. x.elem) one; few = omega arith }
+  by false e more =
+      let rest = more (ap (λ b. if b then Some q else pin_named qs name) (sym e) ∙ h) in
+      let z : 1 + rest.number ≡ suc rest.number = omega arith in
+      record {
+        number = 1 + rest.number;
+        part = behind e rest.part;
+        type = ap (elem_at (flat_map (pin_leaf whole') (q ∷ qs))) z ∙ rest.type;
+        few = omega (arith, rest.few);
+      }
+
+record Ends (e : Elem) (path : Path) (p : Pin) : Type 0 where
+  at_end : path ≡ []
+  type : p.elem ≡ e
+
+ends : (e : Elem) (path : Path) (p : Pin) (n : ℕ) → LeadsTo (elementary (zero_of p.elem)) path n → type_at (elementary (zero_of p.elem)) n ≡ e → Ends e path p
+ends e path p n end h = record { at_end = refl; type = h }
+
+-- ---- what a name selects
+
+field_leaf : (c : Composition) (name : List ℕ) (e : Elem) (path : Path) → HasLeaf (selected_by c name) e path → HasLeaf c e (field name ∷ path)
+field_leaf unknown name e path h = absurd (no_leaf_in unknown e path refl h)
+field_leaf (elementary v) name e path h = absurd (no_leaf_in unknown e path refl h)
+field_leaf (array ranges firsts c) name e path h = absurd (no_leaf_in unknown e path refl h)
+field_leaf (composed whole' ms chart) name e path h = by (select name ms) where
+  by : Selected name ms → HasLeaf (composed whole' ms chart) e (field name ∷ path)
+  by (missing q) = absurd (no_leaf_in (member_selected ms name) e path q h)
+  by (found d m) =
+      let inside = member_type whole' name ms d (member_selected ms name) h.number m (leaf_below (member_selected ms name) e path h) in
+      let less : d + h.number < length (members_in whole' ms) = subst (λ n. d + h.number < n) (sym (length_is_counts whole' ms)) inside.1 in
+      record {
+        number = d + h.number;
+        leads = into m h.leads;
+        type = elem_left (members_in whole' ms) (chart_in whole' (stored_by (member_names ms) chart) chart) (d + h.number) less ∙ inside.0 ∙ h.type;
+      }
+field_leaf (standard b) name e path h = by (pin_named (pins_of b) name) refl h where
+  by : (p : Option Pin) → pin_named (pins_of b) name ≡ p → HasLeaf (pin_selected p) e path → HasLeaf (standard b) e (field name ∷ path)
+  by None q h = absurd (no_leaf_in unknown e path refl h)
+  by (Some p) q h =
+      let at = pin_at (block_name b) name (pins_of b) p q in
+      let last = ends e path p h.number h.leads h.type in
+      let leaf : HasLeaf (standard b) e (field name ∷ []) = record {
+        number = at.number;
+        leads = pin at.part;
+        type = elem_left (flat_map (pin_leaf (block_name b)) (pins_of b)) (flat_map (kept_leaf (block_name b)) (kept_by b)) at.number at.few ∙ at.type ∙ last.type;
+      } in
+      subst (λ rest. HasLeaf (standard b) e (field name ∷ rest)) (sym last.at_end) leaf
+
+-- ---- what subscripts select
+
+element_leaf : (c : Composition) (is : List ℤ) (e : Elem) (path : Path) (n : ℕ) → takes_subscripts c n ≡ true → are_within (subscripts_of c) is ≡ true → HasLeaf (element_of c) e path
+    → HasLeaf c e (index is ∷ path)
+element_leaf unknown is e path n t inside h = cc
+element_leaf (elementary v) is e path n t inside h = cc
+element_leaf (composed whole' ms chart) is e path n t inside h = cc
+element_leaf (standard b) is e path n t inside h = cc
+element_leaf (array ranges firsts c) is e path n t inside h =
+    let one = element_within (count c) ranges is inside in
+    let few : one.number < length (subscript_lists ranges) = subst (λ m. one.number < m) (sym (subscripts_length ranges)) one.few in
+    let less : h.number < length (leaves_in c) = subst (λ m. h.number < m) (sym (length_is_count c)) (leaf_below c e path h) in
+    let z : one.distance + h.number ≡ one.number * length (leaves_in c) + h.number = ap (λ m. m + h.number) (one.multiple ∙ ap (λ m. one.number * m) (sym (length_is_count c))) in
+    record {
+      number = one.distance + h.number;
+      leads = element one.stands h.leads;
+      type = ap (elem_at (elements_in (subscript_lists ranges) firsts (leaves_in c))) z ∙ elem_elements (subscript_lists ranges) firsts (leaves_in c) one.number h.number few less ∙ h.type;
+    }
+
+-- ---- places
+
+end_leaf : (c : Composition) (e : Elem) → value_type c ≡ Some e → HasLeaf c e []
+end_leaf unknown e h = cc
+end_leaf (elementary v) e h = let same : v.elem ≡ e = cc in record { number = 0; leads = end; type = same }
+end_leaf (array ranges firsts c) e h = cc
+end_leaf (composed whole' ms chart) e h = cc
+end_leaf (standard b) e h = cc
+
+-- an element has a type where there are as many subscripts as there have to be
+element_type : (b : Bool) (a : Option Elem) (e : Elem) → (if b then a else None) ≡ Some e → (b ≡ true) × (a ≡ Some e)
+element_type true a e h = (refl, h)
+element_type false a e h = cc
+
+place_leaf : (root : Composition) (values : Values) (c : Composition) (e : Elem) (ps : Parts) (path : Path) → type_of c ps ≡ Some e → located root values c ps ≡ gives path → HasLeaf c e path
+place_leaf root values c e whole path t h = subst (λ p. HasLeaf c e p) (same_given [] path h) (end_leaf c e t)
+place_leaf root values c e (field_part name ps) path t h =
+    let inner = given_in (located root values (selected_by c name) ps) (λ p. gives (field name ∷ p)) path h in
+    subst (λ p. HasLeaf c e p) (same_given (field name ∷ inner.value) path inner.then')
+    (field_leaf c name e inner.value (place_leaf root values (selected_by c name) e ps inner.value t inner.first))
+place_leaf root values c e (element_part line ts ps) path t h =
+    let type = element_type (takes_subscripts c (how_many ts)) (type_of (element_of c) ps) e t in
+    let subscripts = given_in (values_of root values ts) (λ xs. when_within line (subscripts_of c) (numbers_in xs) (then_with (located root values (element_of c) ps) (λ p. gives (index (numbers_in xs) ∷ p)))) path h in
+    let is = numbers_in subscripts.value in
+    let inside = within_given line (subscripts_of c) is (then_with (located root values (element_of c) ps) (λ p. gives (index is ∷ p))) path subscripts.then' in
+    let inner = given_in (located root values (element_of c) ps) (λ p. gives (index is ∷ p)) path inside.1 in
+    subst (λ p. HasLeaf c e p) (same_given (index is ∷ inner.value) path inner.then')
+    (element_leaf c is e inner.value (how_many ts) type.0 inside.0 (place_leaf root values (element_of c) e ps inner.value type.1 inner.first))
+
+pub places_have_leaves : PlacesHaveLeaves
+places_have_leaves root values e ps path is h = place_leaf root values root e ps path is.type h

@@ -1,0 +1,244 @@
+-- What an expression is as a term of a type is a sound term of that type (3.3.1, 2.5.1.5).
+use Rattle.std.proofs.Common.{◌≡◌, ℕ, Bool, true, false, List, [], ◌∷◌, ◌++◌, get_or, Option, Some, None, IsTrue, is_some, refl, ap, sym, ◌∙◌, subst, if◌then◌else◌}
+use Rattle.std.proofs.lemmas.Bool.Decides.{Decides-eqb}
+use Rattle.st_values.specs.Types.{is_same, place_of}
+use Rattle.st_values.specs.Values.{IsValue}
+use Rattle.st_values.specs.declared.elem.Elem.{Elem}
+use Rattle.st_values.specs.declared.elem.Elem.TheVariants as elems
+use Rattle.st_values.specs.declared.value.Value.{Value}
+use Rattle.st_tree.specs.declared.operator.BinOp.{BinOp}
+use Rattle.st_tree.specs.declared.operator.BinOp.TheVariants as operators
+use Rattle.st_tree.specs.declared.tree.constant.Constant.{Constant}
+use Rattle.st_types.specs.Compositions.{Composition}
+use Rattle.st_types.specs.Initials.{number_in, zero_of}
+use Rattle.st_types.specs.OwnTypes.{first_own, is_comparison, or_lint}
+use Rattle.st_types.specs.declared.standard.Standard.{Standard}
+use Rattle.st_types.specs.declared.standard.Standard.TheVariants as standards
+use Rattle.st_types.specs.declared.standard.StandardFunction.{StandardFunction}
+use Rattle.st_types.specs.declared.standard.StandardFunction.TheVariants as functions
+use Rattle.st_operators.specs.Operators.{takes, type_given}
+use Rattle.st_operators.proofs.Results.{wrapped_is}
+use Rattle.st_meaning.specs.Operations.{binary_type, has_count, takes_one, takes_two, unary_type}
+use Rattle.st_meaning.specs.Sound.{AreSoundParts, AreSoundTerms, IsTermOf, term_type}
+use Rattle.st_meaning.specs.Terms.{Term, constant, stored, unary, binary, Parts, whole, field_part, element_part}
+use Rattle.st_meaning.specs.Typing.{Typed, alone, call_typed, chained, combined, combined_all, compared, constant_or, converted, fitted, function_typed, joined, literal, named_value, nil, place_typed, prefixed, selected, shifted, terms_of, through, variable_typed}
+use Rattle.st_meaning.specs.Wholes.{Whole, type_of}
+use Rattle.st_meaning.specs.declared.operation.Binary.{Binary}
+use Rattle.st_meaning.specs.declared.operation.Binary.TheVariants as binaries
+use Rattle.st_meaning.specs.declared.operation.Unary.{Unary}
+use Rattle.st_meaning.specs.declared.operation.Unary.TheVariants as unaries
+
+-- ---- types
+
+all_types : List Elem
+all_types =
+    elems.Bool ∷ elems.Sint ∷ elems.Int ∷ elems.Dint ∷ elems.Lint ∷ elems.Usint ∷ elems.Uint ∷ elems.Udint ∷ elems.Ulint ∷ elems.Byte ∷ elems.Word ∷ elems.Dword ∷ elems.Lword
+    ∷ elems.Time ∷ []
+
+type_placed : (e : Elem) → get_or all_types (place_of e) elems.Bool ≡ e
+unfolding all_types
+type_placed elems.Bool = refl
+type_placed elems.Sint = refl
+type_placed elems.Int = refl
+type_placed elems.Dint = refl
+type_placed elems.Lint = refl
+type_placed elems.Usint = refl
+type_placed elems.Uint = refl
+type_placed elems.Udint = refl
+type_placed elems.Ulint = refl
+type_placed elems.Byte = refl
+type_placed elems.Word = refl
+type_placed elems.Dword = refl
+type_placed elems.Lword = refl
+type_placed elems.Time = refl
+
+same_type : (d e : Elem) → is_same d e ≡ true → d ≡ e
+same_type d e h = sym (type_placed d) ∙ ap (λ n. get_or all_types n elems.Bool) ((Decides-eqb (place_of d) (place_of e)).0 h) ∙ type_placed e
+
+pub zero_is_value : (e : Elem) → IsValue (zero_of e)
+zero_is_value elems.Bool = refl
+zero_is_value elems.Sint = refl
+zero_is_value elems.Int = refl
+zero_is_value elems.Dint = refl
+zero_is_value elems.Lint = refl
+zero_is_value elems.Usint = refl
+zero_is_value elems.Uint = refl
+zero_is_value elems.Udint = refl
+zero_is_value elems.Ulint = refl
+zero_is_value elems.Byte = refl
+zero_is_value elems.Word = refl
+zero_is_value elems.Dword = refl
+zero_is_value elems.Lword = refl
+zero_is_value elems.Time = refl
+
+-- ---- what is sound
+
+-- as whichever type is due
+abbrev pub IsSound : Composition → Typed → Type 0
+IsSound root x = (t : Elem) → IsTermOf root t (x.as_type t)
+
+abbrev pub AreSound : Composition → List Typed → Type 0
+AreSound root [] = Unit {0}
+AreSound root (x ∷ xs) = IsSound root x × AreSound root xs
+
+-- what makes something sound of what is sound
+abbrev pub KeepsSound : Composition → (Typed → Typed) → Type 0
+KeepsSound root f = (x : Typed) → IsSound root x → IsSound root (f x)
+
+abbrev pub KeepSound : Composition → List (Typed → Typed) → Type 0
+KeepSound root [] = Unit {0}
+KeepSound root (f ∷ fs) = KeepsSound root f × KeepSound root fs
+
+abbrev pub KeepsParts : Composition → (Parts → Parts) → Type 0
+KeepsParts root f = (ps : Parts) → AreSoundParts root ps → AreSoundParts root (f ps)
+
+abbrev pub KeepParts : Composition → List (Parts → Parts) → Type 0
+KeepParts root [] = Unit {0}
+KeepParts root (f ∷ fs) = KeepsParts root f × KeepParts root fs
+
+-- each constant is a value
+abbrev pub HasValues : Whole → Type 0
+HasValues w = (name : List ℕ) (v : Value) → w.constants name ≡ Some v → IsValue v
+
+module _ (root : Composition) where
+  nil_sound : (t : Elem) → IsTermOf root t (nil t)
+  nil_sound t = record { type = refl; sound = zero_is_value t }
+
+  fitted_sound : (e : Elem) (term : Term) → IsTermOf root e term → (t : Elem) → IsTermOf root t (fitted e term t)
+  fitted_sound e term h t = by (is_same e t) refl where
+    by : (b : Bool) → is_same e t ≡ b → IsTermOf root t (if b then term else nil t)
+    by true q = subst (λ d. IsTermOf root d term) (same_type e t q) h
+    by false q = nil_sound t
+
+  pub alone_sound : (x : Typed) → IsSound root x → IsTermOf root (or_lint x.own) (alone x)
+  alone_sound x h = h (or_lint x.own)
+
+  -- ---- literals, constants and places
+
+  pub literal_sound : (c : Constant) → IsSound root (literal c)
+  literal_sound c t = let is = wrapped_is t (number_in c) in record { type = is.of_type; sound = is.in_range }
+
+  named_sound : (v : Value) → IsValue v → IsSound root (named_value v)
+  named_sound v h t = fitted_sound v.elem (constant v) (record { type = refl; sound = h }) t
+
+  place_sound : (ps : Parts) (e : Option Elem) → type_of root ps ≡ e → AreSoundParts root ps → IsSound root (place_typed ps e)
+  place_sound ps None h parts t = nil_sound t
+  place_sound ps (Some e) h parts t = fitted_sound e (stored ps) (record { type = ap or_lint h; sound = (ap is_some h, parts) }) t
+
+  -- ---- operators
+
+  pub prefixed_sound : (o : Unary) (x : Typed) → ((e : Elem) → unary_type o e ≡ e) → IsSound root x → IsSound root (prefixed o x)
+  prefixed_sound o x keeps h t = by (takes_one o t) refl where
+    by : (b : Bool) → takes_one o t ≡ b → IsTermOf root t (if b then unary o (x.as_type t) else nil t)
+    by true q = record { type = keeps (term_type root (x.as_type t)) ∙ (h t).type; sound = ((h t).sound, ap (takes_one o) (h t).type ∙ q) }
+    by false q = nil_sound t
+
+  combined_sound : (o : Binary) (line : ℕ) (a b : Typed) → ((e : Elem) → binary_type o e ≡ e) → IsSound root a → IsSound root b → IsSound root (combined o line a b)
+  combined_sound o line a b keeps h k t = by (takes_two o t) refl where
+    by : (c : Bool) → takes_two o t ≡ c → IsTermOf root t (if c then binary o line (a.as_type t) (b.as_type t) else nil t)
+    by true q = record {
+      type = keeps (term_type root (a.as_type t)) ∙ (h t).type;
+      sound = ((h t).sound, (k t).sound, ap (takes_two o) (h t).type ∙ q, λ n. (h t).type ∙ sym (k t).type);
+    }
+    by false q = nil_sound t
+
+  comparison_is : (o : BinOp) (e : Elem) → is_comparison o ≡ true → (type_given o e ≡ elems.Bool) × IsTrue (takes o e)
+  comparison_is operators.Eq e h = (refl, refl)
+  comparison_is operators.Ne e h = (refl, refl)
+  comparison_is operators.Lt e h = (refl, refl)
+  comparison_is operators.Gt e h = (refl, refl)
+  comparison_is operators.Le e h = (refl, refl)
+  comparison_is operators.Ge e h = (refl, refl)
+  comparison_is _ e h = cc
+
+  operation_keeps : (o : BinOp) (e : Elem) → is_comparison o ≡ false → type_given o e ≡ e
+  operation_keeps operators.Eq e h = cc
+  operation_keeps operators.Ne e h = cc
+  operation_keeps operators.Lt e h = cc
+  operation_keeps operators.Gt e h = cc
+  operation_keeps operators.Le e h = cc
+  operation_keeps operators.Ge e h = cc
+  operation_keeps _ e h = refl
+
+  compared_sound : (o : BinOp) (line : ℕ) (a b : Typed) → is_comparison o ≡ true → IsSound root a → IsSound root b → IsSound root (compared o line a b)
+  compared_sound o line a b c h k t =
+      let e = or_lint (first_own (a.own ∷ b.own ∷ [])) in
+      let is = comparison_is o (term_type root (a.as_type e)) c in
+      fitted_sound elems.Bool (binary (binaries.Operator o) line (a.as_type e) (b.as_type e))
+      (record { type = is.0; sound = ((h e).sound, (k e).sound, is.1, λ n. (h e).type ∙ sym (k e).type) }) t
+
+  pub joined_sound : (o : BinOp) (line : ℕ) (a b : Typed) → IsSound root a → IsSound root b → IsSound root (joined o line a b)
+  joined_sound o line a b h k = by (is_comparison o) refl where
+    by : (c : Bool) → is_comparison o ≡ c → IsSound root (if c then compared o line a b else combined (binaries.Operator o) line a b)
+    by true q = compared_sound o line a b q h k
+    by false q = combined_sound (binaries.Operator o) line a b (λ e. operation_keeps o e q) h k
+
+  pub chained_sound : (x : Typed) (fs : List (Typed → Typed)) → IsSound root x → KeepSound root fs → IsSound root (chained x fs)
+  chained_sound x [] h keep = h
+  chained_sound x (f ∷ fs) h keep = chained_sound (f x) fs (keep.0 x h) keep.1
+
+  -- ---- standard functions and conversions
+
+  combined_all_sound : (o : Binary) (x : Typed) (ys : List Typed) → ((e : Elem) → binary_type o e ≡ e) → IsSound root x → AreSound root ys → IsSound root (combined_all o x ys)
+  combined_all_sound o x [] keeps h hs = h
+  combined_all_sound o x (y ∷ ys) keeps h hs = combined_all_sound o (combined o 0 x y) ys keeps (combined_sound o 0 x y keeps h hs.0) hs.1
+
+  shifted_sound : (o : Binary) (x n : Typed) → has_count o ≡ true → ((e : Elem) → binary_type o e ≡ e) → IsSound root x → IsSound root n → IsSound root (shifted o x n)
+  shifted_sound o x n counts keeps h k t = by (takes_two o t) refl where
+    by : (c : Bool) → takes_two o t ≡ c → IsTermOf root t (if c then binary o 0 (x.as_type t) (alone n) else nil t)
+    by true q = record {
+      type = keeps (term_type root (x.as_type t)) ∙ (h t).type;
+      sound = ((h t).sound, (alone_sound n k).sound, ap (takes_two o) (h t).type ∙ q, λ none. absurd (let e : true ≡ false = sym counts ∙ none in cc));
+    }
+    by false q = nil_sound t
+
+  selected_sound : (g x y : Typed) → IsSound root g → IsSound root x → IsSound root y → IsSound root (selected g x y)
+  selected_sound g x y h k l t = record { type = (k t).type; sound = ((h elems.Bool).sound, (k t).sound, (l t).sound, (k t).type ∙ sym (l t).type) }
+
+  function_sound : (f : StandardFunction) (xs : List Typed) → AreSound root xs → IsSound root (function_typed f xs)
+  function_sound functions.Abs (x ∷ []) hs = prefixed_sound unaries.Absolute x (λ e. refl) hs.0
+  function_sound functions.Min (x ∷ ys) hs = combined_all_sound binaries.Least x ys (λ e. refl) hs.0 hs.1
+  function_sound functions.Max (x ∷ ys) hs = combined_all_sound binaries.Greatest x ys (λ e. refl) hs.0 hs.1
+  function_sound functions.Limit (low ∷ x ∷ high ∷ []) hs =
+      combined_sound binaries.Least 0 (combined binaries.Greatest 0 low x) high (λ e. refl) (combined_sound binaries.Greatest 0 low x (λ e. refl) hs.0 hs.1.0) hs.1.1.0
+  function_sound functions.Sel (g ∷ x ∷ y ∷ []) hs = selected_sound g x y hs.0 hs.1.0 hs.1.1.0
+  function_sound functions.Shl (x ∷ n ∷ []) hs = shifted_sound binaries.ShiftLeft x n refl (λ e. refl) hs.0 hs.1.0
+  function_sound functions.Shr (x ∷ n ∷ []) hs = shifted_sound binaries.ShiftRight x n refl (λ e. refl) hs.0 hs.1.0
+  function_sound functions.Rol (x ∷ n ∷ []) hs = shifted_sound binaries.RotateLeft x n refl (λ e. refl) hs.0 hs.1.0
+  function_sound functions.Ror (x ∷ n ∷ []) hs = shifted_sound binaries.RotateRight x n refl (λ e. refl) hs.0 hs.1.0
+  function_sound _ _ hs = nil_sound
+
+  converted_sound : (from to : Elem) (xs : List Typed) → AreSound root xs → IsSound root (converted from to xs)
+  converted_sound from to (x ∷ []) hs t = fitted_sound to (unary (unaries.Convert to) (x.as_type from)) (record { type = refl; sound = ((hs.0 from).sound, refl) }) t
+  converted_sound from to _ hs t = nil_sound t
+
+  pub call_sound : (s : Option Standard) (xs : List Typed) → AreSound root xs → IsSound root (call_typed s xs)
+  call_sound (Some (standards.Function f)) xs hs = function_sound f xs hs
+  call_sound (Some (standards.Conversion from to)) xs hs = converted_sound from to xs hs
+  call_sound _ xs hs = nil_sound
+
+  -- ---- lists
+
+  pub terms_sound : (xs : List Typed) → AreSound root xs → AreSoundTerms root (terms_of xs)
+  terms_sound [] hs = tt
+  terms_sound (x ∷ xs) hs = ((alone_sound x hs.0).sound, terms_sound xs hs.1)
+
+  pub through_sound : (fs : List (Parts → Parts)) → KeepParts root fs → AreSoundParts root (through fs)
+  through_sound [] keep = tt
+  through_sound (f ∷ fs) keep = keep.0 (through fs) (through_sound fs keep.1)
+
+  pub append_sound : (xs ys : List Typed) → AreSound root xs → AreSound root ys → AreSound root (xs ++ ys)
+  append_sound [] ys hs ks = ks
+  append_sound (x ∷ xs) ys hs ks = (hs.0, append_sound xs ys hs.1 ks)
+
+-- a variable, or a constant
+pub variable_sound : (w : Whole) (ps : Parts) → HasValues w → AreSoundParts w.variables ps → IsSound w.variables (variable_typed w ps)
+variable_sound w whole values parts = place_sound w.variables whole (type_of w.variables whole) refl parts
+variable_sound w (field_part name whole) values parts = by (w.constants name) refl where
+  by : (c : Option Value) → w.constants name ≡ c → IsSound w.variables (constant_or (place_typed (field_part name whole) (type_of w.variables (field_part name whole))) c)
+  by None q = place_sound w.variables (field_part name whole) (type_of w.variables (field_part name whole)) refl parts
+  by (Some v) q = named_sound w.variables v (values name v q)
+variable_sound w (field_part name (field_part other ps)) values parts = place_sound w.variables (field_part name (field_part other ps)) (type_of w.variables (field_part name (field_part other ps))) refl parts
+variable_sound w (field_part name (element_part line ts ps)) values parts =
+    place_sound w.variables (field_part name (element_part line ts ps)) (type_of w.variables (field_part name (element_part line ts ps))) refl parts
+variable_sound w (element_part line ts ps) values parts = place_sound w.variables (element_part line ts ps) (type_of w.variables (element_part line ts ps)) refl parts

@@ -1,0 +1,161 @@
+-- Worked programs: this is what they mean.
+use Rattle.std.proofs.Common.{◌≡◌, ℕ, ℤ, pos, negsuc, true, false, [], ◌∷◌, codes, Some, refl}
+use Rattle.st_values.specs.declared.elem.Elem.{Elem}
+use Rattle.st_values.specs.declared.elem.Elem.TheVariants as elems
+use Rattle.st_values.specs.declared.value.Value.{Value}
+use Rattle.st_tree.specs.declared.operator.BinOp.TheVariants as operators
+use Rattle.st_tree.specs.declared.tree.declaration.VarKind.TheVariants as var_kinds
+use Rattle.st_tree.specs.declared.tree.constant.Constant.TheVariants as constants
+use Rattle.st_tree.specs.declared.tree.constant.SignedInteger.{SignedInteger}
+use Rattle.st_types.specs.Compositions.{Composition, elementary, array, composed, none, member}
+use Rattle.st_types.specs.Initials.{zero_of}
+use Rattle.st_meaning.specs.Meaning.{Values, value_of}
+use Rattle.st_meaning.specs.Operations.{gives, stops, stop}
+use Rattle.st_meaning.specs.Statements.{Outcome, done, returned, faulted, command_meaning}
+use Rattle.st_meaning.specs.Terms.{Term, constant, stored, binary, no_terms, more_terms, Parts, whole, field_part, element_part, Command, assign, cases, count_loop, while_loop, exit, finish, no_commands, more_commands, no_cases, more_cases}
+use Rattle.st_meaning.specs.Typing.{joined, literal, place_typed}
+use Rattle.st_meaning.specs.declared.fault.RunFaultKind.TheVariants as faults
+use Rattle.st_meaning.specs.declared.operation.Binary.TheVariants as binaries
+
+-- a number as a value, and as an expression; `negsuc n` is the number -(n + 1)
+abbrev of : Elem → ℤ → Value
+of elem number = record { elem = elem; bits = number }
+
+abbrev int : ℤ → Term
+int number = constant (of elems.Int number)
+
+-- VAR X : SINT; Y : INT; END_VAR
+abbrev root : Composition
+root = composed (codes "PROGRAM") (member (codes "X") var_kinds.Internal (elementary (zero_of elems.Sint)) (member (codes "Y") var_kinds.Internal (elementary (zero_of elems.Int)) none)) []
+
+abbrev values : ℤ → ℤ → Values
+values x y = of elems.Sint x ∷ of elems.Int y ∷ []
+
+abbrev x : Parts
+x = field_part (codes "X") whole
+
+abbrev y : Parts
+y = field_part (codes "y") whole
+
+-- Y := Y + 1, on this line
+abbrev count_up : ℕ → Command
+count_up line = assign line y (binary (binaries.Operator operators.Add) line (stored y) (int (pos 1)))
+
+-- from these values and 100 steps
+abbrev from : ℤ → ℤ → Command → Outcome
+from a b c = command_meaning root (false ∷ false ∷ []) c (values a b) 100
+
+-- ---- expressions
+
+-- FALSE AND 1 / 0 = 1 divides too
+and_takes_both : value_of root (values (pos 0) (pos 0))
+    (binary (binaries.Operator operators.And) 3 (constant (of elems.Bool (pos 0))) (binary (binaries.Operator operators.Eq) 3 (binary (binaries.Operator operators.Div) 4 (int (pos 1)) (int (pos 0))) (int (pos 1))))
+    ≡ stops (stop faults.ZeroDivisor 4)
+and_takes_both = refl
+
+-- in 1 / 0 + 1 / 0 the left one stops the run
+left_operand_first : value_of root (values (pos 0) (pos 0))
+    (binary (binaries.Operator operators.Add) 3 (binary (binaries.Operator operators.Div) 4 (int (pos 1)) (int (pos 0))) (binary (binaries.Operator operators.Div) 5 (int (pos 1)) (int (pos 0))))
+    ≡ stops (stop faults.ZeroDivisor 4)
+left_operand_first = refl
+
+-- -7 MOD 3 is -1, and 7 MOD -3 is 1
+remainder_of_negative : value_of root (values (pos 0) (pos 0)) (binary (binaries.Operator operators.Mod) 1 (int (negsuc 6)) (int (pos 3))) ≡ gives (of elems.Int (negsuc 0))
+remainder_of_negative = refl
+
+remainder_by_negative : value_of root (values (pos 0) (pos 0)) (binary (binaries.Operator operators.Mod) 1 (int (pos 7)) (int (negsuc 2))) ≡ gives (of elems.Int (pos 1))
+remainder_by_negative = refl
+
+-- names are the same if they differ in case only
+value_is_found : value_of root (values (pos 5) (pos 8)) (stored y) ≡ gives (of elems.Int (pos 8))
+value_is_found = refl
+
+-- ---- FOR
+
+-- FOR X := 1 TO 3 DO X := 10; Y := Y + 1; END_FOR; goes three times: a step for FOR, one for each of four tests, two for each turn
+counter_is_its_own : from (pos 0) (pos 0)
+    (count_loop 1 x (constant (of elems.Sint (pos 1))) (constant (of elems.Sint (pos 3))) (constant (of elems.Sint (pos 1))) (more_commands (assign 2 x (constant (of elems.Sint (pos 10)))) (more_commands (count_up 3) no_commands)))
+    ≡ done (values (pos 10) (pos 3)) 89
+counter_is_its_own = refl
+
+-- FOR X := 126 TO 127 DO Y := Y + 1; END_FOR; ends, though no SINT is above 127
+counter_does_not_wrap : from (pos 0) (pos 0)
+    (count_loop 1 x (constant (of elems.Sint (pos 126))) (constant (of elems.Sint (pos 127))) (constant (of elems.Sint (pos 1))) (more_commands (count_up 2) no_commands))
+    ≡ done (values (pos 127) (pos 2)) 94
+counter_does_not_wrap = refl
+
+-- FOR X := 3 TO 1 BY -1 goes three times, and FOR X := 3 TO 1 never, but X is 3
+counted_down : from (pos 0) (pos 0)
+    (count_loop 1 x (constant (of elems.Sint (pos 3))) (constant (of elems.Sint (pos 1))) (constant (of elems.Sint (negsuc 0))) (more_commands (count_up 2) no_commands))
+    ≡ done (values (pos 1) (pos 3)) 92
+counted_down = refl
+
+counted_never : from (pos 0) (pos 0)
+    (count_loop 1 x (constant (of elems.Sint (pos 3))) (constant (of elems.Sint (pos 1))) (constant (of elems.Sint (pos 1))) (more_commands (count_up 2) no_commands))
+    ≡ done (values (pos 3) (pos 0)) 98
+counted_never = refl
+
+-- ---- CASE
+
+-- CASE 5 OF 1..10: Y := 1; 5: Y := 2; ELSE Y := 3; END_CASE; takes the first case that has the number
+first_case_is_taken : from (pos 0) (pos 0)
+    (cases 1 (int (pos 5))
+    (more_cases (record { least = pos 1; greatest = pos 10 } ∷ []) (more_commands (assign 2 y (int (pos 1))) no_commands)
+    (more_cases (record { least = pos 5; greatest = pos 5 } ∷ []) (more_commands (assign 3 y (int (pos 2))) no_commands) no_cases))
+    (more_commands (assign 4 y (int (pos 3))) no_commands))
+    ≡ done (values (pos 0) (pos 1)) 98
+first_case_is_taken = refl
+
+-- ---- EXIT, RETURN and the step limit
+
+-- WHILE TRUE DO FOR X := 1 TO 3 DO EXIT; END_FOR; Y := 1; RETURN; END_WHILE; EXIT leaves FOR alone
+exit_leaves_one_loop : from (pos 0) (pos 0)
+    (while_loop 1 (constant (of elems.Bool (pos 1)))
+    (more_commands (count_loop 2 x (constant (of elems.Sint (pos 1))) (constant (of elems.Sint (pos 3))) (constant (of elems.Sint (pos 1))) (more_commands (exit 3) no_commands))
+    (more_commands (assign 4 y (int (pos 1))) (more_commands (finish 5) no_commands))))
+    ≡ returned (values (pos 1) (pos 1)) 93
+exit_leaves_one_loop = refl
+
+-- WHILE TRUE DO END_WHILE stops on the line of WHILE
+endless_loop_stops : from (pos 0) (pos 0) (while_loop 7 (constant (of elems.Bool (pos 1))) no_commands) ≡ faulted (stop faults.StepLimit 7)
+endless_loop_stops = refl
+
+-- ---- forced variables
+
+-- a store to a forced variable is dropped
+forced_stays : command_meaning root (false ∷ true ∷ []) (count_up 1) (values (pos 0) (pos 8)) 100 ≡ done (values (pos 0) (pos 8)) 99
+forced_stays = refl
+
+-- ---- subscripts (2.4.1.2)
+
+abbrev number : ℕ → SignedInteger
+number n = record { position = record { number = 0; line = 1 }; is_negative = false; magnitude = n }
+
+-- VAR A : ARRAY [2..4] OF INT; END_VAR
+abbrev row : Composition
+row = composed (codes "PROGRAM") (member (codes "A") var_kinds.Internal (array (record { lower = number 2; upper = number 4 } ∷ []) [] (elementary (zero_of elems.Int))) none) []
+
+abbrev element : ℤ → Term
+element i = stored (field_part (codes "A") (element_part 6 (more_terms (int i) no_terms) whole))
+
+element_is_found : value_of row (of elems.Int (pos 7) ∷ of elems.Int (pos 8) ∷ of elems.Int (pos 9) ∷ []) (element (pos 3)) ≡ gives (of elems.Int (pos 8))
+element_is_found = refl
+
+-- A[5] and A[1] stop on the line of the `[`
+subscript_above_stops : value_of row (of elems.Int (pos 7) ∷ of elems.Int (pos 8) ∷ of elems.Int (pos 9) ∷ []) (element (pos 5)) ≡ stops (stop faults.IndexOutOfRange 6)
+subscript_above_stops = refl
+
+subscript_below_stops : value_of row (of elems.Int (pos 7) ∷ of elems.Int (pos 8) ∷ of elems.Int (pos 9) ∷ []) (element (pos 1)) ≡ stops (stop faults.IndexOutOfRange 6)
+subscript_below_stops = refl
+
+-- ---- the types of literals (2.2.1)
+
+-- in X > 1 the 1 is a SINT, as X is
+literal_takes_type : (joined operators.Gt 1 (place_typed x (Some elems.Sint)) (literal (constants.Integer (number 1)))).as_type elems.Bool
+    ≡ binary (binaries.Operator operators.Gt) 1 (stored x) (constant (of elems.Sint (pos 1)))
+literal_takes_type = refl
+
+-- in 2 > 1 both are LINT
+literals_alone : (joined operators.Gt 1 (literal (constants.Integer (number 2))) (literal (constants.Integer (number 1)))).as_type elems.Bool
+    ≡ binary (binaries.Operator operators.Gt) 1 (constant (of elems.Lint (pos 2))) (constant (of elems.Lint (pos 1)))
+literals_alone = refl

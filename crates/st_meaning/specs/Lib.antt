@@ -1,0 +1,9 @@
+pub mod Laws
+pub mod Meaning
+pub mod Offsets
+pub mod Operations
+pub mod Sound
+pub mod Statements
+pub mod Terms
+pub mod Typing
+pub mod Wholes

@@ -1,0 +1,134 @@
+-- What statements do (3.3.2): from the values of variables, the forced leaves and the steps left, to new values and the steps that
+-- are left then, or to what stops the run.
+use Rattle.std.specs.Prelude.{ℕ, zero, suc, Bool, true, false, ◌&&◌, ◌||◌, if◌then◌else◌, ℤ, pos, negsuc, ◌+ℤ◌, int_le, List, [], ◌∷◌}
+use Rattle.st_values.specs.declared.value.Value.{Value}
+use Rattle.st_types.specs.Compositions.{Composition}
+use Rattle.st_meaning.specs.Meaning.{Values, located, stored_at, value_of}
+use Rattle.st_meaning.specs.Operations.{Answer, gives, stops, Stop, stop}
+use Rattle.st_meaning.specs.Terms.{LabelRange, Command, nothing, assign, choice, cases, count_loop, while_loop, repeat_loop, exit, finish, Commands, no_commands, more_commands, Branches, no_branches, more_branches, Cases, no_cases, more_cases}
+use Rattle.st_meaning.specs.declared.fault.RunFaultKind.TheVariants as faults
+
+-- how statements end: they are done, EXIT leaves the loop around them, RETURN the body, or the run stops
+pub data Outcome : Type 0 where
+  done : Values → ℕ → Outcome
+  exited : Values → ℕ → Outcome
+  returned : Values → ℕ → Outcome
+  faulted : Stop → Outcome
+
+-- one after the other
+abbrev pub then_do : Outcome → (Values → ℕ → Outcome) → Outcome
+then_do (done values left) go = go values left
+then_do (exited values left) go = exited values left
+then_do (returned values left) go = returned values left
+then_do (faulted f) go = faulted f
+
+-- what follows a turn of a loop, which EXIT ends
+abbrev pub after_turn : Outcome → (Values → ℕ → Outcome) → Outcome
+after_turn (done values left) go = go values left
+after_turn (exited values left) go = done values left
+after_turn (returned values left) go = returned values left
+after_turn (faulted f) go = faulted f
+
+-- counts a step: one for each statement that begins, and one for each test of a loop
+abbrev pub after_step : ℕ → ℕ → (ℕ → Outcome) → Outcome
+after_step line zero go = faulted (stop faults.StepLimit line)
+after_step line (suc n) go = go n
+
+abbrev pub given : {A : Type 0} → Answer A → (A → Outcome) → Outcome
+given (gives x) go = go x
+given (stops f) go = faulted f
+
+-- FALSE is 0
+abbrev pub is_nonzero : ℤ → Bool
+is_nonzero (pos zero) = false
+is_nonzero _ = true
+
+abbrev pub is_true : Value → Bool
+is_true v = is_nonzero v.bits
+
+-- ---- loops: at most so many turns. Each takes a step, so that one more than there are steps is enough.
+
+abbrev pub while_turns : ℕ → ℕ → (Values → Answer Value) → (Values → ℕ → Outcome) → Values → ℕ → Outcome
+while_turns zero line test body values left = faulted (stop faults.StepLimit line)
+while_turns (suc k) line test body values left =
+    after_step line left (λ n. given (test values) (λ v. if is_true v then after_turn (body values n) (while_turns k line test body) else done values n))
+
+abbrev pub repeat_turns : ℕ → ℕ → (Values → Answer Value) → (Values → ℕ → Outcome) → Values → ℕ → Outcome
+repeat_turns zero line test body values left = faulted (stop faults.StepLimit line)
+repeat_turns (suc k) line test body values left =
+    after_turn (body values left) (λ others m. after_step line m (λ n. given (test others) (λ v. if is_true v then done others n else repeat_turns k line test body others n)))
+
+-- whether the counter hasn't passed the last value
+abbrev pub goes_on : ℤ → ℤ → ℤ → Bool
+goes_on counter last (pos n) = int_le counter last
+goes_on counter last (negsuc n) = int_le last counter
+
+-- FOR has a counter of its own, which grows without wrapping, and is stored where the test holds.
+abbrev pub count_turns : ℕ → ℕ → (Values → ℤ → Values) → ℤ → ℤ → (Values → ℕ → Outcome) → ℤ → Values → ℕ → Outcome
+count_turns zero line store last step body counter values left = faulted (stop faults.StepLimit line)
+count_turns (suc k) line store last step body counter values left =
+    after_step line left (λ n.
+    if goes_on counter last step then after_turn (body (store values counter) n) (count_turns k line store last step body (counter +ℤ step)) else done values n)
+
+-- ---- CASE
+
+abbrev pub is_labelled : LabelRange → ℤ → Bool
+is_labelled r i = int_le r.least i && int_le i r.greatest
+
+abbrev pub has_label : List LabelRange → ℤ → Bool
+has_label [] i = false
+has_label (r ∷ rs) i = is_labelled r i || has_label rs i
+
+-- ---- statements
+
+-- this number as a value of the type that the other one has
+abbrev pub alike : Value → ℤ → Value
+alike v i = record { elem = v.elem; bits = i }
+
+abbrev mutual
+  pub command_meaning : Composition → List Bool → Command → Values → ℕ → Outcome
+  command_meaning root forced (nothing line) values left = after_step line left (λ n. done values n)
+  command_meaning root forced (assign line ps t) values left =
+      after_step line left (λ n. given (value_of root values t) (λ v. given (located root values root ps) (λ path. done (stored_at root forced values path v) n)))
+  command_meaning root forced (choice line bs others) values left = after_step line left (branches_meaning root forced bs (commands_meaning root forced others) values)
+  command_meaning root forced (cases line t cs others) values left =
+      after_step line left (λ n. given (value_of root values t) (λ v. cases_meaning root forced cs (commands_meaning root forced others) v.bits values n))
+  -- the first value, the last one and the step are evaluated in this order, and the first is stored before the first test
+  command_meaning root forced (count_loop line ps first last step cs) values left =
+      after_step line left (λ n. given (value_of root values first) (λ a. given (value_of root values last) (λ b. given (value_of root values step) (λ c.
+      given (located root values root ps) (λ path.
+      count_turns (suc n) line (λ others i. stored_at root forced others path (alike a i)) b.bits c.bits (commands_meaning root forced cs) a.bits
+      (stored_at root forced values path a) n)))))
+  command_meaning root forced (while_loop line t cs) values left =
+      after_step line left (λ n. while_turns (suc n) line (λ others. value_of root others t) (commands_meaning root forced cs) values n)
+  command_meaning root forced (repeat_loop line cs t) values left =
+      after_step line left (λ n. repeat_turns (suc n) line (λ others. value_of root others t) (commands_meaning root forced cs) values n)
+  command_meaning root forced (exit line) values left = after_step line left (λ n. exited values n)
+  command_meaning root forced (finish line) values left = after_step line left (λ n. returned values n)
+
+  pub commands_meaning : Composition → List Bool → Commands → Values → ℕ → Outcome
+  commands_meaning root forced no_commands values left = done values left
+  commands_meaning root forced (more_commands c cs) values left = then_do (command_meaning root forced c values left) (commands_meaning root forced cs)
+
+  -- the first branch whose condition is TRUE
+  pub branches_meaning : Composition → List Bool → Branches → (Values → ℕ → Outcome) → Values → ℕ → Outcome
+  branches_meaning root forced no_branches others values left = others values left
+  branches_meaning root forced (more_branches t cs bs) others values left =
+      given (value_of root values t) (λ v. if is_true v then commands_meaning root forced cs values left else branches_meaning root forced bs others values left)
+
+  -- the first case with a label that the number is among
+  pub cases_meaning : Composition → List Bool → Cases → (Values → ℕ → Outcome) → ℤ → Values → ℕ → Outcome
+  cases_meaning root forced no_cases others i values left = others values left
+  cases_meaning root forced (more_cases labels cs more) others i values left =
+      if has_label labels i then commands_meaning root forced cs values left else cases_meaning root forced more others i values left
+
+-- RETURN ends the body, and so would an EXIT that stands in no loop, which no program that keeps the rules has.
+abbrev pub ended : Outcome → Outcome
+ended (done values left) = done values left
+ended (exited values left) = done values left
+ended (returned values left) = done values left
+ended (faulted f) = faulted f
+
+-- a body
+abbrev pub body_meaning : Composition → List Bool → Commands → Values → ℕ → Outcome
+body_meaning root forced cs values left = ended (commands_meaning root forced cs values left)

@@ -1,0 +1,64 @@
+-- Programs with the type of each literal: what typing makes of a tree, and what meaning and code are about.
+use Rattle.std.specs.Prelude.{ℕ, ◌+◌, ℤ, List}
+use Rattle.st_values.specs.declared.value.Value.{Value}
+use Rattle.st_meaning.specs.declared.operation.Binary.{Binary}
+use Rattle.st_meaning.specs.declared.operation.Unary.{Unary}
+
+mutual
+  -- an expression (3.3.1); the number beside an operator is its line
+  pub data Term : Type 0 where
+    -- a literal, or a named constant
+    constant : Value → Term
+    -- the value of a place
+    stored : Parts → Term
+    unary : Unary → Term → Term
+    binary : Binary → ℕ → Term → Term → Term
+    -- SEL: the first of the last two where the one before is FALSE, else the second
+    selection : Term → Term → Term → Term
+
+  pub data Terms : Type 0 where
+    no_terms : Terms
+    more_terms : Term → Terms → Terms
+
+  -- a place, from the outside in (2.4.1): what each name and each list of subscripts selects, with the line of its `[`
+  pub data Parts : Type 0 where
+    whole : Parts
+    field_part : List ℕ → Parts → Parts
+    element_part : ℕ → Terms → Parts → Parts
+
+abbrev pub how_many : Terms → ℕ
+how_many no_terms = 0
+how_many (more_terms t ts) = 1 + how_many ts
+
+-- the least and the greatest number of a label (3.3.2.3)
+pub record LabelRange : Type 0 where
+  pub least : ℤ
+  pub greatest : ℤ
+
+mutual
+  -- a statement, and its line (3.3.2)
+  pub data Command : Type 0 where
+    nothing : ℕ → Command
+    assign : ℕ → Parts → Term → Command
+    choice : ℕ → Branches → Commands → Command
+    cases : ℕ → Term → Cases → Commands → Command
+    -- FOR: the variable, its first and its last value, and how far apart two are
+    count_loop : ℕ → Parts → Term → Term → Term → Commands → Command
+    while_loop : ℕ → Term → Commands → Command
+    repeat_loop : ℕ → Commands → Term → Command
+    exit : ℕ → Command
+    finish : ℕ → Command
+
+  pub data Commands : Type 0 where
+    no_commands : Commands
+    more_commands : Command → Commands → Commands
+
+  -- of IF and each ELSIF: the condition, and what runs where it is the first that is TRUE
+  pub data Branches : Type 0 where
+    no_branches : Branches
+    more_branches : Term → Commands → Branches → Branches
+
+  -- of CASE: the labels, and what runs where they are the first that the selector's number is among
+  pub data Cases : Type 0 where
+    no_cases : Cases
+    more_cases : List LabelRange → Commands → Cases → Cases

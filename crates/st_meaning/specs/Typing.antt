@@ -1,0 +1,255 @@
+-- Which type each literal has, and what each name stands for (2.2, 2.4, 3.3.1): from trees to programs without names. An expression
+-- is a term where a type is due of it. In a program that keeps the rules it fits that type; elsewhere it is 0.
+use Rattle.std.specs.Prelude.{ℕ, if◌then◌else◌, pos, List, [], ◌∷◌, map, Option, Some, None}
+use Rattle.std.specs.List.{flat_map}
+use Rattle.st_values.specs.Types.{is_same}
+use Rattle.st_values.specs.declared.elem.Elem.{Elem}
+use Rattle.st_values.specs.declared.elem.Elem.TheVariants as elems
+use Rattle.st_values.specs.declared.value.Value.{Value}
+use Rattle.st_tree.specs.declared.operator.BinOp.{BinOp}
+use Rattle.st_tree.specs.declared.tree.constant.Constant.{Constant}
+use Rattle.st_tree.specs.declared.tree.expression.Argument.TheOpen.{Argument-F, Expression-F, Part-F}
+use Rattle.st_tree.specs.declared.tree.expression.Expression.{Expression, fold-Expression}
+use Rattle.st_tree.specs.declared.tree.expression.Operation.{Operation, fold-Operation}
+use Rattle.st_tree.specs.declared.tree.expression.Part.{Part, fold-Part}
+use Rattle.st_tree.specs.declared.tree.expression.Variable.{Variable, fold-Variable}
+use Rattle.st_tree.specs.declared.tree.expression.Argument.{Argument, fold-Argument}
+use Rattle.st_tree.specs.declared.tree.expression.Call.{Call, fold-Call}
+use Rattle.st_tree.specs.declared.tree.statement.CaseElement.{CaseElement, fold-CaseElement}
+use Rattle.st_tree.specs.declared.tree.statement.ConditionalPart.{ConditionalPart, fold-ConditionalPart}
+use Rattle.st_tree.specs.declared.tree.statement.Label.{Label}
+use Rattle.st_tree.specs.declared.tree.statement.Label.TheVariants as label_kinds
+use Rattle.st_tree.specs.declared.tree.statement.Statement.{Statement, fold-Statement}
+use Rattle.st_tree.specs.declared.tree.statement.Statement.TheOpen.{Statement-F}
+use Rattle.st_types.specs.Initials.{value_written, zero_of}
+use Rattle.st_types.specs.OwnTypes.{first_own, is_comparison, literal_own, or_lint}
+use Rattle.st_types.specs.Standard.{standard_of}
+use Rattle.st_types.specs.declared.standard.Standard.{Standard}
+use Rattle.st_types.specs.declared.standard.Standard.TheVariants as standards
+use Rattle.st_types.specs.declared.standard.StandardFunction.{StandardFunction}
+use Rattle.st_types.specs.declared.standard.StandardFunction.TheVariants as functions
+use Rattle.st_meaning.specs.Operations.{takes_one, takes_two}
+use Rattle.st_meaning.specs.Terms.{Term, constant, stored, unary, binary, selection, Terms, no_terms, more_terms, Parts, whole, field_part, element_part, LabelRange, Command, nothing, assign, choice, cases, count_loop, while_loop, repeat_loop, exit, finish, Commands, no_commands, more_commands, Branches, no_branches, more_branches, Cases, no_cases, more_cases}
+use Rattle.st_meaning.specs.Wholes.{Whole, type_of}
+use Rattle.st_meaning.specs.declared.operation.Binary.{Binary}
+use Rattle.st_meaning.specs.declared.operation.Binary.TheVariants as binaries
+use Rattle.st_meaning.specs.declared.operation.Unary.{Unary}
+use Rattle.st_meaning.specs.declared.operation.Unary.TheVariants as unaries
+
+-- an expression: its own type, where it has one, and the term that it is where a type is due
+pub record Typed : Type 0 where
+  pub own : Option Elem
+  pub as_type : Elem → Term
+
+-- 0 of a type
+abbrev pub nil : Elem → Term
+nil t = constant (zero_of t)
+
+-- a term of this type, where that type is due
+abbrev pub fitted : Elem → Term → Elem → Term
+fitted e term t = if is_same e t then term else nil t
+
+-- where no type is due an expression has its own one, else LINT
+abbrev pub alone : Typed → Term
+alone x = x.as_type (or_lint x.own)
+
+-- what isn't an expression of one value
+abbrev pub untyped : Typed
+untyped = record { own = None; as_type = nil }
+
+-- ---- literals, constants and variables
+
+abbrev pub literal : Constant → Typed
+literal c = record { own = literal_own c; as_type = λ t. constant (value_written t c) }
+
+abbrev pub named_value : Value → Typed
+named_value v = record { own = Some v.elem; as_type = fitted v.elem (constant v) }
+
+abbrev pub place_typed : Parts → Option Elem → Typed
+place_typed ps None = untyped
+place_typed ps (Some e) = record { own = Some e; as_type = fitted e (stored ps) }
+
+-- a constant, or else a variable
+abbrev pub constant_or : Typed → Option Value → Typed
+constant_or x None = x
+constant_or x (Some v) = named_value v
+
+abbrev pub variable_typed : Whole → Parts → Typed
+variable_typed w (field_part name whole) = constant_or (place_typed (field_part name whole) (type_of w.variables (field_part name whole))) (w.constants name)
+variable_typed w ps = place_typed ps (type_of w.variables ps)
+
+-- ---- operators
+
+-- an operator before an operand, of which the type is due that is due of the whole
+abbrev pub prefixed : Unary → Typed → Typed
+prefixed o x = record { own = x.own; as_type = λ t. if takes_one o t then unary o (x.as_type t) else nil t }
+
+-- the two sides of a comparison are taken at the first own type of the two
+abbrev pub compared : BinOp → ℕ → Typed → Typed → Typed
+compared o line a b =
+    let e = or_lint (first_own (a.own ∷ b.own ∷ [])) in
+    record { own = Some elems.Bool; as_type = fitted elems.Bool (binary (binaries.Operator o) line (a.as_type e) (b.as_type e)) }
+
+-- two operands of which the type is due that is due of the whole
+abbrev pub combined : Binary → ℕ → Typed → Typed → Typed
+combined o line a b = record {
+  own = first_own (a.own ∷ b.own ∷ []);
+  as_type = λ t. if takes_two o t then binary o line (a.as_type t) (b.as_type t) else nil t;
+}
+
+abbrev pub joined : BinOp → ℕ → Typed → Typed → Typed
+joined o line a b = if is_comparison o then compared o line a b else combined (binaries.Operator o) line a b
+
+-- one operator after the other, from left to right
+abbrev pub chained : Typed → List (Typed → Typed) → Typed
+chained x [] = x
+chained x (f ∷ fs) = chained (f x) fs
+
+-- ---- standard functions and conversions (2.5.1.5)
+
+-- MIN and MAX of two or more
+abbrev pub combined_all : Binary → Typed → List Typed → Typed
+combined_all o x [] = x
+combined_all o x (y ∷ ys) = combined_all o (combined o 0 x y) ys
+
+-- a shift or a rotation, whose count has its own type
+abbrev pub shifted : Binary → Typed → Typed → Typed
+shifted o x n = record { own = x.own; as_type = λ t. if takes_two o t then binary o 0 (x.as_type t) (alone n) else nil t }
+
+-- SEL
+abbrev pub selected : Typed → Typed → Typed → Typed
+selected g x y = record { own = first_own (x.own ∷ y.own ∷ []); as_type = λ t. selection (g.as_type elems.Bool) (x.as_type t) (y.as_type t) }
+
+abbrev pub function_typed : StandardFunction → List Typed → Typed
+function_typed functions.Abs (x ∷ []) = prefixed unaries.Absolute x
+function_typed functions.Min (x ∷ ys) = combined_all binaries.Least x ys
+function_typed functions.Max (x ∷ ys) = combined_all binaries.Greatest x ys
+-- LIMIT(MN, IN, MX) is MIN(MAX(MN, IN), MX)
+function_typed functions.Limit (low ∷ x ∷ high ∷ []) = combined binaries.Least 0 (combined binaries.Greatest 0 low x) high
+function_typed functions.Sel (g ∷ x ∷ y ∷ []) = selected g x y
+function_typed functions.Shl (x ∷ n ∷ []) = shifted binaries.ShiftLeft x n
+function_typed functions.Shr (x ∷ n ∷ []) = shifted binaries.ShiftRight x n
+function_typed functions.Rol (x ∷ n ∷ []) = shifted binaries.RotateLeft x n
+function_typed functions.Ror (x ∷ n ∷ []) = shifted binaries.RotateRight x n
+function_typed _ _ = untyped
+
+abbrev pub converted : Elem → Elem → List Typed → Typed
+converted from to (x ∷ []) = record { own = Some to; as_type = fitted to (unary (unaries.Convert to) (x.as_type from)) }
+converted from to _ = untyped
+
+abbrev pub call_typed : Option Standard → List Typed → Typed
+call_typed (Some (standards.Function f)) xs = function_typed f xs
+call_typed (Some (standards.Conversion from to)) xs = converted from to xs
+call_typed _ xs = untyped
+
+-- ---- expressions: of an operation the fold gives what it makes of its left operand, of a part what it puts before the further
+-- parts, of an argument its value where it is written without a name
+
+abbrev pub terms_of : List Typed → Terms
+terms_of [] = no_terms
+terms_of (x ∷ xs) = more_terms (alone x) (terms_of xs)
+
+abbrev pub through : List (Parts → Parts) → Parts
+through [] = whole
+through (f ∷ fs) = f (through fs)
+
+abbrev pub typed_expression : Whole → Expression-F (List Typed) Typed (Parts → Parts) Typed (Typed → Typed) Parts → Typed
+typed_expression w (Expression-F.Constant c) = literal c
+typed_expression w (Expression-F.Variable ps) = variable_typed w ps
+typed_expression w (Expression-F.Call x) = x
+typed_expression w (Expression-F.Parenthesized p x) = x
+typed_expression w (Expression-F.Negate p x) = prefixed unaries.Negate x
+typed_expression w (Expression-F.Not p x) = prefixed unaries.Complement x
+typed_expression w (Expression-F.Chain p x fs) = chained x fs
+
+abbrev pub typed_argument : Argument-F (List Typed) Typed (Parts → Parts) Typed (Typed → Typed) Parts → List Typed
+typed_argument (Argument-F.Positional x) = x ∷ []
+typed_argument (Argument-F.Input n x) = []
+typed_argument (Argument-F.Output n ps) = []
+
+abbrev pub typed_part : Part-F (List Typed) Typed (Parts → Parts) Typed (Typed → Typed) Parts → Parts → Parts
+typed_part (Part-F.Field n) ps = field_part n.spelling ps
+typed_part (Part-F.Subscripts p xs) ps = element_part p.line (terms_of xs) ps
+
+abbrev pub typed : Whole → Expression → Typed
+typed w x = fold-Expression (List Typed) Typed (Parts → Parts) Typed (Typed → Typed) Parts typed_argument (typed_expression w) typed_part (λ c. call_typed (standard_of c.name.spelling) (flat_map (λ a. a) c.arguments)) (λ o x. joined o.operator o.position.line x o.operand) (λ v. field_part v.name.spelling (through v.parts)) x
+
+abbrev pub argument_typed : Whole → Argument → List Typed
+argument_typed w x = fold-Argument (List Typed) Typed (Parts → Parts) Typed (Typed → Typed) Parts typed_argument (typed_expression w) typed_part (λ c. call_typed (standard_of c.name.spelling) (flat_map (λ a. a) c.arguments)) (λ o x. joined o.operator o.position.line x o.operand) (λ v. field_part v.name.spelling (through v.parts)) x
+
+abbrev pub operation_typed : Whole → Operation → Typed → Typed
+operation_typed w x = fold-Operation (List Typed) Typed (Parts → Parts) Typed (Typed → Typed) Parts typed_argument (typed_expression w) typed_part (λ c. call_typed (standard_of c.name.spelling) (flat_map (λ a. a) c.arguments)) (λ o x. joined o.operator o.position.line x o.operand) (λ v. field_part v.name.spelling (through v.parts)) x
+
+abbrev pub part_typed : Whole → Part → Parts → Parts
+part_typed w x = fold-Part (List Typed) Typed (Parts → Parts) Typed (Typed → Typed) Parts typed_argument (typed_expression w) typed_part (λ c. call_typed (standard_of c.name.spelling) (flat_map (λ a. a) c.arguments)) (λ o x. joined o.operator o.position.line x o.operand) (λ v. field_part v.name.spelling (through v.parts)) x
+
+abbrev pub call_typed_in : Whole → Call → Typed
+call_typed_in w x = fold-Call (List Typed) Typed (Parts → Parts) Typed (Typed → Typed) Parts typed_argument (typed_expression w) typed_part (λ c. call_typed (standard_of c.name.spelling) (flat_map (λ a. a) c.arguments)) (λ o x. joined o.operator o.position.line x o.operand) (λ v. field_part v.name.spelling (through v.parts)) x
+
+-- the place of a variable
+abbrev pub place_of : Whole → Variable → Parts
+place_of w x = fold-Variable (List Typed) Typed (Parts → Parts) Typed (Typed → Typed) Parts typed_argument (typed_expression w) typed_part (λ c. call_typed (standard_of c.name.spelling) (flat_map (λ a. a) c.arguments)) (λ o x. joined o.operator o.position.line x o.operand) (λ v. field_part v.name.spelling (through v.parts)) x
+
+-- ---- statements: of a branch the fold gives what it puts before the further ones, of a case too, once the selector's type is known
+
+abbrev pub condition : Whole → Expression → Term
+condition w x = (typed w x).as_type elems.Bool
+
+abbrev pub commands_of : List Command → Commands
+commands_of [] = no_commands
+commands_of (c ∷ cs) = more_commands c (commands_of cs)
+
+abbrev pub branches_of : List (Branches → Branches) → Branches
+branches_of [] = no_branches
+branches_of (f ∷ fs) = f (branches_of fs)
+
+abbrev pub cases_of : Elem → List (Elem → Cases → Cases) → Cases
+cases_of e [] = no_cases
+cases_of e (f ∷ fs) = f e (cases_of e fs)
+
+-- the variable takes the value, where it has a type
+abbrev pub assignment : ℕ → Parts → Option Elem → Typed → Command
+assignment line ps None x = nothing line
+assignment line ps (Some e) x = assign line ps (x.as_type e)
+
+-- a label has the selector's type
+abbrev pub label_range : Elem → Label → LabelRange
+label_range e (label_kinds.Value c) = record { least = (value_written e c).bits; greatest = (value_written e c).bits }
+label_range e (label_kinds.Range a b) = record { least = (value_written e a).bits; greatest = (value_written e b).bits }
+
+abbrev pub case_command : ℕ → Typed → List (Elem → Cases → Cases) → List Command → Command
+case_command line x fs others = cases line (alone x) (cases_of (or_lint x.own) fs) (commands_of others)
+
+-- without BY the values are 1 apart
+abbrev pub step_typed : Whole → Option Expression → Elem → Term
+step_typed w None e = constant (record { elem = e; bits = pos 1 })
+step_typed w (Some x) e = (typed w x).as_type e
+
+abbrev pub for_command : Whole → ℕ → Parts → Option Elem → Expression → Expression → Option Expression → Commands → Command
+for_command w line ps None first last step cs = nothing line
+for_command w line ps (Some e) first last step cs = count_loop line ps ((typed w first).as_type e) ((typed w last).as_type e) (step_typed w step e) cs
+
+abbrev pub typed_statement : Whole → Statement-F Command (Elem → Cases → Cases) Command (Branches → Branches) Command Command Command Command → Command
+typed_statement w (Statement-F.Empty p) = nothing p.line
+typed_statement w (Statement-F.Assignment v x) = assignment v.name.position.line (place_of w v) (type_of w.variables (place_of w v)) (typed w x)
+typed_statement w (Statement-F.Call c) = nothing c.name.position.line
+typed_statement w (Statement-F.Return p) = finish p.line
+typed_statement w (Statement-F.Exit p) = exit p.line
+typed_statement w (Statement-F.If c) = c
+typed_statement w (Statement-F.Case c) = c
+typed_statement w (Statement-F.For c) = c
+typed_statement w (Statement-F.While c) = c
+typed_statement w (Statement-F.Repeat c) = c
+
+abbrev pub command_of : Whole → Statement → Command
+command_of w x = fold-Statement Command (Elem → Cases → Cases) Command (Branches → Branches) Command Command Command Command (typed_statement w) (λ e t. more_cases (map (label_range t) e.labels) (commands_of e.statements)) (λ s. case_command s.position.line (typed w s.selector) s.cases s.otherwise) (λ b. more_branches (condition w b.condition) (commands_of b.statements)) (λ s. for_command w s.position.line (field_part s.variable.spelling whole) (type_of w.variables (field_part s.variable.spelling whole)) s.first s.last s.step (commands_of s.statements)) (λ s. choice s.position.line (branches_of s.parts) (commands_of s.otherwise)) (λ s. repeat_loop s.position.line (commands_of s.statements) (condition w s.condition)) (λ s. while_loop s.position.line (condition w s.condition) (commands_of s.statements)) x
+
+abbrev pub branch_of : Whole → ConditionalPart → Branches → Branches
+branch_of w x = fold-ConditionalPart Command (Elem → Cases → Cases) Command (Branches → Branches) Command Command Command Command (typed_statement w) (λ e t. more_cases (map (label_range t) e.labels) (commands_of e.statements)) (λ s. case_command s.position.line (typed w s.selector) s.cases s.otherwise) (λ b. more_branches (condition w b.condition) (commands_of b.statements)) (λ s. for_command w s.position.line (field_part s.variable.spelling whole) (type_of w.variables (field_part s.variable.spelling whole)) s.first s.last s.step (commands_of s.statements)) (λ s. choice s.position.line (branches_of s.parts) (commands_of s.otherwise)) (λ s. repeat_loop s.position.line (commands_of s.statements) (condition w s.condition)) (λ s. while_loop s.position.line (condition w s.condition) (commands_of s.statements)) x
+
+abbrev pub case_of : Whole → CaseElement → Elem → Cases → Cases
+case_of w x = fold-CaseElement Command (Elem → Cases → Cases) Command (Branches → Branches) Command Command Command Command (typed_statement w) (λ e t. more_cases (map (label_range t) e.labels) (commands_of e.statements)) (λ s. case_command s.position.line (typed w s.selector) s.cases s.otherwise) (λ b. more_branches (condition w b.condition) (commands_of b.statements)) (λ s. for_command w s.position.line (field_part s.variable.spelling whole) (type_of w.variables (field_part s.variable.spelling whole)) s.first s.last s.step (commands_of s.statements)) (λ s. choice s.position.line (branches_of s.parts) (commands_of s.otherwise)) (λ s. repeat_loop s.position.line (commands_of s.statements) (condition w s.condition)) (λ s. while_loop s.position.line (condition w s.condition) (commands_of s.statements)) x
+
+-- the commands that a body of statements is
+abbrev pub body_of : Whole → List Statement → Commands
+body_of w statements = commands_of (map (command_of w) statements)

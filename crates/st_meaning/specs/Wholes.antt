@@ -1,0 +1,35 @@
+-- What the names in the statements of a unit stand for (2.4).
+use Rattle.std.specs.Prelude.{ℕ, suc, ◌&&◌, List, [], ◌∷◌, length, Option, Some, None, if◌then◌else◌}
+use Rattle.st_values.specs.Words.{is_word}
+use Rattle.st_values.specs.declared.elem.Elem.{Elem}
+use Rattle.st_values.specs.declared.value.Value.{Value}
+use Rattle.st_types.specs.Compositions.{Composition, elementary, composition_of, composition_within, declared_composition, is_constant}
+use Rattle.st_types.specs.Names.{Declared, Declares, Named, variables_in}
+use Rattle.st_leaves.specs.Selected.{element_of, selected_by, takes_subscripts, value_type}
+use Rattle.st_meaning.specs.Terms.{Parts, whole, field_part, element_part, how_many}
+
+-- the variables of a unit, as what they consist of, and the values of its constants
+pub record Whole : Type 0 where
+  pub variables : Composition
+  pub constants : List ℕ → Option Value
+
+abbrev pub constant_value : Composition → Option Value
+constant_value (elementary v) = Some v
+constant_value _ = None
+
+-- of the first constant with this name, where `inside` gives what each declared name consists of
+abbrev pub constant_among : (Declared → Composition) → List Declared → List ℕ → Option Value
+constant_among inside [] name = None
+constant_among inside (v ∷ vs) name = if is_constant v.kind && is_word v.name.spelling name then constant_value (inside v) else constant_among inside vs name
+
+unfoldable pub whole_of : List Named → Declares → Whole
+whole_of units unit = record {
+  variables = composition_of units unit;
+  constants = constant_among (declared_composition units (composition_within units (suc (length units)))) (variables_in unit);
+}
+
+-- the elementary type of a place in something, where it has one
+abbrev pub type_of : Composition → Parts → Option Elem
+type_of c whole = value_type c
+type_of c (field_part name ps) = type_of (selected_by c name) ps
+type_of c (element_part line ts ps) = if takes_subscripts c (how_many ts) then type_of (element_of c) ps else None

@@ -1,0 +1,23 @@
+//! Laws of what programs mean.
+ghost use Rattle.st_meaning.specs.Laws.{CommandsKeepTheFrame, PlacesHaveLeaves, TermsGiveValues, TypingGivesSoundCommands};
+
+/// The commands that a body of statements is are sound, whatever stands in it.
+pub fn typing_gives_sound_commands()
+    ensures { TypingGivesSoundCommands }
+{}
+
+/// A place that is found is that of a leaf, and the value there is one of the place's type.
+pub fn places_have_leaves()
+    ensures { PlacesHaveLeaves }
+{}
+
+/// The value of an expression is one of its type.
+pub fn terms_give_values()
+    ensures { TermsGiveValues }
+{}
+
+/// What statements leave is one value of the right type for each leaf, where each forced leaf has the value that it had, and no
+/// more steps than there were.
+pub fn commands_keep_the_frame()
+    ensures { CommandsKeepTheFrame }
+{}
