@@ -1,0 +1,5 @@
+pub mod Coded
+pub mod Frames
+pub mod OfLeaves
+pub mod OneLeaf
+pub mod Runs

@@ -1,0 +1,12 @@
+//! Images: programs with their layouts and their code, and how they run.
+#![tactic(auto)]
+
+mod image;
+mod laws;
+mod making;
+mod plain;
+mod running;
+
+pub use image::{Image, compile};
+pub use laws::runs_keep_the_frame;
+pub use running::run;

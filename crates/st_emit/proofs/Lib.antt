@@ -1,0 +1,5 @@
+pub mod Commands
+pub mod Emitting
+pub mod Owns
+pub mod Trees
+pub mod Ways

@@ -1,0 +1,103 @@
+use Rattle.std.proofs.Common.{refl, ◌≡◌, ◌∙◌, ◌-◌, ◌+◌, ◌<◌, ◌++◌, take, drop, length, reverse, sym, ap, subst, arith, false}
+use Rattle.std.specs.Prelude.{Some, None}
+use Rattle.std.proofs.lemmas.List.{length-map}
+use Rattle.st_types.specs.Standard.{standard_of}
+use Rattle.st_types.specs.OwnTypes.{or_lint}
+use Rattle.st_leaves.specs.Selected.{selected_by}
+use Rattle.st_meaning.specs.Typing.{place_of, typed}
+use Rattle.st_meaning.specs.Wholes.{type_of}
+use Rattle.st_code.specs.Code.{parts_code, terms_code, types_in}
+use Rattle.st_emit.specs.Emits.{own_types, terms_in}
+use Rattle.st_emit.specs.Places.{behind_parts, dimensions_code, is_indexed}
+use Rattle.st_places.specs.Parts.{part_in}
+use Rattle.st_emit.specs.Trees.{chain_of, operand_type, parts_in, whole_of}
+use Rattle.st_emit.proofs.Emitting.{call_emits, call_is_nil, chain_ends, chain_step, chain_stops, element_emits, field_code, subscripted, subscripts_put, takes_length}
+use Rattle.st_emit.proofs.expression.+emit.Goals as goal
+
+pub emit_call-returns-then-not-takes_number : goal.emit_call-returns-then-not-takes_number
+emit_call-returns-then-not-takes_number t c =
+    call_is_nil (whole_of c.args.scope.now) c.args.due c.args.call.now c.as_slice-arguments.result.now c.standard_of.result c.in-Some.standard c.positional_count-number.result _ _ (c.standard_of.ensures ∙ ap standard_of c.as_slice.ensures) c.as_slice-arguments.ensures c.in-Some.is
+    c.positional_count-number.ensures (sym c.takes_number.ensures ∙ c.if-not-takes_number.true) c.in_ok-emit_nil-2.ensures
+
+pub emit_call-returns : goal.emit_call-returns
+emit_call-returns t c =
+    call_emits (whole_of c.args.scope.now) c.args.due c.args.call.now c.as_slice-arguments.result.now c.standard_of.result c.in-Some.standard c.positional_count-number.result _ _ (c.standard_of.ensures ∙ ap standard_of c.as_slice.ensures) c.as_slice-arguments.ensures c.in-Some.is
+    c.positional_count-number.ensures (sym c.takes_number.ensures ∙ c.if-not-takes_number.false) (sym c.gives_type.ensures ∙ c.if-not-gives_type.false) c.in_ok-emit_arguments.ensures.code c.in_ok-emit_arguments.ensures.types
+
+pub emit_expression-returns-in_default : goal.emit_expression-returns-in_default
+emit_expression-returns-in_default t c =
+    let w = whole_of c.args.scope.now in
+    let back : c.loop-i.i - 1 + 1 ≡ c.loop-i.i = omega (arith, c.loop-i-test.true) in
+    let o = c.index-operations-i.result in
+    let none : operand_type o.operator (chain_of w c.in-Chain.first (take (c.loop-i.i - 1) c.as_slice-operations.result.now)).own (typed w o.operand).own c.loop-i.due ≡ None
+    = ap (λ y. operand_type o.operator (chain_of w y (take (c.loop-i.i - 1) c.as_slice-operations.result.now)).own (typed w o.operand).own c.loop-i.due) (sym c.get-in-loop-i.ensures) ∙ sym c.operand_type.ensures ∙ c.in_default.is in
+    chain_stops w c.args.due c.loop-i.due c.args.expression.now c.in-Chain.field-0 c.in-Chain.first c.in-Chain.operations c.as_slice-operations.result.now c.loop-i.i (c.loop-i.i - 1) o c.loop-i.code _ _ c.as_slice-operations.ensures c.in-Chain.is back
+    c.loop-i.invariant.0 c.index-operations-i.is none c.in_ok-emit_nil-in-Chain.ensures c.loop-i.invariant.1
+
+pub emit_expression-loop-i-preserved : goal.emit_expression-loop-i-preserved
+emit_expression-loop-i-preserved t c =
+    let w = whole_of c.args.scope.now in
+    let back : c.loop-i.i - 1 + 1 ≡ c.loop-i.i = omega (arith, c.loop-i-test.true) in
+    let o = c.index-operations-i.result in
+    let some : operand_type o.operator (chain_of w c.in-Chain.first (take (c.loop-i.i - 1) c.as_slice-operations.result.now)).own (typed w o.operand).own c.loop-i.due ≡ Some c.in-Some.elem
+    = ap (λ y. operand_type o.operator (chain_of w y (take (c.loop-i.i - 1) c.as_slice-operations.result.now)).own (typed w o.operand).own c.loop-i.due) (sym c.get-in-loop-i.ensures) ∙ sym c.operand_type.ensures ∙ c.in-Some.is in (
+      omega (arith, c.loop-i.invariant.0),
+      chain_step w c.args.due c.loop-i.due c.in-Some.elem c.in-Chain.first c.as_slice-operations.result.now c.loop-i.i (c.loop-i.i - 1) o c.loop-i.code c.push.new.self _ _ _ back c.loop-i.invariant.0 c.index-operations-i.is some
+          c.in_ok-push-in-Chain.ensures.ok c.in_ok-emit_expression-in-Chain.ensures c.loop-i.invariant.1,
+    )
+
+pub emit_expression-returns-in_ok-emit_expression-in-Chain-2 : goal.emit_expression-returns-in_ok-emit_expression-in-Chain-2
+emit_expression-returns-in_ok-emit_expression-in-Chain-2 t c =
+    chain_ends (whole_of c.args.scope.now) c.args.due c.loop-i.due c.args.expression.now c.in-Chain.field-0 c.in-Chain.first c.get-in-Chain.result.now c.in-Chain.operations c.as_slice-operations.result.now c.loop-i.i c.loop-i.code _ _ c.as_slice-operations.ensures c.in-Chain.is
+    c.get-in-Chain.ensures c.loop-i-test.false c.in_ok-emit_expression-in-Chain-2.ensures c.loop-i.invariant.1
+
+pub emit_parts-loop-i-preserved-in-Field : goal.emit_parts-loop-i-preserved-in-Field
+emit_parts-loop-i-preserved-in-Field t c =
+    let w = whole_of c.args.scope.now in
+    let d = selected_by w.variables c.args.variable.now.name.spelling in
+    let ps = c.as_slice-parts.result.now in
+    let j = c.loop-i.i - 1 in
+    let back : c.loop-i.i ≡ j + 1 = omega (arith, c.loop-i-test.true) in
+    let lt : j < length ps = omega (arith, c.loop-i.invariant.0, c.loop-i-test.true) in
+    let behind = subst (λ k. c.loop-i.code ≡ c.args.code.now ++ reverse (parts_code w.variables (is_indexed w false (take k ps)) (behind_parts w d (take k ps)) (parts_in w (drop k ps)))) back c.loop-i.invariant.1 in (
+      omega (arith, c.loop-i.invariant.0),
+      behind ∙ ap (λ l. c.args.code.now ++ reverse l) (field_code w d ps j c.index-parts-i.result c.in-Field.field-0 lt c.index-parts-i.is c.in-Field.is),
+    )
+
+pub emit_parts-emit_dimensions-requires : goal.emit_parts-emit_dimensions-requires
+emit_parts-emit_dimensions-requires t c =
+    let w = whole_of c.args.scope.now in
+    let ps = c.as_slice-parts.result.now in
+    let j = c.loop-i.i - 1 in
+    let lt : j < length ps = omega (arith, c.loop-i.invariant.0, c.loop-i-test.true) in
+    let len : j < length c.args.variable.now.parts = omega (arith, ap length c.as_slice-parts.ensures) in
+    let stop = c.in_ok-all.ensures.each j c.index-stop.result.now len c.index-stop.ensures in
+    let d = part_in c.args.scope.now.0 c.index-stop.result.now.node in
+    let same = ap (λ l. type_of d (parts_in w (drop j l))) c.as_slice-parts.ensures ∙ stop.same in
+    let both = subscripted w d (type_of w.variables (place_of w c.args.variable.now)) ps j c.index-parts-i.result c.in-Subscripts.position c.in-Subscripts.subscripts lt c.index-parts-i.is c.in-Subscripts.is same c.requires stop.small.bounds in
+    c.in-Some.ensures.number ∙ sym (takes_length d (length c.in-Subscripts.subscripts) both.0) ∙ ap length (sym c.as_slice.ensures)
+
+pub emit_parts-loop-i-preserved : goal.emit_parts-loop-i-preserved
+emit_parts-loop-i-preserved t c =
+    let w = whole_of c.args.scope.now in
+    let e = selected_by w.variables c.args.variable.now.name.spelling in
+    let ps = c.as_slice-parts.result.now in
+    let j = c.loop-i.i - 1 in
+    let xs = c.in-Subscripts.subscripts in
+    let lt : j < length ps = omega (arith, c.loop-i.invariant.0, c.loop-i-test.true) in
+    let len : j < length c.args.variable.now.parts = omega (arith, ap length c.as_slice-parts.ensures) in
+    let stop = c.in_ok-all.ensures.each j c.index-stop.result.now len c.index-stop.ensures in
+    let d = part_in c.args.scope.now.0 c.index-stop.result.now.node in
+    let front : take j c.args.variable.now.parts ≡ take j ps = ap (take j) (sym c.as_slice-parts.ensures) in
+    let same = ap (λ l. type_of d (parts_in w (drop j l))) c.as_slice-parts.ensures ∙ stop.same in
+    let both = subscripted w d (type_of w.variables (place_of w c.args.variable.now)) ps j c.index-parts-i.result c.in-Subscripts.position xs lt c.index-parts-i.is c.in-Subscripts.is same c.requires stop.small.bounds in
+    let number : length c.in-Some.dimensions.now ≡ length xs = c.in-Some.ensures.number ∙ sym (takes_length d (length xs) both.0) in
+    let put = element_emits w c.index-stop.result.now.is_indexed c.in-Subscripts.position.line xs d c.in-Some.dimensions.now c.loop-i.code c.emit_added.new.code c.emit_dimensions.new.code c.emit_alone.new.code c.in-Some.ensures.number number
+    (length-map xs (λ x. or_lint (typed w x).own)) (c.in-Some.ensures.dimensions both.1) c.in_ok-emit_added-in-Subscripts.ensures
+    (c.in_ok-emit_dimensions-in-Subscripts.ensures ∙ ap (λ l. c.emit_added.new.code ++ reverse (dimensions_code c.in-Subscripts.position.line (own_types w l) c.in-Some.dimensions.now)) c.as_slice.ensures)
+    (c.in_ok-emit_alone-in-Subscripts.ensures.code ∙ ap (λ l. c.emit_dimensions.new.code ++ reverse (terms_code w.variables (terms_in w l))) c.as_slice-in-Subscripts.ensures)
+    (ap (λ l. types_in w.variables (terms_in w l)) (sym c.as_slice-in-Subscripts.ensures) ∙ c.in_ok-emit_alone-in-Subscripts.ensures.types ∙ ap (own_types w) c.as_slice-in-Subscripts.ensures) in (
+      omega (arith, c.loop-i.invariant.0),
+      subscripts_put w e ps c.loop-i.i j c.index-parts-i.result c.in-Subscripts.position xs xs c.index-stop.result.now.is_indexed d c.args.code.now c.loop-i.code c.emit_alone.new.code
+          (omega (arith, c.loop-i-test.true)) lt c.index-parts-i.is c.in-Subscripts.is refl (stop.indexed ∙ ap (is_indexed w false) front) (stop.part ∙ ap (behind_parts w e) front) c.loop-i.invariant.1 put,
+    )

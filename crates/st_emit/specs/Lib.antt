@@ -1,0 +1,5 @@
+pub mod Calls
+pub mod Emits
+pub mod Places
+pub mod Statements
+pub mod Trees

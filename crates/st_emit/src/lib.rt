@@ -1,0 +1,16 @@
+//! The code of statements: from the trees of a program's statements to instructions.
+#![tactic(auto)]
+
+mod body;
+mod cases;
+mod expression;
+mod index;
+mod literal;
+mod loops;
+mod own;
+mod places;
+mod scope;
+mod statements;
+mod takes;
+
+pub use body::emit_body;

@@ -1,0 +1,12 @@
+pub mod Constants
+pub mod Contents
+pub mod Counts
+pub mod Dimensions
+pub mod Entries
+pub mod Insides
+pub mod Lookups
+pub mod MemberContents
+pub mod Members
+pub mod PinNumbers
+pub mod Selections
+pub mod Settled

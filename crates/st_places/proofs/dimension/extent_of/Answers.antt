@@ -1,0 +1,12 @@
+use Rattle.std.proofs.Common.{◌∙◌, ap}
+use Rattle.std.specs.Prelude.{min, ◌-ℤ◌}
+use Rattle.st_leaves.specs.Leaves.{number_of}
+use Rattle.st_sizes.specs.Subscripts.{value_of, values_from}
+use Rattle.st_sizes.proofs.Texts.{count}
+use Rattle.st_places.proofs.dimension.extent_of.Goals as goal
+
+pub returns : goal.returns
+returns c =
+    c.of_subrange.ensures.count ∙ ap (λ n. min n 1000000) (count (values_from (value_of c.number-2.result -ℤ value_of c.number.result)) (value_of c.number.result))
+    ∙ ap (λ x. min (values_from (x -ℤ value_of c.number.result)) 1000000) c.number-2.ensures
+    ∙ ap (λ x. min (values_from (number_of c.args.range.upper -ℤ x)) 1000000) c.number.ensures

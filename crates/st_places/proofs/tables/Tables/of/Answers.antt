@@ -1,0 +1,25 @@
+use Rattle.std.proofs.Common.{List, subst, sym, ◌∙◌, ◌≡◌}
+use Rattle.st_check.specs.Programs.{text_of}
+use Rattle.st_order.specs.Graphs.{IsOrder}
+use Rattle.st_references.specs.References.{graph_of}
+use Rattle.st_program_sizes.specs.Sized.{IsSized}
+use Rattle.st_sizes.specs.declared.size.Size.{Size}
+use Rattle.st_tree.specs.declared.tree.unit.Unit.{Unit as Section}
+use Rattle.st_types.specs.Names.{units_of}
+use Rattle.st_types.specs.Types.{type_at}
+use Rattle.st_places.specs.Contents.{AreOf}
+use Rattle.st_places.proofs.Selections.{all_unfolded}
+use Rattle.st_places.proofs.tables.Tables.of.Goals as goal
+
+pub all_units-requires-clause-sizes : goal.all_units-requires-clause-sizes
+all_units-requires-clause-sizes c = λ i.
+    subst (λ (sizes : List Size). IsSized (units_of c.in_ok-scopes.scopes) sizes (type_at (units_of c.in_ok-scopes.scopes) i)) (sym c.deref-2.ensures.value) (c.in_ok-sizes.ensures i)
+
+pub invariant_of-result : goal.invariant_of-result
+invariant_of-result c =
+    let same : c.in_ok-scopes.scopes ≡ text_of c.args.program.now = c.in_ok-scopes.ensures ∙ c.units-text.ensures.units in
+    let ordered : IsOrder (graph_of (units_of c.in_ok-scopes.scopes)) c.order-order.result.now =
+    subst (λ (text : List Section). IsOrder (graph_of (units_of text)) c.order-order.result.now) (sym same)
+    (subst (IsOrder (graph_of (units_of (text_of c.args.program.now)))) (sym c.order-order.ensures.order) c.order-order.ensures.checked.ordered) in
+    subst (λ (text : List Section). AreOf (units_of text) c.in_ok-units.units.items) c.in_ok-scopes.ensures
+    (record { len = c.in_ok-units.ensures.len; each = c.in_ok-units.ensures.units; unfolded = all_unfolded (units_of c.in_ok-scopes.scopes) c.order-order.result.now ordered })

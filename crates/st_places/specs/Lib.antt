@@ -1,0 +1,5 @@
+pub mod Contents
+pub mod Dimensions
+pub mod Members
+pub mod Parts
+pub mod Tables

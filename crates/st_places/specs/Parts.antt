@@ -1,0 +1,92 @@
+-- What the parts of variables consist of, by what they are parts of.
+use Rattle.std.specs.Prelude.{ℕ, suc, ◌<◌, Bool, true, false, List, [], ◌∷◌, length, Option, Some, None, if◌then◌else◌}
+use Rattle.std.specs.List.{slice_get}
+use Rattle.st_tree.specs.declared.tree.unit.Unit.{Unit as Section}
+use Rattle.st_types.specs.Compositions.{Composition, array, elementary, unknown, composition_of, composition_within, declared_composition, elements_composition, is_constant, started}
+use Rattle.st_types.specs.Initials.{element_initial, unit_element_initial, zero_of}
+use Rattle.st_types.specs.Names.{Declared, Named, unit_at, units_of}
+use Rattle.st_types.specs.Types.{elements_in, shape_of}
+use Rattle.st_types.specs.declared.base.Base.{Base}
+use Rattle.st_types.specs.declared.base.Base.TheVariants as bases
+use Rattle.st_leaves.specs.Selected.{element_of}
+use Rattle.st_scopes.specs.Declarations.{names_at}
+use Rattle.st_meaning.specs.Wholes.{Whole, whole_of}
+use Rattle.st_places.specs.declared.node.Node.{Node}
+use Rattle.st_places.specs.declared.node.Node.TheVariants as nodes
+
+-- the tables of a text
+pub record TablesView : Type 0 where
+  pub text : List Section
+
+-- what has this type, through all units
+abbrev pub inside : List Named → Base → Composition
+inside units = composition_within units (suc (length units))
+
+-- ---- the names of a whole that are no constants, in order, and those that are
+
+abbrev pub variables_among : List Declared → List Declared
+variables_among [] = []
+variables_among (v ∷ vs) = if is_constant v.kind then variables_among vs else v ∷ variables_among vs
+
+abbrev pub constants_among : List Declared → List Declared
+constants_among [] = []
+constants_among (v ∷ vs) = if is_constant v.kind then v ∷ constants_among vs else constants_among vs
+
+-- of the unit of this number
+abbrev pub variables_at : List Named → ℕ → List Declared
+variables_at units unit = variables_among (names_at units unit)
+
+-- ---- parts
+
+abbrev pub whole_part : List Named → Option Named → Composition
+whole_part units None = unknown
+whole_part units (Some u) = composition_of units u.declares
+
+abbrev pub member_part : List Named → Option Declared → Composition
+member_part units None = unknown
+member_part units (Some v) = declared_composition units (inside units) v
+
+-- each element of what is declared as an array
+abbrev pub element_part : List Named → Option Declared → Composition
+element_part units None = unknown
+element_part units (Some v) = started (element_initial units v.specification) (inside units (shape_of units v.specification).base)
+
+-- what has the array type of this unit
+abbrev pub array_part : List Named → ℕ → Composition
+array_part units i = elements_composition (inside units) (unit_element_initial units (unit_at units i)) (elements_in units (bases.Array i))
+
+abbrev pub node_part : List Named → Node → Composition
+node_part units (nodes.Whole unit) = whole_part units (unit_at units unit)
+node_part units (nodes.Member unit number) = member_part units (slice_get (variables_at units unit) number)
+node_part units (nodes.Element unit number) = element_part units (slice_get (variables_at units unit) number)
+node_part units (nodes.ArrayElement unit) = element_of (array_part units unit)
+node_part units (nodes.Pin e) = elementary (zero_of e)
+
+-- what the part consists of
+unfoldable pub part_in : TablesView → Node → Composition
+part_in tables node = node_part (units_of tables.text) node
+
+-- the node is one of a text of these units
+abbrev pub IsNodeIn : List Named → Node → Type 0
+IsNodeIn units (nodes.Member unit number) = number < length (variables_at units unit)
+IsNodeIn units (nodes.Element unit number) = number < length (variables_at units unit)
+IsNodeIn units (nodes.ArrayElement unit) = unit < length units
+IsNodeIn units _ = Unit {0}
+
+-- the tables have the node
+unfoldable pub IsNodeOf : TablesView → Node → Type 0
+IsNodeOf tables node = IsNodeIn (units_of tables.text) node
+
+abbrev pub is_array : Composition → Bool
+is_array (array ranges firsts c) = true
+is_array _ = false
+
+-- ---- units
+
+abbrev pub optional_whole : List Named → Option Named → Whole
+optional_whole units None = record { variables = unknown; constants = λ name. None }
+optional_whole units (Some u) = whole_of units u.declares
+
+-- what the names in the statements of the unit of this number stand for
+unfoldable pub whole_in : TablesView → ℕ → Whole
+whole_in tables unit = optional_whole (units_of tables.text) (unit_at (units_of tables.text) unit)

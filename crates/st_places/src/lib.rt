@@ -1,0 +1,15 @@
+//! What names in the statements of a text's units stand for, found in constant time a name: the parts of variables, by tables
+//! that are made once, in time linear in the text.
+#![tactic(auto)]
+
+mod constant;
+mod content;
+mod count;
+mod dimension;
+mod member;
+mod node;
+mod tables;
+mod unit;
+
+pub use node::{Dimension, Node};
+pub use tables::Tables;

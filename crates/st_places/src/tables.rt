@@ -1,0 +1,138 @@
+//! Tables of what names stand for in the statements of a text.
+ghost use Rattle.std.specs.Prelude.{◌≡◌, ◌<◌, IfOk, IfSome, None, false, length, true, ℕ};
+ghost use Rattle.st_initials.specs.Tables.{AreInitials};
+ghost use Rattle.st_check.specs.Programs.{text_of};
+ghost use Rattle.st_leaves.specs.Places.{count};
+ghost use Rattle.st_leaves.specs.Selected.{element_of, selected_by, subscripts_of, value_type};
+ghost use Rattle.st_meaning.specs.Offsets.{IsSmall, offset_of};
+ghost use Rattle.st_places.specs.Dimensions.{dimensions_in};
+ghost use Rattle.st_places.specs.Members.{AreUnits};
+ghost use Rattle.st_places.specs.Parts.{IsNodeOf, is_array, part_in, whole_in};
+ghost use Rattle.st_program_sizes.specs.Sized.{IsSized};
+ghost use Rattle.st_types.specs.Compositions.{unknown};
+ghost use Rattle.st_types.specs.Names.{units_of};
+ghost use Rattle.st_types.specs.Types.{type_at};
+ghost use Rattle.st_values.specs.Values.{IsValue};
+
+use crate::content::{constant_named, elements, selected, value_type};
+use crate::node::{Dimension, Node};
+use crate::unit::UnitParts;
+use st_check::Program;
+use st_initials::{Initials, types_written};
+use st_program_sizes::type_sizes;
+use st_scopes::Tables as Scopes;
+use st_sizes::Size;
+use st_tree::tree::Unit;
+use st_values::{Elem, Value};
+use std::alloc::{AllocError, Global};
+use std::marker::Model;
+
+/// What the names in the statements of a text's units stand for. Names are compared without regard to case, and each look-up
+/// takes constant time.
+#[derive(Drop)]
+pub struct Tables<'a> {
+    text: &'a [Unit],
+    units: Vec<UnitParts<'a>>,
+}
+
+impl<'a> Model for Tables<'a> {
+    ghost use Rattle.std.specs.Coded.{codes};
+    ghost use Rattle.st_tree.specs.contracts.tree.expression.Expression as expression;
+    ghost use Rattle.st_tree.specs.contracts.tree.statement.Statement as statement;
+    ghost use Rattle.st_places.specs.Parts.{TablesView};
+
+    ghost Value = { TablesView };
+
+    ghost coded = { Prim.hlevel (codes, statement.the_row.coded, expression.the_row.coded) };
+
+    ghost use Rattle.st_places.specs.Tables.{AreTables};
+
+    ghost view = { λ t. record { text = t.text.now } };
+
+    ghost invariant = { AreTables };
+}
+
+impl<'a> Tables<'a> {
+    /// The tables of a checked program, in time linear in its text.
+    pub fn of(alloc: Global, program: &'a Program) -> Result<Tables<'a>, AllocError>
+        ensures { IfOk result (λ tables. tables.text ≡ text_of program.now) }
+    {
+        let text = program.units();
+        let scopes = Scopes::new(alloc, text)?;
+        let order = program.order();
+        let written = types_written(alloc, &scopes)?;
+        let initials = Initials::new(alloc, &scopes, &written, order)?;
+        let sizes = type_sizes(alloc, &scopes, order)?;
+        let units = all_units(alloc, &scopes, &initials, &sizes)?;
+        Ok(Tables { text, units })
+    }
+
+    /// The variables of the unit of this number.
+    pub fn root(&self, unit: usize) -> Node
+        ensures part { part_in self.now result ≡ (whole_in self.now unit).variables }
+        ensures node { IsNodeOf self.now result }
+    {
+        Node::Whole(unit)
+    }
+
+    /// The value of the constant of this name in the unit of this number.
+    pub fn constant(&self, unit: usize, name: &[u8]) -> Option<Value>
+        ensures value { result ≡ (whole_in self.now unit).constants name.now }
+        ensures in_range { IfSome result (λ value. IsValue value) }
+    {
+        constant_named(&self.units, unit, name)
+    }
+
+    /// What a name selects, and how many leaves stand before it.
+    pub fn select(&self, node: Node, name: &[u8]) -> Option<(u32, Node)>
+        requires node { IsNodeOf self.now node }
+        requires small { IsSmall (part_in self.now node) }
+        ensures offset { IfSome result (λ found. found.0 ≡ offset_of (part_in self.now node) name.now) }
+        ensures part { IfSome result (λ found. part_in self.now found.1 ≡ selected_by (part_in self.now node) name.now) }
+        ensures node { IfSome result (λ found. IsNodeOf self.now found.1) }
+        ensures none { result ≡ None → selected_by (part_in self.now node) name.now ≡ unknown }
+    {
+        selected(&self.units, node, name)
+    }
+
+    /// The subscripts of an array, and its elements.
+    pub fn elements(&self, node: Node) -> Option<(&[Dimension], Node)>
+        requires node { IsNodeOf self.now node }
+        requires small { IsSmall (part_in self.now node) }
+        ensures array { IfSome result (λ found. is_array (part_in self.now node) ≡ true) }
+        ensures number { IfSome result (λ found. length found.0.now ≡ length (subscripts_of (part_in self.now node))) }
+        ensures dimensions { IfSome result (λ found. 0 < count (element_of (part_in self.now node)) → found.0.now ≡ dimensions_in (subscripts_of (part_in self.now node)) (count (element_of (part_in self.now node)))) }
+        ensures part { IfSome result (λ found. part_in self.now found.1 ≡ element_of (part_in self.now node)) }
+        ensures node { IfSome result (λ found. IsNodeOf self.now found.1) }
+        ensures none { result ≡ None → is_array (part_in self.now node) ≡ false }
+    {
+        elements(&self.units, node)
+    }
+
+    /// The type of the one value, where there is one.
+    pub fn value(&self, node: Node) -> Option<Elem>
+        requires node { IsNodeOf self.now node }
+        ensures { result ≡ value_type (part_in self.now node) }
+    {
+        value_type(&self.units, node)
+    }
+}
+
+/// The tables of all units.
+fn all_units<'a>(
+    alloc: Global,
+    scopes: &Scopes<'a>,
+    initials: &Initials<'_>,
+    sizes: &[Size],
+) -> Result<Vec<UnitParts<'a>>, AllocError>
+    requires initials { AreInitials (units_of scopes.now) initials.now }
+    requires sizes { (i : ℕ) → IsSized (units_of scopes.now) sizes.now (type_at (units_of scopes.now) i) }
+    ensures len { IfOk result (λ units. length units.items ≡ length (units_of scopes.now)) }
+    ensures units { IfOk result (λ units. AreUnits (units_of scopes.now) units.items) }
+{
+    let mut units = Vec::with_capacity(alloc, scopes.len())?;
+    'units: for unit in 0..scopes.len() {
+        units.push(UnitParts::of(alloc, scopes, initials, sizes, unit)?)?;
+    }
+    Ok(units)
+}

@@ -1,0 +1,115 @@
+//! What is declared in a unit: its variables, its constants, and of an array type its elements.
+ghost use Rattle.std.specs.Prelude.{◌≡◌, ◌<◌, ◌++◌, ◌∷◌, [], ℕ, IfOk, List as Items, OnOk, length};
+ghost use Rattle.st_initials.specs.Tables.{AreInitials};
+ghost use Rattle.st_places.specs.Members.{AreElements, HasNames, IsUnit};
+ghost use Rattle.st_program_sizes.specs.Sized.{IsSized};
+ghost use Rattle.st_scopes.specs.Declarations.{seen};
+ghost use Rattle.st_types.specs.Compositions.{is_constant};
+ghost use Rattle.st_types.specs.Names.{Declared as Name, units_of};
+ghost use Rattle.st_types.specs.Types.{elements_in, type_at};
+ghost use Rattle.st_types.specs.declared.base.Base.TheVariants as bases;
+
+use crate::constant::Constants;
+use crate::count::leaves_of;
+use crate::dimension::dimensions_of;
+use crate::member::Members;
+use crate::node::Dimension;
+use st_initials::Initials;
+use st_scopes::{Declared, Tables};
+use st_sizes::Size;
+use st_tree::List;
+use st_tree::tree::VarKind;
+use st_types::Base;
+use std::alloc::{AllocError, Global};
+
+/// The elements of an array type.
+#[derive(Drop)]
+pub(crate) struct ArrayParts {
+    /// What each of them is.
+    pub base: Base,
+    pub dimensions: List<Dimension>,
+}
+
+/// What is declared in a unit.
+#[derive(Drop)]
+pub(crate) struct UnitParts<'a> {
+    pub members: Members<'a>,
+    pub constants: Constants<'a>,
+    /// Of an array type.
+    pub elements: Option<ArrayParts>,
+}
+
+impl<'a> UnitParts<'a> {
+    /// Of the unit of this number, where the table has the sizes of types by the numbers of the units.
+    pub fn of(
+        alloc: Global,
+        tables: &Tables<'a>,
+        initials: &Initials<'_>,
+        sizes: &[Size],
+        unit: usize,
+    ) -> Result<UnitParts<'a>, AllocError>
+        requires unit { unit < length (units_of tables.now) }
+        requires initials { AreInitials (units_of tables.now) initials.now }
+        requires sizes { (i : ℕ) → IsSized (units_of tables.now) sizes.now (type_at (units_of tables.now) i) }
+        ensures { IfOk result (λ parts. IsUnit (units_of tables.now) unit parts) }
+    {
+        let mut parts = UnitParts {
+            members: Members::new(alloc),
+            constants: Constants::new(alloc),
+            elements: elements_of(alloc, tables, sizes, unit)?,
+        };
+        'names: for declared in tables.declared(unit) {
+            parts.add(alloc, tables, initials, sizes, declared)?;
+        }
+        Ok(parts)
+    }
+
+    /// Adds a declared name.
+    fn add(
+        &mut self,
+        alloc: Global,
+        tables: &Tables<'_>,
+        initials: &Initials<'_>,
+        sizes: &[Size],
+        declared: &Declared<'a>,
+    ) -> Result<(), AllocError>
+        requires initials { AreInitials (units_of tables.now) initials.now }
+        requires sizes { (i : ℕ) → IsSized (units_of tables.now) sizes.now (type_at (units_of tables.now) i) }
+        ensures names { OnOk result ((vs : Items Name) → HasNames (units_of tables.now) vs self.old → HasNames (units_of tables.now) (vs ++ seen declared.now ∷ []) self.new) }
+        ensures elements { OnOk result (self.new.elements ≡ self.old.elements) }
+    {
+        if is_constant(declared.kind) {
+            self.constants.add(tables, initials, declared)
+        } else {
+            self.members.add(alloc, tables, sizes, declared)
+        }
+    }
+}
+
+/// Whether a declared name is a constant.
+fn is_constant(kind: VarKind) -> bool
+    ensures { result ≡ is_constant kind }
+{
+    matches!(kind, VarKind::Constant)
+}
+
+/// The elements of the array type of the unit of this number.
+fn elements_of(
+    alloc: Global,
+    tables: &Tables<'_>,
+    sizes: &[Size],
+    unit: usize,
+) -> Result<Option<ArrayParts>, AllocError>
+    requires { (i : ℕ) → IsSized (units_of tables.now) sizes.now (type_at (units_of tables.now) i) }
+    ensures { IfOk result (λ parts. AreElements (units_of tables.now) (elements_in (units_of tables.now) (bases.Array unit)) parts) }
+{
+    let Some(elements) = tables.elements(Base::Array(unit)) else {
+        return Ok(None);
+    };
+    let base = elements.element;
+    let all = dimensions_of(alloc, elements.subscripts, leaves_of(sizes, base))?;
+    Ok(Some(ArrayParts {
+        base,
+        dimensions: all.items,
+    }))
+}
