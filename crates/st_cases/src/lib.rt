@@ -24,6 +24,20 @@ mod online_changes;
 #[cfg(test)]
 mod refused_texts;
 #[cfg(test)]
+mod run_functions;
+#[cfg(test)]
+mod run_operands;
+#[cfg(test)]
+mod run_operators;
+#[cfg(test)]
+mod run_places;
+#[cfg(test)]
+mod run_statements;
+#[cfg(test)]
+mod run_steps;
+#[cfg(test)]
 mod running;
+#[cfg(test)]
+mod scan_lines;
 #[cfg(test)]
 mod tables;

@@ -3,7 +3,7 @@ ghost use Rattle.std.specs.Prelude.{◌≡◌, IfOk, length, true};
 ghost use Rattle.st_layout.specs.Layout.{IsValueAt, leaf_at};
 ghost use Rattle.st_layout.specs.Memory.{initial_content, with_force, with_value};
 
-use st_control::Image;
+use st_control::{Image, load_image};
 use st_layout::{Cells, Layout, Memory};
 use st_values::{Elem, Value};
 use std::alloc::{AllocError, Global};
@@ -12,7 +12,7 @@ use std::test::Fail;
 /// A program with a BOOL and an INT.
 fn two_leaves(alloc: Global) -> Result<Image, Fail> {
     let text = b"PROGRAM Main VAR On : BOOL := TRUE; Count : INT := -7; END_VAR END_PROGRAM";
-    let Ok(image) = Image::load(alloc, text, b"Main") else {
+    let Ok(image) = load_image(alloc, text, b"Main") else {
         return Err(Fail::from("the program isn't loaded"));
     };
     Ok(image)

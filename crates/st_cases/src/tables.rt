@@ -2,7 +2,8 @@
 //!
 //! A table is one text. A case begins with a line of `#` and a remark, behind which the lines of the program stand. In a table of
 //! layouts a line of `=` follows, and then the lines that have to be written. In a table of sessions lines of `?` and `=` follow:
-//! what an operator types, and what is replied.
+//! what an operator types, and what is replied. A line of `--steps` gives its session a step limit.
+use crate::running::STEPS;
 use st_session::{ACCEPTED, LINE_REFUSED};
 use std::alloc::{AllocError, Global};
 
@@ -12,6 +13,8 @@ pub struct Case {
     pub program: Vec<u8>,
     pub session: Vec<u8>,
     pub wanted: Vec<u8>,
+    /// How many steps a scan may take.
+    pub steps: u32,
     /// Whether the line of `=` of a layout was read.
     is_listing: bool,
 }
@@ -22,6 +25,7 @@ impl Case {
             program: Vec::new(alloc),
             session: Vec::new(alloc),
             wanted: Vec::new(alloc),
+            steps: STEPS,
             is_listing: false,
         }
     }
@@ -30,6 +34,10 @@ impl Case {
     fn add(&mut self, line: &[u8]) -> Result<(), AllocError> {
         if line == b"=".as_slice() {
             self.is_listing = true;
+            return Ok(());
+        }
+        if let Some(digits) = line.strip_prefix(b"--steps ") {
+            self.steps = number_of(digits);
             return Ok(());
         }
         if let Some(typed) = line.strip_prefix(b"? ") {
@@ -44,6 +52,17 @@ impl Case {
             put_line(&mut self.program, line)
         }
     }
+}
+
+/// The number that these digits write.
+fn number_of(digits: &[u8]) -> u32 {
+    let mut number: u32 = 0;
+    for digit in digits {
+        number = number
+            .saturating_mul(10)
+            .saturating_add(digit.saturating_sub(b'0').into());
+    }
+    number
 }
 
 /// Puts a line and its end behind others.
@@ -71,10 +90,15 @@ pub fn cases_of(alloc: Global, table: &[u8]) -> Result<Vec<Case>, AllocError> {
     Ok(cases)
 }
 
+/// Whether a reply tells of a line that is refused, or of a scan that a fault ended.
+fn is_refusal(reply: &[u8]) -> bool {
+    reply.starts_with(b"refused") || reply.starts_with(b"fault")
+}
+
 /// The status of a session with these replies.
 pub fn status_of(replies: &[u8]) -> u8 {
     let is_refused = replies
         .split(|byte| *byte == b'\n')
-        .any(|reply| reply.starts_with(b"refused"));
+        .any(|reply| is_refusal(reply));
     if is_refused { LINE_REFUSED } else { ACCEPTED }
 }

@@ -3,11 +3,14 @@ pub mod ChangeSteps
 pub mod ChangedStates
 pub mod Charts
 pub mod Histories
+pub mod Inputs
 pub mod Names
 pub mod OnePath
 pub mod Open
 pub mod RaisedRenames
 pub mod Records
+pub mod Resets
+pub mod ScanStates
 pub mod Steps
 pub mod Texts
 pub mod Undone

@@ -89,7 +89,7 @@ record_fits (change renames read) m next whole accepted = change_fits renames re
 -- ---- whole states
 
 -- what is tested to be a value of a leaf is one
-takes_value : (leaves : List Leaf) (i : ℕ) (value : Value) → is_value_of (leaf_at leaves i) value ≡ true → IsValueAt leaves i value
+pub takes_value : (leaves : List Leaf) (i : ℕ) (value : Value) → is_value_of (leaf_at leaves i) value ≡ true → IsValueAt leaves i value
 takes_value leaves i value takes =
     let both = and_parts (is_same value.elem (leaf_at leaves i).elem) (is_value value) takes in
     record { elem = same_elem value.elem (leaf_at leaves i).elem both.0; in_range = both.1 }

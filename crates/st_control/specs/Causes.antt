@@ -38,9 +38,21 @@ nothing_to_undo = O 7
 abbrev pub no_active_step : Refusal
 no_active_step = O 8
 
+-- the moment of a scan is before the last one, or above the greatest
+abbrev pub moment_past : Refusal
+moment_past = O 9
+
+-- the program was halted by a fault, or it can't be run yet
+abbrev pub halted : Refusal
+halted = O 10
+
 -- a session has no such line
 abbrev pub no_such_line : Refusal
 no_such_line = O 11
+
+-- a scan has a value for a leaf that isn't a process input
+abbrev pub not_an_input : Refusal
+not_an_input = O 12
 
 -- the renames of an online change give no pairs
 abbrev pub not_paired : Refusal

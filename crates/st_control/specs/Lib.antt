@@ -4,5 +4,7 @@ pub mod Controllers
 pub mod Laws
 pub mod Loads
 pub mod Machine
+pub mod ScanLaws
+pub mod Scans
 pub mod States
 pub mod Texts

@@ -10,10 +10,11 @@ ghost use Rattle.st_layout.specs.Moves.{saved};
 ghost use Rattle.st_layout.specs.Pairs.{IsPairing, is_number};
 ghost use Rattle.st_values.specs.Words.{raised};
 
-use crate::image::Image;
 use crate::record::Record;
 use crate::refusal::{NO_ACTIVE_STEP, Refusal, UNDO_FULL};
+use crate::scanning::room_for;
 use crate::state::State;
+use st_compile::Image;
 use st_layout::{Layout, Memory, Plan, Rename, carry_over};
 use st_tree::{List, Role};
 use std::alloc::{AllocError, Global};
@@ -87,6 +88,7 @@ impl<M: Memory> State<M> {
         ensures kind { IfOk result (λ newest. is_of_change newest ≡ true) }
         ensures err { OnErr result (self.new ≡ self.old) }
     {
+        let (second, stack) = room_for(alloc, &image)?;
         let saved = carry_over(
             alloc,
             &mut self.memory,
@@ -95,6 +97,8 @@ impl<M: Memory> State<M> {
             image.layout(),
         )?;
         let old = mem::replace(&mut self.image, image);
+        self.second = second;
+        self.stack = stack;
         Ok(Record::Change {
             old,
             saved,

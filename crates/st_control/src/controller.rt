@@ -5,6 +5,7 @@ ghost use Rattle.st_control.specs.Controllers.{DropsNewest, GoesOver, Keeps, Tak
 ghost use Rattle.st_control.specs.Loads.{IsLoaded};
 ghost use Rattle.st_control.specs.Machine.{step};
 ghost use Rattle.st_control.specs.Machine.Command.{change, force, release, write};
+ghost use Rattle.st_control.specs.Scans.{TakesScan, reset_step, scan_step};
 ghost use Rattle.st_control.specs.States.{IsWhole, leaf_of, leaves_of};
 ghost use Rattle.st_control.specs.Texts.{IsCheckedAs};
 ghost use Rattle.st_layout.specs.Layout.{leaf_at};
@@ -13,11 +14,13 @@ ghost use Rattle.st_tree.specs.declared.tree.unit.Unit.{Unit as ProgramUnit};
 ghost use Rattle.st_values.specs.Values.{IsValue};
 
 use crate::changing::{Counts, raised};
-use crate::image::Image;
+use crate::image::load_image;
 use crate::record::Record;
 use crate::refusal::{NO_SUCH_PATH, NOTHING_TO_UNDO, Refusal};
+use crate::scanning::{Scanned, room_for};
 use crate::state::{State, Status};
 use crate::undoing::revert;
+use st_compile::Image;
 use st_layout::{Memory, Rename};
 use st_tree::{List, Name};
 use st_values::{Elem, Value};
@@ -42,7 +45,8 @@ pub struct Report {
 
 /// A controller: a program's state, and the records of the commands that can be undone.
 ///
-/// Room for all its 256 records is made at its load, so that no command is refused for want of memory.
+/// Room for all its 256 records is made at its load, so that no command is refused for want of memory. So is what a scan needs,
+/// and by each online change and its undo.
 #[derive(Drop)]
 pub struct Controller<M: Memory> {
     state: State<M>,
@@ -82,7 +86,7 @@ impl<M: Memory> Controller<M> {
         ensures only { (units : List ProgramUnit) → IsCheckedAs text.now main.now (Ok units)
             → MatchResult result (λ controller. text_of controller.state.program ≡ units) (λ refusal. refusal ≡ Refusal.M) }
     {
-        let image = Image::load(alloc, text, main)?;
+        let image = load_image(alloc, text, main)?;
         let name = Name::of(main).unwrap();
         Ok(Controller::start(alloc, image, name, limit)?)
     }
@@ -94,12 +98,15 @@ impl<M: Memory> Controller<M> {
         ensures { IfOk result (λ controller. controller ≡ first_controller image main limit) }
     {
         let memory = M::fresh(alloc, image.layout())?;
+        let (second, stack) = room_for(alloc, &image)?;
         let records = Vec::with_capacity(alloc, MAX_RECORDS)?;
         let state = State {
             image,
             memory,
             now: 0,
             status: Status::Running,
+            second,
+            stack,
         };
         Ok(Controller {
             state,
@@ -231,7 +238,7 @@ impl<M: Memory> Controller<M> {
         ensures counts { IfOk result (λ counts. counts ≡ counts_of self.old.state renames.items self.new.state.program) }
         ensures record { OnOk result (Keeps self.old self.new (record_of (change renames.items (Ok self.new.state.program)) self.old.state)) }
     {
-        let image = Image::load(alloc, text, self.main.bytes())?;
+        let image = load_image(alloc, text, self.main.bytes())?;
         self.go_over(alloc, image, raised(renames))
     }
 
@@ -276,6 +283,32 @@ impl<M: Memory> Controller<M> {
                 Err(Refusal::M)
             }
         }
+    }
+
+    /// Stores the inputs, which are pairs of the number of a leaf and its value, and runs the program once at this moment. An input
+    /// of a forced leaf is dropped. Where the program stops with a fault, all values and the moment are as before, the inputs too,
+    /// and it is halted. In both cases nothing is left to undo. It takes no memory.
+    ///
+    /// Refused as O1 where an input is for a leaf that isn't there, O3 where its value isn't one of the leaf's type, O9 where the
+    /// moment is before the last one or above `MAX_MOMENT`, O10 where the program is halted or can't be run yet, O12 where an input
+    /// is for a leaf that isn't a process input. The undo list is then as it was.
+    pub fn scan(&mut self, now: i64, inputs: &[(u32, Value)]) -> Result<Scanned, Refusal>
+        ensures step { TakesScan (scan_step now inputs.now (machine_of self.old)) self.old result self.new }
+    {
+        self.state.may_scan(now, inputs)?;
+        let scanned = self.state.scan(now, inputs, self.limit);
+        self.records.clear();
+        Ok(scanned)
+    }
+
+    /// Gives each leaf that isn't forced its initial value, and lets the program run again. The forces and the moment stay, and
+    /// nothing is left to undo.
+    pub fn reset(&mut self)
+        ensures step { machine_of self.new ≡ reset_step (machine_of self.old) }
+        ensures records { self.new.records ≡ [] }
+    {
+        self.state.reset();
+        self.records.clear();
     }
 
     /// How the controller stands as a whole.

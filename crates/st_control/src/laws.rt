@@ -1,4 +1,5 @@
-//! What holds of all lists of commands.
+//! What holds of all lists of commands, and of all scans and resets.
+ghost use Rattle.st_control.specs.ScanLaws.{ResetsGiveInitialValues, ResetsKeepWhole, ResetsStartAnew, ScansKeepTheFrame, ScansKeepWhole, ScansStartAnew};
 ghost use Rattle.st_control.specs.Laws.{ChangesByPath, GoesThroughStates, IsGivenBack, LoadStays, RecordFits, RecordUndoesCommand, StepsKeepWhole};
 
 /// Whatever commands are given, as many undos that are accepted as commands were give back the states before, in order, and the
@@ -26,4 +27,20 @@ pub fn record_undoes_command()
 pub fn steps_keep_states_whole()
     ensures whole { StepsKeepWhole }
     ensures load { LoadStays }
+{}
+
+/// Whatever a program does, a scan stays in its frame: the program, its leaves and their types, the forces and the values of forced
+/// leaves stay, and where it stops with a fault all values and the moment do. States stay whole, and nothing is left to undo.
+pub fn scans_keep_the_frame()
+    ensures frame { ScansKeepTheFrame }
+    ensures whole { ScansKeepWhole }
+    ensures anew { ScansStartAnew }
+{}
+
+/// A reset gives each leaf that isn't forced its initial value, and changes nothing else but that the program runs. States stay
+/// whole, and nothing is left to undo.
+pub fn resets_give_initial_values()
+    ensures initial { ResetsGiveInitialValues }
+    ensures whole { ResetsKeepWhole }
+    ensures anew { ResetsStartAnew }
 {}

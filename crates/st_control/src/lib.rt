@@ -8,20 +8,25 @@ mod image;
 mod laws;
 mod record;
 mod refusal;
+mod scanning;
 mod state;
 mod undoing;
 
 pub use changing::Counts;
 pub use check::{check_program, texts_give_one_list};
 pub use controller::{Controller, MAX_RECORDS, Report};
-pub use image::Image;
+pub use image::load_image;
 pub use laws::{
-    command_changes_by_path, record_undoes_command, steps_keep_states_whole, undos_give_back_states,
+    command_changes_by_path, record_undoes_command, resets_give_initial_values,
+    scans_keep_the_frame, steps_keep_states_whole, undos_give_back_states,
 };
 pub use record::Record;
 pub use refusal::{
-    IS_FORCED, NO_ACTIVE_STEP, NO_SUCH_LINE, NO_SUCH_PATH, NOT_FORCED, NOT_OF_TYPE, NOT_OPEN,
-    NOT_PAIRED, NOTHING_TO_UNDO, Refusal, UNDO_FULL,
+    HALTED, IS_FORCED, MOMENT_PAST, NO_ACTIVE_STEP, NO_SUCH_LINE, NO_SUCH_PATH, NOT_AN_INPUT,
+    NOT_FORCED, NOT_OF_TYPE, NOT_OPEN, NOT_PAIRED, NOTHING_TO_UNDO, Refusal, UNDO_FULL,
 };
-pub use state::{RunFault, RunFaultKind, State, Status};
+pub use scanning::{MAX_MOMENT, Scanned};
+pub use st_compile::Image;
+pub use st_meaning::{RunFault, RunFaultKind};
+pub use state::{State, Status};
 pub use undoing::revert;

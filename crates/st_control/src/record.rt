@@ -1,5 +1,5 @@
 //! Undo records.
-use crate::image::Image;
+use st_compile::Image;
 use st_layout::{Rename, Saved};
 use st_tree::List;
 use st_values::Value;

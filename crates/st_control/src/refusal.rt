@@ -33,8 +33,18 @@ pub const NOTHING_TO_UNDO: u8 = 7;
 /// A chart that both programs have would keep no active step.
 pub const NO_ACTIVE_STEP: u8 = 8;
 
+/// The moment of a scan is before the last one, or above the greatest.
+pub const MOMENT_PAST: u8 = 9;
+
+/// The program was halted by a fault. For now so is one whose bodies call functions of its own, invoke blocks or have charts:
+/// it can't be run yet.
+pub const HALTED: u8 = 10;
+
 /// A session has no such line.
 pub const NO_SUCH_LINE: u8 = 11;
+
+/// A scan has a value for a leaf that isn't a process input.
+pub const NOT_AN_INPUT: u8 = 12;
 
 /// The renames of an online change give no pairs.
 pub const NOT_PAIRED: u8 = 13;

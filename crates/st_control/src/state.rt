@@ -5,37 +5,17 @@ ghost use Rattle.st_leaves.specs.Sound.{IsValueOf};
 ghost use Rattle.st_layout.specs.Layout.{IsOpenAt, IsValueAt, is_open};
 ghost use Rattle.st_layout.specs.Memory.{forced_at, value_at};
 
-use crate::image::Image;
 use crate::record::Record;
 use crate::refusal::{
     IS_FORCED, NO_SUCH_PATH, NOT_FORCED, NOT_OF_TYPE, NOT_OPEN, Refusal, UNDO_FULL,
 };
+use st_compile::Image;
 use st_layout::Memory;
-use st_tree::{Leaf, Name, Role};
+use st_machine::Stack;
+use st_meaning::RunFault;
+use st_tree::{Leaf, Role};
 use st_values::{Value, is_value};
 use std::marker::Model;
-
-/// What stops a scan.
-#[derive(Clone, Copy, Debug, PartialEq, Eq)]
-pub enum RunFaultKind {
-    /// More steps than the limit.
-    StepLimit,
-    /// A division by zero.
-    ZeroDivisor,
-    /// An index outside its array.
-    IndexOutOfRange,
-}
-
-/// Where and why a scan stopped.
-#[derive(Clone, Copy)]
-pub struct RunFault {
-    /// Why.
-    pub kind: RunFaultKind,
-    /// The unit whose body ran, spelled as it is declared.
-    pub unit: Name,
-    /// The line in the program's text, from 1.
-    pub line: u32,
-}
 
 /// Whether the program runs.
 #[derive(Clone, Copy)]
@@ -57,12 +37,17 @@ pub struct State<M: Memory> {
     pub now: i64,
     /// Whether the program runs.
     pub status: Status,
+    /// Where a scan runs, so that a fault leaves the values as they were. What it holds between scans is nothing to anybody.
+    pub(crate) second: M,
+    /// The operands of a scan.
+    pub(crate) stack: Stack,
 }
 
 impl<M: Memory> Model for State<M> {
     ghost use Rattle.std.specs.Coded.{codes};
     ghost use Rattle.st_check.specs.Programs.{leaves_of_program};
     ghost use Rattle.st_control.specs.States.{IsMoment, StateView};
+    ghost use Rattle.st_compile.specs.Programs.{HasRoom};
     ghost use Rattle.st_layout.specs.Memory.{ForcesAreOpen};
     ghost use Rattle.st_tree.specs.contracts.tree.expression.Expression as expression;
     ghost use Rattle.st_tree.specs.contracts.tree.statement.Statement as statement;
@@ -73,7 +58,7 @@ impl<M: Memory> Model for State<M> {
 
     ghost view = { λ s. record { program = s.image; content = M.content (leaves_of_program s.image) s.memory; now = s.now; status = s.status } };
 
-    ghost invariant = { λ s. M.IsOver (leaves_of_program s.image) s.memory × ForcesAreOpen (leaves_of_program s.image) (M.content (leaves_of_program s.image) s.memory).forced × IsMoment s.now };
+    ghost invariant = { λ s. M.IsOver (leaves_of_program s.image) s.memory × ForcesAreOpen (leaves_of_program s.image) (M.content (leaves_of_program s.image) s.memory).forced × IsMoment s.now × M.IsOver (leaves_of_program s.image) s.second × HasRoom s.image s.stack };
 }
 
 impl<M: Memory> State<M> {
@@ -238,7 +223,7 @@ fn is_open(role: Role) -> bool
 }
 
 /// Tests whether a leaf takes the value.
-fn is_value_of(leaf: &Leaf, value: Value) -> bool
+pub(crate) fn is_value_of(leaf: &Leaf, value: Value) -> bool
     ensures value { result ≡ is_value_of leaf.now value }
     ensures fits { IsTrue result → IsValueOf leaf.now value }
 {

@@ -1,14 +1,19 @@
 //! Undoing one record.
-ghost use Rattle.std.specs.Prelude.{◌≡◌, IfErr, IsOk, OnErr, OnOk, false};
+ghost use Rattle.std.specs.Prelude.{◌≡◌, IfErr, IfOk, IsOk, OnErr, OnOk, false};
+ghost use Rattle.st_check.specs.Programs.{leaves_of_program};
 ghost use Rattle.st_control.specs.Controllers.{is_of_change};
 ghost use Rattle.st_control.specs.States.{FitsRecord, FitsSaved, undone};
+ghost use Rattle.st_compile.specs.Programs.{HasRoom};
 ghost use Rattle.st_layout.specs.Memory.{ForcesAreOpen};
 ghost use Rattle.st_layout.specs.Moves.{unmoved};
 ghost use Rattle.st_layout.specs.Pairs.{pairs_between};
 
 use crate::record::Record;
+use crate::scanning::room_for;
 use crate::state::State;
+use st_compile::Image;
 use st_layout::{Layout, Memory, Plan, PlanFault, Rename, Saved};
+use st_machine::Stack;
 use std::alloc::{AllocError, Global};
 
 /// Gives back the state before the command that left this record. Only where that is an online change it may be refused, for
@@ -36,15 +41,19 @@ pub fn revert<M: Memory>(alloc: Global, state: &mut State<M>, newest: Record) ->
             renames,
         } => {
             let memory = &mut state.memory;
-            match move_back(
+            match go_back(
                 alloc,
                 memory,
-                old.layout(),
+                &old,
                 state.image.layout(),
                 &saved,
                 renames.as_slice(),
             ) {
-                Ok(()) => state.image = old,
+                Ok((second, stack)) => {
+                    state.image = old;
+                    state.second = second;
+                    state.stack = stack;
+                }
                 Err(_) => return Err(Record::Change {
                     old,
                     saved,
@@ -54,6 +63,30 @@ pub fn revert<M: Memory>(alloc: Global, state: &mut State<M>, newest: Record) ->
         }
     }
     Ok(())
+}
+
+/// Moves a memory back to the layout of the program before an online change, as `move_back` does, and makes what a scan of that
+/// program needs.
+fn go_back<M: Memory>(
+    alloc: Global,
+    memory: &mut M,
+    old: &Image,
+    new: &Layout,
+    saved: &Saved,
+    renames: &[Rename],
+) -> Result<(M, Stack), AllocError>
+    requires over { M.IsOver new.now memory.old }
+    requires fits { FitsSaved (leaves_of_program old.now) new.now saved.now renames.now }
+    ensures over { OnOk result (M.IsOver (leaves_of_program old.now) memory.new) }
+    ensures unmoved { OnOk result (M.content (leaves_of_program old.now) memory.new ≡ unmoved (leaves_of_program old.now) (pairs_between (leaves_of_program old.now) new.now renames.now) (M.content new.now memory.old) saved.now) }
+    ensures open { ForcesAreOpen new.now (M.content new.now memory.old).forced → OnOk result (ForcesAreOpen (leaves_of_program old.now) (M.content (leaves_of_program old.now) memory.new).forced) }
+    ensures second { IfOk result (λ room. M.IsOver (leaves_of_program old.now) room.0) }
+    ensures stack { IfOk result (λ room. HasRoom old.now room.1) }
+    ensures err { OnErr result (memory.new ≡ memory.old) }
+{
+    let room = room_for(alloc, old)?;
+    move_back(alloc, memory, old.layout(), new, saved, renames)?;
+    Ok(room)
 }
 
 /// Moves a memory back to the layout before an online change, by the plan that its renames give again. It is refused for want

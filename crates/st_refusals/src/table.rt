@@ -135,8 +135,8 @@ static COMMANDS: [Row; 13] = [
     ),
     (
         10,
-        "The program was halted by a fault.",
-        "See the fault with `status`, then correct the program with `change` or its values with `write`, and give `reset`.",
+        "The program was halted by a fault; or a body of it calls a function that the text declares, invokes a block or holds a chart, which isn't scanned yet.",
+        "See with `status` whether it is halted; then correct the program with `change` or its values with `write`, and give `reset`.",
     ),
     (
         11,

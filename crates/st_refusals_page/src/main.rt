@@ -36,15 +36,6 @@ fn heading(family: Family) -> &'static str {
     }
 }
 
-/// Whether a number is answered today. The others wait for what scans.
-fn is_answered(family: Family, number: u8) -> bool {
-    match family {
-        Family::Syntax | Family::Check => true,
-        Family::Operator => !matches!(number, 9 | 10 | 12),
-        Family::Fault => false,
-    }
-}
-
 fn main(rt: HostRuntime) -> io::Result<()> {
     println!(&rt; "{HEAD}")?;
     print_message(&rt)?;
@@ -94,12 +85,7 @@ fn print_family<R: Print>(rt: &R, family: Family) -> io::Result<()> {
 /// Prints what a number means, and its example.
 fn print_explanation<R: Print>(rt: &R, family: Family, explanation: Explanation) -> io::Result<()> {
     let number = explanation.number;
-    let mark = if is_answered(family, number) {
-        ""
-    } else {
-        " (not answered yet)"
-    };
-    println!(rt; "\n### {}{number}{mark}\n", family.letter())?;
+    println!(rt; "\n### {}{number}\n", family.letter())?;
     println!(rt; "{}\n", explanation.sentence)?;
     println!(rt; "To do: {}", explanation.advice)?;
     for example in &EXAMPLES {

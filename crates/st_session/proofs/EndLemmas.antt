@@ -3,9 +3,9 @@ use Rattle.std.proofs.Common.{◌≡◌, ℕ, zero, suc, List, [], ◌++◌, tak
 use Rattle.std.specs.Prelude.{nat_le}
 use Rattle.std.proofs.lemmas.Bool.{le-leb}
 use Rattle.std.proofs.lemmas.List.{take_all}
+use Rattle.st_devices.specs.Words.{words_of}
 use Rattle.st_session.specs.Commands.{is_end}
 use Rattle.st_session.specs.SourceTexts.{end_word}
-use Rattle.st_session.specs.Words.{words_of}
 
 -- a line that has only bytes of `end_change` so far ends the text if it has all ten
 pub is_end_front : (count : ℕ) → nat_le 10 count ≡ is_end (words_of (take count end_word ++ []))

@@ -1,11 +1,10 @@
 pub mod CommandLemmas
 pub mod EndLemmas
-pub mod LineLemmas
 pub mod Listings
 pub mod ReadLemmas
 pub mod RunLemmas
+pub mod SameLemmas
+pub mod ScanLemmas
 pub mod ServeLemmas
 pub mod SourceLemmas
 pub mod StepLemmas
-pub mod TakingLemmas
-pub mod WordLemmas

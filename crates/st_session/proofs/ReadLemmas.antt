@@ -2,13 +2,13 @@
 use Rattle.std.proofs.Common.{◌≡◌, ◌≢◌, ℕ, Bool, true, false, List, [], ◌∷◌, ◌++◌, inl, inr, refl, ap, sym, ◌∙◌, arith, append_assoc, append-nil}
 use Rattle.std.specs.Prelude.{Option, Some, None, if◌then◌else◌}
 use Rattle.std.specs.Option.{option_map_or}
+use Rattle.st_devices.specs.Lines.{Line, ended_line, last_line, lines_of, whole_lines_of}
+use Rattle.st_devices.specs.Pending.{NoLf, TakesLine, TakesPart}
 use Rattle.st_layout.specs.declared.renames.Rename.{Rename}
 use Rattle.st_session.specs.Commands.{Asked, Change, TakesCommand, TakesPartOf, asked_from, asked_of, begun_on, change_with, ends_text, new_change, whole_asked_of, whole_from, with_line}
-use Rattle.st_session.specs.Lines.{Line, ended_line, last_line, lines_of, whole_lines_of}
-use Rattle.st_session.specs.Pending.{NoLf, TakesLine, TakesPart}
 use Rattle.st_session.specs.SourceTexts.{Holds, HoldsText, TakesText}
 use Rattle.st_session.specs.declared.source_text.SourceText.{SourceText}
-use Rattle.st_session.proofs.LineLemmas.{NoLf-more, lines_of-ended, lines_of-last, whole_lines_of-ended, whole_lines_of-part}
+use Rattle.st_devices.proofs.LineLemmas.{NoLf-more, lines_of-ended, lines_of-last, whole_lines_of-ended, whole_lines_of-part}
 
 -- ---- lines
 

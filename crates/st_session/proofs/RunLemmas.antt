@@ -11,18 +11,18 @@ use Rattle.st_control.specs.Causes.{no_memory, no_such_line, too_long}
 use Rattle.st_control.specs.Machine.{Machine}
 use Rattle.st_control.specs.Texts.{Reads}
 use Rattle.st_control.specs.declared.refusal.Refusal.{Refusal}
+use Rattle.st_devices.specs.Lines.{Line}
+use Rattle.st_devices.specs.Pending.{OnBytes, OnReading, TakesLine}
+use Rattle.st_devices.specs.Words.{words_of}
 use Rattle.st_session.specs.Commands.{Asked, Change, asked_of, begun_on, whole_asked_of}
-use Rattle.st_session.specs.Lines.{Line}
-use Rattle.st_session.specs.Pending.{OnBytes, OnReading, TakesLine}
 use Rattle.st_session.specs.Replies.{ended, refusal_text, worse}
 use Rattle.st_session.specs.Requests.{RequestView, request_in, request_on}
 use Rattle.st_session.specs.Sessions.{AnswersAll, AnswersRead, DoesAsked, DoesFrom, DoesOne, LosesPart, StopsIn, Turns, TurnsOver}
 use Rattle.st_session.specs.Turns.{CanBeAsked, CanBeTaken, Follows, FollowsInParts, Taken, machine_after, replies, turn, worst}
 use Rattle.st_session.specs.declared.grade.Grade.{Grade}
 use Rattle.st_session.specs.declared.grade.Grade.TheVariants.{Accepted, Memory, Refused}
-use Rattle.st_session.specs.Words.{words_of}
 use Rattle.st_session.proofs.ReadLemmas.{TakesCommand-more, TakesCommand-one}
-use Rattle.st_session.proofs.TakingLemmas.{OnBytes-all, OnReading-end}
+use Rattle.st_devices.proofs.TakingLemmas.{OnBytes-all, OnReading-end}
 
 -- ---- lists of commands
 
@@ -228,8 +228,10 @@ some_way (RequestView.show path) m = (Taken.told (RequestView.show path), refl)
 some_way (RequestView.write path given) m = (Taken.told (RequestView.write path given), refl)
 some_way (RequestView.force path given) m = (Taken.told (RequestView.force path given), refl)
 some_way (RequestView.release path) m = (Taken.told (RequestView.release path), refl)
+some_way (RequestView.scan moment pairs) m = (Taken.told (RequestView.scan moment pairs), refl)
 some_way (RequestView.change renames) m = (Taken.told (RequestView.change renames), refl)
 some_way RequestView.undo m = (Taken.undone true, (true, inl refl, refl))
+some_way RequestView.reset m = (Taken.told RequestView.reset, refl)
 some_way RequestView.status m = (Taken.told RequestView.status, refl)
 some_way RequestView.unknown m = (Taken.told RequestView.unknown, refl)
 

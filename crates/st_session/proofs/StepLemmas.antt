@@ -5,15 +5,17 @@ use Rattle.std.proofs.lemmas.List.{length-reverse}
 use Rattle.st_control.specs.Changes.{counts_of}
 use Rattle.st_control.specs.Controllers.{ControllerView, Takes, TakesChange, machine_of, states_before}
 use Rattle.st_control.specs.Machine.{Command, Machine, step}
+use Rattle.st_control.specs.Scans.{Scan, TakesScan}
 use Rattle.st_control.specs.States.{StateView, undone}
 use Rattle.st_control.specs.declared.changing.Counts.{Counts}
 use Rattle.st_control.specs.declared.record.Record.{Record}
 use Rattle.st_control.specs.declared.refusal.Refusal.{Refusal}
+use Rattle.st_control.specs.declared.scanning.Scanned.{Scanned}
 use Rattle.st_layout.specs.declared.renames.Rename.{Rename}
 use Rattle.st_session.specs.Commands.{Asked, change_with}
-use Rattle.st_session.specs.Replies.{change_text, counts_text, ended, result_grade, result_text}
+use Rattle.st_session.specs.Replies.{change_text, counts_text, ended, result_grade, result_text, scan_grade, scan_text}
 use Rattle.st_session.specs.Sessions.{Does}
-use Rattle.st_session.specs.Turns.{CanBeTaken, Taken, change_stepped, shown, stepped}
+use Rattle.st_session.specs.Turns.{CanBeTaken, Taken, change_stepped, scan_stepped, shown, stepped}
 use Rattle.st_session.specs.declared.grade.Grade.{Grade}
 
 -- the turn of a command, from what the controller's call answers
@@ -67,6 +69,19 @@ module _ (renames : List Rename) where
         told = told ∙ sym (change_stepped-reply next old new result takes.2 is);
         graded = graded ∙ sym (change_stepped-grade next old new result takes.2);
       }
+
+-- the same of a scan
+pub scanned-machine : (next : Result Scan Refusal) (old new : ControllerView) (result : Result Scanned Refusal) → TakesScan next old result new → machine_of new ≡ (scan_stepped (machine_of old) next).machine
+scanned-machine (Ok scan) old new result takes = takes.1
+scanned-machine (Err refusal) old new result takes = ap machine_of takes.1
+
+pub scanned-reply : (next : Result Scan Refusal) (old new : ControllerView) (result : Result Scanned Refusal) → TakesScan next old result new → (scan_stepped (machine_of old) next).reply ≡ scan_text result
+scanned-reply (Ok scan) old new result takes = sym (ap scan_text takes.0)
+scanned-reply (Err refusal) old new result takes = sym (ap scan_text takes.0)
+
+pub scanned-grade : (next : Result Scan Refusal) (old new : ControllerView) (result : Result Scanned Refusal) → TakesScan next old result new → (scan_stepped (machine_of old) next).grade ≡ scan_grade result
+scanned-grade (Ok scan) old new result takes = sym (ap scan_grade takes.0)
+scanned-grade (Err refusal) old new result takes = sym (ap scan_grade takes.0)
 
 -- what is shown changes nothing
 pub shown-machine : (m : Machine) (leaf : Option ℕ) → m ≡ (shown m leaf).machine

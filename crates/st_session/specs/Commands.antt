@@ -2,10 +2,10 @@
 use Rattle.std.specs.Prelude.{ℕ, ◌≡◌, Bool, if◌then◌else◌, false, List, [], ◌∷◌, ◌++◌, Option, Some, None, codes}
 use Rattle.std.specs.Option.{option_map_or}
 use Rattle.std.specs.Str.{bytes_eq}
+use Rattle.st_devices.specs.Lines.{Line, lines_of, whole_lines_of}
+use Rattle.st_devices.specs.Words.{words_of}
 use Rattle.st_layout.specs.declared.renames.Rename.{Rename}
-use Rattle.st_session.specs.Lines.{Line, lines_of, whole_lines_of}
 use Rattle.st_session.specs.Requests.{RequestView, request_on}
-use Rattle.st_session.specs.Words.{words_of}
 
 -- a change: its renames, and its text, as far as it was read
 pub record Change : Type 0 where

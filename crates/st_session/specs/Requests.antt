@@ -1,22 +1,26 @@
 -- What the lines of a session ask for.
-use Rattle.std.specs.Prelude.{ℕ, Bool, List, [], ◌∷◌, if◌then◌else◌, codes, map, ◌==◌}
+use Rattle.std.specs.Prelude.{ℕ, ℤ, Bool, List, [], ◌∷◌, if◌then◌else◌, codes, map, ◌==◌}
 use Rattle.std.specs.List.{after_first, before_first, list_all, list_any}
+use Rattle.std.specs.Option.{option_map_or}
 use Rattle.std.specs.Str.{bytes_eq}
+use Rattle.st_devices.specs.Lines.{Line}
+use Rattle.st_devices.specs.Words.{words_of}
 use Rattle.st_layout.specs.declared.renames.Rename.{Rename}
-use Rattle.st_session.specs.Lines.{Line}
-use Rattle.st_session.specs.Words.{words_of}
+use Rattle.st_session.specs.ScanWords.{Pair, is_pair, moment_read, pairs_of}
 use Rattle.st_session.specs.declared.request.Request.{Request}
 use Rattle.st_session.specs.declared.request.Request.TheVariants as requests
 
--- what a line asks for: paths and values are texts
+-- what a line asks for: paths and values are texts, a moment is in milliseconds
 pub data RequestView : Type 0 where
   nothing : RequestView
   show : List ℕ → RequestView
   write : List ℕ → List ℕ → RequestView
   force : List ℕ → List ℕ → RequestView
   release : List ℕ → RequestView
+  scan : ℤ → List Pair → RequestView
   change : List Rename → RequestView
   undo : RequestView
+  reset : RequestView
   status : RequestView
   unknown : RequestView
 
@@ -43,6 +47,7 @@ renames_of words = map rename_of words
 abbrev pub word_request : List ℕ → RequestView
 word_request word =
     if bytes_eq word (codes "undo") then undo
+    else if bytes_eq word (codes "reset") then reset
     else if bytes_eq word (codes "status") then status
     else unknown
 
@@ -64,7 +69,12 @@ value_request word path value =
 abbrev pub change_request : List (List ℕ) → RequestView
 change_request words = if list_all has_equals words then change (renames_of words) else unknown
 
--- what a word that isn't `change` and these words ask for: other words, and other numbers of words, ask for nothing that there is
+-- what `scan` and these words ask for
+abbrev pub scan_request : List (List ℕ) → RequestView
+scan_request [] = unknown
+scan_request (word ∷ words) = if list_all is_pair words then option_map_or (λ moment. scan moment (pairs_of words)) (moment_read word) unknown else unknown
+
+-- what another word and these words ask for: other words, and other numbers of words, ask for nothing that there is
 abbrev pub command_request : List ℕ → List (List ℕ) → RequestView
 command_request word [] = word_request word
 command_request word (path ∷ []) = path_request word path
@@ -74,7 +84,10 @@ command_request word (path ∷ value ∷ next ∷ more) = unknown
 -- what the words of a line ask for
 abbrev pub request_in : List (List ℕ) → RequestView
 request_in [] = nothing
-request_in (word ∷ words) = if bytes_eq word (codes "change") then change_request words else command_request word words
+request_in (word ∷ words) =
+    if bytes_eq word (codes "change") then change_request words
+    else if bytes_eq word (codes "scan") then scan_request words
+    else command_request word words
 
 -- what a line asks for: one that is too long asks for nothing that there is
 abbrev pub request_on : Line → RequestView
@@ -89,7 +102,9 @@ request_of (requests.Show path) = show path.now
 request_of (requests.Write path value) = write path.now value.now
 request_of (requests.Force path value) = force path.now value.now
 request_of (requests.Release path) = release path.now
+request_of (requests.Scan moment pairs) = scan moment (pairs_of (words_of pairs.words.now))
 request_of (requests.Change words) = change (renames_of (words_of words.now))
 request_of requests.Undo = undo
+request_of requests.Reset = reset
 request_of requests.Status = status
 request_of requests.Unknown = unknown

@@ -1,9 +1,9 @@
 -- The text of a change, as far as its source lines were read.
 use Rattle.std.specs.Prelude.{ℕ, ◌≡◌, ◌≤◌, ◌+◌, ◌^◌, Bool, true, false, if◌then◌else◌, List, [], ◌∷◌, ◌++◌, length, min, take, codes, Some}
 use Rattle.std.specs.Str.Lines.{strip_carriage_return}
+use Rattle.st_devices.specs.Words.{words_of}
 use Rattle.st_layout.specs.declared.renames.Rename.{Rename}
 use Rattle.st_session.specs.Commands.{Asked, TakesCommand, change_with, is_end, new_change}
-use Rattle.st_session.specs.Words.{words_of}
 use Rattle.st_session.specs.declared.source_text.LineWord.{LineWord}
 use Rattle.st_session.specs.declared.source_text.LineWord.TheVariants.{Front, Whole, Other}
 use Rattle.st_session.specs.declared.source_text.Size.{Size}

@@ -2,19 +2,18 @@
 ghost use Rattle.std.specs.Prelude.{◌≡◌, ◌≤◌, List, ℕ, [], Some, IfOk, OnErr, OnOk, false, is_err, true};
 ghost use Rattle.st_control.specs.Changes.{counts_of};
 ghost use Rattle.st_control.specs.Controllers.{TakesChange, machine_of};
+ghost use Rattle.st_devices.specs.Inputs.{has_ended, left, pending};
+ghost use Rattle.st_devices.specs.Pending.{OnReading};
 ghost use Rattle.st_layout.specs.declared.renames.Rename.{Rename as RenameView};
 ghost use Rattle.st_session.specs.Commands.{TakesPartOf, new_change};
-ghost use Rattle.st_session.specs.Inputs.{left, pending};
-ghost use Rattle.st_session.specs.Pending.{OnReading};
 ghost use Rattle.st_session.specs.Sessions.{DoesOne};
 ghost use Rattle.st_session.specs.SourceTexts.{HoldsText};
 
-use crate::devices::{DeviceFault, Source};
 use crate::grade::Grade;
-use crate::input::Input;
 use crate::reply::Reply;
 use crate::source_text::{SourceText, read_text};
 use st_control::{Controller, Counts, NO_SUCH_LINE, Refusal};
+use st_devices::{DeviceFault, Input, Source};
 use st_layout::{Memory, Rename};
 use std::alloc::{AllocError, Global};
 
@@ -31,13 +30,13 @@ pub fn take_change<M: Memory, R: Source>(
     requires { R.has_failed source.old ≡ false }
     ensures ok { (wanted : List RenameView) → IfOk renames (λ given. given.items ≡ wanted) → IfOk result (λ grade. OnReading
         (pending input.old (R.rest source.old)) (pending input.new (R.rest source.new))
-        (DoesOne (Some (new_change wanted)) grade input.new.at_end (machine_of controller.old) (machine_of controller.new) reply.new)) }
+        (DoesOne (Some (new_change wanted)) grade (has_ended input.new) (machine_of controller.old) (machine_of controller.new) reply.new)) }
     ensures err { OnErr result (controller.new ≡ controller.old) }
     ensures read { (wanted : List RenameView) → OnErr result (OnReading
         (pending input.old (R.rest source.old)) (R.rest source.new) (TakesPartOf (Some (new_change wanted)))) }
-    ensures not_ended { OnErr result (input.old.at_end ≡ false) }
+    ensures not_ended { OnErr result (has_ended input.old ≡ false) }
     ensures steady { OnOk result (left input.new (R.reads_left source.new) ≤ left input.old (R.reads_left source.old)) }
-    ensures ended { input.old.at_end ≡ true → input.new.at_end ≡ true }
+    ensures ended { has_ended input.old ≡ true → has_ended input.new ≡ true }
     ensures failed { R.has_failed source.new ≡ is_err result }
 {
     let mut text = SourceText::new(alloc);

@@ -5,9 +5,9 @@ ghost use Rattle.st_control.specs.Texts.{OfCheck};
 ghost use Rattle.st_session.specs.Checks.{TellsAll, TellsPart};
 ghost use Rattle.st_session.specs.Replies.{ended};
 
-use crate::devices::Sink;
 use crate::run::{ACCEPTED, DEVICE_FAILED, NO_MEMORY, NO_PROGRAM, refuse, tell};
 use st_control::check_program;
+use st_devices::Sink;
 use std::alloc::Global;
 
 /// Checks a text as the program of the name `main`, ignoring case, and writes one line: `ok` where it is accepted, and else

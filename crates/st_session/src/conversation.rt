@@ -1,23 +1,24 @@
 //! A session: each command of a source is acted on, and its reply written to a sink.
-ghost use Rattle.std.specs.Prelude.{◌≡◌, ◌≤◌, ◌<◌, ◌↔◌, ◌||◌, ◌⊎◌, ℕ, [], true, false, take, IfOk, IsTrue, OnErr, OnOk, OnSome, is_err, vec_capacity};
-ghost use Rattle.std.specs.Io.KnownBytes.{Appends};
+ghost use Rattle.std.specs.Prelude.{◌≡◌, ◌≤◌, ◌<◌, ◌↔◌, ◌||◌, ◌⊎◌, [], true, false, IfOk, IsTrue, OnErr, OnOk, OnSome, is_err, length, vec_capacity};
 ghost use Rattle.st_control.specs.Controllers.{machine_of};
-ghost use Rattle.st_session.specs.Inputs.{left, pending, unread};
-ghost use Rattle.st_session.specs.Pending.{OnBytes, OnReading};
+ghost use Rattle.st_control.specs.States.{leaves_of};
+ghost use Rattle.st_devices.specs.Inputs.{has_ended, left, pending, unread};
+ghost use Rattle.st_devices.specs.Pending.{OnBytes, OnReading};
+ghost use Rattle.st_devices.specs.Words.{words_of};
 ghost use Rattle.st_session.specs.Commands.{TakesPartOf};
 ghost use Rattle.st_session.specs.Requests.{RequestView, request_in, request_of};
 ghost use Rattle.st_session.specs.Sessions.{AnswersAll, AnswersRead, Does, DoesAsked, DoesOver, LosesPart, LosesText, StopsIn, TurnsOver};
-ghost use Rattle.st_session.specs.Turns.{CanBeAsked, answer, value_given};
-ghost use Rattle.st_session.specs.Words.{words_of};
+ghost use Rattle.st_session.specs.Turns.{CanBeAsked, answer, leaf_value, value_given};
 
 use crate::change::take_change;
-use crate::devices::{DeviceFault, Sink, Source};
 use crate::grade::{Grade, worse};
-use crate::input::{Found, Input, MAX_LINE_BYTES};
 use crate::renames::read_renames;
 use crate::reply::Reply;
 use crate::request::{Request, read_request};
+use crate::scan_values::ScanValues;
+use crate::scanning::{reset, scan};
 use st_control::{Controller, NO_SUCH_LINE, NO_SUCH_PATH, Refusal};
+use st_devices::{DeviceFault, Found, Input, MAX_LINE_BYTES, Sink, Source, write_all};
 use st_layout::Memory;
 use st_values::{Elem, Value, read_value};
 use std::alloc::{AllocError, Global};
@@ -41,12 +42,20 @@ const VALUE_OF_NONE: Value = Value {
     bits: 2,
 };
 
+/// The value that a text is for a leaf. A text that is no value of the leaf's type counts as one of none.
+pub(crate) fn value_of_leaf<M: Memory>(controller: &Controller<M>, leaf: u32, text: &[u8]) -> Value
+    requires { leaf < length (leaves_of controller.now.state) }
+    ensures { result ≡ leaf_value (machine_of controller.now).state leaf text.now }
+{
+    read_value(controller.elem(leaf), text).unwrap_or(VALUE_OF_NONE)
+}
+
 /// The value that a text is for the leaf with this path. A text that is no value of the leaf's type counts as one of none.
 fn read_given<M: Memory>(controller: &Controller<M>, path: &[u8], text: &[u8]) -> Value
     ensures { result ≡ value_given (machine_of controller.now).state path.now text.now }
 {
     match controller.find(path) {
-        Some(leaf) => read_value(controller.elem(leaf), text).unwrap_or(VALUE_OF_NONE),
+        Some(leaf) => value_of_leaf(controller, leaf, text),
         None => VALUE_OF_NONE,
     }
 }
@@ -113,6 +122,7 @@ fn act<M: Memory>(
     alloc: Global,
     controller: &mut Controller<M>,
     request: Request<'_>,
+    values: &mut ScanValues,
     reply: &mut Reply,
 ) -> Grade
     ensures { Does (CanBeAsked (request_of request.entry) (machine_of controller.old)) result
@@ -127,24 +137,12 @@ fn act<M: Memory>(
         Request::Write(path, text) => write(controller, path, text, reply),
         Request::Force(path, text) => force(controller, path, text, reply),
         Request::Release(path) => reply.answer(controller.release(path)),
+        Request::Scan(moment, pairs) => scan(controller, moment, pairs, values, reply),
         Request::Undo => reply.answer(controller.undo(alloc)),
+        Request::Reset => reset(controller, reply),
         Request::Status => report(controller, reply),
         Request::Change(_) | Request::Unknown => reply.answer(Err(Refusal::O(NO_SUCH_LINE))),
     }
-}
-
-/// Writes all the bytes, in as many writes as it takes.
-pub fn write_all<W: Sink>(sink: &mut W, bytes: &[u8]) -> Result<(), DeviceFault>
-    requires { W.has_failed sink.old ≡ false }
-    ensures ok { OnOk result (Appends (W.taken sink.old) (W.taken sink.new) bytes.now) }
-    ensures err { OnErr result ((count : ℕ) × Appends (W.taken sink.old) (W.taken sink.new) (take count bytes.now)) }
-    ensures failed { W.has_failed sink.new ≡ is_err result }
-{
-    let mut at = 0;
-    while at < bytes.len() {
-        at += sink.write_some(&bytes[at..])?;
-    }
-    Ok(())
 }
 
 /// What a session makes room for before its first read.
@@ -153,6 +151,8 @@ struct Buffers {
     input: Input,
     /// The line that was taken last.
     line: Vec<u8>,
+    /// The values of the scan that was done last.
+    values: ScanValues,
     reply: Reply,
     ghost capacity: { 4096 ≤ vec_capacity line },
 }
@@ -161,11 +161,12 @@ impl Buffers {
     /// Buffers of which nothing is used yet.
     fn new(alloc: Global) -> Result<Self, AllocError>
         ensures unread { IfOk result (λ buffers. unread buffers.input ≡ []) }
-        ensures not_ended { IfOk result (λ buffers. buffers.input.at_end ≡ false) }
+        ensures not_ended { IfOk result (λ buffers. has_ended buffers.input ≡ false) }
     {
         Ok(Buffers {
             input: Input::new(alloc)?,
             line: Vec::with_capacity(alloc, MAX_LINE_BYTES)?,
+            values: ScanValues::new(alloc)?,
             reply: Reply::new(alloc)?,
         })
     }
@@ -181,14 +182,14 @@ fn take_command<M: Memory, R: Source>(
     requires { R.has_failed source.old ≡ false }
     ensures ok { IfOk result (λ grade. OnReading
         (pending buffers.old.input (R.rest source.old)) (pending buffers.new.input (R.rest source.new))
-        (DoesOver grade buffers.new.input.at_end (machine_of controller.old) (machine_of controller.new) buffers.new.reply)) }
+        (DoesOver grade (has_ended buffers.new.input) (machine_of controller.old) (machine_of controller.new) buffers.new.reply)) }
     ensures err { OnErr result (controller.new ≡ controller.old) }
     ensures read { OnErr result (OnReading
         (pending buffers.old.input (R.rest source.old)) (R.rest source.new) (TakesPartOf None)) }
-    ensures not_ended { OnErr result (buffers.old.input.at_end ≡ false) }
+    ensures not_ended { OnErr result (has_ended buffers.old.input ≡ false) }
     ensures progress { IfOk result (λ grade. OnSome grade (left buffers.new.input (R.reads_left source.new)
         < left buffers.old.input (R.reads_left source.old))) }
-    ensures ended { buffers.old.input.at_end ≡ true → buffers.new.input.at_end ≡ true }
+    ensures ended { has_ended buffers.old.input ≡ true → has_ended buffers.new.input ≡ true }
     ensures failed { R.has_failed source.new ≡ is_err result }
 {
     match buffers.input.next_line(source, &mut buffers.line)? {
@@ -206,19 +207,20 @@ fn do_line<M: Memory, R: Source>(
     source: &mut R,
     buffers: &mut Buffers,
 ) -> Result<Grade, DeviceFault>
-    requires { R.has_failed source.old ≡ false }
+    requires works { R.has_failed source.old ≡ false }
+    requires short { length buffers.old.line.items ≤ 4096 }
     ensures ok { IfOk result (λ grade. OnReading
         (pending buffers.old.input (R.rest source.old)) (pending buffers.new.input (R.rest source.new))
-        (DoesAsked (request_in (words_of buffers.old.line.items)) grade buffers.new.input.at_end
+        (DoesAsked (request_in (words_of buffers.old.line.items)) grade (has_ended buffers.new.input)
         (machine_of controller.old) (machine_of controller.new) buffers.new.reply)) }
     ensures err { OnErr result (controller.new ≡ controller.old) }
     ensures read { OnErr result (OnReading
         (pending buffers.old.input (R.rest source.old)) (R.rest source.new)
         (LosesText (request_in (words_of buffers.old.line.items)))) }
-    ensures not_ended { OnErr result (buffers.old.input.at_end ≡ false) }
+    ensures not_ended { OnErr result (has_ended buffers.old.input ≡ false) }
     ensures steady { OnOk result (left buffers.new.input (R.reads_left source.new)
         ≤ left buffers.old.input (R.reads_left source.old)) }
-    ensures ended { buffers.old.input.at_end ≡ true → buffers.new.input.at_end ≡ true }
+    ensures ended { has_ended buffers.old.input ≡ true → has_ended buffers.new.input ≡ true }
     ensures failed { R.has_failed source.new ≡ is_err result }
 {
     match read_request(buffers.line.as_slice()) {
@@ -233,7 +235,13 @@ fn do_line<M: Memory, R: Source>(
                 &mut buffers.reply,
             )
         }
-        request => Ok(act(alloc, controller, request, &mut buffers.reply)),
+        request => Ok(act(
+            alloc,
+            controller,
+            request,
+            &mut buffers.values,
+            &mut buffers.reply,
+        )),
     }
 }
 
@@ -249,17 +257,17 @@ fn turn<M: Memory, R: Source, W: Sink>(
     requires sink { W.has_failed sink.old ≡ false }
     ensures ok { IfOk result (λ grade. OnReading
         (pending buffers.old.input (R.rest source.old)) (pending buffers.new.input (R.rest source.new))
-        (TurnsOver grade buffers.new.input.at_end (machine_of controller.old) (machine_of controller.new)
+        (TurnsOver grade (has_ended buffers.new.input) (machine_of controller.old) (machine_of controller.new)
         (W.taken sink.old) (W.taken sink.new))) }
     ensures err { OnErr result (OnBytes (pending buffers.old.input (R.rest source.old))
         (StopsIn (machine_of controller.old) (machine_of controller.new) (W.taken sink.old) (W.taken sink.new))) }
     ensures read { R.has_failed source.new ≡ true → OnReading
         (pending buffers.old.input (R.rest source.old)) (R.rest source.new)
-        (LosesPart buffers.old.input.at_end (machine_of controller.old) (machine_of controller.new)
+        (LosesPart (has_ended buffers.old.input) (machine_of controller.old) (machine_of controller.new)
         (W.taken sink.old) (W.taken sink.new)) }
     ensures progress { IfOk result (λ grade. OnSome grade (left buffers.new.input (R.reads_left source.new)
         < left buffers.old.input (R.reads_left source.old))) }
-    ensures ended { buffers.old.input.at_end ≡ true → buffers.new.input.at_end ≡ true }
+    ensures ended { has_ended buffers.old.input ≡ true → has_ended buffers.new.input ≡ true }
     ensures failed { (R.has_failed source.new || W.has_failed sink.new) ≡ is_err result }
     ensures source { OnOk result (R.has_failed source.new ≡ false) }
     ensures sink { OnOk result (W.has_failed sink.new ≡ false) }

@@ -7,10 +7,10 @@ ghost use Rattle.st_session.specs.Layouts.{ListsAll, ListsPart, OfLayout};
 ghost use Rattle.st_session.specs.Listings.{leaf_lines};
 ghost use Rattle.st_session.specs.Replies.{ended};
 
-use crate::devices::Sink;
 use crate::listing::leaf_lines;
 use crate::run::{ACCEPTED, DEVICE_FAILED, NO_MEMORY, NO_PROGRAM, refuse, tell};
-use st_control::{Image, Refusal};
+use st_control::{Refusal, load_image};
+use st_devices::Sink;
 use std::alloc::Global;
 
 /// Checks a text as the program of the name `main`, ignoring case, and writes a line for each of its leaves, in order: the
@@ -48,6 +48,6 @@ fn lines_of(alloc: Global, text: &[u8], main: &[u8]) -> Result<Vec<u8>, Refusal>
     ensures refused { IfErr result (λ refusal. IsCheckedAs text.now main.now (Err refusal)) }
     ensures long { 2 ^ 20 < length text.now → result ≡ Err (Refusal.S 4 1) }
 {
-    let image = Image::load(alloc, text, main)?;
+    let image = load_image(alloc, text, main)?;
     leaf_lines(alloc, image.layout()).or(Err(Refusal::M))
 }

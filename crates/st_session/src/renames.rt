@@ -1,10 +1,10 @@
 //! The renames of an online change, from the words of its line.
 ghost use Rattle.std.specs.Prelude.{◌≡◌, ◌≤◌, IfOk, length};
 ghost use Rattle.std.specs.List.{after_first, before_first, position_or_len};
+ghost use Rattle.st_devices.specs.Words.{words_of};
 ghost use Rattle.st_session.specs.Requests.{is_equals, rename_of, renames_of};
-ghost use Rattle.st_session.specs.Words.{words_of};
 
-use crate::request::split_word;
+use st_devices::split_word;
 use st_layout::Rename;
 use st_tree::List;
 use std::alloc::{AllocError, Global};

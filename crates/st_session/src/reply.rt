@@ -1,12 +1,12 @@
 //! The reply to a line, put together in room that was made before.
 ghost use Rattle.std.specs.Prelude.{◌≡◌, ◌≤◌, ◌+◌, ◌<◌, ◌++◌, [], IfOk, OnOk, OnErr, is_err, length, true, false, if◌then◌else◌, codes};
 ghost use Rattle.std.specs.Fmt.{decimal};
-ghost use Rattle.st_session.specs.Replies.{change_text, counts_text, ended, fault_name, refusal_text, report_text, result_grade, result_text, shown_text, status_text};
+ghost use Rattle.st_session.specs.Replies.{change_text, counts_text, ended, fault_name, fault_text, refusal_text, report_text, result_grade, result_text, scan_grade, scan_text, shown_text, status_text};
 ghost use Rattle.st_values.specs.Texts.{signed_text, text};
 ghost use Rattle.st_values.specs.Values.{IsValue};
 
 use crate::grade::{Grade, grade_of};
-use st_control::{Counts, Refusal, Report, RunFaultKind, Status};
+use st_control::{Counts, Refusal, Report, RunFault, RunFaultKind, Scanned, Status};
 use st_values::{Elem, Value, put_value};
 use std::alloc::{AllocError, Global};
 use std::marker::Model;
@@ -70,6 +70,30 @@ impl Reply {
                 grade_of(refusal)
             }
         }
+    }
+
+    /// Makes it `ok`, the fault of a scan or a refusal, and answers its grade.
+    pub fn tell_scan(&mut self, done: Result<Scanned, Refusal>) -> Grade
+        ensures text { self.new ≡ scan_text done }
+        ensures grade { result ≡ scan_grade done }
+    {
+        match done {
+            Ok(Scanned::Done) => self.answer(Ok(())),
+            Ok(Scanned::Faulted(fault)) => self.tell_fault(fault),
+            Err(refusal) => self.answer(Err(refusal)),
+        }
+    }
+
+    /// Makes it the fault of a scan, and answers its grade.
+    fn tell_fault(&mut self, fault: RunFault) -> Grade
+        ensures text { self.new ≡ ended (codes "fault " ++ fault_text fault) }
+        ensures grade { result ≡ Grade.Refused }
+    {
+        self.clear();
+        self.put(b"fault ");
+        self.put_fault(fault);
+        self.put(b"\n");
+        Grade::Refused
     }
 
     /// Makes it the counts of a change or a refusal, and answers its grade.
@@ -172,13 +196,22 @@ impl Reply {
             }
             Status::Halted(fault) => {
                 self.put(b"halted ");
-                self.put(name_of(fault.kind));
-                self.put(b" ");
-                self.put(fault.unit.bytes());
-                self.put(b" line ");
-                self.put_number(fault.line);
+                self.put_fault(fault);
             }
         }
+    }
+
+    /// Puts a fault at its end.
+    fn put_fault(&mut self, fault: RunFault)
+        requires fits { length self.old + 161 ≤ 512 }
+        ensures text { self.new ≡ self.old ++ fault_text fault }
+        ensures len { length self.new ≤ length self.old + 161 }
+    {
+        self.put(name_of(fault.kind));
+        self.put(b" ");
+        self.put(fault.unit.bytes());
+        self.put(b" line ");
+        self.put_number(fault.line);
     }
 
     /// Puts a number at its end.

@@ -1,10 +1,13 @@
 //! What a line asks for.
 //!
 //! The words of a line are separated by spaces and tabs. Command words are in lower case.
-ghost use Rattle.std.specs.Prelude.{◌≡◌, ◌≤◌, ◌<◌, ◌∷◌, [], MatchOption, IfSome, length};
-ghost use Rattle.std.specs.List.{list_all, position_or_len, prefix_len};
-ghost use Rattle.st_session.specs.Requests.{change_request, command_request, has_equals, path_request, request_in, request_of, value_request, word_request};
-ghost use Rattle.st_session.specs.Words.{HasNoBlankFirst, is_blank, words_of};
+ghost use Rattle.std.specs.Prelude.{◌≡◌, ◌≤◌, length};
+ghost use Rattle.std.specs.List.{list_all};
+ghost use Rattle.st_devices.specs.Words.{words_of};
+ghost use Rattle.st_session.specs.Requests.{change_request, command_request, has_equals, path_request, request_in, request_of, scan_request, value_request, word_request};
+
+use crate::pairs::{Pairs, read_moment};
+use st_devices::split_word;
 
 /// What a line asks for. Paths and values are as the line has them.
 #[derive(Clone, Copy)]
@@ -19,10 +22,14 @@ pub enum Request<'a> {
     Force(&'a [u8], &'a [u8]),
     /// To let go of the leaf with this path.
     Release(&'a [u8]),
+    /// To scan at a moment, with the values that the pairs give.
+    Scan(i64, Pairs<'a>),
     /// To go on with the program of a text that follows. The words are renames.
     Change(&'a [u8]),
     /// To take back the newest command.
     Undo,
+    /// To begin again with the initial values.
+    Reset,
     /// How the controller stands.
     Status,
     /// Nothing that there is.
@@ -31,6 +38,7 @@ pub enum Request<'a> {
 
 /// What a line asks for.
 pub fn read_request(text: &[u8]) -> Request<'_>
+    requires { length text.now ≤ 4096 }
     ensures { request_of result ≡ request_in (words_of text.now) }
 {
     let Some((word, rest)) = split_word(text) else {
@@ -38,6 +46,8 @@ pub fn read_request(text: &[u8]) -> Request<'_>
     };
     if word == b"change".as_slice() {
         read_change(rest)
+    } else if word == b"scan".as_slice() {
+        read_scan(rest)
     } else {
         read_command(word, rest)
     }
@@ -68,7 +78,21 @@ fn are_renames(words: &[u8]) -> bool
     true
 }
 
-/// What a word that isn't `change` and the words of a text ask for.
+/// What `scan` and the words of a text ask for.
+fn read_scan(words: &[u8]) -> Request<'_>
+    requires { length words.now ≤ 4096 }
+    ensures { request_of result ≡ scan_request (words_of words.now) }
+{
+    let Some((word, rest)) = split_word(words) else {
+        return Request::Unknown;
+    };
+    match (Pairs::read(rest), read_moment(word)) {
+        (Some(pairs), Some(moment)) => Request::Scan(moment, pairs),
+        _ => Request::Unknown,
+    }
+}
+
+/// What another word and the words of a text ask for.
 fn read_command<'a>(word: &'a [u8], rest: &'a [u8]) -> Request<'a>
     ensures { request_of result ≡ command_request word.now (words_of rest.now) }
 {
@@ -90,6 +114,8 @@ fn from_one_word(word: &[u8]) -> Request<'_>
 {
     if word == b"undo".as_slice() {
         Request::Undo
+    } else if word == b"reset".as_slice() {
+        Request::Reset
     } else if word == b"status".as_slice() {
         Request::Status
     } else {
@@ -121,52 +147,4 @@ fn from_three_words<'a>(word: &[u8], path: &'a [u8], value: &'a [u8]) -> Request
     } else {
         Request::Unknown
     }
-}
-
-/// The first word of a text, and what stands after it.
-pub fn split_word(text: &[u8]) -> Option<(&[u8], &[u8])>
-    ensures words { MatchOption result (words_of text.now ≡ []) (λ split. words_of text.now ≡ split.0.now ∷ words_of split.1.now) }
-    ensures shorter { IfSome result (λ split. length split.1.now < length text.now) }
-{
-    let text = skip_blanks(text);
-    if text.is_empty() {
-        return None;
-    }
-    Some(text.split_at(word_len(text)))
-}
-
-/// A text without the blanks that it begins with.
-fn skip_blanks(text: &[u8]) -> &[u8]
-    ensures words { words_of result.now ≡ words_of text.now }
-    ensures first { HasNoBlankFirst result.now }
-    ensures shorter { length result.now ≤ length text.now }
-{
-    text.split_at(blank_len(text)).1
-}
-
-/// How many blanks a text begins with.
-fn blank_len(text: &[u8]) -> usize
-    ensures value { result ≡ prefix_len is_blank text.now }
-    ensures within { result ≤ length text.now }
-{
-    text.iter()
-        .take_while(|byte| is_space_or_tab(**byte))
-        .count()
-}
-
-/// How many bytes stand before the first blank.
-fn word_len(text: &[u8]) -> usize
-    ensures value { result ≡ position_or_len is_blank text.now }
-    ensures within { result ≤ length text.now }
-{
-    text.iter()
-        .take_while(|byte| !is_space_or_tab(**byte))
-        .count()
-}
-
-/// Tests whether a byte is a space or a tab.
-pub fn is_space_or_tab(byte: u8) -> bool
-    ensures { result ≡ is_blank byte }
-{
-    byte == b' ' || byte == b'\t'
 }

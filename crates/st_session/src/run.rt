@@ -3,14 +3,14 @@ ghost use Rattle.std.specs.Prelude.{◌≡◌, ◌≢◌, ◌<◌, ◌^◌, ◌�
 ghost use Rattle.std.specs.Io.KnownBytes.{Appends};
 ghost use Rattle.st_control.specs.Causes.{too_long};
 ghost use Rattle.st_control.specs.Loads.{OfLoad};
-ghost use Rattle.st_session.specs.Pending.{OnBytes, OnReading};
+ghost use Rattle.st_devices.specs.Pending.{OnBytes, OnReading};
 ghost use Rattle.st_session.specs.Replies.{ended};
 ghost use Rattle.st_session.specs.Runs.{OfProgram, WritesAll, WritesPart, WritesRead, refusal_status};
 
-use crate::conversation::{Outcome, session, write_all};
-use crate::devices::{Sink, Source};
+use crate::conversation::{Outcome, session};
 use crate::reply::Reply;
 use st_control::{Controller, Refusal};
+use st_devices::{Sink, Source, write_all};
 use st_layout::Cells;
 use std::alloc::Global;
 

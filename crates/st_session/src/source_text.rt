@@ -3,18 +3,16 @@
 //! A text that grows too long, or finds no memory, is still read to its end. What is known of it then is that it did.
 ghost use Rattle.std.specs.Prelude.{◌≡◌, ◌≢◌, ◌≤◌, ◌<◌, ◌^◌, ◌++◌, ◌∷◌, ℕ, List, [], Some, Err, IfErr, IfOk, OnErr, OnOk, false, is_err, length, slice_index, true};
 ghost use Rattle.st_control.specs.Texts.{IsCheckedAs};
+ghost use Rattle.st_devices.specs.Inputs.{has_ended, left, pending};
+ghost use Rattle.st_devices.specs.Lines.{ended_line, last_line};
+ghost use Rattle.st_devices.specs.Pending.{OnReading};
+ghost use Rattle.st_devices.specs.Words.{words_of};
 ghost use Rattle.st_layout.specs.declared.renames.Rename.{Rename};
 ghost use Rattle.st_session.specs.Commands.{TakesPartOf, ends_text, is_end, new_change};
-ghost use Rattle.st_session.specs.Inputs.{left, pending};
-ghost use Rattle.st_session.specs.Lines.{ended_line, last_line};
-ghost use Rattle.st_session.specs.Pending.{OnReading};
 ghost use Rattle.st_session.specs.SourceTexts.{Holds, HoldsLine, HoldsText, IsStored, TakesText, end_word, ends_with};
-ghost use Rattle.st_session.specs.Words.{words_of};
 
-use crate::devices::{DeviceFault, Source};
-use crate::input::Input;
-use crate::request::is_space_or_tab;
 use st_control::Refusal;
+use st_devices::{DeviceFault, Input, Source, is_space_or_tab};
 use st_tokens::MAX_TEXT_BYTES;
 use std::alloc::Global;
 
@@ -238,12 +236,12 @@ pub fn read_text<R: Source>(
     requires empty { Holds text.old [] [] }
     ensures ok { (renames : List Rename) → IfOk result (λ is_ended. OnReading
         (pending input.old (R.rest source.old)) (pending input.new (R.rest source.new))
-        (TakesText renames is_ended input.new.at_end text.new)) }
+        (TakesText renames is_ended (has_ended input.new) text.new)) }
     ensures err { (renames : List Rename) → OnErr result (OnReading
         (pending input.old (R.rest source.old)) (R.rest source.new) (TakesPartOf (Some (new_change renames)))) }
-    ensures not_ended { OnErr result (input.old.at_end ≡ false) }
+    ensures not_ended { OnErr result (has_ended input.old ≡ false) }
     ensures steady { OnOk result (left input.new (R.reads_left source.new) ≤ left input.old (R.reads_left source.old)) }
-    ensures ended { input.old.at_end ≡ true → input.new.at_end ≡ true }
+    ensures ended { has_ended input.old ≡ true → has_ended input.new ≡ true }
     ensures failed { R.has_failed source.new ≡ is_err result }
 {
     while let Some(byte) = input.next_byte(source)? {

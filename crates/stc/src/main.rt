@@ -7,9 +7,9 @@ ghost use Rattle.std.specs.IoError.{error_kind};
 ghost use Rattle.clap.specs.Words.{Text, kind_of};
 ghost use Rattle.st_control.specs.Loads.{OfLoad};
 ghost use Rattle.st_control.specs.Texts.{OfCheck};
+ghost use Rattle.st_devices.specs.Pending.{OnBytes, OnReading};
 ghost use Rattle.st_session.specs.Checks.{TellsAll, TellsPart};
 ghost use Rattle.st_session.specs.Layouts.{ListsAll, ListsPart, OfLayout};
-ghost use Rattle.st_session.specs.Pending.{OnBytes, OnReading};
 ghost use Rattle.st_session.specs.Replies.{ended};
 ghost use Rattle.st_session.specs.Runs.{OfProgram, WritesAll, WritesPart, WritesRead};
 ghost use Rattle.stc.specs.Statuses.{EndsAsCheck, EndsAsChecked, EndsAsLaidOut, EndsAsLayout, EndsAsLoaded, EndsAsRun, EndsBy, EndsByWords, error_status};
@@ -18,9 +18,9 @@ mod refused;
 
 use crate::refused::diagnosis;
 use clap::error::ErrorKind;
+use st_devices::{FromReader, Sink, Source, ToWriter};
 use st_session::{
-    ACCEPTED, DEVICE_FAILED, FromReader, NO_MEMORY, NO_PROGRAM, Sink, Source, ToWriter, check_text,
-    layout_text, run_text,
+    ACCEPTED, DEVICE_FAILED, NO_MEMORY, NO_PROGRAM, check_text, layout_text, run_text,
 };
 use st_tokens::MAX_TEXT_BYTES;
 use st_words::{Order, Verb, read_words};

@@ -1,14 +1,15 @@
 use Rattle.std.proofs.Common.{false, refl, true}
 use Rattle.std.specs.Prelude.{Some}
 use Rattle.st_control.specs.Controllers.{machine_of}
+use Rattle.st_devices.specs.Inputs.{has_ended, pending}
 use Rattle.st_session.specs.Commands.{Asked, change_with, new_change}
-use Rattle.st_session.specs.Inputs.{pending}
 use Rattle.st_session.specs.Requests.{RequestView}
 use Rattle.st_session.specs.Sessions.{DoesOne}
 use Rattle.st_session.specs.SourceTexts.{TakesText}
 use Rattle.st_session.specs.Turns.{Taken}
 use Rattle.st_session.proofs.StepLemmas.{Does-change}
-use Rattle.st_session.proofs.TakingLemmas.{OnReading-then, TakesText-same}
+use Rattle.st_devices.proofs.TakingLemmas.{OnReading-then}
+use Rattle.st_session.proofs.SameLemmas.{TakesText-same}
 use Rattle.st_session.proofs.change.take_change.Goals as goal
 
 -- the text was ended
@@ -16,7 +17,7 @@ pub returns-then-branch-clause-ok : goal.returns-then-branch-clause-ok
 returns-then-branch-clause-ok g c = λ wanted given.
     let first = pending c.args.input.now (g.R.Source.rest c.args.source.now) in
     let after = pending c.read_text.new.input (g.R.Source.rest c.read_text.new.source) in
-    let at_end = c.read_text.new.input.at_end in
+    let at_end = has_ended c.read_text.new.input in
     let old = c.args.controller.now in
     let new = c.go_over.new.controller in
     OnReading-then first after (TakesText wanted true at_end c.read_text.new.text)
@@ -34,7 +35,7 @@ pub returns-else-branch-clause-ok : goal.returns-else-branch-clause-ok
 returns-else-branch-clause-ok g c = λ wanted given.
     let first = pending c.args.input.now (g.R.Source.rest c.args.source.now) in
     let after = pending c.read_text.new.input (g.R.Source.rest c.read_text.new.source) in
-    let at_end = c.read_text.new.input.at_end in
+    let at_end = has_ended c.read_text.new.input in
     let m = machine_of c.args.controller.now in
     OnReading-then first after (TakesText wanted false at_end c.read_text.new.text) (DoesOne (Some (new_change wanted)) c.answer.result at_end m m c.answer.new.self)
     (λ x y taken. record {

@@ -1,10 +1,12 @@
-use Rattle.std.proofs.Common.{inl, inr, refl, sym, ◌∙◌}
+use Rattle.std.proofs.Common.{rules, ℤ, FitsSigned, ap, inl, inr, refl, sym, w64, ◌∙◌}
+use Rattle.std.proofs.lemmas.Int.{to_z-of_z}
 use Rattle.st_control.specs.Controllers.{machine_of}
 use Rattle.st_control.specs.Machine.{Command, step, undo_step}
 use Rattle.st_control.specs.States.{leaf_of}
+use Rattle.st_devices.specs.Words.{words_of}
 use Rattle.st_session.specs.Requests.{RequestView, renames_of}
-use Rattle.st_session.specs.Turns.{Taken}
-use Rattle.st_session.specs.Words.{words_of}
+use Rattle.st_session.specs.ScanWords.{pairs_of}
+use Rattle.st_session.specs.Turns.{Taken, inputs_given, scanned}
 use Rattle.st_session.proofs.StepLemmas.{shown-machine, stepped-grade, stepped-machine, stepped-reply}
 use Rattle.st_session.proofs.conversation.act.Goals as goal
 
@@ -50,6 +52,23 @@ returns-in-Release g c =
       told = c.answer.ensures.text ∙ sym (stepped-reply next old c.release.new.self c.release.result c.release.ensures.step);
       graded = c.answer.ensures.grade ∙ sym (stepped-grade next old c.release.new.self c.release.result c.release.ensures.step);
     })
+
+pub returns-in-Scan : goal.returns-in-Scan
+returns-in-Scan g c =
+    let fits : FitsSigned w64 c.in-Scan.moment = search rules in
+    let same = to_z-of_z w64 c.in-Scan.moment fits in
+    let m = machine_of c.args.controller.now in
+    let inputs = inputs_given m.state (pairs_of (words_of c.in-Scan.pairs.words.now)) in
+    rw c.in-Scan.is (record {
+      taken = Taken.told (RequestView.scan c.in-Scan.moment (pairs_of (words_of c.in-Scan.pairs.words.now)));
+      can = refl;
+      machine = c.scan.ensures.machine ∙ ap (λ (moment : ℤ). (scanned moment m inputs).machine) same;
+      told = c.scan.ensures.reply ∙ ap (λ (moment : ℤ). (scanned moment m inputs).reply) same;
+      graded = c.scan.ensures.grade ∙ ap (λ (moment : ℤ). (scanned moment m inputs).grade) same;
+    })
+
+pub returns-in-Reset : goal.returns-in-Reset
+returns-in-Reset g c = rw c.in-Reset.is (record { taken = Taken.told RequestView.reset; can = refl; machine = c.reset.ensures.machine; told = c.reset.ensures.reply; graded = c.reset.ensures.grade })
 
 pub returns-in-Undo : goal.returns-in-Undo
 returns-in-Undo g c =

@@ -1,18 +1,19 @@
 use Rattle.std.specs.Prelude.{None, Some}
 use Rattle.st_control.specs.Controllers.{machine_of}
-use Rattle.st_session.specs.Inputs.{pending}
+use Rattle.st_devices.specs.Inputs.{has_ended, pending}
 use Rattle.st_session.specs.Replies.{worse}
 use Rattle.st_session.specs.Sessions.{AnswersAll, AnswersRead, LosesPart, StopsIn, TurnsOver}
 use Rattle.st_session.specs.declared.grade.Grade.TheVariants.{Accepted}
 use Rattle.st_session.proofs.RunLemmas.{AnswersAll-SoFar, AnswersRead-SoFar, SoFar, SoFar-more, StopsIn-SoFar, none_answered}
-use Rattle.st_session.proofs.TakingLemmas.{OnErr-from, OnReading-OnBytes, OnReading-end, OnReading-same, OnReading-trans, TurnsOver-same, not_ended_before}
+use Rattle.st_devices.proofs.TakingLemmas.{OnErr-from, OnReading-OnBytes, OnReading-end, OnReading-same, OnReading-trans, not_ended_before}
+use Rattle.st_session.proofs.SameLemmas.{TurnsOver-same}
 use Rattle.st_session.proofs.conversation.answer_all.Goals as goal
 
 pub loop-grade-init : goal.loop-grade-init
 loop-grade-init g c =
     let old = machine_of c.args.controller.now in
     let told = g.W.Sink.taken c.args.sink.now in
-    let at_end = c.args.buffers.now.input.at_end in
+    let at_end = has_ended c.args.buffers.now.input in
     record {
       so_far = OnReading-same (pending c.args.buffers.now.input (g.R.Source.rest c.args.source.now)) (SoFar at_end old old told told Accepted) (none_answered at_end old told);
       source = c.requires.source;
@@ -23,7 +24,7 @@ pub returns-in_err-grade-clause-err : goal.returns-in_err-grade-clause-err
 returns-in_err-grade-clause-err g c =
     let first = pending c.args.buffers.now.input (g.R.Source.rest c.args.source.now) in
     let before = pending c.loop-grade.buffers.input (g.R.Source.rest c.loop-grade.source) in
-    let at_end = c.loop-grade.buffers.input.at_end in
+    let at_end = has_ended c.loop-grade.buffers.input in
     let old = machine_of c.args.controller.now in
     let mid = machine_of c.loop-grade.controller in
     let new = machine_of c.turn.new.controller in
@@ -40,7 +41,7 @@ returns-in_err-grade-clause-read g c =
     let first = pending c.args.buffers.now.input (g.R.Source.rest c.args.source.now) in
     let before = pending c.loop-grade.buffers.input (g.R.Source.rest c.loop-grade.source) in
     let after = g.R.Source.rest c.turn.new.source in
-    let at_end = c.loop-grade.buffers.input.at_end in
+    let at_end = has_ended c.loop-grade.buffers.input in
     let old = machine_of c.args.controller.now in
     let mid = machine_of c.loop-grade.controller in
     let new = machine_of c.turn.new.controller in
@@ -57,8 +58,8 @@ loop-grade-preserved g c =
     let first = pending c.args.buffers.now.input (g.R.Source.rest c.args.source.now) in
     let before = pending c.loop-grade.buffers.input (g.R.Source.rest c.loop-grade.source) in
     let after = pending c.turn.new.buffers.input (g.R.Source.rest c.turn.new.source) in
-    let was_end = c.loop-grade.buffers.input.at_end in
-    let at_end = c.turn.new.buffers.input.at_end in
+    let was_end = has_ended c.loop-grade.buffers.input in
+    let at_end = has_ended c.turn.new.buffers.input in
     let old = machine_of c.args.controller.now in
     let mid = machine_of c.loop-grade.controller in
     let new = machine_of c.turn.new.controller in
@@ -82,8 +83,8 @@ returns-clause-ok g c =
     let first = pending c.args.buffers.now.input (g.R.Source.rest c.args.source.now) in
     let before = pending c.loop-grade.buffers.input (g.R.Source.rest c.loop-grade.source) in
     let after = pending c.turn.new.buffers.input (g.R.Source.rest c.turn.new.source) in
-    let was_end = c.loop-grade.buffers.input.at_end in
-    let at_end = c.turn.new.buffers.input.at_end in
+    let was_end = has_ended c.loop-grade.buffers.input in
+    let at_end = has_ended c.turn.new.buffers.input in
     let old = machine_of c.args.controller.now in
     let mid = machine_of c.loop-grade.controller in
     let new = machine_of c.turn.new.controller in

@@ -1,11 +1,11 @@
 use Rattle.std.proofs.Common.{◌≡◌, ap, refl, sym, ◌∙◌}
 use Rattle.std.specs.Prelude.{Some}
+use Rattle.st_devices.specs.Inputs.{pending}
+use Rattle.st_devices.specs.Words.{words_of}
 use Rattle.st_session.specs.Commands.{TakesPartOf, new_change}
-use Rattle.st_session.specs.Inputs.{pending}
 use Rattle.st_session.specs.Requests.{RequestView, renames_of, request_in, request_of}
 use Rattle.st_session.specs.Sessions.{LosesText}
-use Rattle.st_session.specs.Words.{words_of}
-use Rattle.st_session.proofs.TakingLemmas.{OnErr-then, OnReading-then}
+use Rattle.st_devices.proofs.TakingLemmas.{OnErr-then, OnReading-then}
 use Rattle.st_session.proofs.conversation.do_line.Goals as goal
 
 pub returns-in-Change-clause-ok : goal.returns-in-Change-clause-ok

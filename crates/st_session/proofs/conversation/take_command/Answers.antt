@@ -1,16 +1,16 @@
 use Rattle.std.proofs.Common.{false}
 use Rattle.std.specs.Prelude.{None}
 use Rattle.st_control.specs.Controllers.{machine_of}
+use Rattle.st_devices.specs.Inputs.{has_ended, pending}
+use Rattle.st_devices.specs.Pending.{TakesFound, TakesPart}
+use Rattle.st_devices.specs.Words.{words_of}
+use Rattle.st_devices.specs.declared.input.Found.TheVariants as findings
 use Rattle.st_session.specs.Commands.{TakesPartOf}
-use Rattle.st_session.specs.Inputs.{pending}
-use Rattle.st_session.specs.Pending.{TakesFound, TakesPart}
 use Rattle.st_session.specs.Requests.{request_in}
 use Rattle.st_session.specs.Sessions.{DoesAsked, DoesOne, LosesText}
-use Rattle.st_session.specs.Words.{words_of}
-use Rattle.st_session.specs.declared.input.Found.TheVariants as findings
 use Rattle.st_session.proofs.ReadLemmas.{TakesPartOf-line, TakesPartOf-more}
 use Rattle.st_session.proofs.RunLemmas.{DoesOne-line, DoesOne-long}
-use Rattle.st_session.proofs.TakingLemmas.{OnErr-from, OnReading-then, OnReading-trans, TakesFound-same, not_ended_before}
+use Rattle.st_devices.proofs.TakingLemmas.{OnErr-from, OnReading-then, OnReading-trans, TakesFound-same, not_ended_before}
 use Rattle.st_session.proofs.conversation.take_command.Goals as goal
 
 -- the source failed within a line
@@ -26,7 +26,7 @@ returns-in_err-do_line-in-Line-clause-read g c =
     let first = pending c.args.buffers.now.input (g.R.Source.rest c.args.source.now) in
     let before = pending c.next_line.new.self (g.R.Source.rest c.next_line.new.source) in
     let rest = g.R.Source.rest c.do_line.new.source in
-    let at_end = c.next_line.new.self.at_end in
+    let at_end = has_ended c.next_line.new.self in
     let text = c.next_line.new.line.items in
     OnErr-from c.from_residual-in_err-do_line-in-Line.result
     (OnReading-trans first before rest (TakesFound findings.Line at_end text) (LosesText (request_in (words_of text))) (TakesPartOf None)
@@ -39,7 +39,7 @@ pub returns-in-TooLong-clause-ok : goal.returns-in-TooLong-clause-ok
 returns-in-TooLong-clause-ok g c =
     let first = pending c.args.buffers.now.input (g.R.Source.rest c.args.source.now) in
     let after = pending c.next_line.new.self (g.R.Source.rest c.next_line.new.source) in
-    let at_end = c.next_line.new.self.at_end in
+    let at_end = has_ended c.next_line.new.self in
     let text = c.next_line.new.line.items in
     let m = machine_of c.args.controller.now in
     OnReading-then first after (TakesFound findings.TooLong at_end text) (DoesOne None c.answer.result at_end m m c.answer.new.self)
@@ -52,8 +52,8 @@ returns-in_ok-do_line-in-Line-clause-ok g c =
     let first = pending c.args.buffers.now.input (g.R.Source.rest c.args.source.now) in
     let before = pending c.next_line.new.self (g.R.Source.rest c.next_line.new.source) in
     let after = pending c.do_line.new.buffers.input (g.R.Source.rest c.do_line.new.source) in
-    let was_end = c.next_line.new.self.at_end in
-    let at_end = c.do_line.new.buffers.input.at_end in
+    let was_end = has_ended c.next_line.new.self in
+    let at_end = has_ended c.do_line.new.buffers.input in
     let text = c.next_line.new.line.items in
     let old = machine_of c.args.controller.now in
     let new = machine_of c.do_line.new.controller in

@@ -1,6 +1,6 @@
 use Rattle.std.proofs.Common.{◌≡◌, ◌++◌, length}
+use Rattle.st_devices.specs.Words.{words_of}
 use Rattle.st_session.specs.Requests.{renames_of}
-use Rattle.st_session.specs.Words.{words_of}
 use Rattle.st_session.proofs.renames.read_renames.Given as goal
 
 abbrev pub invariant-loop-word : goal.invariant-loop-word

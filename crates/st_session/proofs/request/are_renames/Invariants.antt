@@ -1,7 +1,7 @@
 use Rattle.std.proofs.Common.{◌≡◌, length}
 use Rattle.std.specs.List.{list_all}
+use Rattle.st_devices.specs.Words.{words_of}
 use Rattle.st_session.specs.Requests.{has_equals}
-use Rattle.st_session.specs.Words.{words_of}
 use Rattle.st_session.proofs.request.are_renames.Given as goal
 
 abbrev pub invariant-loop-word : goal.invariant-loop-word

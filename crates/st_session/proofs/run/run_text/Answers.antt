@@ -3,7 +3,7 @@ use Rattle.std.specs.Prelude.{Err}
 use Rattle.st_control.specs.Loads.{OfLoad}
 use Rattle.st_session.specs.Runs.{WritesAll}
 use Rattle.st_session.proofs.ServeLemmas.{WritesAll-memory, WritesPart-refused, long_checked, long_written}
-use Rattle.st_session.proofs.TakingLemmas.{OnBytes-all}
+use Rattle.st_devices.proofs.TakingLemmas.{OnBytes-all}
 use Rattle.st_session.proofs.run.run_text.Goals as goal
 
 pub returns-in-Err-clause-all : goal.returns-in-Err-clause-all

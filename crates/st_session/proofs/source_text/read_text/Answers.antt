@@ -1,11 +1,11 @@
 use Rattle.std.proofs.Common.{◌≡◌, ◌<◌, true, ap, ◌∙◌, arith}
 use Rattle.std.specs.Prelude.{Some, None}
+use Rattle.st_devices.specs.Inputs.{has_ended, left, pending, unread}
+use Rattle.st_devices.specs.Pending.{TakesByte}
 use Rattle.st_session.specs.Commands.{TakesPartOf, new_change}
-use Rattle.st_session.specs.Inputs.{pending, left, unread}
-use Rattle.st_session.specs.Pending.{TakesByte}
 use Rattle.st_session.specs.SourceTexts.{TakesText}
 use Rattle.st_session.proofs.ReadLemmas.{TakesPartOf-text, TakesText-end, TakesText-line, TextSoFar, TextSoFar-byte, TextSoFar-line}
-use Rattle.st_session.proofs.TakingLemmas.{OnErr-from, OnReading-trans, TakesByte-same, takes_nothing}
+use Rattle.st_devices.proofs.TakingLemmas.{OnErr-from, OnReading-trans, TakesByte-same, takes_nothing}
 use Rattle.st_session.proofs.source_text.read_text.Goals as goal
 
 -- another byte of a line
@@ -47,7 +47,7 @@ returns-then-end_line-clause-ok g c = λ renames.
     let first = pending c.args.input.now (g.R.Source.rest c.args.source.now) in
     let before = pending c.loop-byte.input (g.R.Source.rest c.loop-byte.source) in
     let after = pending c.next_byte.new.self (g.R.Source.rest c.next_byte.new.source) in
-    let at_end = c.next_byte.new.self.at_end in
+    let at_end = has_ended c.next_byte.new.self in
     OnReading-trans first before after (TextSoFar renames c.loop-byte.text) (TakesByte (Some 10)) (TakesText renames true at_end c.end_line.new.self)
     (λ x y z so next. TakesText-line renames c.loop-byte.text c.end_line.new.self at_end x y z c.end_line.result so next c.end_line.ensures.end c.if-end_line.true (c.end_line.ensures.text c.if-end_line.true))
     (c.loop-byte.invariant.so_far renames) (TakesByte-same c.in_ok-byte.field-0 (Some 10) before after c.in_ok-byte.ensures.bytes (c.in-Some.is ∙ ap (λ n. Some n) c.if-byte-ne10.false))
@@ -58,7 +58,7 @@ returns-clause-ok g c = λ renames.
     let first = pending c.args.input.now (g.R.Source.rest c.args.source.now) in
     let before = pending c.loop-byte.input (g.R.Source.rest c.loop-byte.source) in
     let after = pending c.next_byte.new.self (g.R.Source.rest c.next_byte.new.source) in
-    let at_end = c.next_byte.new.self.at_end in
+    let at_end = has_ended c.next_byte.new.self in
     let ended : at_end ≡ true = c.in_ok-byte.ensures.at_end c.in_default.is in
     OnReading-trans first before after (TextSoFar renames c.loop-byte.text) (TakesByte None) (TakesText renames c.end_input.result at_end c.end_input.new.self)
     (λ x y z so none. TakesText-end renames c.loop-byte.text c.end_input.new.self at_end x y z c.end_input.result so none ended c.end_input.ensures.end c.end_input.ensures.text)
@@ -74,4 +74,4 @@ returns-in_err-byte-clause-err g c = λ renames.
     OnErr-from c.from_residual.result (OnReading-trans first before after (TextSoFar renames c.loop-byte.text) (λ x y. x ≡ y) (TakesPartOf (Some (new_change renames)))
     (λ x y z so same. TakesPartOf-text renames c.loop-byte.text x y z so same)
     (c.loop-byte.invariant.so_far renames)
-    (takes_nothing (unread c.loop-byte.input) c.loop-byte.input.at_end rest after c.in_err-byte.ensures.empty.0 c.in_err-byte.ensures.empty.1 c.in_err-byte.ensures.err))
+    (takes_nothing (unread c.loop-byte.input) (has_ended c.loop-byte.input) rest after c.in_err-byte.ensures.empty.0 c.in_err-byte.ensures.empty.1 c.in_err-byte.ensures.err))

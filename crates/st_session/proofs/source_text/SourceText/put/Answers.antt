@@ -1,6 +1,6 @@
 use Rattle.std.proofs.Common.{[], ◌∷◌, ◌++◌, List, ℕ, ap, append_assoc, sym, ◌∙◌}
+use Rattle.st_devices.specs.Words.{words_of}
 use Rattle.st_session.specs.Commands.{is_end}
-use Rattle.st_session.specs.Words.{words_of}
 use Rattle.st_session.proofs.SourceLemmas.{front_more}
 use Rattle.st_session.proofs.source_text.SourceText.put.Goals as goal
 

@@ -1,6 +1,0 @@
-use Rattle.std.proofs.Common.{◌∙◌, ap}
-use Rattle.st_check.specs.Programs.{text_of}
-use Rattle.st_control.proofs.image.Image.load.Goals as goal
-
-pub returns-clause-only : goal.returns-clause-only
-returns-clause-only c = λ units accepted. ap text_of c.in_ok-of.ensures ∙ c.in_ok-program.ensures.only units accepted

@@ -1,0 +1,162 @@
+//! The lines of a source, taken one by one.
+//!
+//! A line ends at an LF, and a CR right before it is dropped. The last line may lack its LF. A line of more than 4,096
+//! bytes before its LF is passed over.
+ghost use Rattle.std.specs.Prelude.{◌≡◌, ◌≤◌, ◌<◌, true, false, Some, None, IfOk, OnErr, OnOk, OnSome, is_err, [], length, vec_len, vec_capacity};
+ghost use Rattle.std.specs.Io.KnownBytes.{Keeps, IsAtEnd};
+ghost use Rattle.std.specs.Str.Lines.{strip_carriage_return};
+ghost use Rattle.st_devices.specs.Pending.{IsFound, OnReading, TakesByte, TakesFound, TakesPart};
+
+use crate::devices::{DeviceFault, Source};
+use std::alloc::{AllocError, Global};
+
+/// The most bytes of a line before its LF, and of a piece that is read.
+pub const MAX_LINE_BYTES: usize = 4096;
+
+/// What was found next in the input.
+pub enum Found {
+    /// No more bytes.
+    End,
+    /// A line, which was taken.
+    Line,
+    /// A line that is too long, which was passed over.
+    TooLong,
+}
+
+/// What was read of a source and is not taken yet.
+#[derive(Drop)]
+pub struct Input {
+    buffer: Vec<u8>,
+    at: usize,
+    end: usize,
+    /// The source has answered that it has no more, and is not read again.
+    at_end: bool,
+    ghost size: { vec_len buffer ≡ 4096 },
+    ghost ordered: { at ≤ end },
+    ghost within: { end ≤ 4096 },
+}
+
+impl Input {
+    ghost use Rattle.st_devices.specs.Inputs.{has_ended, left, pending, unread};
+
+    /// An input of which nothing is read yet.
+    pub fn new(alloc: Global) -> Result<Self, AllocError>
+        ensures empty { IfOk result (λ input. unread input ≡ []) }
+        ensures not_ended { IfOk result (λ input. has_ended input ≡ false) }
+    {
+        Ok(Input {
+            buffer: vec![in alloc; 0; MAX_LINE_BYTES]?,
+            at: 0,
+            end: 0,
+            at_end: false,
+        })
+    }
+
+    /// Reads a piece if none is unread.
+    fn fill<R: Source>(&mut self, source: &mut R) -> Result<(), DeviceFault>
+        requires { R.has_failed source.old ≡ false }
+        ensures bytes { OnOk result (Keeps (pending self.old (R.rest source.old))
+            (pending self.new (R.rest source.new))) }
+        ensures end { OnOk result (self.new.at ≡ self.new.end → IsAtEnd (pending self.new (R.rest source.new))) }
+        ensures at_end { OnOk result (self.new.at ≡ self.new.end → has_ended self.new ≡ true) }
+        ensures err { OnErr result (Keeps (R.rest source.old) (R.rest source.new)) }
+        ensures empty { OnErr result ((unread self.old ≡ []) × (has_ended self.old ≡ false)) }
+        ensures progress { OnOk result (left self.new (R.reads_left source.new)
+            ≤ left self.old (R.reads_left source.old)) }
+        ensures ended { has_ended self.old ≡ true → has_ended self.new ≡ true }
+        ensures failed { R.has_failed source.new ≡ is_err result }
+    {
+        if self.at < self.end || self.at_end {
+            return Ok(());
+        }
+        let end = source.read_some(self.buffer.as_mut_slice())?;
+        self.at = 0;
+        self.end = end;
+        self.at_end = end == 0;
+        Ok(())
+    }
+
+    /// Takes the next byte.
+    pub fn next_byte<R: Source>(&mut self, source: &mut R) -> Result<Option<u8>, DeviceFault>
+        requires { R.has_failed source.old ≡ false }
+        ensures bytes { IfOk result (λ byte. OnReading (pending self.old (R.rest source.old))
+            (pending self.new (R.rest source.new)) (TakesByte byte)) }
+        ensures at_end { IfOk result (λ byte. byte ≡ None → has_ended self.new ≡ true) }
+        ensures err { OnErr result (Keeps (R.rest source.old) (R.rest source.new)) }
+        ensures empty { OnErr result ((unread self.old ≡ []) × (has_ended self.old ≡ false)) }
+        ensures steady { OnOk result (left self.new (R.reads_left source.new)
+            ≤ left self.old (R.reads_left source.old)) }
+        ensures progress { IfOk result (λ byte. OnSome byte (left self.new (R.reads_left source.new)
+            < left self.old (R.reads_left source.old))) }
+        ensures ended { has_ended self.old ≡ true → has_ended self.new ≡ true }
+        ensures failed { R.has_failed source.new ≡ is_err result }
+    {
+        self.fill(source)?;
+        if self.at == self.end {
+            return Ok(None);
+        }
+        let byte = self.buffer[self.at];
+        self.at += 1;
+        Ok(Some(byte))
+    }
+
+    /// Takes the next line into `line`, or passes over it where it is too long.
+    ///
+    /// Where the source fails, only a part of a line without an LF was read since the last line, and it is lost.
+    pub fn next_line<R: Source>(
+        &mut self,
+        source: &mut R,
+        line: &mut Vec<u8>,
+    ) -> Result<Found, DeviceFault>
+        requires works { R.has_failed source.old ≡ false }
+        requires capacity { 4096 ≤ vec_capacity line.old }
+        ensures line { IfOk result (λ found. OnReading (pending self.old (R.rest source.old))
+            (pending self.new (R.rest source.new)) (TakesFound found (has_ended self.new) line.new.items)) }
+        ensures err { OnErr result (OnReading (pending self.old (R.rest source.old)) (R.rest source.new) TakesPart) }
+        ensures not_ended { OnErr result (has_ended self.old ≡ false) }
+        ensures progress { IfOk result (λ found. IsFound found → left self.new (R.reads_left source.new)
+            < left self.old (R.reads_left source.old)) }
+        ensures capacity { 4096 ≤ vec_capacity line.new }
+        ensures short { OnOk result (length line.new.items ≤ 4096) }
+        ensures ended { has_ended self.old ≡ true → has_ended self.new ≡ true }
+        ensures failed { R.has_failed source.new ≡ is_err result }
+    {
+        line.clear();
+        let mut is_long = false;
+        let mut is_empty = true;
+        while let Some(byte) = self.next_byte(source)? {
+            if byte == b'\n' {
+                return Ok(ended(line, is_long));
+            }
+            is_empty = false;
+            if line.len() < MAX_LINE_BYTES {
+                let _ = line.push(byte);
+            } else {
+                is_long = true;
+            }
+        }
+        Ok(if is_empty {
+            Found::End
+        } else if is_long {
+            Found::TooLong
+        } else {
+            Found::Line
+        })
+    }
+}
+
+/// The line that ends here, without one CR at its end.
+fn ended(line: &mut Vec<u8>, is_long: bool) -> Found
+    ensures long { is_long ≡ true → result ≡ Found.TooLong }
+    ensures text { is_long ≡ false → (result ≡ Found.Line) × (line.new.items ≡ strip_carriage_return line.old.items) }
+    ensures capacity { vec_capacity line.old ≤ vec_capacity line.new }
+    ensures short { length line.new.items ≤ length line.old.items }
+{
+    if is_long {
+        return Found::TooLong;
+    }
+    if line.last() == Some(&b'\r') {
+        line.pop();
+    }
+    Found::Line
+}

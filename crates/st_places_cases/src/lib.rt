@@ -1,0 +1,7 @@
+//! What no clause says of the tables of names: that constants have the values that a reader of the text expects.
+//!
+//! This crate has tests alone.
+#![tactic(auto)]
+
+#[cfg(test)]
+mod constants;
