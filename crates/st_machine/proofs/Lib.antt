@@ -1,4 +1,5 @@
 pub mod Ends
+pub mod Narrow
 pub mod Nearer
 pub mod Operands
 pub mod Readiness

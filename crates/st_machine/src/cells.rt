@@ -7,6 +7,7 @@ ghost use Rattle.st_values.specs.Values.{IsValue};
 use st_values::{Elem, Value, is_value};
 
 /// The number of a type that a cell is.
+#[inline]
 pub fn number_in(elem: Elem, cell: i64) -> i128
     ensures value { result ≡ number_in elem cell }
     ensures low { neg_ℤ (pos (2 ^ 63)) ≤ℤ result }
@@ -21,6 +22,7 @@ pub fn number_in(elem: Elem, cell: i64) -> i128
 }
 
 /// The value of a type that a cell is.
+#[inline]
 pub fn value_in(elem: Elem, cell: i64) -> Value
     ensures { result ≡ value_in elem cell }
 {
@@ -31,6 +33,7 @@ pub fn value_in(elem: Elem, cell: i64) -> Value
 }
 
 /// The cell that a number is.
+#[inline]
 pub fn cell_of(number: i128) -> i64
     requires low { neg_ℤ (pos (2 ^ 63)) ≤ℤ number }
     requires high { number <ℤ pos (2 ^ 64) }
@@ -44,6 +47,7 @@ pub fn cell_of(number: i128) -> i64
 }
 
 /// The cell that a value is.
+#[inline]
 pub fn cell(value: Value) -> i64
     requires { IsValue value }
     ensures { result ≡ cell_of value.bits }

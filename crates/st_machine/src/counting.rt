@@ -47,6 +47,7 @@ struct Count {
 }
 
 /// The three cells on top of the stack.
+#[inline]
 fn count_on(stack: &mut Stack) -> Count
     requires { IsTrue (has_three stack.old.0) }
     ensures stack { stack.new.0 ≡ stack.old.0 }
@@ -67,6 +68,7 @@ fn count_on(stack: &mut Stack) -> Count
 }
 
 /// Puts another counter in the place of the one on the stack.
+#[inline]
 fn set_counter(stack: &mut Stack, cell: i64)
     requires { IsTrue (has_three stack.old.0) }
     ensures cells { (step last counter : ℤ) (rest : List ℤ) → stack.old.0 ≡ step ∷ last ∷ counter ∷ rest → stack.new.0 ≡ step ∷ last ∷ cell ∷ rest }
@@ -81,6 +83,7 @@ fn set_counter(stack: &mut Stack, cell: i64)
 }
 
 /// Whether a counter hasn't passed the last value.
+#[inline]
 fn goes_on(counter: i128, last: i128, step: i128) -> bool
     ensures { result ≡ goes_on counter last step }
 {
@@ -92,6 +95,7 @@ fn goes_on(counter: i128, last: i128, step: i128) -> bool
 }
 
 /// Whether the counter of a FOR hasn't passed its last value.
+#[inline]
 fn count_goes_on(elem: Elem, count: Count) -> bool
     ensures { result ≡ goes_on (number_in elem count.counter) (number_in elem count.last) (number_in elem count.step) }
 {

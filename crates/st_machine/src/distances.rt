@@ -13,6 +13,7 @@ use st_meaning::RunFaultKind;
 use st_values::Elem;
 
 /// A distance, which is never negative on the stack.
+#[inline]
 pub fn distance_in(cell: i64) -> u64
     ensures value { result ≡ distance_in cell }
     ensures high { result < 2 ^ 63 }
@@ -33,6 +34,7 @@ pub fn add(stack: &mut Stack) -> Move
 }
 
 /// How far a subscript lies behind the lower bound, where that is at most the last distance.
+#[inline]
 fn far_in(elem: Elem, subscript: i64, low: i64, last: u16) -> Option<u16>
     ensures { result ≡ far_in (number_in elem subscript -ℤ low) last }
 {
@@ -45,6 +47,7 @@ fn far_in(elem: Elem, subscript: i64, low: i64, last: u16) -> Option<u16>
 }
 
 /// How far a subscript lies behind the lower bound.
+#[inline]
 fn behind(elem: Elem, subscript: i64, low: i64) -> i128
     ensures value { result ≡ number_in elem subscript -ℤ low }
 {
@@ -52,6 +55,7 @@ fn behind(elem: Elem, subscript: i64, low: i64) -> i128
 }
 
 /// So many strides.
+#[inline]
 fn strides(far: u16, stride: u32) -> u64
     ensures value { result ≡ far * stride }
     ensures high { result < 2 ^ 48 }
@@ -60,6 +64,7 @@ fn strides(far: u16, stride: u32) -> u64
 }
 
 /// Puts the sum of two distances.
+#[inline]
 fn push_sum(stack: &mut Stack, more: u64, distance: u64)
     requires spare { length stack.old.0 < stack.old.1 }
     requires fits { more + distance < 2 ^ 63 }

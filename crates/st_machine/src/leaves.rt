@@ -10,6 +10,7 @@ use st_layout::{Layout, Memory};
 use st_values::Elem;
 
 /// The value of a leaf, as a cell.
+#[inline]
 pub fn load<M: Memory>(memory: &M, layout: &Layout, leaf: u32) -> i64
     requires over { M.IsOver layout.now memory.now }
     requires below { leaf < length (M.content layout.now memory.now).values }
@@ -19,6 +20,7 @@ pub fn load<M: Memory>(memory: &M, layout: &Layout, leaf: u32) -> i64
 }
 
 /// Stores a cell, which is a value of the leaf's type, unless the leaf is forced.
+#[inline]
 pub fn store<M: Memory>(memory: &mut M, layout: &Layout, elem: Elem, leaf: u32, cell: i64)
     requires over { M.IsOver layout.now memory.old }
     requires leaf { IsTrue (has_leaf (M.content layout.now memory.old).values elem leaf) }

@@ -8,6 +8,7 @@ mod leaves;
 mod moves;
 mod operate;
 mod operations;
+mod quick;
 mod run;
 mod stack;
 mod transfers;

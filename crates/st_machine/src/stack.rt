@@ -41,6 +41,7 @@ impl Stack {
     }
 
     /// Puts a number on top.
+    #[inline]
     pub fn push(&mut self, number: i64)
         requires { length self.old.0 < self.old.1 }
         ensures cells { self.new.0 ≡ number ∷ self.old.0 }
@@ -51,6 +52,7 @@ impl Stack {
     }
 
     /// Takes the newest number.
+    #[inline]
     pub fn pop(&mut self) -> i64
         requires { 0 < length self.old.0 }
         ensures cells { self.old.0 ≡ result ∷ self.new.0 }

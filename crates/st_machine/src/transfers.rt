@@ -15,6 +15,7 @@ use st_layout::{Layout, Memory};
 use st_values::Elem;
 
 /// The leaf that stands so far behind another.
+#[inline]
 pub fn leaf_behind(leaf: u32, cell: i64) -> u32
     requires { leaf + distance_in cell < 65536 }
     ensures { result ≡ leaf + distance_in cell }
