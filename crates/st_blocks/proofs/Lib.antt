@@ -4,6 +4,8 @@ pub mod DelayLemmas
 pub mod EdgeLemmas
 pub mod InputLemmas
 pub mod PulseLemmas
+pub mod RangeLemmas
 pub mod SameKind
 pub mod TimeLemmas
+pub mod TypeLemmas
 pub mod Worked

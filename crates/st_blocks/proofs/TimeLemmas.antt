@@ -6,13 +6,13 @@ use Rattle.st_blocks.specs.Laws.{IsWithin, TimesStayWithinPreset}
 use Rattle.st_blocks.specs.declared.timer.Timer.{Timer}
 use Rattle.st_blocks.specs.declared.ton.Ton.{Ton}
 
-shown_within : (pt start now : ℤ) → IsWithin pt (shown pt start now)
+pub shown_within : (pt start now : ℤ) → IsWithin pt (shown pt start now)
 shown_within pt start now = record { low = omega (arith, ints, clamps); high = omega (arith, ints, clamps) }
 
 none_within : (pt : ℤ) → IsWithin pt (pos 0)
 none_within pt = record { low = omega (arith, ints, clamps); high = omega (arith, ints, clamps) }
 
-all_within : (pt : ℤ) → IsWithin pt (preset pt)
+pub all_within : (pt : ℤ) → IsWithin pt (preset pt)
 all_within pt = record { low = omega (arith, ints, clamps); high = omega (arith, ints, clamps) }
 
 on_within : (input : Bool) (t : Ton) (now : ℤ) → IsWithin t.pt (on_delay (record t { input = input }) now).et

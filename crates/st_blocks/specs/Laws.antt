@@ -1,6 +1,8 @@
 -- Laws of the standard function blocks, in the standard's words (2.5.2.3).
 use Rattle.std.specs.Prelude.{int_lt, ℕ, map, take, count_by, true, ◌≡◌, ◌↔◌, ℤ, pos, negsuc, ◌+ℤ◌, ◌-ℤ◌, ◌<ℤ◌, ◌≤ℤ◌, Bool, false, ◌&&◌, ◌||◌, not, IsTrue, IsFalse, List, [], ◌∷◌, if◌then◌else◌}
 use Rattle.std.specs.List.{All, list_any}
+use Rattle.st_values.specs.Values.{in_range}
+use Rattle.st_values.specs.declared.elem.Elem.TheVariants as elems
 use Rattle.st_values.specs.declared.value.Value.{Value}
 use Rattle.st_types.specs.Standard.{pins_of}
 use Rattle.st_types.specs.declared.base.Purpose.{Purpose}
@@ -236,3 +238,11 @@ InputsStay =
 -- The leaves that a program lists for a block begin with values of their types.
 abbrev pub BlocksBegin : Type 0
 BlocksBegin = (kind : StandardBlock) → AreLeavesOf kind (map (λ leaf. leaf.initial) (block_leaves kind))
+
+-- ---- values of their types
+
+-- A call at a moment that a TIME can hold leaves each leaf a value of its type.
+abbrev pub BlocksKeepTheirTypes : Type 0
+BlocksKeepTheirTypes =
+    (kind : StandardBlock) (cells : List Value) (now : ℤ) → IsTrue (in_range elems.Time now) → AreLeavesOf kind cells
+    → AreLeavesOf kind (stepped kind cells now)

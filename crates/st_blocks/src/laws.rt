@@ -1,6 +1,7 @@
 //! Laws of the standard function blocks, in the standard's words.
 ghost use Rattle.st_blocks.specs.Laws.{
   BlocksBegin,
+  BlocksKeepTheirTypes,
   CellsAreRead,
   CountersMoveByOne,
   EdgesAreFound,
@@ -27,6 +28,12 @@ pub fn inputs_stay()
 /// The leaves that a program lists for a block begin with values that its first call takes.
 pub fn blocks_begin_with_their_leaves()
     ensures { BlocksBegin }
+{}
+
+/// A block that is called over and over never meets a value that its leaf can't hold: whatever the moment, and whatever stands in
+/// its inputs, each leaf keeps a value of its type. A counter stays an INT, and a timer that runs for weeks stays a TIME.
+pub fn blocks_keep_their_types()
+    ensures { BlocksKeepTheirTypes }
 {}
 
 /// The output of an edge detector is TRUE for one call at an edge (2.5.2.3.2).

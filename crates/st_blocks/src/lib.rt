@@ -15,9 +15,9 @@ pub use bistable::Bistable;
 pub use block::{MOST_LEAVES, block_step, leaf_count};
 pub use counter::Counter;
 pub use laws::{
-    blocks_begin_with_their_leaves, cells_are_read, counters_move_by_one, edges_are_found,
-    inputs_dominate, inputs_stay, outputs_are_delayed, pulses_are_as_long_as_preset,
-    times_stay_within_preset,
+    blocks_begin_with_their_leaves, blocks_keep_their_types, cells_are_read, counters_move_by_one,
+    edges_are_found, inputs_dominate, inputs_stay, outputs_are_delayed,
+    pulses_are_as_long_as_preset, times_stay_within_preset,
 };
 pub use timer::Timer;
 pub use ton::Ton;

@@ -7,12 +7,13 @@ use Rattle.st_types.specs.Compositions.{Composition}
 use Rattle.st_leaves.specs.Leaves.{number_of}
 use Rattle.st_leaves.specs.Places.{count, extent, extent_of}
 use Rattle.st_leaves.specs.Selected.{element_of, selected_by, subscripts_of}
+use Rattle.st_meaning.specs.Offsets.{offset_of}
 use Rattle.st_meaning.specs.Sound.{is_fixed, term_type}
-use Rattle.st_meaning.specs.Terms.{Term, constant, stored, unary, binary, selection, Terms, no_terms, more_terms, Parts, whole, field_part, element_part, Command, nothing, assign, choice, cases, count_loop, while_loop, repeat_loop, exit, finish, Commands, no_commands, more_commands, Branches, no_branches, more_branches, Cases, no_cases, more_cases}
-use Rattle.st_code.specs.Code.{Line, added, at, base_of, branch_code, branches_code, case_test, cases_code, command_code, commands_code, count_code, index_code, parts_code, plain, repeat_code, store_code, term_code, terms_code, types_in, while_code}
+use Rattle.st_meaning.specs.Terms.{Term, constant, stored, unary, binary, selection, Terms, no_terms, more_terms, Parts, whole, field_part, element_part, Command, nothing, assign, choice, cases, count_loop, while_loop, repeat_loop, invoke, exit, finish, Moves, no_moves, more_moves, Commands, no_commands, more_commands, Branches, no_branches, more_branches, Cases, no_cases, more_cases}
+use Rattle.st_code.specs.Code.{Line, added, at, base_of, branch_code, branches_code, case_test, cases_code, command_code, commands_code, count_code, index_code, moves_code, parts_code, plain, repeat_code, store_code, term_code, terms_code, types_in, while_code}
 use Rattle.st_code.specs.Correct.{DepthIsAtMostTheLength}
-use Rattle.st_code.specs.Depth.{branches_depth, cases_depth, command_depth, commands_depth, parts_depth, term_depth, terms_depth}
-use Rattle.st_code.specs.declared.instr.Instr.TheVariants.{Get, GetAt, Put, PutAt, IndexBelow, Apply, Combine, Select, Step, GoOn, SkipUnless, SkipIf, GoBack, Drop, Begin, Test, Next, Leave}
+use Rattle.st_code.specs.Depth.{branches_depth, cases_depth, command_depth, commands_depth, moves_depth, parts_depth, term_depth, terms_depth}
+use Rattle.st_code.specs.declared.instr.Instr.TheVariants.{Get, GetAt, Put, PutAt, IndexBelow, Apply, Combine, Select, Step, GoOn, SkipUnless, SkipIf, GoBack, Drop, Begin, Test, Next, Leave, Invoke}
 
 -- subscripts leave a distance
 index_length : (line size : ℕ) (es : List Elem) (rs : List Subrange) → 1 ≤ length (index_code line size es rs)
@@ -75,6 +76,17 @@ module _ (root : Composition) where
   store_length : (e : Elem) (ps : Parts) → max 1 (parts_depth ps) ≤ length (store_code root e ps)
   store_length e ps = placed_depth ps (is_fixed ps) (plain (Put e (base_of root ps))) (parts_code root false root ps) (plain (PutAt e (base_of root ps))) refl refl refl (parts_length ps false root)
 
+  -- a value, and a store of it
+  move_length : (ps : Parts) (t : Term) → max (term_depth t) (1 + parts_depth ps) ≤ length (term_code root t ++ store_code root (term_type root t) ps)
+  move_length ps t =
+      let ct = term_code root t in let cs = store_code root (term_type root t) ps in
+      omega (arith, term_length t, depth_positive t, store_length (term_type root t) ps, length-append ct cs)
+
+  moves_length : (ms : Moves) → moves_depth ms ≤ length (moves_code root ms)
+  moves_length no_moves = omega arith
+  moves_length (more_moves ps t more) =
+      omega (arith, move_length ps t, moves_length more, length-append (term_code root t ++ store_code root (term_type root t) ps) (moves_code root more))
+
   branch_length : (test body rest : List Line) → length (branch_code test body rest) ≡ length test + length body + length rest + 2
   branch_length test body rest =
       let jump = plain (GoOn (length rest)) in let tail = plain (SkipUnless (length body + 1)) ++ (body ++ jump) in
@@ -99,8 +111,7 @@ module _ (root : Composition) where
   mutual
     command_length : (c : Command) (out end : ℕ) → command_depth c ≤ length (command_code root c out end)
     command_length (nothing line) out end = omega arith
-    command_length (assign line ps t) out end =
-        omega (arith, term_length t, depth_positive t, store_length (term_type root t) ps, length-append (term_code root t) (store_code root (term_type root t) ps))
+    command_length (assign line ps t) out end = omega (arith, move_length ps t)
     command_length (choice line bs others) out end =
         let co = commands_code root others out end in
         omega (arith, branches_length bs co out end, commands_length others out end)
@@ -126,6 +137,10 @@ module _ (root : Composition) where
         omega (arith, term_length t, commands_length cs 1 (1 + end), while_length line (term_code root t) (commands_code root cs 1 (1 + end)))
     command_length (repeat_loop line cs t) out end =
         omega (arith, term_length t, commands_length cs 1 (1 + end), repeat_length line (commands_code root cs 1 (1 + end)) (term_code root t))
+    command_length (invoke line name b inputs outputs) out end =
+        let ci = moves_code root inputs in let co = moves_code root outputs in
+        let call = plain (Invoke b (offset_of root name)) in
+        omega (arith, moves_length inputs, moves_length outputs, length-append ci (call ++ co))
     command_length (exit line) out end = omega arith
     command_length (finish line) out end = omega arith
 

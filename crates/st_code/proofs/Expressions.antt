@@ -29,7 +29,7 @@ use Rattle.st_code.specs.declared.instr.Instr.{Instr}
 use Rattle.st_code.specs.declared.instr.Instr.TheVariants.{Push, Get, GetAt, Apply, Combine, Select}
 use Rattle.st_code.proofs.Cells.{is_cell_of_value, nonzero_cell, value_back}
 use Rattle.st_code.proofs.Parts.{field_run, fixed_found, gives_distance, group_run, has_distance, named_bounds, named_few, over_length}
-use Rattle.st_code.proofs.Steps.{HasAt, Leads, PlaceRuns, Setting, TermGoes, TermRuns, TermsRun, all_three, gets_value, halt, has_back, has_front, if_below, if_true, leads_on, line_of, over, stays, step, typed}
+use Rattle.st_code.proofs.Steps.{HasAt, Leads, PlaceRuns, TermGoes, TermRuns, TermsRun, World, all_three, gets_value, halt, has_back, has_front, if_below, if_true, leads_on, line_of, over, stays, step, typed}
 
 types_length : (root : Composition) (ts : Terms) → length (types_in root ts) ≡ how_many ts
 types_length root no_terms = refl
@@ -50,7 +50,7 @@ selected_cell g x y (pos zero) e = rw e refl
 selected_cell g x y (pos (suc n)) e = rw e refl
 selected_cell g x y (negsuc n) e = rw e refl
 
-module _ (w : Setting) where
+module _ (w : World) where
   -- ---- operators
 
   unary_run : (s : State) (pc : ℕ) (o : Unary) (e : Elem) (stack : List ℤ) (values : Values) (left : ℕ) (a : Answer Value) → IsTrue (takes_one o e)
@@ -66,7 +66,7 @@ module _ (w : Setting) where
 
   answer_run : (s : State) (pc line : ℕ) (i : Instr) (top stack : List ℤ) (values : Values) (left : ℕ) (a : Answer Value) → Leads w s (state pc top values left)
       → slice_get w.code pc ≡ Some (line_of line i)
-      → act w.forced w.room i line pc top values left ≡ answered a pc stack values left → TermGoes w s (pc + 1) stack values left a
+      → act w.setting w.room i line pc top values left ≡ answered a pc stack values left → TermGoes w s (pc + 1) stack values left a
   answer_run s pc line i top stack values left (gives v) l h e = leads_on w s (state pc top values left) _ l (step w i line pc top values left _ h e)
   answer_run s pc line i top stack values left (stops f) l h e = l.by (faulted f) (halt w i line pc top values left _ h e)
 

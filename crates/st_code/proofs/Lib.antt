@@ -4,6 +4,7 @@ pub mod Counters
 pub mod Depths
 pub mod Expressions
 pub mod Loops
+pub mod Moves
 pub mod Parts
 pub mod Runs
 pub mod Statements

@@ -12,9 +12,9 @@ use Rattle.st_code.specs.Machine.{State, goes, state}
 use Rattle.st_code.specs.declared.instr.Instr.TheVariants.{GoOn, GoBack, SkipIf, SkipUnless}
 use Rattle.st_code.proofs.Cells.{nonzero_cell}
 use Rattle.st_code.proofs.Runs.{Runs, given_run, led_at, runs_after, runs_at, skip_run, step_run}
-use Rattle.st_code.proofs.Steps.{HasAt, Setting, TermRuns, halt, has_back, has_front, line_of, stays, step}
+use Rattle.st_code.proofs.Steps.{HasAt, TermRuns, World, halt, has_back, has_front, line_of, stays, step}
 
-module _ (w : Setting) where
+module _ (w : World) where
   -- what follows a turn, behind whose body one more instruction stands
   turn_run : (s : State) (pc pc' out last : ℕ) (stack : List ℤ) (left : ℕ) (o : Outcome) (go : Values → ℕ → Outcome) → pc + 1 ≡ pc'
       → Runs w s pc 1 (1 + last) stack left o

@@ -31,7 +31,7 @@ use Rattle.st_code.specs.Machine.{State, act, ends, goes, indexed, puts_distance
 use Rattle.st_code.specs.declared.instr.Instr.{Instr}
 use Rattle.st_code.specs.declared.instr.Instr.TheVariants.{Push, Index, IndexBelow, Add}
 use Rattle.st_code.proofs.Cells.{above_bound, below_bound, distance_above, number_of_value, some_extent}
-use Rattle.st_code.proofs.Steps.{AreOf, Ends, HasAt, Leads, PlaceRuns, Setting, TermsRun, halt, has_back, has_front, if_below, if_false, if_true, leads_on, line_of, onto, over, stays, step}
+use Rattle.st_code.proofs.Steps.{AreOf, Ends, HasAt, Leads, PlaceRuns, TermsRun, World, halt, has_back, has_front, if_below, if_false, if_true, leads_on, line_of, onto, over, stays, step}
 
 -- ---- members
 
@@ -176,7 +176,7 @@ gives_distance whole h = absurd (cc)
 gives_distance (field_part name ps) h = gives_distance ps h
 gives_distance (element_part line ts ps) h = keeps_distance ps
 
-module _ (w : Setting) where
+module _ (w : World) where
   pub place_from : (s t : State) (pc pc' : ℕ) (there : Bool) (stack : List ℤ) (values : Values) (left acc : ℕ) (c : Composition) (n : ℕ) (a : Answer Path) → Leads w s t
       → pc ≡ pc'
       → PlaceRuns w t pc there stack values left acc c n a → PlaceRuns w s pc' there stack values left acc c n a
@@ -194,7 +194,7 @@ module _ (w : Setting) where
   subscript_run : (s : State) (pc line size stride d : ℕ) (i : Instr) (top : List ℤ) (r : Subrange) (x : ℤ) (rs : List Subrange) (is : List ℤ) (stack : List ℤ)
       (values : Values) (left : ℕ)
       → Leads w s (state pc top values left) → slice_get w.code pc ≡ Some (line_of line i)
-      → act w.forced w.room i line pc top values left ≡ indexed (x -ℤ number_of r.lower) (extent_of r - 1) stride d line pc stack values left
+      → act w.setting w.room i line pc top values left ≡ indexed (x -ℤ number_of r.lower) (extent_of r - 1) stride d line pc stack values left
       → stride ≡ extent rs * size → IsDistance size rs is d → IsBounded r → extent (r ∷ rs) * size ≤ 65536
       → IndexRuns s (pc + 1) stack values left line size (r ∷ rs) (x ∷ is) (is_within r x)
   subscript_run s pc line size stride d i top r x rs is stack values left l h acts strides dist bounded few = from (x -ℤ number_of r.lower) refl where

@@ -1,6 +1,6 @@
 -- How many cells the code of terms and commands puts on the stack at most, beside those that stand there before.
 use Rattle.std.specs.Prelude.{ℕ, ◌+◌, max}
-use Rattle.st_meaning.specs.Terms.{Term, constant, stored, unary, binary, selection, Terms, no_terms, more_terms, Parts, whole, field_part, element_part, Command, nothing, assign, choice, cases, count_loop, while_loop, repeat_loop, exit, finish, Commands, no_commands, more_commands, Branches, no_branches, more_branches, Cases, no_cases, more_cases}
+use Rattle.st_meaning.specs.Terms.{Term, constant, stored, unary, binary, selection, Terms, no_terms, more_terms, Parts, whole, field_part, element_part, Command, nothing, assign, choice, cases, count_loop, while_loop, repeat_loop, invoke, exit, finish, Moves, no_moves, more_moves, Commands, no_commands, more_commands, Branches, no_branches, more_branches, Cases, no_cases, more_cases}
 
 abbrev mutual
   pub term_depth : Term → ℕ
@@ -21,6 +21,10 @@ abbrev mutual
   parts_depth (field_part name ps) = parts_depth ps
   parts_depth (element_part line ts ps) = max 2 (max (1 + terms_depth ts) (parts_depth ps))
 
+abbrev pub moves_depth : Moves → ℕ
+moves_depth no_moves = 0
+moves_depth (more_moves ps t more) = max (max (term_depth t) (1 + parts_depth ps)) (moves_depth more)
+
 abbrev mutual
   pub command_depth : Command → ℕ
   command_depth (nothing line) = 0
@@ -30,6 +34,7 @@ abbrev mutual
   command_depth (count_loop line ps a b c cs) = max (term_depth a) (max (1 + term_depth b) (max (2 + term_depth c) (3 + commands_depth cs)))
   command_depth (while_loop line t cs) = max (term_depth t) (commands_depth cs)
   command_depth (repeat_loop line cs t) = max (term_depth t) (commands_depth cs)
+  command_depth (invoke line name b inputs outputs) = max (moves_depth inputs) (moves_depth outputs)
   command_depth (exit line) = 0
   command_depth (finish line) = 0
 

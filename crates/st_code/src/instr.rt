@@ -1,5 +1,6 @@
 //! Instructions.
 use st_meaning::{Binary, Unary};
+use st_types::StandardBlock;
 use st_values::Elem;
 
 /// An instruction of the stack machine. It takes what it needs off the operand stack and puts what it gives on it.
@@ -57,4 +58,6 @@ pub enum Instr {
     Next(Elem, u32, usize),
     /// FOR: takes its three values away.
     Leave,
+    /// Does what one invocation of a standard function block does to its leaves, the first of which is this one.
+    Invoke(StandardBlock, u32),
 }

@@ -1,8 +1,8 @@
 //! Laws of code.
 ghost use Rattle.st_code.specs.Correct.{CodeDoesAsCommandsMean, DepthIsAtMostTheLength};
 
-/// The code of sound commands does as they mean, from all values, forces and steps left, on a stack with room for its depth. It is
-/// never stuck.
+/// The code of sound commands does as they mean, at each moment and from all values, forces and steps left, on a stack with room for
+/// its depth. It is never stuck.
 pub fn code_does_as_commands_mean()
     ensures { CodeDoesAsCommandsMean }
 {}

@@ -38,7 +38,7 @@ element_is w e x rest = search (rules, the_lemmas)
 -- ---- lists of instructions
 
 -- code before code that is there
-before_code : (base mid new a b : List Line) → mid ≡ base ++ reverse a → new ≡ mid ++ reverse b → new ≡ base ++ reverse (b ++ a)
+pub before_code : (base mid new a b : List Line) → mid ≡ base ++ reverse a → new ≡ mid ++ reverse b → new ≡ base ++ reverse (b ++ a)
 before_code base mid new a b e f = f ∙ ap (λ m. m ++ reverse b) e ∙ append_assoc base (reverse a) (reverse b) ∙ ap (λ r. base ++ r) (sym (reverse-append b a))
 
 pub grown : (base new a : List Line) → new ≡ base ++ reverse a → length new ≡ length base + length a

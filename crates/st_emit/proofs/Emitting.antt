@@ -43,12 +43,13 @@ use Rattle.st_code.specs.declared.instr.Instr.TheVariants.{Apply, Combine, Index
 use Rattle.st_emit.specs.Calls.{AreTyped, arguments_code, gives_type, optional, positionals, takes_number}
 use Rattle.st_emit.specs.Emits.{Emits, Leaves, own_types, terms_in}
 use Rattle.st_emit.specs.Places.{behind_part, behind_parts, dimensions_code, element_code, indexed_by, is_indexed}
+use Rattle.st_meaning.proofs.Stretches.{selected_fits}
 use Rattle.st_places.specs.Dimensions.{dimensions_in}
 use Rattle.st_emit.specs.Trees.{chain_of, operand_type, parts_in}
 use Rattle.st_places.specs.declared.node.Dimension.{Dimension}
 use Rattle.st_emit.proofs.Owns.{call_stands, standard_is_untyped}
 use Rattle.st_emit.proofs.Trees.{chain_is, chain_more, field_is, left_is, subscripts_are}
-use Rattle.st_emit.proofs.Ways.{behind_more, counted_terms, element_bounds, element_fits, indexed_more, selected_bounds, selected_fits}
+use Rattle.st_emit.proofs.Ways.{behind_more, counted_terms, element_bounds, element_fits, indexed_more, selected_bounds}
 
 -- ---- types
 

@@ -1,5 +1,6 @@
 pub mod Commands
 pub mod Emitting
+pub mod Invoking
 pub mod Owns
 pub mod Trees
 pub mod Ways

@@ -17,9 +17,10 @@ use Rattle.st_types.specs.Compositions.{Composition, unknown, elementary, array,
 use Rattle.st_types.specs.Standard.{Pin, pin_named, pins_of}
 use Rattle.st_leaves.specs.Bounds.{HasBounds, HaveBounds, IsBounded}
 use Rattle.st_leaves.specs.Leaves.{number_of}
-use Rattle.st_leaves.specs.Places.{count, counts, extent, extent_of}
+use Rattle.st_leaves.specs.Places.{count, extent, extent_of}
 use Rattle.st_leaves.specs.Selected.{element_of, member_selected, pin_selected, selected_by, subscripts_of, takes_subscripts}
-use Rattle.st_meaning.specs.Offsets.{IsSmall, member_offset, offset_of, pin_offset}
+use Rattle.st_meaning.specs.Offsets.{IsSmall, offset_of}
+use Rattle.st_meaning.proofs.Stretches.{selected_fits}
 use Rattle.st_meaning.specs.Sound.{is_fixed}
 use Rattle.st_meaning.specs.Terms.{Parts, whole, field_part, element_part, how_many}
 use Rattle.st_meaning.specs.Typing.{argument_typed, call_typed_in, operation_typed, part_typed, place_of, typed, typed_part}
@@ -46,27 +47,6 @@ use Rattle.st_tree.specs.declared.tree.expression.Variable.{Variable, out-Variab
 use Rattle.st_emit.specs.Trees.{constant_in, parts_in}
 
 -- ---- members
-
-member_fits : (ms : Members) (n : List ℕ) → member_offset ms n + count (member_selected ms n) ≤ counts ms
-member_fits none n = omega arith
-member_fits (member other kind c ms) n = by (is_word other n) (member_fits ms n) where
-  by : (b : Bool) → member_offset ms n + count (member_selected ms n) ≤ counts ms → (if b then 0 else (count c + member_offset ms n)) + count (if b then c else member_selected ms n) ≤ count c + counts ms
-  by true h = omega arith
-  by false h = omega arith
-
-pin_fits : (ps : List Pin) (n : List ℕ) → pin_offset ps n + count (pin_selected (pin_named ps n)) ≤ length ps
-pin_fits [] n = omega arith
-pin_fits (p ∷ ps) n = by (is_word p.name n) (pin_fits ps n) where
-  by : (b : Bool) → pin_offset ps n + count (pin_selected (pin_named ps n)) ≤ length ps → (if b then 0 else (1 + pin_offset ps n)) + count (pin_selected (if b then Some p else pin_named ps n)) ≤ length (p ∷ ps)
-  by true h = omega arith
-  by false h = omega arith
-
-pub selected_fits : (c : Composition) (n : List ℕ) → offset_of c n + count (selected_by c n) ≤ count c
-selected_fits unknown n = omega arith
-selected_fits (elementary v) n = omega arith
-selected_fits (array ranges firsts c) n = omega arith
-selected_fits (composed name ms chart) n = omega (arith, member_fits ms n)
-selected_fits (standard b) n = omega (arith, pin_fits (pins_of b) n)
 
 member_bounds : (ms : Members) (n : List ℕ) → HaveBounds ms → HasBounds (member_selected ms n)
 member_bounds none n h = tt

@@ -5,6 +5,7 @@ mod body;
 mod cases;
 mod expression;
 mod index;
+mod invocations;
 mod literal;
 mod loops;
 mod own;

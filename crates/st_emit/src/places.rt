@@ -136,7 +136,7 @@ pub(crate) fn stops(scope: &Scope<'_>, variable: &Variable) -> Result<Vec<Stop>,
     requires { IsTrue (is_some (type_of (whole_of scope.now).variables (place_of (whole_of scope.now) variable.now))) }
     ensures { IfOk result (λ all. AreStops (whole_of scope.now) scope.now.0 (type_of (whole_of scope.now).variables (place_of (whole_of scope.now) variable.now)) (selected_by (whole_of scope.now).variables variable.now.name.spelling) variable.now.parts all.items) }
 {
-    let mut all = Vec::new(scope.alloc());
+    let mut all = scope.list();
     let Some((_, node)) = scope.select(scope.root(), variable.name.spelling.as_slice()) else {
         return Ok(all);
     };

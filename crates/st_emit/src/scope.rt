@@ -1,15 +1,17 @@
 //! What the names in the statements of a unit stand for.
-ghost use Rattle.std.specs.Prelude.{◌≡◌, ◌<◌, IfSome, None, false, length, true};
+ghost use Rattle.std.specs.Prelude.{◌≡◌, ◌<◌, IfSome, None, [], false, length, true};
 ghost use Rattle.st_values.specs.Values.{IsValue};
 ghost use Rattle.st_types.specs.Compositions.{unknown};
 ghost use Rattle.st_leaves.specs.Places.{count};
 ghost use Rattle.st_leaves.specs.Selected.{element_of, selected_by, subscripts_of, value_type};
 ghost use Rattle.st_meaning.specs.Offsets.{IsSmall, offset_of};
+ghost use Rattle.st_meaning.specs.Wholes.{block_of};
 ghost use Rattle.st_places.specs.Parts.{IsNodeOf, is_array, part_in, whole_in};
 ghost use Rattle.st_places.specs.Dimensions.{dimensions_in};
 ghost use Rattle.st_emit.specs.Trees.{whole_of};
 
 use st_places::{Dimension, Node, Tables};
+use st_types::StandardBlock;
 use st_values::{Elem, Value};
 use std::alloc::Global;
 use std::marker::Model;
@@ -53,9 +55,11 @@ impl<'a> Scope<'a> {
         }
     }
 
-    /// What gives memory.
-    pub fn alloc(&self) -> Global {
-        self.alloc
+    /// A list with nothing in it. It takes no memory.
+    pub fn list<T>(&self) -> Vec<T>
+        ensures { result.items ≡ [] }
+    {
+        Vec::new(self.alloc)
     }
 
     /// The variables.
@@ -107,5 +111,13 @@ impl<'a> Scope<'a> {
         ensures { result ≡ value_type (part_in self.now.0 node) }
     {
         self.tables.value(node)
+    }
+
+    /// The standard function block that the part is an instance of.
+    pub fn block(&self, node: Node) -> Option<StandardBlock>
+        requires node { IsNodeOf self.now.0 node }
+        ensures { result ≡ block_of (part_in self.now.0 node) }
+    {
+        self.tables.block(node)
     }
 }

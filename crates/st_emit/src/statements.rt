@@ -7,6 +7,7 @@ ghost use Rattle.st_emit.specs.Trees.{whole_of};
 
 use crate::cases::emit_case;
 use crate::expression::{emit_expression, emit_store};
+use crate::invocations::emit_invocation;
 use crate::loops::{emit_for, emit_repeat, emit_while};
 use crate::places::place_type;
 use crate::scope::Scope;
@@ -55,7 +56,7 @@ fn emit_statement(
         Statement::Assignment(variable, value) => {
             emit_assignment(code, scope, variable.get(), value.get())
         }
-        Statement::Call(call) => code.push(Instr::Step, call.get().name.position.line),
+        Statement::Call(call) => emit_invocation(code, scope, call.get()),
         Statement::Return(position) => emit_jump(code, end, position.line),
         Statement::Exit(position) => emit_jump(code, out, position.line),
         Statement::If(inner) => emit_if(code, scope, inner.get(), out, end),

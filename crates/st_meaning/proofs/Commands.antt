@@ -2,6 +2,7 @@
 use Rattle.std.proofs.Common.{◌≡◌, ℕ, suc, ℤ, Bool, true, List, IsTrue, sym, ◌∙◌, subst, if◌then◌else◌}
 use Rattle.st_values.specs.Values.{in_range}
 use Rattle.st_values.specs.declared.elem.Elem.{Elem}
+use Rattle.st_values.specs.declared.elem.Elem.TheVariants as elems
 use Rattle.st_values.specs.declared.value.Value.{Value}
 use Rattle.st_types.specs.Compositions.{Composition}
 use Rattle.st_leaves.specs.Paths.{Path}
@@ -9,9 +10,10 @@ use Rattle.st_operators.specs.Laws.{IsOf}
 use Rattle.st_meaning.specs.Laws.{CommandsKeepTheFrame, HasLeaf, StaysInFrame}
 use Rattle.st_meaning.specs.Meaning.{Values, located, stored_at, value_of}
 use Rattle.st_meaning.specs.Sound.{AreSoundBranches, AreSoundCases, AreSoundCommands, AreValuesOf, HasOneLeafEach, IsCount, IsSoundCommand, term_type}
-use Rattle.st_meaning.specs.Statements.{Outcome, done, exited, returned, alike, branches_meaning, cases_meaning, command_meaning, commands_meaning, count_turns, given, goes_on, has_label, is_true, repeat_turns, while_turns}
-use Rattle.st_meaning.specs.Terms.{Term, Parts, Command, nothing, assign, choice, cases, count_loop, while_loop, repeat_loop, exit, finish, Commands, no_commands, more_commands, Branches, no_branches, more_branches, Cases, no_cases, more_cases}
+use Rattle.st_meaning.specs.Statements.{Outcome, Setting, done, exited, returned, alike, branches_meaning, cases_meaning, command_meaning, commands_meaning, count_turns, given, goes_on, has_label, is_true, repeat_turns, while_turns}
+use Rattle.st_meaning.specs.Terms.{Term, Parts, Command, nothing, assign, choice, cases, count_loop, while_loop, repeat_loop, invoke, exit, finish, Commands, no_commands, more_commands, Branches, no_branches, more_branches, Cases, no_cases, more_cases}
 use Rattle.st_meaning.proofs.Frames.{AlwaysStays, either_stays, given_stays, nothing_done, stays_after, step_stays, store_keeps, then_stays}
+use Rattle.st_meaning.proofs.Invocations.{invoke_stays}
 use Rattle.st_meaning.proofs.Places.{places_have_leaves}
 use Rattle.st_meaning.proofs.Ranges.{IsBehind, begins_behind, counter_in_range}
 use Rattle.st_meaning.proofs.TermValues.{term_value}
@@ -23,10 +25,13 @@ counter_is e a b counter step is is' behind on =
     let last : IsTrue (in_range a.elem b.bits) = subst (λ t. IsTrue (in_range t b.bits)) (is'.of_type ∙ sym is.of_type) is'.in_range in
     record { in_range = counter_in_range a.elem a.bits b.bits counter step is.in_range last behind on; of_type = is.of_type }
 
-module _ (root : Composition) (forced : List Bool) (one : HasOneLeafEach root) where
+module _ (root : Composition) (setting : Setting) (now : IsTrue (in_range elems.Time setting.now)) (one : HasOneLeafEach root) where
+  abbrev forced : List Bool
+  forced = setting.forced
+
   -- ---- assignments
 
-  assign_stays : (line : ℕ) (ps : Parts) (t : Term) → IsSoundCommand root (assign line ps t) → AlwaysStays root forced (command_meaning root forced (assign line ps t))
+  assign_stays : (line : ℕ) (ps : Parts) (t : Term) → IsSoundCommand root (assign line ps t) → AlwaysStays root forced (command_meaning root setting (assign line ps t))
   assign_stays line ps t sound values left all =
       step_stays root forced values line left (λ n. given (value_of root values t) (λ v. given (located root values root ps) (λ path. done (stored_at root forced values path v) n))) all
       (λ n. given_stays root forced values n (value_of root values t) (λ v. given (located root values root ps) (λ path. done (stored_at root forced values path v) n))
@@ -48,10 +53,10 @@ module _ (root : Composition) (forced : List Bool) (one : HasOneLeafEach root) w
       (λ counter behind on others left whole. store_keeps root forced others e path (alike a counter) left one whole leaf (counter_is e a b counter c.bits is is' behind on))
       a.bits (begins_behind a.bits c.bits) (stored_at root forced values path a) n start.all)
 
-  count_loop_stays : (line : ℕ) (ps : Parts) (first last step : Term) (cs : Commands) → IsCount root ps first last step → AlwaysStays root forced (commands_meaning root forced cs)
-      → AlwaysStays root forced (command_meaning root forced (count_loop line ps first last step cs))
+  count_loop_stays : (line : ℕ) (ps : Parts) (first last step : Term) (cs : Commands) → IsCount root ps first last step → AlwaysStays root forced (commands_meaning root setting cs)
+      → AlwaysStays root forced (command_meaning root setting (count_loop line ps first last step cs))
   count_loop_stays line ps first last step cs sound stays values left all =
-      let body = commands_meaning root forced cs in
+      let body = commands_meaning root setting cs in
       let e = term_type root first in
       let turns : ℕ → Value → Value → Value → Path → Outcome = (λ n a b c path.
       count_turns (suc n) line (λ others i. stored_at root forced others path (alike a i)) b.bits c.bits body a.bits (stored_at root forced values path a) n) in
@@ -71,44 +76,45 @@ module _ (root : Composition) (forced : List Bool) (one : HasOneLeafEach root) w
   -- ---- all statements
 
   mutual
-    command_stays : (c : Command) → IsSoundCommand root c → AlwaysStays root forced (command_meaning root forced c)
+    command_stays : (c : Command) → IsSoundCommand root c → AlwaysStays root forced (command_meaning root setting c)
     command_stays (nothing line) sound values left all = step_stays root forced values line left (λ n. done values n) all (λ n. nothing_done root forced values n all)
     command_stays (assign line ps t) sound values left all = assign_stays line ps t sound values left all
     command_stays (choice line bs others) sound values left all =
-        step_stays root forced values line left (branches_meaning root forced bs (commands_meaning root forced others) values) all
-        (λ n. branches_stay bs sound.0 (commands_meaning root forced others) (commands_stay others sound.1) values n all)
+        step_stays root forced values line left (branches_meaning root setting bs (commands_meaning root setting others) values) all
+        (λ n. branches_stay bs sound.0 (commands_meaning root setting others) (commands_stay others sound.1) values n all)
     command_stays (cases line t cs others) sound values left all =
-        step_stays root forced values line left (λ n. given (value_of root values t) (λ v. cases_meaning root forced cs (commands_meaning root forced others) v.bits values n)) all
-        (λ n. given_stays root forced values n (value_of root values t) (λ v. cases_meaning root forced cs (commands_meaning root forced others) v.bits values n)
-        (λ v h. cases_stay cs (term_type root t) sound.1 (commands_meaning root forced others) (commands_stay others sound.2) v.bits values n all))
+        step_stays root forced values line left (λ n. given (value_of root values t) (λ v. cases_meaning root setting cs (commands_meaning root setting others) v.bits values n)) all
+        (λ n. given_stays root forced values n (value_of root values t) (λ v. cases_meaning root setting cs (commands_meaning root setting others) v.bits values n)
+        (λ v h. cases_stay cs (term_type root t) sound.1 (commands_meaning root setting others) (commands_stay others sound.2) v.bits values n all))
     command_stays (count_loop line ps first last step cs) sound values left all = count_loop_stays line ps first last step cs sound.0 (commands_stay cs sound.1) values left all
     command_stays (while_loop line t cs) sound values left all =
-        step_stays root forced values line left (λ n. while_turns (suc n) line (λ others. value_of root others t) (commands_meaning root forced cs) values n) all
-        (λ n. while_stays root forced line (commands_meaning root forced cs) (commands_stay cs sound.1) (suc n) (λ others. value_of root others t) values n all)
+        step_stays root forced values line left (λ n. while_turns (suc n) line (λ others. value_of root others t) (commands_meaning root setting cs) values n) all
+        (λ n. while_stays root forced line (commands_meaning root setting cs) (commands_stay cs sound.1) (suc n) (λ others. value_of root others t) values n all)
     command_stays (repeat_loop line cs t) sound values left all =
-        step_stays root forced values line left (λ n. repeat_turns (suc n) line (λ others. value_of root others t) (commands_meaning root forced cs) values n) all
-        (λ n. repeat_stays root forced line (commands_meaning root forced cs) (commands_stay cs sound.0) (suc n) (λ others. value_of root others t) values n all)
+        step_stays root forced values line left (λ n. repeat_turns (suc n) line (λ others. value_of root others t) (commands_meaning root setting cs) values n) all
+        (λ n. repeat_stays root forced line (commands_meaning root setting cs) (commands_stay cs sound.0) (suc n) (λ others. value_of root others t) values n all)
+    command_stays (invoke line name b inputs outputs) sound values left all = invoke_stays root setting one now line name b inputs outputs sound values left all
     command_stays (exit line) sound values left all = step_stays root forced values line left (λ n. exited values n) all (λ n. nothing_done root forced values n all)
     command_stays (finish line) sound values left all = step_stays root forced values line left (λ n. returned values n) all (λ n. nothing_done root forced values n all)
 
-    commands_stay : (cs : Commands) → AreSoundCommands root cs → AlwaysStays root forced (commands_meaning root forced cs)
+    commands_stay : (cs : Commands) → AreSoundCommands root cs → AlwaysStays root forced (commands_meaning root setting cs)
     commands_stay no_commands sound values left all = nothing_done root forced values left all
     commands_stay (more_commands c cs) sound values left all =
-        then_stays root forced values left (command_meaning root forced c values left) (commands_meaning root forced cs) (command_stays c sound.0 values left all) (commands_stay cs sound.1)
+        then_stays root forced values left (command_meaning root setting c values left) (commands_meaning root setting cs) (command_stays c sound.0 values left all) (commands_stay cs sound.1)
 
-    branches_stay : (bs : Branches) → AreSoundBranches root bs → (others : Values → ℕ → Outcome) → AlwaysStays root forced others → AlwaysStays root forced (branches_meaning root forced bs others)
+    branches_stay : (bs : Branches) → AreSoundBranches root bs → (others : Values → ℕ → Outcome) → AlwaysStays root forced others → AlwaysStays root forced (branches_meaning root setting bs others)
     branches_stay no_branches sound others stays values left all = stays values left all
     branches_stay (more_branches t cs bs) sound others stays values left all =
-        given_stays root forced values left (value_of root values t) (λ v. if is_true v then commands_meaning root forced cs values left else branches_meaning root forced bs others values left)
-        (λ v h. either_stays root forced values left (is_true v) (commands_meaning root forced cs values left) (branches_meaning root forced bs others values left)
+        given_stays root forced values left (value_of root values t) (λ v. if is_true v then commands_meaning root setting cs values left else branches_meaning root setting bs others values left)
+        (λ v h. either_stays root forced values left (is_true v) (commands_meaning root setting cs values left) (branches_meaning root setting bs others values left)
         (λ e. commands_stay cs sound.1 values left all) (branches_stay bs sound.2 others stays values left all))
 
     cases_stay : (cs : Cases) (e : Elem) → AreSoundCases root e cs → (others : Values → ℕ → Outcome) → AlwaysStays root forced others → (i : ℤ)
-        → AlwaysStays root forced (cases_meaning root forced cs others i)
+        → AlwaysStays root forced (cases_meaning root setting cs others i)
     cases_stay no_cases e sound others stays i values left all = stays values left all
     cases_stay (more_cases labels cs more) e sound others stays i values left all =
-        either_stays root forced values left (has_label labels i) (commands_meaning root forced cs values left) (cases_meaning root forced more others i values left)
+        either_stays root forced values left (has_label labels i) (commands_meaning root setting cs values left) (cases_meaning root setting more others i values left)
         (λ h. commands_stay cs sound.1 values left all) (cases_stay more e sound.2 others stays i values left all)
 
 pub commands_keep_the_frame : CommandsKeepTheFrame
-commands_keep_the_frame root forced cs values left one all sound = commands_stay root forced one cs sound values left all
+commands_keep_the_frame root setting cs values left now one all sound = commands_stay root setting now one cs sound values left all

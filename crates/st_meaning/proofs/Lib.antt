@@ -3,12 +3,15 @@ pub mod Constants
 pub mod Elements
 pub mod Frames
 pub mod Giving
+pub mod Invocations
 pub mod LeafTypes
 pub mod Operands
 pub mod Places
 pub mod Ranges
+pub mod Stretches
 pub mod TermValues
 pub mod Turns
+pub mod TypedCalls
 pub mod TypedExpressions
 pub mod TypedStatements
 pub mod TypedTerms

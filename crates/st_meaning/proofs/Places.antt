@@ -1,5 +1,5 @@
 -- Where a place is found, a leaf of its type stands.
-use Rattle.std.proofs.Common.{◌≡◌, ℕ, suc, ◌+◌, ◌*◌, ◌<◌, ℤ, Bool, true, false, List, [], ◌∷◌, ◌++◌, length, Option, Some, None, refl, ap, sym, ◌∙◌, subst, if◌then◌else◌, arith}
+use Rattle.std.proofs.Common.{◌≡◌, ◌⊎◌, inl, inr, ℕ, suc, ◌+◌, ◌*◌, ◌<◌, ℤ, Bool, true, false, List, [], ◌∷◌, ◌++◌, length, Option, Some, None, refl, ap, sym, ◌∙◌, subst, if◌then◌else◌, arith}
 use Rattle.st_values.specs.Words.{is_word}
 use Rattle.st_values.specs.declared.elem.Elem.{Elem}
 use Rattle.st_types.specs.Compositions.{Composition, unknown, elementary, array, composed, standard, Members, none, member}
@@ -15,6 +15,7 @@ use Rattle.st_leaves.proofs.Places.{places_are_numbers}
 use Rattle.std.specs.List.{flat_map}
 use Rattle.st_meaning.specs.Laws.{HasLeaf, PlacesHaveLeaves}
 use Rattle.st_meaning.specs.Meaning.{Values, are_within, located, numbers_in, values_of, when_within}
+use Rattle.st_meaning.specs.Offsets.{member_offset}
 use Rattle.st_meaning.specs.Operations.{gives, then_with}
 use Rattle.st_meaning.specs.Sound.{type_at}
 use Rattle.st_meaning.specs.Terms.{Parts, whole, field_part, element_part, how_many}
@@ -36,24 +37,18 @@ leaf_below c e path h = (places_are_numbers c path h.number h.leads).0
 
 -- ---- members
 
-data Selected (name : List ℕ) (ms : Members) : Type 0 where
-  missing : member_selected ms name ≡ unknown → Selected name ms
-  found : (d : ℕ) → IsMember name ms d (member_selected ms name) → Selected name ms
-
-select : (name : List ℕ) (ms : Members) → Selected name ms
-select name none = missing refl
+pub select : (name : List ℕ) (ms : Members) → (member_selected ms name ≡ unknown) ⊎ IsMember name ms (member_offset ms name) (member_selected ms name)
+select name none = inl refl
 select name (member other kind c ms) = by (is_word other name) refl (select name ms) where
-  by : (b : Bool) → is_word other name ≡ b → Selected name ms → Selected name (member other kind c ms)
-  by true q more =
-      let e : c ≡ member_selected (member other kind c ms) name = ap (λ b. if b then c else member_selected ms name) (sym q) in
-      found 0 (subst (λ d. IsMember name (member other kind c ms) 0 d) e (here q))
-  by false q (missing h) = missing (ap (λ b. if b then c else member_selected ms name) q ∙ h)
-  by false q (found d h) =
-      let e : member_selected ms name ≡ member_selected (member other kind c ms) name = ap (λ b. if b then c else member_selected ms name) (sym q) in
-      found (count c + d) (subst (λ x. IsMember name (member other kind c ms) (count c + d) x) e (later q h))
+  by : (b : Bool) → is_word other name ≡ b → (member_selected ms name ≡ unknown) ⊎ IsMember name ms (member_offset ms name) (member_selected ms name)
+      → ((if b then c else member_selected ms name) ≡ unknown)
+      ⊎ IsMember name (member other kind c ms) (if b then 0 else (count c + member_offset ms name)) (if b then c else member_selected ms name)
+  by true q more = inr (here q)
+  by false q (inl h) = inl h
+  by false q (inr h) = inr (later q h)
 
 -- the leaves of a member have the types that they have by themselves
-member_type : (whole' name : List ℕ) (ms : Members) (d : ℕ) (c : Composition) (k : ℕ) → IsMember name ms d c → k < count c
+pub member_type : (whole' name : List ℕ) (ms : Members) (d : ℕ) (c : Composition) (k : ℕ) → IsMember name ms d c → k < count c
     → (elem_at (members_in whole' ms) (d + k) ≡ elem_at (leaves_in c) k) × (d + k < counts ms)
 member_type whole' name ms d c k (here {other = other} {ms = more} e) few =
     let z : 0 + k ≡ k = omega arith in
@@ -111,9 +106,11 @@ field_leaf unknown name e path h = absurd (no_leaf_in unknown e path refl h)
 field_leaf (elementary v) name e path h = absurd (no_leaf_in unknown e path refl h)
 field_leaf (array ranges firsts c) name e path h = absurd (no_leaf_in unknown e path refl h)
 field_leaf (composed whole' ms chart) name e path h = by (select name ms) where
-  by : Selected name ms → HasLeaf (composed whole' ms chart) e (field name ∷ path)
-  by (missing q) = absurd (no_leaf_in (member_selected ms name) e path q h)
-  by (found d m) =
+  by : (member_selected ms name ≡ unknown) ⊎ IsMember name ms (member_offset ms name) (member_selected ms name)
+      → HasLeaf (composed whole' ms chart) e (field name ∷ path)
+  by (inl q) = absurd (no_leaf_in (member_selected ms name) e path q h)
+  by (inr m) =
+      let d = member_offset ms name in
       let inside = member_type whole' name ms d (member_selected ms name) h.number m (leaf_below (member_selected ms name) e path h) in
       let less : d + h.number < length (members_in whole' ms) = subst (λ n. d + h.number < n) (sym (length_is_counts whole' ms)) inside.1 in
       record {

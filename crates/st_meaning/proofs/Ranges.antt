@@ -1,25 +1,10 @@
--- Numbers between two values of a type.
-use Rattle.std.proofs.Common.{◌≡◌, ℤ, pos, negsuc, ◌+ℤ◌, ◌≤ℤ◌, Bool, true, false, ◌&&◌, nat_lt, IsTrue, arith}
+-- The counter of FOR is a value of its type.
+use Rattle.std.proofs.Common.{◌≡◌, ℤ, pos, negsuc, ◌+ℤ◌, ◌≤ℤ◌, true, IsTrue, arith}
 use Rattle.std.proofs.lemmas.Int.{ints}
-use Rattle.st_values.specs.Types.{is_signed, limit_of}
 use Rattle.st_values.specs.Values.{in_range}
 use Rattle.st_values.specs.declared.elem.Elem.{Elem}
-use Rattle.st_values.proofs.Cases.{below, both, is_below}
+use Rattle.st_blocks.proofs.RangeLemmas.{between}
 use Rattle.st_meaning.specs.Statements.{goes_on}
-
-both_true : (a b : Bool) → a ≡ true → b ≡ true → (a && b) ≡ true
-both_true true b h k = k
-both_true false b h k = h
-
-between : (e : Elem) (low high i : ℤ) → IsTrue (in_range e low) → IsTrue (in_range e high) → low ≤ℤ i → i ≤ℤ high → IsTrue (in_range e i)
-between e low (pos m) (pos n) h k above under = is_below n (limit_of e) (omega (arith, ints, below m (limit_of e) k))
-between e low (negsuc m) (pos n) h k above under = absurd (omega (arith, ints))
-between e (pos m) high (negsuc n) h k above under = absurd (omega (arith, ints))
-between e (negsuc m) high (negsuc n) h k above under =
-    let parts = both (is_signed e) (nat_lt m (limit_of e)) h in
-    both_true (is_signed e) (nat_lt n (limit_of e)) parts.0 (is_below n (limit_of e) (omega (arith, ints, below m (limit_of e) parts.1)))
-
--- ---- the counter of FOR
 
 -- it hasn't turned back
 abbrev pub IsBehind : ℤ → ℤ → ℤ → Type 0

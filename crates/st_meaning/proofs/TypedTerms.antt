@@ -121,7 +121,7 @@ module _ (root : Composition) where
   named_sound : (v : Value) → IsValue v → IsSound root (named_value v)
   named_sound v h t = fitted_sound v.elem (constant v) (record { type = refl; sound = h }) t
 
-  place_sound : (ps : Parts) (e : Option Elem) → type_of root ps ≡ e → AreSoundParts root ps → IsSound root (place_typed ps e)
+  pub place_sound : (ps : Parts) (e : Option Elem) → type_of root ps ≡ e → AreSoundParts root ps → IsSound root (place_typed ps e)
   place_sound ps None h parts t = nil_sound t
   place_sound ps (Some e) h parts t = fitted_sound e (stored ps) (record { type = ap or_lint h; sound = (ap is_some h, parts) }) t
 

@@ -1,5 +1,5 @@
 -- Worked programs: this is what they mean.
-use Rattle.std.proofs.Common.{◌≡◌, ℕ, ℤ, pos, negsuc, true, false, [], ◌∷◌, codes, Some, refl}
+use Rattle.std.proofs.Common.{◌≡◌, ℕ, ℤ, pos, negsuc, true, false, List, [], ◌∷◌, codes, Some, refl}
 use Rattle.st_values.specs.declared.elem.Elem.{Elem}
 use Rattle.st_values.specs.declared.elem.Elem.TheVariants as elems
 use Rattle.st_values.specs.declared.value.Value.{Value}
@@ -7,13 +7,14 @@ use Rattle.st_tree.specs.declared.operator.BinOp.TheVariants as operators
 use Rattle.st_tree.specs.declared.tree.declaration.VarKind.TheVariants as var_kinds
 use Rattle.st_tree.specs.declared.tree.constant.Constant.TheVariants as constants
 use Rattle.st_tree.specs.declared.tree.constant.SignedInteger.{SignedInteger}
-use Rattle.st_types.specs.Compositions.{Composition, elementary, array, composed, none, member}
+use Rattle.st_types.specs.Compositions.{Composition, elementary, array, composed, standard, none, member}
 use Rattle.st_types.specs.Initials.{zero_of}
+use Rattle.st_types.specs.declared.standard.StandardBlock.TheVariants as blocks
 use Rattle.st_meaning.specs.Meaning.{Values, value_of}
 use Rattle.st_meaning.specs.Operations.{gives, stops, stop}
-use Rattle.st_meaning.specs.Statements.{Outcome, done, returned, faulted, command_meaning}
-use Rattle.st_meaning.specs.Terms.{Term, constant, stored, binary, no_terms, more_terms, Parts, whole, field_part, element_part, Command, assign, cases, count_loop, while_loop, exit, finish, no_commands, more_commands, no_cases, more_cases}
-use Rattle.st_meaning.specs.Typing.{joined, literal, place_typed}
+use Rattle.st_meaning.specs.Statements.{Outcome, Setting, done, returned, faulted, command_meaning}
+use Rattle.st_meaning.specs.Terms.{Term, constant, stored, binary, no_terms, more_terms, Parts, whole, field_part, element_part, Command, assign, cases, count_loop, while_loop, invoke, exit, finish, Moves, no_moves, more_moves, no_commands, more_commands, no_cases, more_cases}
+use Rattle.st_meaning.specs.Typing.{joined, literal, pin_of, place_typed}
 use Rattle.st_meaning.specs.declared.fault.RunFaultKind.TheVariants as faults
 use Rattle.st_meaning.specs.declared.operation.Binary.TheVariants as binaries
 
@@ -43,7 +44,7 @@ count_up line = assign line y (binary (binaries.Operator operators.Add) line (st
 
 -- from these values and 100 steps
 abbrev from : ℤ → ℤ → Command → Outcome
-from a b c = command_meaning root (false ∷ false ∷ []) c (values a b) 100
+from a b c = command_meaning root (record { now = pos 0; forced = false ∷ false ∷ [] }) c (values a b) 100
 
 -- ---- expressions
 
@@ -123,8 +124,84 @@ endless_loop_stops = refl
 -- ---- forced variables
 
 -- a store to a forced variable is dropped
-forced_stays : command_meaning root (false ∷ true ∷ []) (count_up 1) (values (pos 0) (pos 8)) 100 ≡ done (values (pos 0) (pos 8)) 99
+forced_stays : command_meaning root (record { now = pos 0; forced = false ∷ true ∷ [] }) (count_up 1) (values (pos 0) (pos 8)) 100 ≡ done (values (pos 0) (pos 8)) 99
 forced_stays = refl
+
+-- ---- invocations of standard function blocks (3.3.2.2)
+
+-- VAR GO : BOOL; T : TON; LAMP : BOOL; END_VAR
+abbrev timers : Composition
+timers =
+    composed (codes "PROGRAM")
+    (member (codes "GO") var_kinds.Internal (elementary (zero_of elems.Bool))
+    (member (codes "T") var_kinds.Internal (standard blocks.Ton) (member (codes "LAMP") var_kinds.Internal (elementary (zero_of elems.Bool)) none)))
+    []
+
+-- GO, the leaves of T, which are IN, PT, Q, ET, $RUN and $START, and LAMP
+abbrev timed : (go input preset output time running start lamp : ℤ) → Values
+timed go input preset output time running start lamp =
+    of elems.Bool go ∷ of elems.Bool input ∷ of elems.Time preset ∷ of elems.Bool output ∷ of elems.Time time ∷ of elems.Bool running ∷ of elems.Time start
+    ∷ of elems.Bool lamp ∷ []
+
+-- at a moment, where nothing is forced
+abbrev at : ℤ → Setting
+at moment = record { now = moment; forced = [] }
+
+abbrev timer : Moves → Moves → Command
+timer inputs outputs = invoke 1 (codes "T") blocks.Ton inputs outputs
+
+abbrev pin : List ℕ → Parts
+pin name = pin_of (codes "t") name
+
+-- IN := GO, PT := T#100ms
+abbrev both_inputs : Moves
+both_inputs =
+    more_moves (pin (codes "IN")) (stored (field_part (codes "GO") whole)) (more_moves (pin (codes "PT")) (constant (of elems.Time (pos 100))) no_moves)
+
+-- Q => LAMP
+abbrev to_lamp : Moves
+to_lamp = more_moves (field_part (codes "LAMP") whole) (stored (pin (codes "Q"))) no_moves
+
+-- T(IN := GO, PT := T#100ms, Q => LAMP) begins to measure,
+timer_begins : command_meaning timers (at (pos 1000)) (timer both_inputs to_lamp)
+    (timed (pos 1) (pos 0) (pos 0) (pos 0) (pos 0) (pos 0) (pos 0) (pos 0)) 100
+    ≡ done (timed (pos 1) (pos 1) (pos 100) (pos 0) (pos 0) (pos 1) (pos 1000) (pos 0)) 98
+timer_begins = refl
+
+-- and 100 ms later LAMP gets the Q that this very invocation has made
+output_is_new : command_meaning timers (at (pos 1100)) (timer both_inputs to_lamp)
+    (timed (pos 1) (pos 1) (pos 100) (pos 0) (pos 0) (pos 1) (pos 1000) (pos 0)) 100
+    ≡ done (timed (pos 1) (pos 1) (pos 100) (pos 1) (pos 100) (pos 1) (pos 1000) (pos 1)) 98
+output_is_new = refl
+
+-- In T() the inputs keep their values, though GO is FALSE now, and no output is assigned.
+inputs_left_out_stay : command_meaning timers (at (pos 1100)) (timer no_moves no_moves)
+    (timed (pos 0) (pos 1) (pos 100) (pos 0) (pos 0) (pos 1) (pos 1000) (pos 0)) 100
+    ≡ done (timed (pos 0) (pos 1) (pos 100) (pos 1) (pos 100) (pos 1) (pos 1000) (pos 0)) 98
+inputs_left_out_stay = refl
+
+-- A Q that is forced to FALSE stays so, and LAMP gets it; ET is what the block makes of it.
+forced_output_stays : command_meaning timers (record { now = pos 1100; forced = false ∷ false ∷ false ∷ true ∷ [] }) (timer both_inputs to_lamp)
+    (timed (pos 1) (pos 1) (pos 100) (pos 0) (pos 0) (pos 1) (pos 1000) (pos 0)) 100
+    ≡ done (timed (pos 1) (pos 1) (pos 100) (pos 0) (pos 100) (pos 1) (pos 1000) (pos 0)) 98
+forced_output_stays = refl
+
+-- In T(IN := 1 / 0 = 1) the division stops the run where two steps are left. Where one is left, the run stops before it divides.
+abbrev divided : Moves
+divided =
+    more_moves (pin (codes "IN"))
+    (binary (binaries.Operator operators.Eq) 4 (binary (binaries.Operator operators.Div) 4 (int (pos 1)) (int (pos 0))) (int (pos 1)))
+    no_moves
+
+input_stops : command_meaning timers (at (pos 1000)) (timer divided no_moves)
+    (timed (pos 0) (pos 0) (pos 0) (pos 0) (pos 0) (pos 0) (pos 0) (pos 0)) 2
+    ≡ faulted (stop faults.ZeroDivisor 4)
+input_stops = refl
+
+invocation_takes_two_steps : command_meaning timers (at (pos 1000)) (timer divided no_moves)
+    (timed (pos 0) (pos 0) (pos 0) (pos 0) (pos 0) (pos 0) (pos 0) (pos 0)) 1
+    ≡ faulted (stop faults.StepLimit 1)
+invocation_takes_two_steps = refl
 
 -- ---- subscripts (2.4.1.2)
 

@@ -1,6 +1,8 @@
 -- What follows of the meaning of programs.
-use Rattle.std.specs.Prelude.{◌≡◌, ℕ, ◌≤◌, Bool, true, false, List, get_or}
+use Rattle.std.specs.Prelude.{◌≡◌, ℕ, ◌≤◌, Bool, true, false, IsTrue, List, get_or}
+use Rattle.st_values.specs.Values.{in_range}
 use Rattle.st_values.specs.declared.elem.Elem.{Elem}
+use Rattle.st_values.specs.declared.elem.Elem.TheVariants as elems
 use Rattle.st_values.specs.declared.value.Value.{Value}
 use Rattle.st_tree.specs.declared.tree.statement.Statement.{Statement}
 use Rattle.st_types.specs.Compositions.{Composition}
@@ -11,7 +13,7 @@ use Rattle.st_operators.specs.Laws.{IsOf}
 use Rattle.st_meaning.specs.Meaning.{Values, located, no_value, value_of}
 use Rattle.st_meaning.specs.Operations.{gives}
 use Rattle.st_meaning.specs.Sound.{AreSoundCommands, AreValuesOf, HasOneLeafEach, IsPlaceOf, IsSoundTerm, term_type, type_at}
-use Rattle.st_meaning.specs.Statements.{Outcome, done, exited, returned, faulted, commands_meaning}
+use Rattle.st_meaning.specs.Statements.{Setting, Outcome, done, exited, returned, faulted, commands_meaning}
 use Rattle.st_meaning.specs.Terms.{Commands, Parts, Term}
 use Rattle.st_meaning.specs.Typing.{body_of}
 use Rattle.st_meaning.specs.Wholes.{whole_of}
@@ -51,5 +53,5 @@ StaysInFrame root forced values left (faulted f) = Unit {0}
 
 -- whatever sound commands leave lies in the frame
 abbrev pub CommandsKeepTheFrame : Type 0
-CommandsKeepTheFrame = (root : Composition) (forced : List Bool) (cs : Commands) (values : Values) (left : ℕ) → HasOneLeafEach root → AreValuesOf root values
-    → AreSoundCommands root cs → StaysInFrame root forced values left (commands_meaning root forced cs values left)
+CommandsKeepTheFrame = (root : Composition) (setting : Setting) (cs : Commands) (values : Values) (left : ℕ) → IsTrue (in_range elems.Time setting.now)
+    → HasOneLeafEach root → AreValuesOf root values → AreSoundCommands root cs → StaysInFrame root setting.forced values left (commands_meaning root setting cs values left)

@@ -1,18 +1,20 @@
 -- Sound terms and commands: each operand has a type that its operator takes, and each place a type of its own.
-use Rattle.std.specs.Prelude.{◌≡◌, ℕ, ◌<◌, Bool, true, false, IsTrue, [], length, get_or, Some}
+use Rattle.std.specs.Prelude.{◌≡◌, ℕ, ◌<◌, Bool, true, false, IsTrue, List, [], length, get_or, Some}
 use Rattle.std.specs.List.{All}
 use Rattle.std.specs.Option.{is_some}
 use Rattle.st_values.specs.Values.{IsValue, in_range}
 use Rattle.st_values.specs.declared.elem.Elem.{Elem}
-use Rattle.st_types.specs.Compositions.{Composition}
+use Rattle.st_types.specs.Compositions.{Composition, standard}
 use Rattle.st_types.specs.OwnTypes.{or_lint}
+use Rattle.st_types.specs.declared.standard.StandardBlock.{StandardBlock}
 use Rattle.st_leaves.specs.LeavesIn.{LeafIn, leaves_in, plain}
 use Rattle.st_leaves.specs.Paths.{Path}
 use Rattle.st_leaves.specs.Places.{LeadsTo, count}
+use Rattle.st_leaves.specs.Selected.{selected_by}
 use Rattle.st_operators.specs.Laws.{IsOf}
 use Rattle.st_meaning.specs.Meaning.{Values, leaf_with, no_value}
 use Rattle.st_meaning.specs.Operations.{binary_type, has_count, takes_one, takes_two, unary_type}
-use Rattle.st_meaning.specs.Terms.{Term, constant, stored, unary, binary, selection, Terms, no_terms, more_terms, Parts, whole, field_part, element_part, LabelRange, Command, nothing, assign, choice, cases, count_loop, while_loop, repeat_loop, exit, finish, Commands, no_commands, more_commands, Branches, no_branches, more_branches, Cases, no_cases, more_cases}
+use Rattle.st_meaning.specs.Terms.{Term, constant, stored, unary, binary, selection, Terms, no_terms, more_terms, Parts, whole, field_part, element_part, LabelRange, Command, nothing, assign, choice, cases, count_loop, while_loop, repeat_loop, invoke, exit, finish, Moves, no_moves, more_moves, Commands, no_commands, more_commands, Branches, no_branches, more_branches, Cases, no_cases, more_cases}
 use Rattle.st_meaning.specs.Wholes.{type_of}
 
 -- the type of the value of a term
@@ -71,6 +73,17 @@ pub record IsCount (root : Composition) (ps : Parts) (a b c : Term) : Type 0 whe
   pub last : IsTermOf root (term_type root a) b
   pub step : IsTermOf root (term_type root a) c
 
+-- each value has the type of its place
+abbrev pub AreSoundMoves : Composition → Moves → Type 0
+AreSoundMoves root no_moves = Unit {0}
+AreSoundMoves root (more_moves ps t more) = IsPlaceOf root (term_type root t) ps × IsSoundTerm root t × AreSoundMoves root more
+
+-- what an invocation needs: an instance of the block
+pub record IsInvocation (root : Composition) (name : List ℕ) (b : StandardBlock) (entering leaving : Moves) : Type 0 where
+  pub block : selected_by root name ≡ standard b
+  pub inputs : AreSoundMoves root entering
+  pub outputs : AreSoundMoves root leaving
+
 abbrev mutual
   pub IsSoundCommand : Composition → Command → Type 0
   IsSoundCommand root (nothing line) = Unit {0}
@@ -80,6 +93,7 @@ abbrev mutual
   IsSoundCommand root (count_loop line ps first last step cs) = IsCount root ps first last step × AreSoundCommands root cs
   IsSoundCommand root (while_loop line t cs) = IsSoundTerm root t × AreSoundCommands root cs
   IsSoundCommand root (repeat_loop line cs t) = AreSoundCommands root cs × IsSoundTerm root t
+  IsSoundCommand root (invoke line name b inputs outputs) = IsInvocation root name b inputs outputs
   IsSoundCommand root (exit line) = Unit {0}
   IsSoundCommand root (finish line) = Unit {0}
 

@@ -1,12 +1,21 @@
 -- What statements do (3.3.2): from the values of variables, the forced leaves and the steps left, to new values and the steps that
 -- are left then, or to what stops the run.
-use Rattle.std.specs.Prelude.{ℕ, zero, suc, Bool, true, false, ◌&&◌, ◌||◌, if◌then◌else◌, ℤ, pos, negsuc, ◌+ℤ◌, int_le, List, [], ◌∷◌}
+use Rattle.std.specs.Prelude.{ℕ, zero, suc, ◌+◌, Bool, true, false, ◌&&◌, ◌||◌, if◌then◌else◌, ℤ, pos, negsuc, ◌+ℤ◌, int_le, List, [], ◌∷◌, ◌++◌, drop, length, take}
 use Rattle.st_values.specs.declared.value.Value.{Value}
-use Rattle.st_types.specs.Compositions.{Composition}
+use Rattle.st_types.specs.Compositions.{Composition, standard}
+use Rattle.st_types.specs.declared.standard.StandardBlock.{StandardBlock}
+use Rattle.st_leaves.specs.Places.{count}
+use Rattle.st_blocks.specs.Steps.{stepped}
 use Rattle.st_meaning.specs.Meaning.{Values, located, stored_at, value_of}
+use Rattle.st_meaning.specs.Offsets.{offset_of}
 use Rattle.st_meaning.specs.Operations.{Answer, gives, stops, Stop, stop}
-use Rattle.st_meaning.specs.Terms.{LabelRange, Command, nothing, assign, choice, cases, count_loop, while_loop, repeat_loop, exit, finish, Commands, no_commands, more_commands, Branches, no_branches, more_branches, Cases, no_cases, more_cases}
+use Rattle.st_meaning.specs.Terms.{LabelRange, Command, nothing, assign, choice, cases, count_loop, while_loop, repeat_loop, invoke, exit, finish, Moves, no_moves, more_moves, Commands, no_commands, more_commands, Branches, no_branches, more_branches, Cases, no_cases, more_cases}
 use Rattle.st_meaning.specs.declared.fault.RunFaultKind.TheVariants as faults
+
+-- what a run is given beside the values: the moment, in milliseconds, and which leaves are forced
+pub record Setting : Type 0 where
+  pub now : ℤ
+  pub forced : List Bool
 
 -- how statements end: they are done, EXIT leaves the loop around them, RETURN the body, or the run stops
 pub data Outcome : Type 0 where
@@ -79,48 +88,82 @@ abbrev pub has_label : List LabelRange → ℤ → Bool
 has_label [] i = false
 has_label (r ∷ rs) i = is_labelled r i || has_label rs i
 
+-- ---- invocations of standard function blocks
+
+-- the values of leaves that stand together: so many from one of them on
+abbrev pub stretch : Values → (offset size : ℕ) → Values
+stretch values offset size = take size (drop offset values)
+
+-- others in their place
+abbrev pub with_stretch : Values → ℕ → Values → Values
+with_stretch values offset part = take offset values ++ (part ++ drop (offset + length part) values)
+
+-- of each two values the new one, unless the leaf is forced
+abbrev pub unless_forced : List Bool → (old new : Values) → Values
+unless_forced forced [] new = []
+unless_forced forced old [] = []
+unless_forced [] (v ∷ old) (w ∷ new) = w ∷ unless_forced [] old new
+unless_forced (f ∷ forced) (v ∷ old) (w ∷ new) = (if f then v else w) ∷ unless_forced forced old new
+
+-- one invocation of a standard block, whose first leaf has this number: all new values follow from the old ones and the moment
+abbrev pub block_done : Setting → StandardBlock → ℕ → Values → Values
+block_done setting b offset values =
+    let old = stretch values offset (count (standard b)) in
+    with_stretch values offset (unless_forced (drop offset setting.forced) old (stepped b old setting.now))
+
 -- ---- statements
 
 -- this number as a value of the type that the other one has
 abbrev pub alike : Value → ℤ → Value
 alike v i = record { elem = v.elem; bits = i }
 
+-- one value after the other, each stored before the next is evaluated
+abbrev pub moves_meaning : Composition → Setting → Moves → Values → ℕ → Outcome
+moves_meaning root setting no_moves values left = done values left
+moves_meaning root setting (more_moves ps t more) values left =
+    given (value_of root values t) (λ v. given (located root values root ps) (λ path. moves_meaning root setting more (stored_at root setting.forced values path v) left))
+
 abbrev mutual
-  pub command_meaning : Composition → List Bool → Command → Values → ℕ → Outcome
-  command_meaning root forced (nothing line) values left = after_step line left (λ n. done values n)
-  command_meaning root forced (assign line ps t) values left =
-      after_step line left (λ n. given (value_of root values t) (λ v. given (located root values root ps) (λ path. done (stored_at root forced values path v) n)))
-  command_meaning root forced (choice line bs others) values left = after_step line left (branches_meaning root forced bs (commands_meaning root forced others) values)
-  command_meaning root forced (cases line t cs others) values left =
-      after_step line left (λ n. given (value_of root values t) (λ v. cases_meaning root forced cs (commands_meaning root forced others) v.bits values n))
+  pub command_meaning : Composition → Setting → Command → Values → ℕ → Outcome
+  command_meaning root setting (nothing line) values left = after_step line left (λ n. done values n)
+  command_meaning root setting (assign line ps t) values left =
+      after_step line left (λ n. given (value_of root values t) (λ v. given (located root values root ps) (λ path. done (stored_at root setting.forced values path v) n)))
+  command_meaning root setting (choice line bs others) values left = after_step line left (branches_meaning root setting bs (commands_meaning root setting others) values)
+  command_meaning root setting (cases line t cs others) values left =
+      after_step line left (λ n. given (value_of root values t) (λ v. cases_meaning root setting cs (commands_meaning root setting others) v.bits values n))
   -- the first value, the last one and the step are evaluated in this order, and the first is stored before the first test
-  command_meaning root forced (count_loop line ps first last step cs) values left =
+  command_meaning root setting (count_loop line ps first last step cs) values left =
       after_step line left (λ n. given (value_of root values first) (λ a. given (value_of root values last) (λ b. given (value_of root values step) (λ c.
       given (located root values root ps) (λ path.
-      count_turns (suc n) line (λ others i. stored_at root forced others path (alike a i)) b.bits c.bits (commands_meaning root forced cs) a.bits
-      (stored_at root forced values path a) n)))))
-  command_meaning root forced (while_loop line t cs) values left =
-      after_step line left (λ n. while_turns (suc n) line (λ others. value_of root others t) (commands_meaning root forced cs) values n)
-  command_meaning root forced (repeat_loop line cs t) values left =
-      after_step line left (λ n. repeat_turns (suc n) line (λ others. value_of root others t) (commands_meaning root forced cs) values n)
-  command_meaning root forced (exit line) values left = after_step line left (λ n. exited values n)
-  command_meaning root forced (finish line) values left = after_step line left (λ n. returned values n)
+      count_turns (suc n) line (λ others i. stored_at root setting.forced others path (alike a i)) b.bits c.bits (commands_meaning root setting cs) a.bits
+      (stored_at root setting.forced values path a) n)))))
+  command_meaning root setting (while_loop line t cs) values left =
+      after_step line left (λ n. while_turns (suc n) line (λ others. value_of root others t) (commands_meaning root setting cs) values n)
+  command_meaning root setting (repeat_loop line cs t) values left =
+      after_step line left (λ n. repeat_turns (suc n) line (λ others. value_of root others t) (commands_meaning root setting cs) values n)
+  -- Its inputs are stored one after the other, the block does what it does, and its outputs are assigned. The invocation takes a step
+  -- beside its statement.
+  command_meaning root setting (invoke line name b inputs outputs) values left =
+      after_step line left (λ m. after_step line m (λ n.
+      then_do (moves_meaning root setting inputs values n) (λ others k. moves_meaning root setting outputs (block_done setting b (offset_of root name) others) k)))
+  command_meaning root setting (exit line) values left = after_step line left (λ n. exited values n)
+  command_meaning root setting (finish line) values left = after_step line left (λ n. returned values n)
 
-  pub commands_meaning : Composition → List Bool → Commands → Values → ℕ → Outcome
-  commands_meaning root forced no_commands values left = done values left
-  commands_meaning root forced (more_commands c cs) values left = then_do (command_meaning root forced c values left) (commands_meaning root forced cs)
+  pub commands_meaning : Composition → Setting → Commands → Values → ℕ → Outcome
+  commands_meaning root setting no_commands values left = done values left
+  commands_meaning root setting (more_commands c cs) values left = then_do (command_meaning root setting c values left) (commands_meaning root setting cs)
 
   -- the first branch whose condition is TRUE
-  pub branches_meaning : Composition → List Bool → Branches → (Values → ℕ → Outcome) → Values → ℕ → Outcome
-  branches_meaning root forced no_branches others values left = others values left
-  branches_meaning root forced (more_branches t cs bs) others values left =
-      given (value_of root values t) (λ v. if is_true v then commands_meaning root forced cs values left else branches_meaning root forced bs others values left)
+  pub branches_meaning : Composition → Setting → Branches → (Values → ℕ → Outcome) → Values → ℕ → Outcome
+  branches_meaning root setting no_branches others values left = others values left
+  branches_meaning root setting (more_branches t cs bs) others values left =
+      given (value_of root values t) (λ v. if is_true v then commands_meaning root setting cs values left else branches_meaning root setting bs others values left)
 
   -- the first case with a label that the number is among
-  pub cases_meaning : Composition → List Bool → Cases → (Values → ℕ → Outcome) → ℤ → Values → ℕ → Outcome
-  cases_meaning root forced no_cases others i values left = others values left
-  cases_meaning root forced (more_cases labels cs more) others i values left =
-      if has_label labels i then commands_meaning root forced cs values left else cases_meaning root forced more others i values left
+  pub cases_meaning : Composition → Setting → Cases → (Values → ℕ → Outcome) → ℤ → Values → ℕ → Outcome
+  cases_meaning root setting no_cases others i values left = others values left
+  cases_meaning root setting (more_cases labels cs more) others i values left =
+      if has_label labels i then commands_meaning root setting cs values left else cases_meaning root setting more others i values left
 
 -- RETURN ends the body, and so would an EXIT that stands in no loop, which no program that keeps the rules has.
 abbrev pub ended : Outcome → Outcome
@@ -130,5 +173,5 @@ ended (returned values left) = done values left
 ended (faulted f) = faulted f
 
 -- a body
-abbrev pub body_meaning : Composition → List Bool → Commands → Values → ℕ → Outcome
-body_meaning root forced cs values left = ended (commands_meaning root forced cs values left)
+abbrev pub body_meaning : Composition → Setting → Commands → Values → ℕ → Outcome
+body_meaning root setting cs values left = ended (commands_meaning root setting cs values left)

@@ -1,6 +1,7 @@
 -- Programs with the type of each literal: what typing makes of a tree, and what meaning and code are about.
 use Rattle.std.specs.Prelude.{ℕ, ◌+◌, ℤ, List}
 use Rattle.st_values.specs.declared.value.Value.{Value}
+use Rattle.st_types.specs.declared.standard.StandardBlock.{StandardBlock}
 use Rattle.st_meaning.specs.declared.operation.Binary.{Binary}
 use Rattle.st_meaning.specs.declared.operation.Unary.{Unary}
 
@@ -30,6 +31,11 @@ abbrev pub how_many : Terms → ℕ
 how_many no_terms = 0
 how_many (more_terms t ts) = 1 + how_many ts
 
+-- values that are stored one after the other, each with its place
+pub data Moves : Type 0 where
+  no_moves : Moves
+  more_moves : Parts → Term → Moves → Moves
+
 -- the least and the greatest number of a label (3.3.2.3)
 pub record LabelRange : Type 0 where
   pub least : ℤ
@@ -46,6 +52,9 @@ mutual
     count_loop : ℕ → Parts → Term → Term → Term → Commands → Command
     while_loop : ℕ → Term → Commands → Command
     repeat_loop : ℕ → Commands → Term → Command
+    -- an invocation of a standard function block (3.3.2.2): the name of the instance, what its inputs are given, and what its outputs
+    -- are assigned to
+    invoke : ℕ → List ℕ → StandardBlock → Moves → Moves → Command
     exit : ℕ → Command
     finish : ℕ → Command
 

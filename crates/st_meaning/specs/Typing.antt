@@ -13,8 +13,8 @@ use Rattle.st_tree.specs.declared.tree.expression.Expression.{Expression, fold-E
 use Rattle.st_tree.specs.declared.tree.expression.Operation.{Operation, fold-Operation}
 use Rattle.st_tree.specs.declared.tree.expression.Part.{Part, fold-Part}
 use Rattle.st_tree.specs.declared.tree.expression.Variable.{Variable, fold-Variable}
-use Rattle.st_tree.specs.declared.tree.expression.Argument.{Argument, fold-Argument}
-use Rattle.st_tree.specs.declared.tree.expression.Call.{Call, fold-Call}
+use Rattle.st_tree.specs.declared.tree.expression.Argument.{Argument, fold-Argument, out-Argument}
+use Rattle.st_tree.specs.declared.tree.expression.Call.{Call, fold-Call, out-Call}
 use Rattle.st_tree.specs.declared.tree.statement.CaseElement.{CaseElement, fold-CaseElement}
 use Rattle.st_tree.specs.declared.tree.statement.ConditionalPart.{ConditionalPart, fold-ConditionalPart}
 use Rattle.st_tree.specs.declared.tree.statement.Label.{Label}
@@ -24,13 +24,15 @@ use Rattle.st_tree.specs.declared.tree.statement.Statement.TheOpen.{Statement-F}
 use Rattle.st_types.specs.Initials.{value_written, zero_of}
 use Rattle.st_types.specs.OwnTypes.{first_own, is_comparison, literal_own, or_lint}
 use Rattle.st_types.specs.Standard.{standard_of}
+use Rattle.st_types.specs.declared.standard.StandardBlock.{StandardBlock}
 use Rattle.st_types.specs.declared.standard.Standard.{Standard}
 use Rattle.st_types.specs.declared.standard.Standard.TheVariants as standards
 use Rattle.st_types.specs.declared.standard.StandardFunction.{StandardFunction}
 use Rattle.st_types.specs.declared.standard.StandardFunction.TheVariants as functions
+use Rattle.st_leaves.specs.Selected.{selected_by}
 use Rattle.st_meaning.specs.Operations.{takes_one, takes_two}
-use Rattle.st_meaning.specs.Terms.{Term, constant, stored, unary, binary, selection, Terms, no_terms, more_terms, Parts, whole, field_part, element_part, LabelRange, Command, nothing, assign, choice, cases, count_loop, while_loop, repeat_loop, exit, finish, Commands, no_commands, more_commands, Branches, no_branches, more_branches, Cases, no_cases, more_cases}
-use Rattle.st_meaning.specs.Wholes.{Whole, type_of}
+use Rattle.st_meaning.specs.Terms.{Term, constant, stored, unary, binary, selection, Terms, no_terms, more_terms, Parts, whole, field_part, element_part, LabelRange, Command, nothing, assign, choice, cases, count_loop, while_loop, repeat_loop, invoke, exit, finish, Moves, no_moves, more_moves, Commands, no_commands, more_commands, Branches, no_branches, more_branches, Cases, no_cases, more_cases}
+use Rattle.st_meaning.specs.Wholes.{Whole, block_of, type_of}
 use Rattle.st_meaning.specs.declared.operation.Binary.{Binary}
 use Rattle.st_meaning.specs.declared.operation.Binary.TheVariants as binaries
 use Rattle.st_meaning.specs.declared.operation.Unary.{Unary}
@@ -229,10 +231,51 @@ abbrev pub for_command : Whole → ℕ → Parts → Option Elem → Expression 
 for_command w line ps None first last step cs = nothing line
 for_command w line ps (Some e) first last step cs = count_loop line ps ((typed w first).as_type e) ((typed w last).as_type e) (step_typed w step e) cs
 
+-- ---- invocations of standard function blocks (3.3.2.2): arguments are inputs with `:=` and outputs with `=>`
+
+-- an input or an output of an instance
+abbrev pub pin_of : List ℕ → List ℕ → Parts
+pin_of name pin = field_part name (field_part pin whole)
+
+-- an input takes the value, where it has a type
+abbrev pub input_moves : Whole → List ℕ → Option Elem → List ℕ → Expression → Moves → Moves
+input_moves w name None pin x more = more
+input_moves w name (Some e) pin x more = more_moves (pin_of name pin) ((typed w x).as_type e) more
+
+abbrev pub input_of : Whole → List ℕ → Argument-F Argument Expression Part Call Operation Variable → Moves → Moves
+input_of w name (Argument-F.Input n x) more = input_moves w name (type_of w.variables (pin_of name n.spelling)) n.spelling x more
+input_of w name _ more = more
+
+abbrev pub inputs_of : Whole → List ℕ → List Argument → Moves
+inputs_of w name [] = no_moves
+inputs_of w name (a ∷ more) = input_of w name (out-Argument a) (inputs_of w name more)
+
+-- a variable takes the value of an output, where it has a type
+abbrev pub output_moves : Whole → List ℕ → Option Elem → List ℕ → Variable → Moves → Moves
+output_moves w name None pin v more = more
+output_moves w name (Some e) pin v more = more_moves (place_of w v) ((place_typed (pin_of name pin) (type_of w.variables (pin_of name pin))).as_type e) more
+
+abbrev pub output_of : Whole → List ℕ → Argument-F Argument Expression Part Call Operation Variable → Moves → Moves
+output_of w name (Argument-F.Output n v) more = output_moves w name (type_of w.variables (place_of w v)) n.spelling v more
+output_of w name _ more = more
+
+abbrev pub outputs_of : Whole → List ℕ → List Argument → Moves
+outputs_of w name [] = no_moves
+outputs_of w name (a ∷ more) = output_of w name (out-Argument a) (outputs_of w name more)
+
+abbrev pub invocation : Whole → ℕ → List ℕ → Option StandardBlock → List Argument → Command
+invocation w line name None xs = nothing line
+invocation w line name (Some b) xs = invoke line name b (inputs_of w name xs) (outputs_of w name xs)
+
+-- a call statement
+abbrev pub call_command : Whole → Call → Command
+call_command w c =
+    let x = out-Call c in invocation w x.name.position.line x.name.spelling (block_of (selected_by w.variables x.name.spelling)) x.arguments
+
 abbrev pub typed_statement : Whole → Statement-F Command (Elem → Cases → Cases) Command (Branches → Branches) Command Command Command Command → Command
 typed_statement w (Statement-F.Empty p) = nothing p.line
 typed_statement w (Statement-F.Assignment v x) = assignment v.name.position.line (place_of w v) (type_of w.variables (place_of w v)) (typed w x)
-typed_statement w (Statement-F.Call c) = nothing c.name.position.line
+typed_statement w (Statement-F.Call c) = call_command w c
 typed_statement w (Statement-F.Return p) = finish p.line
 typed_statement w (Statement-F.Exit p) = exit p.line
 typed_statement w (Statement-F.If c) = c

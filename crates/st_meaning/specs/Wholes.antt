@@ -3,8 +3,9 @@ use Rattle.std.specs.Prelude.{ℕ, suc, ◌&&◌, List, [], ◌∷◌, length, O
 use Rattle.st_values.specs.Words.{is_word}
 use Rattle.st_values.specs.declared.elem.Elem.{Elem}
 use Rattle.st_values.specs.declared.value.Value.{Value}
-use Rattle.st_types.specs.Compositions.{Composition, elementary, composition_of, composition_within, declared_composition, is_constant}
+use Rattle.st_types.specs.Compositions.{Composition, elementary, standard, composition_of, composition_within, declared_composition, is_constant}
 use Rattle.st_types.specs.Names.{Declared, Declares, Named, variables_in}
+use Rattle.st_types.specs.declared.standard.StandardBlock.{StandardBlock}
 use Rattle.st_leaves.specs.Selected.{element_of, selected_by, takes_subscripts, value_type}
 use Rattle.st_meaning.specs.Terms.{Parts, whole, field_part, element_part, how_many}
 
@@ -33,3 +34,8 @@ abbrev pub type_of : Composition → Parts → Option Elem
 type_of c whole = value_type c
 type_of c (field_part name ps) = type_of (selected_by c name) ps
 type_of c (element_part line ts ps) = if takes_subscripts c (how_many ts) then type_of (element_of c) ps else None
+
+-- the standard function block that something is an instance of
+abbrev pub block_of : Composition → Option StandardBlock
+block_of (standard b) = Some b
+block_of _ = None

@@ -16,8 +16,8 @@ pub fn terms_give_values()
     ensures { TermsGiveValues }
 {}
 
-/// What statements leave is one value of the right type for each leaf, where each forced leaf has the value that it had, and no
-/// more steps than there were.
+/// Whatever statements do, and at whichever moment, they leave one value of the right type for each leaf, where each forced leaf
+/// has the value that it had, and no more steps than there were.
 pub fn commands_keep_the_frame()
     ensures { CommandsKeepTheFrame }
 {}

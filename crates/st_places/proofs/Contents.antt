@@ -30,6 +30,7 @@ use Rattle.st_leaves.specs.Places.{count}
 use Rattle.st_leaves.specs.Selected.{element_of, selected_by, value_type}
 use Rattle.st_leaves.proofs.Counted.{written_elem}
 use Rattle.st_meaning.specs.Offsets.{offset_of}
+use Rattle.st_meaning.specs.Wholes.{block_of}
 use Rattle.st_places.specs.Contents.{AreOf, HasSameParts, IsArrayOf, IsContent, IsSelected, IsUnfolded, contents_of, elements_of}
 use Rattle.st_places.specs.Dimensions.{AreLimited}
 use Rattle.st_places.specs.Members.{AreElements}
@@ -52,6 +53,7 @@ same_parts c d is = record {
   count = ap count is;
   array = ap is_array is;
   type = ap value_type is;
+  block = ap block_of is;
 }
 
 through_parts : (c d e : Composition) → HasSameParts c d → HasSameParts d e → HasSameParts c e
@@ -61,22 +63,23 @@ through_parts c d e one two = record {
   count = one.count ∙ two.count;
   array = one.array ∙ two.array;
   type = one.type ∙ two.type;
+  block = one.block ∙ two.block;
 }
 
 composed_parts : (name other : List ℕ) (ms : Parts) (chart : List ChartElement) → HasSameParts (composed name ms chart) (composed other ms chart)
-composed_parts name other ms chart = record { selected = λ n. refl; offset = λ n. refl; count = refl; array = refl; type = refl }
+composed_parts name other ms chart = record { selected = λ n. refl; offset = λ n. refl; count = refl; array = refl; type = refl; block = refl }
 
 started_parts : (initial : Option Initial) (c : Composition) → HasSameParts (started initial c) c
 started_parts None c = same_parts c c refl
 started_parts (Some (initials.Constant k)) unknown = same_parts unknown unknown refl
 started_parts (Some (initials.Constant k)) (elementary v) =
-    record { selected = λ n. refl; offset = λ n. refl; count = refl; array = refl; type = ap (λ (e : Elem). Some e) (written_elem v.elem k) }
+    record { selected = λ n. refl; offset = λ n. refl; count = refl; array = refl; type = ap (λ (e : Elem). Some e) (written_elem v.elem k); block = refl }
 started_parts (Some (initials.Constant k)) (array ranges firsts c) = same_parts (array ranges firsts c) (array ranges firsts c) refl
 started_parts (Some (initials.Constant k)) (composed name ms chart) = same_parts (composed name ms chart) (composed name ms chart) refl
 started_parts (Some (initials.Constant k)) (standard b) = same_parts (standard b) (standard b) refl
 started_parts (Some (initials.Array position items)) unknown = same_parts unknown unknown refl
 started_parts (Some (initials.Array position items)) (elementary v) = same_parts (elementary v) (elementary v) refl
-started_parts (Some (initials.Array position items)) (array ranges firsts c) = record { selected = λ n. refl; offset = λ n. refl; count = refl; array = refl; type = refl }
+started_parts (Some (initials.Array position items)) (array ranges firsts c) = record { selected = λ n. refl; offset = λ n. refl; count = refl; array = refl; type = refl; block = refl }
 started_parts (Some (initials.Array position items)) (composed name ms chart) = same_parts (composed name ms chart) (composed name ms chart) refl
 started_parts (Some (initials.Array position items)) (standard b) = same_parts (standard b) (standard b) refl
 

@@ -7,7 +7,6 @@ use Rattle.st_names.specs.Tables.{first_of}
 use Rattle.st_scopes.specs.Declarations.{names_in}
 use Rattle.st_tree.specs.declared.tree.declaration.Initial.{Initial}
 use Rattle.st_tree.specs.declared.tree.declaration.Subrange.{Subrange}
-use Rattle.st_types.proofs.Units.{unit_at-past}
 use Rattle.st_types.specs.Compositions.{Composition, unknown, started, subscripted}
 use Rattle.st_types.specs.Initials.{element_initial, initial_of}
 use Rattle.st_types.specs.Names.{Declared, Named, unit_at}

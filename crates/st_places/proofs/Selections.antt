@@ -19,13 +19,14 @@ use Rattle.st_types.specs.Compositions.{Composition, unknown, composition_within
 use Rattle.st_types.specs.Names.{Named, unit_at, units_of}
 use Rattle.st_types.specs.Types.{type_at}
 use Rattle.st_types.specs.declared.base.Base.TheVariants as bases
+use Rattle.st_types.specs.declared.standard.StandardBlock.{StandardBlock}
 use Rattle.st_values.specs.declared.elem.Elem.{Elem}
 use Rattle.st_leaves.specs.Bounds.{HasBounds, IsBounded}
 use Rattle.st_leaves.specs.Leaves.{number_of}
 use Rattle.st_leaves.specs.Places.{count, extent, extent_of}
 use Rattle.st_leaves.specs.Selected.{element_of, selected_by, subscripts_of, value_type}
 use Rattle.st_meaning.specs.Offsets.{IsSmall, offset_of}
-use Rattle.st_meaning.specs.Wholes.{whole_of}
+use Rattle.st_meaning.specs.Wholes.{block_of, whole_of}
 use Rattle.st_places.specs.Contents.{AreElementsOf, IsArrayOf, IsSelected, IsUnfolded}
 use Rattle.st_places.specs.Dimensions.{AreLimited, dimensions_in}
 use Rattle.st_places.specs.Members.{AreUnits, IsUnit}
@@ -214,8 +215,12 @@ module _ (units : List Named) where
     | inr past ↦ subst (IsUnfolded units) (sym (past_unknown units i past)) unknown_unfolded
   ]
 
--- ---- the type of a value
+-- ---- the type of a value, and the block of an instance
 
 pub type_clause : (s t : TablesView) (node : Node) (r : Option Elem) → s ≡ t → r ≡ value_type (node_part (units_of s.text) node) → r ≡ value_type (part_in t node)
 unfolding part_in
 type_clause s t node r same is = is ∙ ap (λ (x : TablesView). value_type (node_part (units_of x.text) node)) same
+
+pub block_clause : (s t : TablesView) (node : Node) (r : Option StandardBlock) → s ≡ t → r ≡ block_of (node_part (units_of s.text) node) → r ≡ block_of (part_in t node)
+unfolding part_in
+block_clause s t node r same is = is ∙ ap (λ (x : TablesView). block_of (node_part (units_of x.text) node)) same

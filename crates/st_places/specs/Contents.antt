@@ -14,6 +14,7 @@ use Rattle.st_types.specs.declared.base.Base.{Base}
 use Rattle.st_leaves.specs.Places.{count}
 use Rattle.st_leaves.specs.Selected.{selected_by, value_type}
 use Rattle.st_meaning.specs.Offsets.{offset_of}
+use Rattle.st_meaning.specs.Wholes.{block_of}
 use Rattle.st_places.specs.Dimensions.{AreLimited}
 use Rattle.st_places.specs.Members.{AreUnits}
 use Rattle.st_places.specs.Parts.{IsNodeIn, inside, is_array, node_part}
@@ -54,6 +55,7 @@ pub record HasSameParts (c d : Composition) : Type 0 where
   pub count : count c ≡ count d
   pub array : is_array c ≡ is_array d
   pub type : value_type c ≡ value_type d
+  pub block : block_of c ≡ block_of d
 
 -- an array with these dimensions, whose elements consist of this
 pub record IsArrayOf (c element : Composition) (dimensions : List Dimension) : Type 0 where

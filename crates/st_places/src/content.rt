@@ -3,6 +3,7 @@ ghost use Rattle.std.specs.Prelude.{◌≡◌, List as Items};
 ghost use Rattle.std.specs.List.{position, slice_get};
 ghost use Rattle.std.specs.Option.{option_copied};
 ghost use Rattle.st_leaves.specs.Selected.{value_type};
+ghost use Rattle.st_meaning.specs.Wholes.{block_of};
 ghost use Rattle.st_places.specs.Contents.{AreElementsOf, AreOf, IsContent, IsSelected, IsUnfolded, contents_of, elements_of, member_in};
 ghost use Rattle.st_places.specs.Parts.{inside, node_part, optional_whole};
 ghost use Rattle.st_places.specs.declared.node.Node.TheVariants as nodes;
@@ -80,6 +81,16 @@ pub(crate) fn value_type(units: &[UnitParts<'_>], node: Node) -> Option<Elem>
     match content_of(units, node) {
         Content::Value(elem) => Some(elem),
         Content::Unknown | Content::Whole(_) | Content::Block(_) | Content::Array(..) => None,
+    }
+}
+
+/// The standard function block that the part is an instance of.
+pub(crate) fn block_of(units: &[UnitParts<'_>], node: Node) -> Option<StandardBlock>
+    ensures { (text : Items Named) → AreOf text units.now → result ≡ block_of (node_part text node) }
+{
+    match content_of(units, node) {
+        Content::Block(block) => Some(block),
+        Content::Unknown | Content::Value(_) | Content::Whole(_) | Content::Array(..) => None,
     }
 }
 

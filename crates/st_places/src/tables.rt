@@ -5,6 +5,7 @@ ghost use Rattle.st_check.specs.Programs.{text_of};
 ghost use Rattle.st_leaves.specs.Places.{count};
 ghost use Rattle.st_leaves.specs.Selected.{element_of, selected_by, subscripts_of, value_type};
 ghost use Rattle.st_meaning.specs.Offsets.{IsSmall, offset_of};
+ghost use Rattle.st_meaning.specs.Wholes.{block_of};
 ghost use Rattle.st_places.specs.Dimensions.{dimensions_in};
 ghost use Rattle.st_places.specs.Members.{AreUnits};
 ghost use Rattle.st_places.specs.Parts.{IsNodeOf, is_array, part_in, whole_in};
@@ -14,7 +15,7 @@ ghost use Rattle.st_types.specs.Names.{units_of};
 ghost use Rattle.st_types.specs.Types.{type_at};
 ghost use Rattle.st_values.specs.Values.{IsValue};
 
-use crate::content::{constant_named, elements, selected, value_type};
+use crate::content::{block_of, constant_named, elements, selected, value_type};
 use crate::node::{Dimension, Node};
 use crate::unit::UnitParts;
 use st_check::Program;
@@ -23,6 +24,7 @@ use st_program_sizes::type_sizes;
 use st_scopes::Tables as Scopes;
 use st_sizes::Size;
 use st_tree::tree::Unit;
+use st_types::StandardBlock;
 use st_values::{Elem, Value};
 use std::alloc::{AllocError, Global};
 use std::marker::Model;
@@ -115,6 +117,14 @@ impl<'a> Tables<'a> {
         ensures { result ≡ value_type (part_in self.now node) }
     {
         value_type(&self.units, node)
+    }
+
+    /// The standard function block that the part is an instance of.
+    pub fn block(&self, node: Node) -> Option<StandardBlock>
+        requires node { IsNodeOf self.now node }
+        ensures { result ≡ block_of (part_in self.now node) }
+    {
+        block_of(&self.units, node)
     }
 }
 

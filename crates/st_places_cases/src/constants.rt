@@ -1,9 +1,7 @@
 //! Constants by their names (2.4.3).
-use st_check::{Program, check};
+use crate::checked::checked;
 use st_places::Tables;
-use st_syntax::parse;
 use st_values::{Elem, Value};
-use std::alloc::{AllocError, Global};
 use std::test::Fail;
 
 /// Its units are a type, a function, a block and a program.
@@ -41,17 +39,10 @@ const OTHERS: &[(usize, &[u8])] = &[
     (4, b"Top"),
 ];
 
-/// The text as its program.
-fn checked(alloc: Global) -> Result<Program, Fail> {
-    let units = parse(alloc, TEXT)?;
-    let program = check(alloc, units, b"Main").ok().ok_or(AllocError)?;
-    Ok(program)
-}
-
 #[test]
 fn constants_have_values(rt: HostRuntime) -> Result<(), Fail> {
     let alloc = rt.alloc();
-    let program = checked(alloc)?;
+    let program = checked(alloc, TEXT)?;
     let tables = Tables::of(alloc, &program)?;
     for (unit, name, elem, bits) in CONSTANTS {
         let value = Value {
@@ -69,7 +60,7 @@ fn constants_have_values(rt: HostRuntime) -> Result<(), Fail> {
 #[test]
 fn wholes_are_no_values(rt: HostRuntime) -> Result<(), Fail> {
     let alloc = rt.alloc();
-    let program = checked(alloc)?;
+    let program = checked(alloc, TEXT)?;
     let tables = Tables::of(alloc, &program)?;
     for unit in 0..5 {
         assert_eq!(rt; tables.value(tables.root(unit)), None);

@@ -8,6 +8,7 @@ use Rattle.st_code.specs.Code.{at, command_code, commands_code, plain, term_code
 use Rattle.st_code.specs.declared.instr.Instr.TheVariants.{Drop, GoBack, Leave, Next}
 use Rattle.st_emit.specs.Trees.{whole_of}
 use Rattle.st_emit.proofs.Commands.{branch_step, case_command, case_step, count_done, grown, in_loop, repeat_command, statement_step, turns_done, while_command}
+use Rattle.st_emit.proofs.Invoking.{call_code}
 use Rattle.st_emit.proofs.+statement.Goals as goal
 
 pub statements::emit_statements-loop-i-preserved : goal.statements::emit_statements-loop-i-preserved
@@ -39,6 +40,12 @@ cases::emit_case-loop-i-preserved t c =
           c.index-cases-i.result c.args.code.now c.loop-i.code c.emit_element.new.code (c.len.result - c.len-start.result) c.args.out c.args.end (omega (arith, c.loop-i-test.true)) c.loop-i.invariant.few c.index-cases-i.is c.requires.out c.requires.end
           c.loop-i.invariant.code (omega (arith, c.len.ensures, c.len-start.ensures)) c.in_ok-emit_element.ensures;
     }
+
+pub statements::emit_statement-returns-in-Call : goal.statements::emit_statement-returns-in-Call
+statements::emit_statement-returns-in-Call t c =
+    let n = length c.args.code.now in
+    subst (λ l. OnOk c.emit_invocation.result (c.emit_invocation.new.code ≡ c.args.code.now ++ reverse l))
+    (call_code (whole_of c.args.scope.now) c.args.statement.now c.in-Call.call c.get-in-Call.result.now (n - c.args.out) (n - c.args.end) c.in-Call.is c.get-in-Call.ensures) c.emit_invocation.ensures
 
 pub statements::emit_statement-returns-in-Case : goal.statements::emit_statement-returns-in-Case
 statements::emit_statement-returns-in-Case t c =

@@ -5,11 +5,12 @@ use Rattle.st_leaves.specs.Selected.{selected_by}
 use Rattle.st_meaning.specs.Offsets.{IsSmall, offset_of}
 use Rattle.st_meaning.specs.Sound.{is_fixed}
 use Rattle.st_meaning.specs.Wholes.{type_of}
+use Rattle.st_meaning.proofs.Stretches.{selected_fits}
 use Rattle.st_code.specs.Code.{base_of}
 use Rattle.st_places.specs.Parts.{part_in}
 use Rattle.st_emit.specs.Trees.{parts_in, whole_of}
 use Rattle.st_emit.proofs.Trees.{left_is}
-use Rattle.st_emit.proofs.Ways.{and_both, lost_start, selected_fits, selected_small, start_is}
+use Rattle.st_emit.proofs.Ways.{and_both, lost_start, selected_small, start_is}
 use Rattle.st_emit.proofs.places.locate.Goals.{then-is_fixed, else-is_fixed}
 use Rattle.st_emit.proofs.places.locate.Goals as goal
 

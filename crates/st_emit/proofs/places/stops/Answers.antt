@@ -21,7 +21,7 @@ loop-part-init c =
     record {
       here = first_stop w c.args.scope.now.0 c.args.variable.now c.as_slice.result.now c.as_slice-part-items.result.now (record { node = c.in-Some.node; is_indexed = false }) c.as_slice.ensures c.as_slice-part-items.ensures c.root.ensures.small
           c.in-Some.ensures.node (c.in-Some.ensures.part ∙ ap (λ d. selected_by d c.as_slice.result.now) c.root.ensures.part) refl;
-      number = ap length c.new-all.ensures.items;
+      number = ap length c.list-all.ensures;
       each = λ i s h e. absurd (omega arith);
     }
 

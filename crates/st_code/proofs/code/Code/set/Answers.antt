@@ -1,4 +1,4 @@
-use Rattle.std.proofs.Common.{◌≡◌, ◌<◌, length, ◌∙◌, sym, arith}
+use Rattle.std.proofs.Common.{◌<◌, length, arith}
 use Rattle.st_code.proofs.Beside.{length-beside, set-beside}
 use Rattle.st_code.proofs.code.Code.set.Goals as goal
 

@@ -1,0 +1,161 @@
+//! The code of invocations of standard function blocks (3.3.2.2).
+ghost use Rattle.std.specs.Prelude.{◌≡◌, ◌∷◌, ◌++◌, IfSome, OnOk, [], option_map, reverse};
+ghost use Rattle.st_leaves.specs.Selected.{selected_by};
+ghost use Rattle.st_meaning.specs.Offsets.{offset_of};
+ghost use Rattle.st_meaning.specs.Typing.{call_command, inputs_of, outputs_of, pin_of, place_typed};
+ghost use Rattle.st_meaning.specs.Wholes.{block_of, type_of};
+ghost use Rattle.st_code.specs.Code.{base_of, command_code, moves_code};
+ghost use Rattle.st_emit.specs.Emits.{Emits};
+ghost use Rattle.st_emit.specs.Trees.{whole_of};
+
+use crate::expression::{emit_expression, emit_store};
+use crate::index::emit_nil;
+use crate::places::place_type;
+use crate::scope::Scope;
+use st_code::{Code, Instr};
+use st_tree::tree::{Argument, Call, Identifier};
+use st_types::StandardBlock;
+use st_values::Elem;
+use std::alloc::AllocError;
+
+/// A call statement. Where the name is that of an instance, its inputs are stored, the block does what it does, and its outputs
+/// are assigned.
+pub(crate) fn emit_invocation(
+    code: &mut Code,
+    scope: &Scope<'_>,
+    call: &Call,
+) -> Result<(), AllocError>
+    ensures { OnOk result (code.new ≡ code.old ++ reverse (command_code (whole_of scope.now).variables (call_command (whole_of scope.now) call.now) 0 0)) }
+{
+    let line = call.name.position.line;
+    let Some((block, first)) = instance(scope, &call.name) else {
+        return code.push(Instr::Step, line);
+    };
+    let arguments = call.arguments.as_slice();
+    emit_outputs(code, scope, &call.name, arguments)?;
+    code.push(Instr::Invoke(block, first), 0)?;
+    emit_inputs(code, scope, &call.name, arguments)?;
+    code.push(Instr::Step, line)?;
+    code.push(Instr::Step, line)
+}
+
+/// The standard block that the name stands for an instance of, and how many leaves stand before the instance.
+fn instance(scope: &Scope<'_>, name: &Identifier) -> Option<(StandardBlock, u32)>
+    ensures block { option_map (λ found. found.0) result ≡ block_of (selected_by (whole_of scope.now).variables name.now.spelling) }
+    ensures first { IfSome result (λ found. found.1 ≡ offset_of (whole_of scope.now).variables name.now.spelling) }
+{
+    let (first, node) = scope.select(scope.root(), name.spelling.as_slice())?;
+    let block = scope.block(node)?;
+    Some((block, first))
+}
+
+/// The type of an input or an output of an instance, and how many leaves stand before it.
+fn pin(scope: &Scope<'_>, instance: &Identifier, name: &Identifier) -> Option<(Elem, u32)>
+    ensures elem { option_map (λ found. found.0) result ≡ type_of (whole_of scope.now).variables (pin_of instance.now.spelling name.now.spelling) }
+    ensures leaf { IfSome result (λ found. found.1 ≡ base_of (whole_of scope.now).variables (pin_of instance.now.spelling name.now.spelling)) }
+{
+    let (first, whole) = scope.select(scope.root(), instance.spelling.as_slice())?;
+    let (before, node) = scope.select(whole, name.spelling.as_slice())?;
+    let elem = scope.value(node)?;
+    Some((elem, first + before))
+}
+
+/// The inputs among arguments, each stored before the next is evaluated.
+fn emit_inputs(
+    code: &mut Code,
+    scope: &Scope<'_>,
+    instance: &Identifier,
+    arguments: &[Argument],
+) -> Result<(), AllocError>
+    ensures { OnOk result (code.new ≡ code.old ++ reverse (moves_code (whole_of scope.now).variables (inputs_of (whole_of scope.now) instance.now.spelling arguments.now))) }
+{
+    let mut i = arguments.len();
+    while i > 0 {
+        i -= 1;
+        emit_input(code, scope, instance, &arguments[i])?;
+    }
+    Ok(())
+}
+
+/// An input, where it has a type.
+fn emit_input(
+    code: &mut Code,
+    scope: &Scope<'_>,
+    instance: &Identifier,
+    argument: &Argument,
+) -> Result<(), AllocError>
+    ensures { OnOk result (code.new ≡ code.old ++ reverse (moves_code (whole_of scope.now).variables (inputs_of (whole_of scope.now) instance.now.spelling (argument.now ∷ [])))) }
+{
+    match argument {
+        Argument::Input(name, value) => {
+            let Some((elem, leaf)) = pin(scope, instance, name) else {
+                return Ok(());
+            };
+            code.push(Instr::Put(elem, leaf), 0)?;
+            emit_expression(code, scope, value.get(), elem)?;
+            Ok(())
+        }
+        Argument::Positional(_) | Argument::Output(_, _) => Ok(()),
+    }
+}
+
+/// The outputs among arguments, each assigned before the next.
+fn emit_outputs(
+    code: &mut Code,
+    scope: &Scope<'_>,
+    instance: &Identifier,
+    arguments: &[Argument],
+) -> Result<(), AllocError>
+    ensures { OnOk result (code.new ≡ code.old ++ reverse (moves_code (whole_of scope.now).variables (outputs_of (whole_of scope.now) instance.now.spelling arguments.now))) }
+{
+    let mut i = arguments.len();
+    while i > 0 {
+        i -= 1;
+        emit_output(code, scope, instance, &arguments[i])?;
+    }
+    Ok(())
+}
+
+/// An output, where the variable that takes it has a type.
+fn emit_output(
+    code: &mut Code,
+    scope: &Scope<'_>,
+    instance: &Identifier,
+    argument: &Argument,
+) -> Result<(), AllocError>
+    ensures { OnOk result (code.new ≡ code.old ++ reverse (moves_code (whole_of scope.now).variables (outputs_of (whole_of scope.now) instance.now.spelling (argument.now ∷ [])))) }
+{
+    match argument {
+        Argument::Output(name, variable) => {
+            let Some(elem) = place_type(scope, variable.get()) else {
+                return Ok(());
+            };
+            emit_store(code, scope, variable.get(), elem)?;
+            emit_pin(code, scope, instance, name, elem)?;
+            Ok(())
+        }
+        Argument::Positional(_) | Argument::Input(_, _) => Ok(()),
+    }
+}
+
+/// The value of an output where this type is due.
+fn emit_pin(
+    code: &mut Code,
+    scope: &Scope<'_>,
+    instance: &Identifier,
+    name: &Identifier,
+    due: Elem,
+) -> Result<(), AllocError>
+    ensures { let place = pin_of instance.now.spelling name.now.spelling in OnOk result (Emits (whole_of scope.now).variables due ((place_typed place (type_of (whole_of scope.now).variables place)).as_type due) code.old code.new) }
+{
+    let Some((elem, leaf)) = pin(scope, instance, name) else {
+        emit_nil(code, scope, due)?;
+        return Ok(());
+    };
+    if elem.is(due) {
+        code.push(Instr::Get(leaf), 0)?;
+    } else {
+        emit_nil(code, scope, due)?;
+    }
+    Ok(())
+}
