@@ -1,5 +1,10 @@
+pub mod BodyDepths
 pub mod Coded
+pub mod DepthFolds
+pub mod ExpressionDepths
 pub mod Frames
+pub mod Moments
 pub mod OfLeaves
 pub mod OneLeaf
 pub mod Runs
+pub mod TypedDepths

@@ -1,2 +1,3 @@
+pub mod Depths
 pub mod Plain
 pub mod Programs

@@ -1,9 +1,11 @@
--- Bodies that run: of statements alone, without invocations (3.3.2.2), and with calls of standard functions and conversions alone.
+-- Bodies that run: of statements alone, with invocations of standard function blocks alone (3.3.2.2), and with calls of standard
+-- functions and conversions alone.
 use Rattle.std.specs.Prelude.{ℕ, Bool, true, false, ◌&&◌, List, [], ◌∷◌, map, Option, Some, None}
-use Rattle.st_check.specs.Programs.{ProgramView}
+use Rattle.std.specs.Option.{is_some}
+use Rattle.st_check.specs.Programs.{ProgramView, text_of}
 use Rattle.st_tree.specs.declared.tree.expression.Argument.TheOpen.{Argument-F, Expression-F, Part-F}
 use Rattle.st_tree.specs.declared.tree.expression.Argument.{Argument, fold-Argument}
-use Rattle.st_tree.specs.declared.tree.expression.Call.{Call, fold-Call}
+use Rattle.st_tree.specs.declared.tree.expression.Call.{Call, fold-Call, out-Call}
 use Rattle.st_tree.specs.declared.tree.expression.Expression.{Expression, fold-Expression}
 use Rattle.st_tree.specs.declared.tree.expression.Operation.{Operation, fold-Operation}
 use Rattle.st_tree.specs.declared.tree.expression.Part.{Part, fold-Part}
@@ -19,11 +21,14 @@ use Rattle.st_tree.specs.declared.tree.statement.Statement.TheOpen.{Statement-F}
 use Rattle.st_tree.specs.declared.tree.statement.WhileStatement.{WhileStatement, fold-WhileStatement}
 use Rattle.st_tree.specs.declared.tree.unit.Body.{Body}
 use Rattle.st_tree.specs.declared.tree.unit.Body.TheVariants as bodies
-use Rattle.st_types.specs.Names.{Declares, Named}
+use Rattle.st_types.specs.Names.{Declares, Named, units_of}
 use Rattle.st_types.specs.Names as names
 use Rattle.st_types.specs.Standard.{standard_of}
 use Rattle.st_types.specs.declared.standard.Standard.{Standard}
 use Rattle.st_types.specs.declared.standard.Standard.TheVariants as standards
+use Rattle.st_leaves.specs.Selected.{selected_by}
+use Rattle.st_meaning.specs.Wholes.{Whole, block_of, whole_of}
+use Rattle.st_places.specs.Parts.{TablesView, whole_in}
 use Rattle.st_compile.specs.Programs.{main_unit}
 
 -- all of them are true
@@ -80,56 +85,68 @@ abbrev pub is_plain_optional : Option Expression → Bool
 is_plain_optional None = true
 is_plain_optional (Some x) = is_plain_expression x
 
-abbrev pub plain_in_statement : Statement-F Bool Bool Bool Bool Bool Bool Bool Bool → Bool
-plain_in_statement (Statement-F.Assignment v x) = is_plain_variable v && is_plain_expression x
-plain_in_statement (Statement-F.Call c) = false
-plain_in_statement (Statement-F.If s) = s
-plain_in_statement (Statement-F.Case s) = s
-plain_in_statement (Statement-F.For s) = s
-plain_in_statement (Statement-F.While s) = s
-plain_in_statement (Statement-F.Repeat s) = s
-plain_in_statement _ = true
+-- `blocks` says which names stand for instances of standard function blocks
+abbrev pub is_plain_invocation : (List ℕ → Bool) → Call → Bool
+is_plain_invocation blocks c = blocks (out-Call c).name.spelling && all (map is_plain_argument (out-Call c).arguments)
 
--- no invocation, and no other call, stands in the statement
-abbrev pub is_plain_statement : Statement → Bool
-is_plain_statement x = fold-Statement Bool Bool Bool Bool Bool Bool Bool Bool plain_in_statement (λ e. all e.statements) (λ s. is_plain_expression s.selector && (all s.cases && all s.otherwise)) (λ b. is_plain_expression b.condition && all b.statements) (λ s. is_plain_expression s.first && (is_plain_expression s.last && (is_plain_optional s.step && all s.statements))) (λ s. all s.parts && all s.otherwise) (λ s. all s.statements && is_plain_expression s.condition) (λ s. is_plain_expression s.condition && all s.statements) x
+abbrev pub plain_in_statement : (List ℕ → Bool) → Statement-F Bool Bool Bool Bool Bool Bool Bool Bool → Bool
+plain_in_statement blocks (Statement-F.Assignment v x) = is_plain_variable v && is_plain_expression x
+plain_in_statement blocks (Statement-F.Call c) = is_plain_invocation blocks c
+plain_in_statement blocks (Statement-F.If s) = s
+plain_in_statement blocks (Statement-F.Case s) = s
+plain_in_statement blocks (Statement-F.For s) = s
+plain_in_statement blocks (Statement-F.While s) = s
+plain_in_statement blocks (Statement-F.Repeat s) = s
+plain_in_statement blocks _ = true
 
-abbrev pub is_plain_element : CaseElement → Bool
-is_plain_element x = fold-CaseElement Bool Bool Bool Bool Bool Bool Bool Bool plain_in_statement (λ e. all e.statements) (λ s. is_plain_expression s.selector && (all s.cases && all s.otherwise)) (λ b. is_plain_expression b.condition && all b.statements) (λ s. is_plain_expression s.first && (is_plain_expression s.last && (is_plain_optional s.step && all s.statements))) (λ s. all s.parts && all s.otherwise) (λ s. all s.statements && is_plain_expression s.condition) (λ s. is_plain_expression s.condition && all s.statements) x
+-- no other invocation, and no other call, stands in the statement
+abbrev pub is_plain_statement : (List ℕ → Bool) → Statement → Bool
+is_plain_statement blocks x = fold-Statement Bool Bool Bool Bool Bool Bool Bool Bool (plain_in_statement blocks) (λ e. all e.statements) (λ s. is_plain_expression s.selector && (all s.cases && all s.otherwise)) (λ b. is_plain_expression b.condition && all b.statements) (λ s. is_plain_expression s.first && (is_plain_expression s.last && (is_plain_optional s.step && all s.statements))) (λ s. all s.parts && all s.otherwise) (λ s. all s.statements && is_plain_expression s.condition) (λ s. is_plain_expression s.condition && all s.statements) x
 
-abbrev pub is_plain_case : CaseStatement → Bool
-is_plain_case x = fold-CaseStatement Bool Bool Bool Bool Bool Bool Bool Bool plain_in_statement (λ e. all e.statements) (λ s. is_plain_expression s.selector && (all s.cases && all s.otherwise)) (λ b. is_plain_expression b.condition && all b.statements) (λ s. is_plain_expression s.first && (is_plain_expression s.last && (is_plain_optional s.step && all s.statements))) (λ s. all s.parts && all s.otherwise) (λ s. all s.statements && is_plain_expression s.condition) (λ s. is_plain_expression s.condition && all s.statements) x
+abbrev pub is_plain_element : (List ℕ → Bool) → CaseElement → Bool
+is_plain_element blocks x = fold-CaseElement Bool Bool Bool Bool Bool Bool Bool Bool (plain_in_statement blocks) (λ e. all e.statements) (λ s. is_plain_expression s.selector && (all s.cases && all s.otherwise)) (λ b. is_plain_expression b.condition && all b.statements) (λ s. is_plain_expression s.first && (is_plain_expression s.last && (is_plain_optional s.step && all s.statements))) (λ s. all s.parts && all s.otherwise) (λ s. all s.statements && is_plain_expression s.condition) (λ s. is_plain_expression s.condition && all s.statements) x
 
-abbrev pub is_plain_branch : ConditionalPart → Bool
-is_plain_branch x = fold-ConditionalPart Bool Bool Bool Bool Bool Bool Bool Bool plain_in_statement (λ e. all e.statements) (λ s. is_plain_expression s.selector && (all s.cases && all s.otherwise)) (λ b. is_plain_expression b.condition && all b.statements) (λ s. is_plain_expression s.first && (is_plain_expression s.last && (is_plain_optional s.step && all s.statements))) (λ s. all s.parts && all s.otherwise) (λ s. all s.statements && is_plain_expression s.condition) (λ s. is_plain_expression s.condition && all s.statements) x
+abbrev pub is_plain_case : (List ℕ → Bool) → CaseStatement → Bool
+is_plain_case blocks x = fold-CaseStatement Bool Bool Bool Bool Bool Bool Bool Bool (plain_in_statement blocks) (λ e. all e.statements) (λ s. is_plain_expression s.selector && (all s.cases && all s.otherwise)) (λ b. is_plain_expression b.condition && all b.statements) (λ s. is_plain_expression s.first && (is_plain_expression s.last && (is_plain_optional s.step && all s.statements))) (λ s. all s.parts && all s.otherwise) (λ s. all s.statements && is_plain_expression s.condition) (λ s. is_plain_expression s.condition && all s.statements) x
 
-abbrev pub is_plain_for : ForStatement → Bool
-is_plain_for x = fold-ForStatement Bool Bool Bool Bool Bool Bool Bool Bool plain_in_statement (λ e. all e.statements) (λ s. is_plain_expression s.selector && (all s.cases && all s.otherwise)) (λ b. is_plain_expression b.condition && all b.statements) (λ s. is_plain_expression s.first && (is_plain_expression s.last && (is_plain_optional s.step && all s.statements))) (λ s. all s.parts && all s.otherwise) (λ s. all s.statements && is_plain_expression s.condition) (λ s. is_plain_expression s.condition && all s.statements) x
+abbrev pub is_plain_branch : (List ℕ → Bool) → ConditionalPart → Bool
+is_plain_branch blocks x = fold-ConditionalPart Bool Bool Bool Bool Bool Bool Bool Bool (plain_in_statement blocks) (λ e. all e.statements) (λ s. is_plain_expression s.selector && (all s.cases && all s.otherwise)) (λ b. is_plain_expression b.condition && all b.statements) (λ s. is_plain_expression s.first && (is_plain_expression s.last && (is_plain_optional s.step && all s.statements))) (λ s. all s.parts && all s.otherwise) (λ s. all s.statements && is_plain_expression s.condition) (λ s. is_plain_expression s.condition && all s.statements) x
 
-abbrev pub is_plain_if : IfStatement → Bool
-is_plain_if x = fold-IfStatement Bool Bool Bool Bool Bool Bool Bool Bool plain_in_statement (λ e. all e.statements) (λ s. is_plain_expression s.selector && (all s.cases && all s.otherwise)) (λ b. is_plain_expression b.condition && all b.statements) (λ s. is_plain_expression s.first && (is_plain_expression s.last && (is_plain_optional s.step && all s.statements))) (λ s. all s.parts && all s.otherwise) (λ s. all s.statements && is_plain_expression s.condition) (λ s. is_plain_expression s.condition && all s.statements) x
+abbrev pub is_plain_for : (List ℕ → Bool) → ForStatement → Bool
+is_plain_for blocks x = fold-ForStatement Bool Bool Bool Bool Bool Bool Bool Bool (plain_in_statement blocks) (λ e. all e.statements) (λ s. is_plain_expression s.selector && (all s.cases && all s.otherwise)) (λ b. is_plain_expression b.condition && all b.statements) (λ s. is_plain_expression s.first && (is_plain_expression s.last && (is_plain_optional s.step && all s.statements))) (λ s. all s.parts && all s.otherwise) (λ s. all s.statements && is_plain_expression s.condition) (λ s. is_plain_expression s.condition && all s.statements) x
 
-abbrev pub is_plain_repeat : RepeatStatement → Bool
-is_plain_repeat x = fold-RepeatStatement Bool Bool Bool Bool Bool Bool Bool Bool plain_in_statement (λ e. all e.statements) (λ s. is_plain_expression s.selector && (all s.cases && all s.otherwise)) (λ b. is_plain_expression b.condition && all b.statements) (λ s. is_plain_expression s.first && (is_plain_expression s.last && (is_plain_optional s.step && all s.statements))) (λ s. all s.parts && all s.otherwise) (λ s. all s.statements && is_plain_expression s.condition) (λ s. is_plain_expression s.condition && all s.statements) x
+abbrev pub is_plain_if : (List ℕ → Bool) → IfStatement → Bool
+is_plain_if blocks x = fold-IfStatement Bool Bool Bool Bool Bool Bool Bool Bool (plain_in_statement blocks) (λ e. all e.statements) (λ s. is_plain_expression s.selector && (all s.cases && all s.otherwise)) (λ b. is_plain_expression b.condition && all b.statements) (λ s. is_plain_expression s.first && (is_plain_expression s.last && (is_plain_optional s.step && all s.statements))) (λ s. all s.parts && all s.otherwise) (λ s. all s.statements && is_plain_expression s.condition) (λ s. is_plain_expression s.condition && all s.statements) x
 
-abbrev pub is_plain_while : WhileStatement → Bool
-is_plain_while x = fold-WhileStatement Bool Bool Bool Bool Bool Bool Bool Bool plain_in_statement (λ e. all e.statements) (λ s. is_plain_expression s.selector && (all s.cases && all s.otherwise)) (λ b. is_plain_expression b.condition && all b.statements) (λ s. is_plain_expression s.first && (is_plain_expression s.last && (is_plain_optional s.step && all s.statements))) (λ s. all s.parts && all s.otherwise) (λ s. all s.statements && is_plain_expression s.condition) (λ s. is_plain_expression s.condition && all s.statements) x
+abbrev pub is_plain_repeat : (List ℕ → Bool) → RepeatStatement → Bool
+is_plain_repeat blocks x = fold-RepeatStatement Bool Bool Bool Bool Bool Bool Bool Bool (plain_in_statement blocks) (λ e. all e.statements) (λ s. is_plain_expression s.selector && (all s.cases && all s.otherwise)) (λ b. is_plain_expression b.condition && all b.statements) (λ s. is_plain_expression s.first && (is_plain_expression s.last && (is_plain_optional s.step && all s.statements))) (λ s. all s.parts && all s.otherwise) (λ s. all s.statements && is_plain_expression s.condition) (λ s. is_plain_expression s.condition && all s.statements) x
+
+abbrev pub is_plain_while : (List ℕ → Bool) → WhileStatement → Bool
+is_plain_while blocks x = fold-WhileStatement Bool Bool Bool Bool Bool Bool Bool Bool (plain_in_statement blocks) (λ e. all e.statements) (λ s. is_plain_expression s.selector && (all s.cases && all s.otherwise)) (λ b. is_plain_expression b.condition && all b.statements) (λ s. is_plain_expression s.first && (is_plain_expression s.last && (is_plain_optional s.step && all s.statements))) (λ s. all s.parts && all s.otherwise) (λ s. all s.statements && is_plain_expression s.condition) (λ s. is_plain_expression s.condition && all s.statements) x
 
 -- ---- bodies
 
-abbrev pub is_plain_body : Body → Bool
-is_plain_body (bodies.Statements statements) = all (map is_plain_statement statements)
-is_plain_body (bodies.Chart elements) = false
+abbrev pub is_plain_body : (List ℕ → Bool) → Body → Bool
+is_plain_body blocks (bodies.Statements statements) = all (map (is_plain_statement blocks) statements)
+is_plain_body blocks (bodies.Chart elements) = false
 
-abbrev pub is_plain_unit : Declares → Bool
-is_plain_unit (names.program p) = is_plain_body p.body
-is_plain_unit (names.block b) = is_plain_body b.body
-is_plain_unit _ = false
+-- the name stands for an instance of a standard function block
+abbrev pub stands_for_block : Whole → List ℕ → Bool
+stands_for_block w name = is_some (block_of (selected_by w.variables name))
 
-abbrev pub is_plain_optional_unit : Option Named → Bool
-is_plain_optional_unit None = false
-is_plain_optional_unit (Some unit) = is_plain_unit unit.declares
+-- in the statements of the unit of this number
+abbrev pub blocks_in : TablesView × ℕ → List ℕ → Bool
+blocks_in at = stands_for_block (whole_in at.0 at.1)
+
+abbrev pub is_plain_unit : (List ℕ → Bool) → Declares → Bool
+is_plain_unit blocks (names.program p) = is_plain_body blocks p.body
+is_plain_unit blocks (names.block b) = is_plain_body blocks b.body
+is_plain_unit blocks _ = false
+
+abbrev pub is_plain_optional_unit : List Named → Option Named → Bool
+is_plain_optional_unit units None = false
+is_plain_optional_unit units (Some unit) = is_plain_unit (stands_for_block (whole_of units unit.declares)) unit.declares
 
 -- the body of a program runs
 unfoldable pub is_plain : ProgramView → Bool
-is_plain program = is_plain_optional_unit (main_unit program)
+is_plain program = is_plain_optional_unit (units_of (text_of program)) (main_unit program)

@@ -1,4 +1,4 @@
-//! Images: programs with their layouts and their code.
+//! Images: programs with their layouts, their code and the room that it needs.
 ghost use Rattle.std.specs.Prelude.{◌≡◌, IfOk};
 ghost use Rattle.st_check.specs.Programs.{leaves_of_program};
 ghost use Rattle.st_compile.specs.Plain.{is_plain};
@@ -6,7 +6,7 @@ ghost use Rattle.st_compile.specs.Programs.{HasRoom, program_code, program_depth
 
 use crate::making::made_of;
 use st_check::Program;
-use st_code::Code;
+use st_fused::Fused;
 use st_layout::Layout;
 use st_machine::Stack;
 use st_tree::Name;
@@ -18,7 +18,9 @@ use std::marker::Model;
 pub struct Image {
     program: Program,
     layout: Layout,
-    code: Code,
+    code: Fused,
+    /// For how many numbers a stack needs room to run the code.
+    depth: usize,
     /// The program's name, as it is declared.
     name: Name,
     /// Whether its body runs.
@@ -30,7 +32,7 @@ impl Model for Image {
     ghost use Rattle.std.specs.Prelude.{◌≡◌};
     ghost use Rattle.st_check.specs.Programs.{ProgramView, leaves_of_program};
     ghost use Rattle.st_compile.specs.Plain.{is_plain};
-    ghost use Rattle.st_compile.specs.Programs.{program_code, program_name};
+    ghost use Rattle.st_compile.specs.Programs.{program_code, program_depth, program_name};
     ghost use Rattle.st_tree.specs.contracts.tree.expression.Expression as expression;
     ghost use Rattle.st_tree.specs.contracts.tree.statement.Statement as statement;
 
@@ -40,7 +42,7 @@ impl Model for Image {
 
     ghost view = { λ image. image.program };
 
-    ghost invariant = { λ image. (image.layout ≡ leaves_of_program image.program) × (image.code ≡ program_code image.program) × (image.name ≡ program_name image.program) × (image.runs ≡ is_plain image.program) };
+    ghost invariant = { λ image. (image.layout ≡ leaves_of_program image.program) × (image.code ≡ program_code image.program) × (image.depth ≡ program_depth image.program) × (image.name ≡ program_name image.program) × (image.runs ≡ is_plain image.program) };
 }
 
 /// The image of a program. It is refused for want of memory alone.
@@ -53,6 +55,7 @@ pub fn compile(alloc: Global, program: Program) -> Result<Image, AllocError>
         program,
         layout,
         code: made.code,
+        depth: made.depth,
         name: made.name,
         runs: made.runs,
     })
@@ -73,7 +76,8 @@ impl Image {
         &self.layout
     }
 
-    /// Whether the program's body can be run: it holds statements alone, and no call but of standard functions and conversions.
+    /// Whether the program's body can be run: it holds statements alone, no invocation but of standard function blocks, and no call
+    /// but of standard functions and conversions.
     pub fn is_plain(&self) -> bool
         ensures { result ≡ is_plain self.now }
     {
@@ -84,18 +88,18 @@ impl Image {
     pub fn depth(&self) -> usize
         ensures { result ≡ program_depth self.now }
     {
-        self.code.len()
+        self.depth
     }
 
     /// A stack with room to run the code. It is refused for want of memory alone.
     pub fn stack(&self, alloc: Global) -> Result<Stack, AllocError>
         ensures { IfOk result (λ stack. HasRoom self.now stack) }
     {
-        Stack::with_room(alloc, self.code.len())
+        Stack::with_room(alloc, self.depth)
     }
 
     /// The code of the program's body.
-    pub(crate) fn code(&self) -> &Code
+    pub(crate) fn code(&self) -> &Fused
         ensures { result.now ≡ program_code self.now }
     {
         &self.code

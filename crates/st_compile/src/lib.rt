@@ -1,7 +1,9 @@
 //! Images: programs with their layouts and their code, and how they run.
 #![tactic(auto)]
 
+mod depth;
 mod image;
+mod instances;
 mod laws;
 mod making;
 mod plain;

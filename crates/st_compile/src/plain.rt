@@ -1,30 +1,33 @@
-//! Bodies that run: of statements alone, without invocations, and with calls of standard functions and conversions alone.
+//! Bodies that run: of statements alone, with invocations of standard function blocks alone, and with calls of standard functions
+//! and conversions alone.
 ghost use Rattle.std.specs.Prelude.{◌≡◌, map, option_map};
-ghost use Rattle.st_compile.specs.Plain.{all, is_function, is_plain_argument, is_plain_branch, is_plain_body, is_plain_call, is_plain_case, is_plain_element, is_plain_expression, is_plain_for, is_plain_if, is_plain_operation, is_plain_optional, is_plain_part, is_plain_repeat, is_plain_statement, is_plain_variable, is_plain_while};
+ghost use Rattle.st_compile.specs.Plain.{all, blocks_in, is_function, is_plain_argument, is_plain_branch, is_plain_body, is_plain_call, is_plain_case, is_plain_element, is_plain_expression, is_plain_for, is_plain_if, is_plain_invocation, is_plain_operation, is_plain_optional, is_plain_part, is_plain_repeat, is_plain_statement, is_plain_variable, is_plain_while};
 ghost use Rattle.st_types.specs.Standard.{standard_of};
 
+use crate::instances::Instances;
 use st_tree::tree::{
     Argument, Body, Call, CaseElement, CaseStatement, ConditionalPart, Expression, ForStatement,
     IfStatement, Operation, Part, RepeatStatement, Statement, Variable, WhileStatement,
 };
 use st_types::{Standard, standard_of};
 
-/// Whether the body holds statements alone, and no call but of standard functions and conversions.
-pub(crate) fn is_plain_body(body: &Body) -> bool
-    ensures { result ≡ is_plain_body body.now }
+/// Whether the body holds statements alone, no invocation but of standard function blocks, and no call but of standard functions
+/// and conversions.
+pub(crate) fn is_plain_body(body: &Body, instances: &Instances<'_>) -> bool
+    ensures { result ≡ is_plain_body (blocks_in instances.now) body.now }
 {
     match body {
-        Body::Statements(statements) => are_plain_statements(statements.as_slice()),
+        Body::Statements(statements) => are_plain_statements(statements.as_slice(), instances),
         Body::Chart(_) => false,
     }
 }
 
 #[cycle(plain_statement)]
-fn are_plain_statements(statements: &[Statement]) -> bool
-    ensures { result ≡ all (map is_plain_statement statements.now) }
+fn are_plain_statements(statements: &[Statement], instances: &Instances<'_>) -> bool
+    ensures { result ≡ all (map (is_plain_statement (blocks_in instances.now)) statements.now) }
 {
     'items: for item in statements {
-        if !is_plain_statement(item) {
+        if !is_plain_statement(item, instances) {
             return false;
         }
     }
@@ -32,37 +35,37 @@ fn are_plain_statements(statements: &[Statement]) -> bool
 }
 
 #[cycle(plain_statement)]
-fn is_plain_statement(statement: &Statement) -> bool
-    ensures { result ≡ is_plain_statement statement.now }
+fn is_plain_statement(statement: &Statement, instances: &Instances<'_>) -> bool
+    ensures { result ≡ is_plain_statement (blocks_in instances.now) statement.now }
 {
     match statement {
         Statement::Empty(_) | Statement::Return(_) | Statement::Exit(_) => true,
         Statement::Assignment(variable, value) => {
             is_plain_variable(variable.get()) && is_plain_expression(value.get())
         }
-        Statement::Call(_) => false,
-        Statement::If(found) => is_plain_if(found.get()),
-        Statement::Case(found) => is_plain_case(found.get()),
-        Statement::For(found) => is_plain_for(found.get()),
-        Statement::While(found) => is_plain_while(found.get()),
-        Statement::Repeat(found) => is_plain_repeat(found.get()),
+        Statement::Call(call) => is_plain_invocation(call.get(), instances),
+        Statement::If(found) => is_plain_if(found.get(), instances),
+        Statement::Case(found) => is_plain_case(found.get(), instances),
+        Statement::For(found) => is_plain_for(found.get(), instances),
+        Statement::While(found) => is_plain_while(found.get(), instances),
+        Statement::Repeat(found) => is_plain_repeat(found.get(), instances),
     }
 }
 
 #[cycle(plain_statement)]
-fn is_plain_if(statement: &IfStatement) -> bool
-    ensures { result ≡ is_plain_if statement.now }
+fn is_plain_if(statement: &IfStatement, instances: &Instances<'_>) -> bool
+    ensures { result ≡ is_plain_if (blocks_in instances.now) statement.now }
 {
-    are_plain_branches(statement.parts.as_slice())
-        && are_plain_statements(statement.otherwise.as_slice())
+    are_plain_branches(statement.parts.as_slice(), instances)
+        && are_plain_statements(statement.otherwise.as_slice(), instances)
 }
 
 #[cycle(plain_statement)]
-fn are_plain_branches(branches: &[ConditionalPart]) -> bool
-    ensures { result ≡ all (map is_plain_branch branches.now) }
+fn are_plain_branches(branches: &[ConditionalPart], instances: &Instances<'_>) -> bool
+    ensures { result ≡ all (map (is_plain_branch (blocks_in instances.now)) branches.now) }
 {
     'items: for item in branches {
-        if !is_plain_branch(item) {
+        if !is_plain_branch(item, instances) {
             return false;
         }
     }
@@ -70,27 +73,28 @@ fn are_plain_branches(branches: &[ConditionalPart]) -> bool
 }
 
 #[cycle(plain_statement)]
-fn is_plain_branch(branch: &ConditionalPart) -> bool
-    ensures { result ≡ is_plain_branch branch.now }
+fn is_plain_branch(branch: &ConditionalPart, instances: &Instances<'_>) -> bool
+    ensures { result ≡ is_plain_branch (blocks_in instances.now) branch.now }
 {
-    is_plain_expression(&branch.condition) && are_plain_statements(branch.statements.as_slice())
+    is_plain_expression(&branch.condition)
+        && are_plain_statements(branch.statements.as_slice(), instances)
 }
 
 #[cycle(plain_statement)]
-fn is_plain_case(statement: &CaseStatement) -> bool
-    ensures { result ≡ is_plain_case statement.now }
+fn is_plain_case(statement: &CaseStatement, instances: &Instances<'_>) -> bool
+    ensures { result ≡ is_plain_case (blocks_in instances.now) statement.now }
 {
     is_plain_expression(&statement.selector)
-        && (are_plain_elements(statement.cases.as_slice())
-            && are_plain_statements(statement.otherwise.as_slice()))
+        && (are_plain_elements(statement.cases.as_slice(), instances)
+            && are_plain_statements(statement.otherwise.as_slice(), instances))
 }
 
 #[cycle(plain_statement)]
-fn are_plain_elements(elements: &[CaseElement]) -> bool
-    ensures { result ≡ all (map is_plain_element elements.now) }
+fn are_plain_elements(elements: &[CaseElement], instances: &Instances<'_>) -> bool
+    ensures { result ≡ all (map (is_plain_element (blocks_in instances.now)) elements.now) }
 {
     'items: for item in elements {
-        if !is_plain_element(item) {
+        if !is_plain_element(item, instances) {
             return false;
         }
     }
@@ -98,36 +102,44 @@ fn are_plain_elements(elements: &[CaseElement]) -> bool
 }
 
 #[cycle(plain_statement)]
-fn is_plain_element(element: &CaseElement) -> bool
-    ensures { result ≡ is_plain_element element.now }
+fn is_plain_element(element: &CaseElement, instances: &Instances<'_>) -> bool
+    ensures { result ≡ is_plain_element (blocks_in instances.now) element.now }
 {
-    are_plain_statements(element.statements.as_slice())
+    are_plain_statements(element.statements.as_slice(), instances)
 }
 
 #[cycle(plain_statement)]
-fn is_plain_for(statement: &ForStatement) -> bool
-    ensures { result ≡ is_plain_for statement.now }
+fn is_plain_for(statement: &ForStatement, instances: &Instances<'_>) -> bool
+    ensures { result ≡ is_plain_for (blocks_in instances.now) statement.now }
 {
     is_plain_expression(&statement.first)
         && (is_plain_expression(&statement.last)
             && (is_plain_step(&statement.step)
-                && are_plain_statements(statement.statements.as_slice())))
+                && are_plain_statements(statement.statements.as_slice(), instances)))
 }
 
 #[cycle(plain_statement)]
-fn is_plain_while(statement: &WhileStatement) -> bool
-    ensures { result ≡ is_plain_while statement.now }
+fn is_plain_while(statement: &WhileStatement, instances: &Instances<'_>) -> bool
+    ensures { result ≡ is_plain_while (blocks_in instances.now) statement.now }
 {
     is_plain_expression(&statement.condition)
-        && are_plain_statements(statement.statements.as_slice())
+        && are_plain_statements(statement.statements.as_slice(), instances)
 }
 
 #[cycle(plain_statement)]
-fn is_plain_repeat(statement: &RepeatStatement) -> bool
-    ensures { result ≡ is_plain_repeat statement.now }
+fn is_plain_repeat(statement: &RepeatStatement, instances: &Instances<'_>) -> bool
+    ensures { result ≡ is_plain_repeat (blocks_in instances.now) statement.now }
 {
-    are_plain_statements(statement.statements.as_slice())
+    are_plain_statements(statement.statements.as_slice(), instances)
         && is_plain_expression(&statement.condition)
+}
+
+/// Whether an instance of a standard function block is invoked, with arguments that hold no other call.
+fn is_plain_invocation(call: &Call, instances: &Instances<'_>) -> bool
+    ensures { result ≡ is_plain_invocation (blocks_in instances.now) call.now }
+{
+    instances.is_block(call.name.spelling.as_slice())
+        && are_plain_arguments(call.arguments.as_slice())
 }
 
 fn is_plain_step(step: &Option<Expression>) -> bool

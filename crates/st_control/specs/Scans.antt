@@ -79,12 +79,13 @@ may_scan now inputs s = unless (scan_causes now inputs s) tt
 
 -- ---- what a scan does
 
--- what a run of the program gives, once the inputs are stored
-abbrev pub run_with : List Input → ℕ → ProgramView → Content → Result (List Value) RunFault
-run_with inputs limit program content = scan_result program content.forced (with_inputs content.forced content.values inputs) limit
+-- what a run of the program gives at a moment, once the inputs are stored
+abbrev pub run_with : ℤ → List Input → ℕ → ProgramView → Content → Result (List Value) RunFault
+run_with now inputs limit program content =
+    scan_result program (record { now = now; forced = content.forced }) (with_inputs content.forced content.values inputs) limit
 
-abbrev pub run_of : List Input → ℕ → StateView → Result (List Value) RunFault
-run_of inputs limit s = run_with inputs limit s.program s.content
+abbrev pub run_of : ℤ → List Input → ℕ → StateView → Result (List Value) RunFault
+run_of now inputs limit s = run_with now inputs limit s.program s.content
 
 -- The leaves have the values that the run left, or it stopped and all values are as before, the inputs too.
 abbrev pub state_after : ℤ → StateView → Result (List Value) RunFault → StateView
@@ -109,7 +110,7 @@ scan_of now m ran = (outcome_of ran, started_anew m (state_after now m.state ran
 
 -- a scan at a moment, with inputs, or its refusal
 abbrev pub scan_step : ℤ → List Input → Machine → Result Scan Refusal
-scan_step now inputs m = unless (scan_causes now inputs m.state) (scan_of now m (run_of inputs m.limit m.state))
+scan_step now inputs m = unless (scan_causes now inputs m.state) (scan_of now m (run_of now inputs m.limit m.state))
 
 -- the call did this scan of the machine, or it was refused so with all left as it was
 abbrev pub TakesScan : Result Scan Refusal → ControllerView → Result Scanned Refusal → ControllerView → Type 0

@@ -212,7 +212,8 @@ impl<M: Memory> Controller<M> {
         }
     }
 
-    /// Goes over to the program that another text is, as `change_named` with no renames does.
+    /// Goes over to the program that another text is, as `change_named` with no renames does. It isn't refused as O13: without
+    /// renames two programs always have pairs (the law `changes_without_renames_pair` of `st_layout`).
     pub fn change(&mut self, alloc: Global, text: &[u8]) -> Result<Counts, Refusal>
         ensures step { TakesChange text.now [] self.old result self.new }
         ensures counts { IfOk result (λ counts. counts ≡ counts_of self.old.state [] self.new.state.program) }

@@ -57,14 +57,15 @@ impl<M: Memory> State<M> {
     /// Stores the inputs and runs the program once, in the second memory. A fault leaves all values as they were.
     pub(crate) fn scan(&mut self, now: i64, inputs: &[(u32, Value)], limit: u32) -> Scanned
         requires { may_scan now inputs.now self.old ≡ Ok tt }
-        ensures outcome { result ≡ outcome_of (run_of inputs.now limit self.old) }
-        ensures state { self.new ≡ state_after now self.old (run_of inputs.now limit self.old) }
+        ensures outcome { result ≡ outcome_of (run_of now inputs.now limit self.old) }
+        ensures state { self.new ≡ state_after now self.old (run_of now inputs.now limit self.old) }
     {
         match run_aside(
             &self.image,
             &self.memory,
             &mut self.second,
             &mut self.stack,
+            now,
             inputs,
             limit,
         ) {
@@ -106,12 +107,13 @@ pub(crate) fn room_for<M: Memory>(alloc: Global, image: &Image) -> Result<(M, St
     Ok((second, stack))
 }
 
-/// Copies a memory to the second one, stores the inputs there, and runs the program once over it.
+/// Copies a memory to the second one, stores the inputs there, and runs the program once over it at a moment.
 fn run_aside<M: Memory>(
     image: &Image,
     memory: &M,
     second: &mut M,
     stack: &mut Stack,
+    now: i64,
     inputs: &[(u32, Value)],
     limit: u32,
 ) -> Result<(), RunFault>
@@ -125,12 +127,12 @@ fn run_aside<M: Memory>(
     ensures room { HasRoom image.now stack.new }
     ensures forced { (M.content (leaves_of_program image.now) second.new).forced ≡ (M.content (leaves_of_program image.now) memory.now).forced }
     ensures result { MatchResult result
-        (λ done. run_with inputs.now limit image.now (M.content (leaves_of_program image.now) memory.now) ≡ Ok (M.content (leaves_of_program image.now) second.new).values)
-        (λ fault. run_with inputs.now limit image.now (M.content (leaves_of_program image.now) memory.now) ≡ Err fault) }
+        (λ done. run_with now inputs.now limit image.now (M.content (leaves_of_program image.now) memory.now) ≡ Ok (M.content (leaves_of_program image.now) second.new).values)
+        (λ fault. run_with now inputs.now limit image.now (M.content (leaves_of_program image.now) memory.now) ≡ Err fault) }
 {
     second.take_from(image.layout(), memory);
     store_inputs(second, image.layout(), inputs);
-    run(image, second, stack, limit)
+    run(image, second, stack, now, limit)
 }
 
 /// Tests whether an input is for a leaf that isn't there.

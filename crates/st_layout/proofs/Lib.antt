@@ -8,14 +8,16 @@ pub mod Longest
 pub mod Maps
 pub mod Moving
 pub mod OpenForces
+pub mod PairPaths
 pub mod Paired
 pub mod Pairings
-pub mod PairPaths
 pub mod Paths
 pub mod Places
 pub mod Renamed
 pub mod Saving
 pub mod Spines
+pub mod StepFlags
 pub mod Steps
 pub mod Twice
+pub mod Unrenamed
 pub mod ValueBytes

@@ -2,6 +2,8 @@
 ghost use Rattle.std.specs.Prelude.{◌≡◌, IfOk, false, length, map, replicate};
 ghost use Rattle.st_layout.specs.Memory.{AreValues};
 
+mod apart;
+
 use crate::carrying::{carried_forces, carried_values, dropped_bytes, dropped_forces};
 use crate::layout::Layout;
 use crate::memory::Memory;

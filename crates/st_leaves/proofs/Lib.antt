@@ -5,6 +5,7 @@ pub mod Composed
 pub mod Counted
 pub mod Cuts
 pub mod Differences
+pub mod FlagCharts
 pub mod Groups
 pub mod Names
 pub mod NumberTexts
@@ -19,6 +20,7 @@ pub mod StoredApart
 pub mod SubscriptTexts
 pub mod SubscriptsApart
 pub mod SubscriptsTold
+pub mod ToldFlags
 pub mod WaysApart
 pub mod WaysIn
 pub mod WaysTold

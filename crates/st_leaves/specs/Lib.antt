@@ -2,6 +2,7 @@ pub mod Bounds
 pub mod Charts
 pub mod Compositions
 pub mod Distinct
+pub mod Flags
 pub mod Inside
 pub mod Leaves
 pub mod LeavesIn

@@ -1,6 +1,7 @@
 //! Laws of the leaves of programs.
 ghost use Rattle.st_leaves.specs.Compositions.{BeginWithValues, LeavesAreThoseOfTheComposition};
 ghost use Rattle.st_leaves.specs.Distinct.{PathsAreDistinct, TextsAreWays, WaysAreDistinct};
+ghost use Rattle.st_leaves.specs.Flags.{WholesHaveCharts, WholesTellFlags};
 ghost use Rattle.st_leaves.specs.Places.{LeavesAreCounted, PlacesAreNumbers};
 
 /// A unit's leaves are those of what its variables consist of, in which types have no names.
@@ -30,4 +31,11 @@ pub fn paths_are_distinct()
     ensures ways { WaysAreDistinct }
     ensures texts { TextsAreWays }
     ensures paths { PathsAreDistinct }
+{}
+
+/// The flag of each step of a chart stands as many leaves behind the one that says whether that chart has begun as it tells,
+/// and their ways begin alike; and of the leaves that no operator may write, those whose paths end with `X` are these flags.
+pub fn flags_have_charts()
+    ensures charts { WholesHaveCharts }
+    ensures flags { WholesTellFlags }
 {}

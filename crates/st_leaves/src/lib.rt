@@ -11,7 +11,7 @@ mod stored;
 pub use array::array_size;
 pub use chart::{chart_size, has_pulse};
 pub use laws::{
-    leaves_are_counted, leaves_begin_with_values, leaves_follow_the_composition,
+    flags_have_charts, leaves_are_counted, leaves_begin_with_values, leaves_follow_the_composition,
     paths_are_distinct, places_are_numbers,
 };
 pub use size::{leaf_size, named_size};

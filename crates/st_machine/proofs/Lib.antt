@@ -1,8 +1,11 @@
+pub mod Arrivals
 pub mod Ends
+pub mod Invocations
 pub mod Narrow
 pub mod Nearer
 pub mod Operands
 pub mod Readiness
 pub mod Stores
+pub mod Stretches
 pub mod Turns
 pub mod Way

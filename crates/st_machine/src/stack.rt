@@ -3,6 +3,7 @@ ghost use Rattle.std.specs.Prelude.{◌≡◌, ◌<◌, [], ◌∷◌, length, I
 
 use std::alloc::{AllocError, Global};
 use std::marker::Model;
+use std::mem;
 
 /// Numbers, the newest first, and for how many there is room.
 #[derive(Drop)]
@@ -32,6 +33,21 @@ impl Stack {
         Ok(Stack { cells, top: 0 })
     }
 
+    /// The stack, in whose place one without room stays.
+    #[inline(always)]
+    pub fn take(&mut self) -> Stack
+        ensures { result ≡ self.old }
+    {
+        let alloc = *self.cells.allocator();
+        mem::replace(
+            self,
+            Stack {
+                cells: Vec::new(alloc),
+                top: 0,
+            },
+        )
+    }
+
     /// Takes all numbers away.
     pub fn clear(&mut self)
         ensures cells { self.new.0 ≡ [] }
@@ -41,7 +57,7 @@ impl Stack {
     }
 
     /// Puts a number on top.
-    #[inline]
+    #[inline(always)]
     pub fn push(&mut self, number: i64)
         requires { length self.old.0 < self.old.1 }
         ensures cells { self.new.0 ≡ number ∷ self.old.0 }
@@ -52,7 +68,7 @@ impl Stack {
     }
 
     /// Takes the newest number.
-    #[inline]
+    #[inline(always)]
     pub fn pop(&mut self) -> i64
         requires { 0 < length self.old.0 }
         ensures cells { self.old.0 ≡ result ∷ self.new.0 }

@@ -3,8 +3,8 @@ use Rattle.std.proofs.lemmas.Int.{to_z-of_z}
 use Rattle.st_machine.proofs.Stores.{store_fits}
 use Rattle.st_machine.proofs.leaves.store.Goals as goal
 
-pub set-requires-clause-value : goal.set-requires-clause-value
-set-requires-clause-value g c =
+pub store_value-requires-clause-value : goal.store_value-requires-clause-value
+store_value-requires-clause-value g c =
     let content = g.M.Memory.content c.args.layout.now c.args.memory.now in
     rw (c.value_in.ensures, to_z-of_z w64 c.args.cell (search rules))
     (store_fits c.args.layout.now content c.args.elem c.args.leaf c.args.cell (g.met.M.Memory.fits _ _ c.requires.over) c.requires.leaf c.requires.cell)

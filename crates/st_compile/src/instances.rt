@@ -1,0 +1,54 @@
+//! The instances of standard function blocks among the variables of a unit.
+ghost use Rattle.std.specs.Prelude.{◌≡◌};
+ghost use Rattle.st_meaning.specs.Offsets.{IsSmall};
+ghost use Rattle.st_places.specs.Parts.{whole_in};
+ghost use Rattle.st_compile.specs.Plain.{blocks_in};
+
+use st_places::Tables;
+use std::marker::Model;
+
+/// Which names stand for instances of standard function blocks in the statements of a unit.
+#[derive(Drop)]
+pub(crate) struct Instances<'a> {
+    tables: &'a Tables<'a>,
+    /// The number of the unit.
+    unit: usize,
+}
+
+impl<'a> Model for Instances<'a> {
+    ghost use Rattle.std.specs.Coded.{codes};
+    ghost use Rattle.std.specs.Prelude.{ℕ};
+    ghost use Rattle.st_tree.specs.contracts.tree.expression.Expression as expression;
+    ghost use Rattle.st_tree.specs.contracts.tree.statement.Statement as statement;
+    ghost use Rattle.st_meaning.specs.Offsets.{IsSmall};
+    ghost use Rattle.st_places.specs.Parts.{TablesView, whole_in};
+
+    ghost Value = { TablesView × ℕ };
+
+    ghost coded = { Prim.hlevel (codes, statement.the_row.coded, expression.the_row.coded) };
+
+    ghost view = { λ s. (s.tables.now, s.unit) };
+
+    ghost invariant = { λ s. IsSmall (whole_in s.tables.now s.unit).variables };
+}
+
+impl<'a> Instances<'a> {
+    /// Those of the unit of this number.
+    pub(crate) fn of(tables: &'a Tables<'a>, unit: usize) -> Instances<'a>
+        requires { IsSmall (whole_in tables.now unit).variables }
+        ensures { result ≡ (tables.now, unit) }
+    {
+        Instances { tables, unit }
+    }
+
+    /// Whether the name stands for an instance of a standard function block.
+    pub(crate) fn is_block(&self, name: &[u8]) -> bool
+        ensures { result ≡ blocks_in self.now name.now }
+    {
+        let root = self.tables.root(self.unit);
+        match self.tables.select(root, name) {
+            Some((_, node)) => self.tables.block(node).is_some(),
+            None => false,
+        }
+    }
+}

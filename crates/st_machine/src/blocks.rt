@@ -1,0 +1,98 @@
+//! Invocations of standard function blocks.
+ghost use Rattle.std.specs.Prelude.{◌≡◌, ◌≤◌, ◌+◌, ℕ, ℤ, drop, length, IsTrue, List};
+ghost use Rattle.st_blocks.specs.Cells.{types_of};
+ghost use Rattle.st_code.specs.Machine.{act, has_leaves};
+ghost use Rattle.st_code.specs.declared.instr.Instr.{Instr};
+ghost use Rattle.st_layout.specs.Memory.{Content};
+ghost use Rattle.st_machine.specs.Ready.{FitFrom};
+ghost use Rattle.st_machine.specs.Running.{moved, setting_at};
+ghost use Rattle.st_meaning.specs.Statements.{block_done, stretch, unless_forced, with_stretch};
+
+use crate::leaves::store_value;
+use crate::moves::Move;
+use st_blocks::{MOST_LEAVES, block_step, leaf_count};
+use st_layout::{Layout, Memory};
+use st_types::StandardBlock;
+use st_values::{Elem, Value};
+
+/// What stands in a cell before a leaf is read into it.
+const EMPTY: Value = Value {
+    elem: Elem::Bool,
+    bits: 0,
+};
+
+/// Does `Invoke`.
+pub fn invoke<M: Memory>(
+    memory: &mut M,
+    layout: &Layout,
+    block: StandardBlock,
+    leaf: u32,
+    now: i64,
+) -> Move
+    requires over { M.IsOver layout.now memory.old }
+    requires few { length (M.content layout.now memory.old).values ≤ 65536 }
+    requires ready { IsTrue (has_leaves (M.content layout.now memory.old).values block leaf) }
+    ensures over { M.IsOver layout.now memory.new }
+    ensures forced { (M.content layout.now memory.new).forced ≡ (M.content layout.now memory.old).forced }
+    ensures does { (room line place left : ℕ) (stack : List ℤ) → act (setting_at now (M.content layout.now memory.old).forced) room (Instr.Invoke block leaf) line place stack (M.content layout.now memory.old).values left ≡ moved result line place stack (M.content layout.now memory.new).values left }
+{
+    let mut cells = [EMPTY; MOST_LEAVES];
+    do_block(
+        memory,
+        layout,
+        block,
+        leaf,
+        now,
+        &mut cells[..leaf_count(block)],
+    );
+    Move::On
+}
+
+/// Does what one invocation of a block does to its leaves. There is a cell for each of them.
+fn do_block<M: Memory>(
+    memory: &mut M,
+    layout: &Layout,
+    block: StandardBlock,
+    leaf: u32,
+    now: i64,
+    cells: &mut [Value],
+)
+    requires over { M.IsOver layout.now memory.old }
+    requires few { length (M.content layout.now memory.old).values ≤ 65536 }
+    requires leaves { IsTrue (has_leaves (M.content layout.now memory.old).values block leaf) }
+    requires cells { length cells.old ≡ length (types_of block) }
+    ensures over { M.IsOver layout.now memory.new }
+    ensures values { (M.content layout.now memory.new).values ≡ block_done (setting_at now (M.content layout.now memory.old).forced) block leaf (M.content layout.now memory.old).values }
+    ensures forced { (M.content layout.now memory.new).forced ≡ (M.content layout.now memory.old).forced }
+{
+    load_values(memory, layout, leaf, cells);
+    block_step(block, cells, now);
+    store_values(memory, layout, leaf, cells);
+}
+
+/// Reads the leaves that stand from one of them on into cells.
+fn load_values<M: Memory>(memory: &M, layout: &Layout, leaf: u32, cells: &mut [Value])
+    requires over { M.IsOver layout.now memory.now }
+    requires few { length (M.content layout.now memory.now).values ≤ 65536 }
+    requires there { leaf + length cells.old ≤ length (M.content layout.now memory.now).values }
+    ensures { cells.new ≡ stretch (M.content layout.now memory.now).values leaf (length cells.old) }
+{
+    for (i, cell) in cells.iter_mut().enumerate() {
+        *cell = memory.get(layout, leaf + i as u32);
+    }
+}
+
+/// Stores cells into the leaves that stand from one of them on, unless they are forced.
+fn store_values<M: Memory>(memory: &mut M, layout: &Layout, leaf: u32, cells: &[Value])
+    requires over { M.IsOver layout.now memory.old }
+    requires few { length (M.content layout.now memory.old).values ≤ 65536 }
+    requires there { leaf + length cells.now ≤ length (M.content layout.now memory.old).values }
+    requires fit { FitFrom layout.now leaf cells.now }
+    ensures over { M.IsOver layout.now memory.new }
+    ensures values { (M.content layout.now memory.new).values ≡ with_stretch (M.content layout.now memory.old).values leaf (unless_forced (drop leaf (M.content layout.now memory.old).forced) (stretch (M.content layout.now memory.old).values leaf (length cells.now)) cells.now) }
+    ensures forced { (M.content layout.now memory.new).forced ≡ (M.content layout.now memory.old).forced }
+{
+    for (i, cell) in cells.iter().enumerate() {
+        store_value(memory, layout, leaf + i as u32, *cell);
+    }
+}
