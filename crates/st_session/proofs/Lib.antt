@@ -1,10 +1,6 @@
-pub mod CommandLemmas
-pub mod EndLemmas
 pub mod Listings
-pub mod ReadLemmas
 pub mod RunLemmas
 pub mod SameLemmas
 pub mod ScanLemmas
 pub mod ServeLemmas
-pub mod SourceLemmas
 pub mod StepLemmas

@@ -7,12 +7,13 @@ use Rattle.st_control.specs.Controllers.{ControllerView, Takes, TakesChange, mac
 use Rattle.st_control.specs.Machine.{Command, Machine, step}
 use Rattle.st_control.specs.Scans.{Scan, TakesScan}
 use Rattle.st_control.specs.States.{StateView, undone}
+use Rattle.st_control.specs.Texts.{IsCheckedAs}
 use Rattle.st_control.specs.declared.changing.Counts.{Counts}
 use Rattle.st_control.specs.declared.record.Record.{Record}
 use Rattle.st_control.specs.declared.refusal.Refusal.{Refusal}
 use Rattle.st_control.specs.declared.scanning.Scanned.{Scanned}
 use Rattle.st_layout.specs.declared.renames.Rename.{Rename}
-use Rattle.st_session.specs.Commands.{Asked, change_with}
+use Rattle.st_lines.specs.Commands.{Asked, change_with}
 use Rattle.st_session.specs.Replies.{change_text, counts_text, ended, result_grade, result_text, scan_grade, scan_text}
 use Rattle.st_session.specs.Sessions.{Does}
 use Rattle.st_session.specs.Turns.{CanBeTaken, Taken, change_stepped, scan_stepped, shown, stepped}
@@ -69,6 +70,13 @@ module _ (renames : List Rename) where
         told = told ∙ sym (change_stepped-reply next old new result takes.2 is);
         graded = graded ∙ sym (change_stepped-grade next old new result takes.2);
       }
+
+  -- a change was refused before its text was read as a program
+  pub Does-refused : (text : List ℕ) (old : ControllerView) (refusal : Refusal) (reply : List ℕ) (grade : Grade) → IsCheckedAs text old.main (Err refusal)
+      → reply ≡ change_text (Err refusal) → grade ≡ result_grade {A = Counts} (Err refusal)
+      → Does (CanBeTaken (Asked.change (change_with renames text)) (machine_of old)) grade (machine_of old) (machine_of old) reply
+  Does-refused text old refusal reply grade refuses told graded =
+      record { taken = Taken.changed renames (Err refusal); can = (Err refusal, refuses, refl); machine = refl; told = told; graded = graded }
 
 -- the same of a scan
 pub scanned-machine : (next : Result Scan Refusal) (old new : ControllerView) (result : Result Scanned Refusal) → TakesScan next old result new → machine_of new ≡ (scan_stepped (machine_of old) next).machine

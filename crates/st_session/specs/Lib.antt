@@ -1,11 +1,7 @@
 pub mod Checks
-pub mod Commands
 pub mod Layouts
 pub mod Listings
 pub mod Replies
-pub mod Requests
 pub mod Runs
-pub mod ScanWords
 pub mod Sessions
-pub mod SourceTexts
 pub mod Turns

@@ -5,7 +5,7 @@ use Rattle.st_control.specs.Controllers.{ControllerView, machine_of}
 use Rattle.st_control.specs.Loads.{IsLoaded, Loaded}
 use Rattle.st_control.specs.declared.refusal.Refusal.{Refusal}
 use Rattle.st_control.specs.declared.refusal.Refusal.TheVariants as refusals
-use Rattle.st_session.specs.Commands.{asked_of, whole_asked_of}
+use Rattle.st_lines.specs.Commands.{asked_of, whole_asked_of}
 use Rattle.st_session.specs.Replies.{ended, refusal_text}
 use Rattle.st_session.specs.Turns.{Follows, Taken, replies, worst}
 use Rattle.st_session.specs.declared.grade.Grade.{Grade}

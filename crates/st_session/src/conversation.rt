@@ -5,21 +5,19 @@ ghost use Rattle.st_control.specs.States.{leaves_of};
 ghost use Rattle.st_devices.specs.Inputs.{has_ended, left, pending, unread};
 ghost use Rattle.st_devices.specs.Pending.{OnBytes, OnReading};
 ghost use Rattle.st_devices.specs.Words.{words_of};
-ghost use Rattle.st_session.specs.Commands.{TakesPartOf};
-ghost use Rattle.st_session.specs.Requests.{RequestView, request_in, request_of};
+ghost use Rattle.st_lines.specs.Commands.{TakesPartOf};
+ghost use Rattle.st_lines.specs.Requests.{RequestView, request_in, request_of};
 ghost use Rattle.st_session.specs.Sessions.{AnswersAll, AnswersRead, Does, DoesAsked, DoesOver, LosesPart, LosesText, StopsIn, TurnsOver};
 ghost use Rattle.st_session.specs.Turns.{CanBeAsked, answer, leaf_value, value_given};
 
 use crate::change::take_change;
 use crate::grade::{Grade, worse};
-use crate::renames::read_renames;
 use crate::reply::Reply;
-use crate::request::{Request, read_request};
-use crate::scan_values::ScanValues;
 use crate::scanning::{reset, scan};
 use st_control::{Controller, NO_SUCH_LINE, NO_SUCH_PATH, Refusal};
 use st_devices::{DeviceFault, Found, Input, MAX_LINE_BYTES, Sink, Source, write_all};
 use st_layout::Memory;
+use st_lines::{Request, ScanValues, read_renames, read_request};
 use st_values::{Elem, Value, read_value};
 use std::alloc::{AllocError, Global};
 

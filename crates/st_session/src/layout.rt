@@ -9,8 +9,9 @@ ghost use Rattle.st_session.specs.Replies.{ended};
 
 use crate::listing::leaf_lines;
 use crate::run::{ACCEPTED, DEVICE_FAILED, NO_MEMORY, NO_PROGRAM, refuse, tell};
-use st_control::{Refusal, load_image};
+use st_control::{Refusal, check_program};
 use st_devices::Sink;
+use st_layout::Layout;
 use std::alloc::Global;
 
 /// Checks a text as the program of the name `main`, ignoring case, and writes a line for each of its leaves, in order: the
@@ -48,6 +49,7 @@ fn lines_of(alloc: Global, text: &[u8], main: &[u8]) -> Result<Vec<u8>, Refusal>
     ensures refused { IfErr result (λ refusal. IsCheckedAs text.now main.now (Err refusal)) }
     ensures long { 2 ^ 20 < length text.now → result ≡ Err (Refusal.S 4 1) }
 {
-    let image = load_image(alloc, text, main)?;
-    leaf_lines(alloc, image.layout()).or(Err(Refusal::M))
+    let program = check_program(alloc, text, main)?;
+    let layout = Layout::of(alloc, &program)?;
+    Ok(leaf_lines(alloc, &layout)?)
 }

@@ -7,23 +7,17 @@ mod change;
 mod check;
 mod conversation;
 mod grade;
-mod laws;
 mod layout;
 mod listing;
-mod pairs;
-mod renames;
 mod reply;
-mod request;
 mod run;
-mod scan_values;
 mod scanning;
-mod source_text;
 
 pub use check::check_text;
 pub use conversation::{Outcome, session};
-pub use laws::commands_come_in_parts;
 pub use layout::layout_text;
 pub use run::{ACCEPTED, DEVICE_FAILED, LINE_REFUSED, NO_MEMORY, NO_PROGRAM, run_text};
 pub use st_devices::{
     Bytes, DeviceFault, FromReader, MAX_LINE_BYTES, Sheet, Sink, Source, ToWriter,
 };
+pub use st_lines::commands_come_in_parts;

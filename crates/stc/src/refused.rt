@@ -6,7 +6,7 @@ ghost use Rattle.st_control.specs.Texts.{OfCheck};
 ghost use Rattle.st_session.specs.Layouts.{OfLayout};
 ghost use Rattle.stc.specs.Diagnoses.{diagnosis_of, told_of};
 
-use st_control::{Controller, Refusal, check_program, load_image};
+use st_control::{Controller, Refusal, check_program};
 use st_layout::Cells;
 use st_refusals::{Family, message};
 use st_words::{Order, Verb};
@@ -54,8 +54,8 @@ fn layout_diagnosis(
 ) -> Result<String, AllocError>
     ensures { IfOk result (λ told. OfLayout text.now main.now (λ laid. string_bytes told ≡ told_of file.now text.now laid)) }
 {
-    match load_image(alloc, text, main) {
-        Ok(_image) => Ok(String::new(alloc)),
+    match check_program(alloc, text, main) {
+        Ok(_program) => Ok(String::new(alloc)),
         Err(refusal) => diagnosis_of(alloc, file, text, refusal),
     }
 }

@@ -1,0 +1,6 @@
+pub mod CommandLemmas
+pub mod EndLemmas
+pub mod ReadLemmas
+pub mod ScanLemmas
+pub mod SourceLemmas
+pub mod TextLemmas

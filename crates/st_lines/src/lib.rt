@@ -1,0 +1,19 @@
+//! What lines ask for: requests with their words, and changes with the source lines that follow.
+//!
+//! What is asked for is read here, and done by whoever has a controller.
+#![tactic(auto)]
+
+mod change_text;
+mod laws;
+mod pairs;
+mod renames;
+mod request;
+mod scan_values;
+mod source_text;
+
+pub use change_text::{ChangeText, read_text};
+pub use laws::commands_come_in_parts;
+pub use pairs::{Pairs, cut_pair};
+pub use renames::read_renames;
+pub use request::{Request, read_request};
+pub use scan_values::ScanValues;
