@@ -6,6 +6,8 @@
 #[cfg(test)]
 mod all_types;
 #[cfg(test)]
+mod block_changes;
+#[cfg(test)]
 mod checked_texts;
 #[cfg(test)]
 mod devices;
@@ -24,7 +26,15 @@ mod online_changes;
 #[cfg(test)]
 mod refused_texts;
 #[cfg(test)]
+mod run_block_leaves;
+#[cfg(test)]
+mod run_counters;
+#[cfg(test)]
 mod run_functions;
+#[cfg(test)]
+mod run_invocations;
+#[cfg(test)]
+mod run_memory;
 #[cfg(test)]
 mod run_operands;
 #[cfg(test)]
@@ -32,9 +42,15 @@ mod run_operators;
 #[cfg(test)]
 mod run_places;
 #[cfg(test)]
+mod run_plants;
+#[cfg(test)]
 mod run_statements;
 #[cfg(test)]
 mod run_steps;
+#[cfg(test)]
+mod run_timers;
+#[cfg(test)]
+mod run_triggers;
 #[cfg(test)]
 mod running;
 #[cfg(test)]

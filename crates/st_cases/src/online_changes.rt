@@ -1,5 +1,5 @@
 //! Online changes, and their undo, in sessions.
-use crate::running::{FIRST, run};
+use crate::running::{FIRST, number_at, run};
 use crate::tables::{cases_of, status_of};
 use st_control::{Controller, Refusal};
 use st_layout::{Cells, Rename};
@@ -527,14 +527,6 @@ const BEFORE: &[u8] =
     b"PROGRAM Main VAR A : INT := 3; B : BOOL; C : DINT := 4; END_VAR END_PROGRAM";
 
 const AFTER: &[u8] = b"PROGRAM Main VAR X : INT; B : BOOL; C : INT; D : TIME; END_VAR END_PROGRAM";
-
-/// The number of a value, and whether it is forced; nothing where there is no such leaf.
-fn number_at(controller: &Controller<Cells>, path: &[u8]) -> Option<(i128, bool)> {
-    match controller.get(path) {
-        Ok((value, forced)) => Some((value.bits, forced)),
-        Err(_) => None,
-    }
-}
 
 /// Whether the first program stands, as the commands before the change left it.
 fn is_as_before(controller: &Controller<Cells>) -> bool {

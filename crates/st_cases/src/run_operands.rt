@@ -1,6 +1,8 @@
 //! Scans of operators between operands of all forms: literals, variables, and what is worked out first.
 use crate::running::run;
+use crate::tables::put_all;
 use std::alloc::{AllocError, Global};
+use std::process::Abort;
 use std::test::Fail;
 
 /// Operators between two values of a type, and what they give: a line for each.
@@ -60,14 +62,18 @@ LWORD LWORD#16#8000_0000_0000_0001 AND LWORD#16#C000_0000_0000_0000 16#800000000
 LWORD LWORD#16#8000_0000_0000_0001 OR LWORD#16#C000_0000_0000_0000 16#C000000000000001
 LWORD LWORD#16#8000_0000_0000_0001 XOR LWORD#16#C000_0000_0000_0000 16#4000000000000001";
 
-/// Types, and two values of each, the smaller first.
-const ORDERED: &[u8] = b"BOOL FALSE TRUE
-SINT SINT#-1 SINT#0
+/// Types with a sign, and two values of each, the smaller first.
+const SIGNED: &[u8] = b"SINT SINT#-1 SINT#0
 SINT SINT#-128 SINT#127
 INT INT#-32768 INT#32767
 DINT DINT#-1 DINT#0
 DINT DINT#-2147483648 DINT#-2147483647
 LINT LINT#-9223372036854775808 LINT#9223372036854775807
+TIME T#-1ms T#0ms
+TIME T#-9223372036854775808ms T#9223372036854775807ms";
+
+/// Types without a sign, and two values of each, the smaller first.
+const UNSIGNED: &[u8] = b"BOOL FALSE TRUE
 USINT USINT#127 USINT#128
 UINT UINT#1 UINT#65535
 UDINT UDINT#2147483647 UDINT#2147483648
@@ -76,9 +82,7 @@ ULINT ULINT#1 ULINT#18446744073709551615
 BYTE BYTE#16#7F BYTE#16#80
 WORD WORD#16#1 WORD#16#FFFF
 DWORD DWORD#16#7FFF_FFFF DWORD#16#FFFF_FFFF
-LWORD LWORD#16#7FFF_FFFF_FFFF_FFFF LWORD#16#8000_0000_0000_0000
-TIME T#-1ms T#0ms
-TIME T#-9223372036854775808ms T#9223372036854775807ms";
+LWORD LWORD#16#7FFF_FFFF_FFFF_FFFF LWORD#16#8000_0000_0000_0000";
 
 /// A comparison: whether it holds of a smaller and a greater value, of two equal ones, and of a greater and a smaller one.
 struct Comparison {
@@ -88,44 +92,47 @@ struct Comparison {
     above: bool,
 }
 
-const COMPARISONS: [Comparison; 6] = [
-    Comparison {
-        operator: b"<",
-        below: true,
-        equal: false,
-        above: false,
-    },
-    Comparison {
-        operator: b"<=",
-        below: true,
-        equal: true,
-        above: false,
-    },
-    Comparison {
-        operator: b"=",
-        below: false,
-        equal: true,
-        above: false,
-    },
-    Comparison {
-        operator: b"<>",
-        below: true,
-        equal: false,
-        above: true,
-    },
-    Comparison {
-        operator: b">=",
-        below: false,
-        equal: true,
-        above: true,
-    },
-    Comparison {
-        operator: b">",
-        below: false,
-        equal: false,
-        above: true,
-    },
-];
+const LESS: Comparison = Comparison {
+    operator: b"<",
+    below: true,
+    equal: false,
+    above: false,
+};
+
+const AT_MOST: Comparison = Comparison {
+    operator: b"<=",
+    below: true,
+    equal: true,
+    above: false,
+};
+
+const EQUAL: Comparison = Comparison {
+    operator: b"=",
+    below: false,
+    equal: true,
+    above: false,
+};
+
+const UNEQUAL: Comparison = Comparison {
+    operator: b"<>",
+    below: true,
+    equal: false,
+    above: true,
+};
+
+const AT_LEAST: Comparison = Comparison {
+    operator: b">=",
+    below: false,
+    equal: true,
+    above: true,
+};
+
+const GREATER: Comparison = Comparison {
+    operator: b">",
+    below: false,
+    equal: false,
+    above: true,
+};
 
 /// An operator between two values of a type.
 #[derive(Drop)]
@@ -134,14 +141,6 @@ struct Operation<'a> {
     left: &'a [u8],
     operator: &'a [u8],
     right: &'a [u8],
-}
-
-/// Puts pieces behind a text.
-fn put_all(text: &mut Vec<u8>, pieces: &[&[u8]]) -> Result<(), AllocError> {
-    for piece in pieces {
-        text.extend_from_slice(piece)?;
-    }
-    Ok(())
 }
 
 /// Puts a line for each form that the two operands may have, with these pieces before and behind the operation.
@@ -307,19 +306,82 @@ fn orders_come_out(
     Ok(true)
 }
 
-#[test]
-fn comparisons_come_out(rt: HostRuntime) -> Result<(), Fail> {
-    for line in ORDERED.split(|byte| *byte == b'\n') {
+/// Asserts that a comparison comes out of the values of these types.
+fn comes_out_of(
+    rt: &impl Abort,
+    alloc: Global,
+    comparison: &Comparison,
+    types: &[u8],
+) -> Result<(), Fail> {
+    for line in types.split(|byte| *byte == b'\n') {
         let mut words = line.split(|byte| *byte == b' ');
         let elem = words.next().unwrap_or(b"");
         let low = words.next().unwrap_or(b"");
         let high = words.next().unwrap_or(b"");
-        for comparison in &COMPARISONS {
-            assert!(rt;
-                orders_come_out(rt.alloc(), comparison, elem, low, high)?,
-                "of {line:?}"
-            );
-        }
+        assert!(rt;
+            orders_come_out(alloc, comparison, elem, low, high)?,
+            "of {line:?}"
+        );
     }
     Ok(())
+}
+
+#[test]
+fn less_comes_out_of_signed(rt: HostRuntime) -> Result<(), Fail> {
+    comes_out_of(&rt, rt.alloc(), &LESS, SIGNED)
+}
+
+#[test]
+fn less_comes_out_of_unsigned(rt: HostRuntime) -> Result<(), Fail> {
+    comes_out_of(&rt, rt.alloc(), &LESS, UNSIGNED)
+}
+
+#[test]
+fn at_most_comes_out_of_signed(rt: HostRuntime) -> Result<(), Fail> {
+    comes_out_of(&rt, rt.alloc(), &AT_MOST, SIGNED)
+}
+
+#[test]
+fn at_most_comes_out_of_unsigned(rt: HostRuntime) -> Result<(), Fail> {
+    comes_out_of(&rt, rt.alloc(), &AT_MOST, UNSIGNED)
+}
+
+#[test]
+fn equal_comes_out_of_signed(rt: HostRuntime) -> Result<(), Fail> {
+    comes_out_of(&rt, rt.alloc(), &EQUAL, SIGNED)
+}
+
+#[test]
+fn equal_comes_out_of_unsigned(rt: HostRuntime) -> Result<(), Fail> {
+    comes_out_of(&rt, rt.alloc(), &EQUAL, UNSIGNED)
+}
+
+#[test]
+fn unequal_comes_out_of_signed(rt: HostRuntime) -> Result<(), Fail> {
+    comes_out_of(&rt, rt.alloc(), &UNEQUAL, SIGNED)
+}
+
+#[test]
+fn unequal_comes_out_of_unsigned(rt: HostRuntime) -> Result<(), Fail> {
+    comes_out_of(&rt, rt.alloc(), &UNEQUAL, UNSIGNED)
+}
+
+#[test]
+fn at_least_comes_out_of_signed(rt: HostRuntime) -> Result<(), Fail> {
+    comes_out_of(&rt, rt.alloc(), &AT_LEAST, SIGNED)
+}
+
+#[test]
+fn at_least_comes_out_of_unsigned(rt: HostRuntime) -> Result<(), Fail> {
+    comes_out_of(&rt, rt.alloc(), &AT_LEAST, UNSIGNED)
+}
+
+#[test]
+fn greater_comes_out_of_signed(rt: HostRuntime) -> Result<(), Fail> {
+    comes_out_of(&rt, rt.alloc(), &GREATER, SIGNED)
+}
+
+#[test]
+fn greater_comes_out_of_unsigned(rt: HostRuntime) -> Result<(), Fail> {
+    comes_out_of(&rt, rt.alloc(), &GREATER, UNSIGNED)
 }

@@ -260,6 +260,73 @@ END_FOR;
 END_PROGRAM
 ? scan 0
 = fault F1 Main line 10
+# an invocation takes two, and its arguments none
+--steps 4
+PROGRAM Main VAR T1 : TON; A : BOOL; E : TIME; END_VAR
+;
+T1(IN := NOT T1.Q AND (1 + 2 * 3 > 6), PT := MAX(T#1s, T#2s), Q => A, ET => E);
+;
+END_PROGRAM
+? scan 0
+= fault F1 Main line 4
+# both stand at the name of the instance
+--steps 3
+PROGRAM Main VAR T1 : TON; A : BOOL; END_VAR
+;
+T1
+(IN
+:= TRUE, Q
+=> A
+)
+;
+END_PROGRAM
+? scan 0
+= fault F1 Main line 3
+# one without arguments takes two as well
+--steps 6
+PROGRAM Main VAR E : R_TRIG; F : F_TRIG; C : CTD; END_VAR
+E();
+F();
+C
+();
+END_PROGRAM
+? scan 0
+= fault F1 Main line 4
+# the test of a loop behind invocations
+--steps 12
+PROGRAM Main VAR C : CTU; I : INT; END_VAR
+FOR I := 1 TO 2 DO
+  C(CU := TRUE);
+  C(CU := FALSE);
+END_FOR;
+END_PROGRAM
+? scan 0
+= fault F1 Main line 2
+# an output as a loop's condition
+--steps 10
+PROGRAM Main VAR C : CTU; END_VAR
+REPEAT
+  C(CU := NOT C.CU, PV := 2);
+UNTIL C.Q END_REPEAT;
+END_PROGRAM
+? scan 0
+= fault F1 Main line 2
+# an invocation in IF and in CASE, beside one that doesn't run
+--steps 6
+PROGRAM Main VAR S : SR; T : TP; END_VAR
+IF S.Q1 THEN
+  S(R := TRUE);
+ELSE
+  S(S1 := TRUE);
+END_IF;
+CASE 5 OF
+1..4: T(IN := FALSE);
+5: T(IN
+  := TRUE);
+END_CASE;
+END_PROGRAM
+? scan 0
+= fault F1 Main line 9
 ";
 
 /// What a step limit does in sessions.
@@ -367,6 +434,76 @@ END_PROGRAM
 = ok
 = ok
 = fault F1 Main line 2
+# the first step of an invocation, which is its statement's
+--steps 1
+PROGRAM Main VAR Z : INT; T1 : TON; END_VAR
+;
+T1(IN := 1
+/ Z = 1);
+END_PROGRAM
+? scan 0
+= fault F1 Main line 3
+# the second one, which is taken before its inputs are worked out
+--steps 2
+PROGRAM Main VAR Z : INT; T1 : TON; END_VAR
+;
+T1(IN := 1
+/ Z = 1);
+END_PROGRAM
+? scan 0
+= fault F1 Main line 3
+# with one step more they are
+--steps 3
+PROGRAM Main VAR Z : INT; T1 : TON; END_VAR
+;
+T1(IN := 1
+/ Z = 1);
+END_PROGRAM
+? scan 0
+? show Main.T1.IN
+= fault F2 Main line 4
+= Main.T1.IN = FALSE
+# the statements behind a timer take a step more once its time is over
+--steps 3
+PROGRAM Main VAR T1 : TON; N : INT; END_VAR
+T1(IN := TRUE, PT := T#1s);
+IF T1.Q THEN N := N + 1; END_IF;
+END_PROGRAM
+? scan 0
+? scan 999
+? scan 1000
+? show Main.N
+? show Main.T1.ET
+= ok
+= ok
+= fault F1 Main line 3
+= Main.N = 0
+= Main.T1.ET = T#999ms
+# what blocks did in a scan that would take too many is gone
+--steps 5
+PROGRAM Main VAR_INPUT N : INT; END_VAR VAR C : CTU; END_VAR
+C(CU := NOT C.CU);
+C(CU := NOT C.CU);
+IF N > 0 THEN
+;
+END_IF;
+END_PROGRAM
+? scan 0
+? show Main.C.CV
+? scan 1 Main.N:=1
+? show Main.C.CV
+? show Main.C.$M
+? reset
+? scan 1
+? show Main.C.CV
+= ok
+= Main.C.CV = 1
+= fault F1 Main line 5
+= Main.C.CV = 1
+= Main.C.$M = FALSE
+= ok
+= ok
+= Main.C.CV = 1
 # inputs take no steps
 --steps 1
 PROGRAM Main VAR_INPUT X, Y : INT; END_VAR VAR A : INT; END_VAR A := X + Y; END_PROGRAM
@@ -404,7 +541,7 @@ fn are_too_few(alloc: Global, case: &Case) -> Result<bool, AllocError> {
 #[test]
 fn steps_are_counted(rt: HostRuntime) -> Result<(), Fail> {
     let cases = cases_of(rt.alloc(), COUNTED)?;
-    assert_eq!(rt; cases.len(), 24);
+    assert_eq!(rt; cases.len(), 30);
     for case in &cases {
         assert!(rt;
             are_enough(rt.alloc(), case)?,
@@ -423,6 +560,6 @@ fn steps_are_counted(rt: HostRuntime) -> Result<(), Fail> {
 #[test]
 fn limits_are_kept(rt: HostRuntime) -> Result<(), Fail> {
     let count = all_come_out(&rt, rt.alloc(), LIMITED, 4096)?;
-    assert_eq!(rt; count, 10);
+    assert_eq!(rt; count, 15);
     Ok(())
 }

@@ -2,6 +2,8 @@
 ghost use Rattle.std.specs.Prelude.{◌<◌};
 
 use crate::tables::{Case, cases_of, status_of};
+use st_control::Controller;
+use st_layout::Cells;
 use st_session::{Bytes, Sheet, run_text};
 use std::alloc::{AllocError, Global};
 use std::process::Abort;
@@ -93,6 +95,14 @@ pub fn all_come_out(
         comes_out(rt, alloc, case, piece, count)?;
     }
     Ok(count)
+}
+
+/// The number of a value, and whether it is forced; nothing where there is no such leaf.
+pub fn number_at(controller: &Controller<Cells>, path: &[u8]) -> Option<(i128, bool)> {
+    match controller.get(path) {
+        Ok((value, forced)) => Some((value.bits, forced)),
+        Err(_) => None,
+    }
 }
 
 /// Puts a piece so many times behind a text.

@@ -635,14 +635,46 @@ PROGRAM Main VAR A : INT := 3; END_VAR A := Square(A); END_PROGRAM
 = ok kept 1 dropped 0 new 0
 = ok
 = Main.A = 9
-# an invocation of a function block
-PROGRAM Main VAR Go : BOOL := TRUE; T1 : TON; END_VAR T1(IN := Go, PT := T#100ms); END_PROGRAM
+# an invocation of a function block of the text
+FUNCTION_BLOCK Half VAR_INPUT X : INT; END_VAR VAR_OUTPUT Y : INT; END_VAR Y := X / 2; END_FUNCTION_BLOCK
+PROGRAM Main VAR H : Half; A : INT := 6; END_VAR H(X := A, Y => A); END_PROGRAM
 ? scan 10
-? show Main.T1.ET
+? show Main.H.X
 ? status
 = refused O10
-= Main.T1.ET = T#0ms
+= Main.H.X = 0
 = running 0 forces 0 undo 0
+# nothing of a program runs where one part of it doesn't, however deep that stands
+FUNCTION One : INT One := 1; END_FUNCTION
+FUNCTION_BLOCK Half VAR_INPUT X : INT; END_VAR VAR_OUTPUT Y : INT; END_VAR Y := X / 2; END_FUNCTION_BLOCK
+PROGRAM Main VAR T1 : TON; H : Half; A : INT; R : ARRAY [1..2] OF BOOL; END_VAR
+T1(IN := TRUE, PT := T#1s);
+IF FALSE THEN CASE A OF 1: ; ELSE H(X := 1); END_CASE; END_IF;
+END_PROGRAM
+? scan 0
+? change
+? FUNCTION One : INT One := 1; END_FUNCTION
+? PROGRAM Main VAR T1 : TON; A : INT; R : ARRAY [1..2] OF BOOL; END_VAR T1(IN := A >= One(), PT := T#1s); END_PROGRAM
+? end_change
+? scan 0
+? change
+? FUNCTION One : INT One := 1; END_FUNCTION
+? PROGRAM Main VAR T1 : TON; A : INT; R : ARRAY [1..2] OF BOOL; END_VAR T1(IN := TRUE, Q => R[One()]); END_PROGRAM
+? end_change
+? scan 0
+? change
+? PROGRAM Main VAR T1 : TON; A : INT; R : ARRAY [1..2] OF BOOL; END_VAR T1(IN := TRUE, Q => R[1]); END_PROGRAM
+? end_change
+? scan 0
+? show Main.R[1]
+= refused O10
+= ok kept 9 dropped 2 new 0
+= refused O10
+= ok kept 9 dropped 0 new 0
+= refused O10
+= ok kept 9 dropped 0 new 0
+= ok
+= Main.R[1] = TRUE
 # a chart
 PROGRAM Main VAR Go : BOOL; Lamp : BOOL; END_VAR
 INITIAL_STEP S1: END_STEP
@@ -699,7 +731,7 @@ fn states_stand_between_scans(rt: HostRuntime) -> Result<(), Fail> {
 #[test]
 fn some_programs_are_only_loaded(rt: HostRuntime) -> Result<(), Fail> {
     let count = all_come_out(&rt, rt.alloc(), NOT_YET, 4096)?;
-    assert_eq!(rt; count, 4);
+    assert_eq!(rt; count, 5);
     Ok(())
 }
 

@@ -3,6 +3,10 @@
 //! A table is one text. A case begins with a line of `#` and a remark, behind which the lines of the program stand. In a table of
 //! layouts a line of `=` follows, and then the lines that have to be written. In a table of sessions lines of `?` and `=` follow:
 //! what an operator types, and what is replied. A line of `--steps` gives its session a step limit.
+//!
+//! Scans may stand in columns. A line of `|:` names them: `scan`, inputs, `=>`, and what is shown. Each line of `|` is then a scan at
+//! a moment, with a value for each input that isn't left out by `-`, and the values that are shown behind it. One that is forced has
+//! a `!` at its end.
 use crate::running::STEPS;
 use st_session::{ACCEPTED, LINE_REFUSED};
 use std::alloc::{AllocError, Global};
@@ -15,6 +19,8 @@ pub struct Case {
     pub wanted: Vec<u8>,
     /// How many steps a scan may take.
     pub steps: u32,
+    /// The names of the columns.
+    columns: Vec<u8>,
     /// Whether the line of `=` of a layout was read.
     is_listing: bool,
 }
@@ -26,6 +32,7 @@ impl Case {
             session: Vec::new(alloc),
             wanted: Vec::new(alloc),
             steps: STEPS,
+            columns: Vec::new(alloc),
             is_listing: false,
         }
     }
@@ -46,11 +53,74 @@ impl Case {
         if let Some(reply) = line.strip_prefix(b"= ") {
             return put_line(&mut self.wanted, reply);
         }
+        if let Some(columns) = line.strip_prefix(b"|: ") {
+            self.columns.clear();
+            return self.columns.extend_from_slice(columns);
+        }
+        if let Some(row) = line.strip_prefix(b"| ") {
+            return self.add_row(row);
+        }
         if self.is_listing {
             put_line(&mut self.wanted, line)
         } else {
             put_line(&mut self.program, line)
         }
+    }
+
+    /// Takes a scan that stands in columns.
+    fn add_row(&mut self, row: &[u8]) -> Result<(), AllocError> {
+        let mut columns = self.columns.split(|byte| *byte == b' ');
+        let mut is_shown = false;
+        for word in row.split(|byte| *byte == b' ') {
+            if word.is_empty() {
+                continue;
+            }
+            let column = columns.next().unwrap_or(b"");
+            if word == b"=>".as_slice() {
+                is_shown = true;
+                self.session.push(b'\n')?;
+                put_line(&mut self.wanted, b"ok")?;
+            } else if is_shown {
+                put_show(&mut self.session, column)?;
+                put_shown(&mut self.wanted, column, word)?;
+            } else {
+                put_scanned(&mut self.session, column, word)?;
+            }
+        }
+        Ok(())
+    }
+}
+
+/// Puts pieces behind a text.
+pub fn put_all(text: &mut Vec<u8>, pieces: &[&[u8]]) -> Result<(), AllocError> {
+    for piece in pieces {
+        text.extend_from_slice(piece)?;
+    }
+    Ok(())
+}
+
+/// Puts a line that asks for a value.
+fn put_show(lines: &mut Vec<u8>, path: &[u8]) -> Result<(), AllocError> {
+    put_all(lines, &[b"show ", path, b"\n"])
+}
+
+/// Puts the reply that shows a value, behind which a `!` stands where it is forced.
+fn put_shown(replies: &mut Vec<u8>, path: &[u8], shown: &[u8]) -> Result<(), AllocError> {
+    if let Some(value) = shown.strip_suffix(b"!") {
+        put_all(replies, &[path, b" = ", value, b" forced\n"])
+    } else {
+        put_all(replies, &[path, b" = ", shown, b"\n"])
+    }
+}
+
+/// Puts the moment of a scan, or the value of an input that isn't left out.
+fn put_scanned(lines: &mut Vec<u8>, column: &[u8], word: &[u8]) -> Result<(), AllocError> {
+    if column == b"scan".as_slice() {
+        put_all(lines, &[b"scan ", word])
+    } else if word == b"-".as_slice() {
+        Ok(())
+    } else {
+        put_all(lines, &[b" ", column, b":=", word])
     }
 }
 

@@ -1,0 +1,132 @@
+//! A program with code where memory is refused once: its load, its scans, and a change of it with its undo.
+use crate::running::number_at;
+use st_control::{Controller, Refusal, Scanned};
+use st_layout::Cells;
+use st_values::{Elem, Value};
+use std::alloc::Global;
+
+/// A program with statements of all forms, and invocations among them.
+const PROGRAM: &[u8] = b"TYPE Pair : STRUCT A : INT; B : ARRAY [0..2] OF INT; END_STRUCT; END_TYPE
+PROGRAM Main
+VAR_INPUT Go : BOOL; END_VAR
+VAR CONSTANT K : INT := 2; END_VAR
+VAR P : Pair; T1 : TON; C : CTU; E : F_TRIG; L : ARRAY [0..2] OF BOOL; I, N : INT; W : WORD; END_VAR
+;
+FOR I := 0 TO 2 DO P.B[I] := P.B[I] + I * K; END_FOR;
+WHILE N < 3 DO N := N + 1; IF N = 2 THEN EXIT; END_IF; END_WHILE;
+REPEAT N := N - 1; UNTIL N <= 0 OR NOT Go END_REPEAT;
+CASE P.B[1] OF 0: P.A := 0; 1..5, 7: P.A := MAX(P.A, 1, 2); ELSE P.A := -P.A; END_CASE;
+W := ROL(WORD#16#8001, 1) XOR SEL(Go, W, 16#FF);
+T1(IN := Go AND NOT T1.Q, PT := T#10ms, Q => L[P.B[0]]);
+C(CU := T1.Q, PV := 1, CV => N, Q => L[C.CV]);
+E(CLK := INT_TO_BOOL(P.A));
+IF E.Q THEN RETURN; ELSIF Go THEN P.A := 3; ELSE P.A := 4; END_IF;
+END_PROGRAM";
+
+/// Another one, which keeps its input, its timer and its counter.
+const CHANGED: &[u8] =
+    b"PROGRAM Main VAR_INPUT Go : BOOL; END_VAR VAR X : LINT; C : CTU; T1 : TON; END_VAR
+T1(IN := Go, PT := T#100ms);
+C(CU := NOT T1.Q, PV := 3);
+X := X + 1;
+END_PROGRAM";
+
+/// The controller of the program. Where the load is refused for want of memory it is tried once more.
+fn loaded_in_two_tries(alloc: Global) -> Option<Controller<Cells>> {
+    for _ in 0..2 {
+        match Controller::load(alloc, PROGRAM, b"Main", 100) {
+            Ok(controller) => return Some(controller),
+            Err(Refusal::M) => (),
+            Err(_) => return None,
+        }
+    }
+    None
+}
+
+/// Whether a scan at a moment comes to its end.
+fn is_scanned(controller: &mut Controller<Cells>, now: i64, go: bool) -> bool {
+    let Some(leaf) = controller.find(b"Main.Go") else {
+        return false;
+    };
+    let value = Value {
+        elem: Elem::Bool,
+        bits: go.into(),
+    };
+    matches!(controller.scan(now, &[(leaf, value)]), Ok(Scanned::Done))
+}
+
+/// Whether the leaves with these paths have these numbers, and aren't forced.
+fn has_numbers(controller: &Controller<Cells>, numbers: &[(&[u8], i128)]) -> bool {
+    numbers.iter().all(|(path, number)| number_at(controller, path) == Some((*number, false)))
+}
+
+/// Whether the program stands as three scans left it.
+fn is_as_before(controller: &Controller<Cells>) -> bool {
+    has_numbers(
+        controller,
+        &[
+            (b"Main.P.A", 3),
+            (b"Main.P.B[1]", 6),
+            (b"Main.P.B[2]", 12),
+            (b"Main.N", 1),
+            (b"Main.W", 252),
+            (b"Main.L[1]", 1),
+            (b"Main.L[2]", 0),
+            (b"Main.T1.ET", 10),
+            (b"Main.T1.$START", 5),
+            (b"Main.C.CV", 1),
+        ],
+    )
+}
+
+/// Whether the other program takes its place. Where that is refused for want of memory nothing changes, and it is tried once more.
+fn is_changed_in_two_tries(alloc: Global, controller: &mut Controller<Cells>) -> bool {
+    for _ in 0..2 {
+        match controller.change(alloc, CHANGED) {
+            Ok(counts) => return (counts.kept, counts.dropped, counts.fresh) == (13, 13, 1),
+            Err(Refusal::M) if is_as_before(controller) => (),
+            Err(_) => return false,
+        }
+    }
+    false
+}
+
+/// Whether that is taken back, in two tries as well.
+fn is_undone_in_two_tries(alloc: Global, controller: &mut Controller<Cells>) -> bool {
+    for _ in 0..2 {
+        match controller.undo(alloc) {
+            Ok(()) => return true,
+            Err(Refusal::M) if controller.status().undo == 1 => (),
+            Err(_) => return false,
+        }
+    }
+    false
+}
+
+/// `tools/refuse-allocations` refuses each allocation of this test in turn.
+#[test]
+fn refused_memory(rt: HostRuntime) {
+    let Some(mut controller) = loaded_in_two_tries(rt.alloc()) else {
+        panic!(rt; "the program isn't loaded");
+    };
+    assert!(rt; is_scanned(&mut controller, 0, false));
+    assert!(rt; is_scanned(&mut controller, 5, true));
+    assert!(rt; is_scanned(&mut controller, 15, true));
+    assert!(rt; is_as_before(&controller));
+    assert!(rt; is_changed_in_two_tries(rt.alloc(), &mut controller));
+    assert!(rt; is_undone_in_two_tries(rt.alloc(), &mut controller));
+    assert!(rt; is_as_before(&controller));
+    assert!(rt; is_changed_in_two_tries(rt.alloc(), &mut controller));
+    assert!(rt; is_scanned(&mut controller, 20, true));
+    assert!(rt;
+        has_numbers(
+            &controller,
+            &[
+                (b"Main.X", 1),
+                (b"Main.T1.ET", 15),
+                (b"Main.T1.Q", 0),
+                (b"Main.C.CV", 1),
+            ],
+        )
+    );
+}
