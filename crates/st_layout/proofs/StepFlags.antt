@@ -64,7 +64,7 @@ dotless_x = (refl, tt)
 pub same_chart_front : (front other step step' : List ℕ) → IsDotless step → IsDotless step' → flag_text front step ≡ flag_text other step' → front ≡ other
 same_chart_front front other step step' h k is =
     let whole : (front ++ 46 ∷ step) ++ codes ".X" ≡ (other ++ 46 ∷ step') ++ codes ".X" =
-        append_assoc front (46 ∷ step) (codes ".X") ∙ (is ∙ sym (append_assoc other (46 ∷ step') (codes ".X"))) in
+    append_assoc front (46 ∷ step) (codes ".X") ∙ (is ∙ sym (append_assoc other (46 ∷ step') (codes ".X"))) in
     same_front front other step step' h k (same_front (front ++ 46 ∷ step) (other ++ 46 ∷ step') (codes "X") (codes "X") dotless_x dotless_x whole)
 
 last_of_flag : (front : List ℕ) → last_of (front ++ codes ".X") ≡ 88
@@ -183,8 +183,8 @@ module _ (main : List ℕ) (c : Composition) (words : All (λ l. HasWords l.path
       let there : leaf_at all b ≡ programs.leaf_at main b (leaf_in_at ls b) = at_main main ls b (omega (arith, less, at_b)) in
       let flag : IsFlagOf (leaf_in_at ls b) (leaf_in_at ls i) = subst (λ (k : ℕ). IsFlagOf (leaf_in_at ls k) (leaf_in_at ls i)) (sym at_b) chart.flag in
       let word : AreWordBytes flag.step =
-          word_in flag.front flag.step (field (codes "X") ∷ [])
-          (subst HasWords flag.flag_path (each_at (λ (l : LeafIn). HasWords l.path) ls (recursion_from_All (λ (l : LeafIn). HasWords l.path) ls words) i less)) in
+      word_in flag.front flag.step (field (codes "X") ∷ [])
+      (subst HasWords flag.flag_path (each_at (λ (l : LeafIn). HasWords l.path) ls (recursion_from_All (λ (l : LeafIn). HasWords l.path) ls words) i less)) in
       record {
         front = raised (main ++ path_text flag.front);
         step = raised flag.step;

@@ -21,8 +21,8 @@ mod table;
 
 pub use cells::Cells;
 pub use laws::{
-    back_undoes_carry, change_carries_by_path, change_saves_dropped, changes_without_renames_pair, content_is_a_map,
-    forces_stay_open, pairs_are_one_to_one, places_follow,
+    back_undoes_carry, change_carries_by_path, change_saves_dropped, changes_without_renames_pair,
+    content_is_a_map, forces_stay_open, pairs_are_one_to_one, places_follow,
 };
 pub use layout::Layout;
 pub use memory::{Memory, carry_over};
