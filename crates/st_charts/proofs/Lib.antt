@@ -1,0 +1,12 @@
+pub mod ChangeLemmas
+pub mod ClearedLaws
+pub mod ClearingLemmas
+pub mod NameLaws
+pub mod OrderLemmas
+pub mod OutcomeLaws
+pub mod RankLemmas
+pub mod StepLaws
+pub mod StepLemmas
+pub mod TableLemmas
+pub mod TestLemmas
+pub mod Worked
