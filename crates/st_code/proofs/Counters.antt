@@ -39,7 +39,7 @@ module _ (w : World) (c : Counting w) where
   held i stack = cell_of c.apart.bits ∷ cell_of c.limit.bits ∷ cell_of i ∷ stack
 
   abbrev pub store : Values → ℤ → Values
-  store values i = stored_at w.root w.setting.forced values c.path (alike c.first i)
+  store values i = stored_at w.root w.env.setting.forced values c.path (alike c.first i)
 
   abbrev IsCounter : ℤ → Type 0
   IsCounter i = IsTrue (in_range c.e i)
@@ -57,7 +57,7 @@ module _ (w : World) (c : Counting w) where
 
   -- the counter is stored
   stores : (i : ℤ) (pc : ℕ) (stack : List ℤ) (values : Values) (left : ℕ) → AreValuesOf w.root values → IsCounter i
-      → puts w.setting.forced c.e (cell_of i) c.leaf pc (held i stack) values left ≡ goes (state pc (held i stack) (store values i) left)
+      → puts w.env.setting.forced c.e (cell_of i) c.leaf pc (held i stack) values left ≡ goes (state pc (held i stack) (store values i) left)
   stores i pc stack values left ok h = puts_value w c.e (alike c.first i) c.path c.leaf pc (held i stack) values left ok (counter_of i h) c.known
 
   stored_fits : (i : ℤ) (values : Values) → AreValuesOf w.root values → IsCounter i → AreValuesOf w.root (store values i)
@@ -69,14 +69,14 @@ module _ (w : World) (c : Counting w) where
   abbrev test_by : ℕ → ℤ → ℕ → List ℤ → Values → ℕ → ℤ → ℤ → ℤ → After
   test_by distance i pc stack values left counter limit apart =
       if goes_on counter limit apart
-      then puts w.setting.forced c.e (cell_of i) c.leaf (pc + 1) (held i stack) values left
+      then puts w.env.setting.forced c.e (cell_of i) c.leaf (pc + 1) (held i stack) values left
       else goes (state (pc + 1 + distance) (held i stack) values left)
 
   test_is : (distance : ℕ) (i : ℤ) (pc : ℕ) (stack : List ℤ) (values : Values) (left line : ℕ) → IsCounter i
-      → act w.setting w.room (Test c.e c.leaf distance) line pc (held i stack) values left ≡ test_by distance i pc stack values left i c.limit.bits c.apart.bits
+      → act w.env w.room (Test c.e c.leaf distance) line pc (held i stack) values left ≡ test_by distance i pc stack values left i c.limit.bits c.apart.bits
   test_is distance i pc stack values left line h =
       if_true (are_cells_of c.e (cell_of c.apart.bits) (cell_of c.limit.bits) (cell_of i))
-      (tested w.setting.forced c.e c.leaf distance (cell_of c.apart.bits) (cell_of c.limit.bits) (cell_of i) pc stack values left) stuck (cells_are i h)
+      (tested w.env.setting.forced c.e c.leaf distance (cell_of c.apart.bits) (cell_of c.limit.bits) (cell_of i) pc stack values left) stuck (cells_are i h)
       ∙ ap (λ n. test_by distance i pc stack values left n (number_in c.e (cell_of c.limit.bits)) (number_in c.e (cell_of c.apart.bits))) (number_back c.e i h)
       ∙ ap (λ n. test_by distance i pc stack values left i n (number_in c.e (cell_of c.apart.bits))) (number_of_value c.e c.limit c.of_limit)
       ∙ ap (λ n. test_by distance i pc stack values left i c.limit.bits n) (number_of_value c.e c.apart c.of_apart)
@@ -90,7 +90,7 @@ module _ (w : World) (c : Counting w) where
       runs_after w (state pc (held i stack) values left) (state (pc + 1) (held i stack) (store values i) left) pc' out last stack left left there
       (step w (Test c.e c.leaf distance) line pc (held i stack) values left _ at_test
       (test_is distance i pc stack values left line h
-      ∙ ap (λ t. if t then puts w.setting.forced c.e (cell_of i) c.leaf (pc + 1) (held i stack) values left
+      ∙ ap (λ t. if t then puts w.env.setting.forced c.e (cell_of i) c.leaf (pc + 1) (held i stack) values left
       else goes (state (pc + 1 + distance) (held i stack) values left)) e
       ∙ stores i (pc + 1) stack values left ok h)) (omega arith) r
   test_run false distance i pc pc' out last line stack values left there e ok h at_test at_leave len r = (
@@ -99,7 +99,7 @@ module _ (w : World) (c : Counting w) where
     leads_on w (state pc (held i stack) values left) (state (pc + 1 + distance) (held i stack) values left) _
         (step w (Test c.e c.leaf distance) line pc (held i stack) values left _ at_test
         (test_is distance i pc stack values left line h
-        ∙ ap (λ t. if t then puts w.setting.forced c.e (cell_of i) c.leaf (pc + 1) (held i stack) values left
+        ∙ ap (λ t. if t then puts w.env.setting.forced c.e (cell_of i) c.leaf (pc + 1) (held i stack) values left
         else goes (state (pc + 1 + distance) (held i stack) values left)) e))
         (led_at w _ (pc + 1 + distance + 1) pc' stack values left len (step w Leave 0 (pc + 1 + distance) (held i stack) values left _ at_leave refl)),
   )
@@ -109,15 +109,15 @@ module _ (w : World) (c : Counting w) where
   abbrev next_by : ℕ → ℤ → ℕ → List ℤ → Values → ℕ → ℤ → ℤ → ℤ → After
   next_by distance i pc stack values left counter limit apart =
       if goes_on (counter +ℤ apart) limit apart
-      then puts w.setting.forced c.e (cell_of (counter +ℤ apart)) c.leaf (pc - distance) (held (counter +ℤ apart) stack) values left
+      then puts w.env.setting.forced c.e (cell_of (counter +ℤ apart)) c.leaf (pc - distance) (held (counter +ℤ apart) stack) values left
       else goes (state (pc + 1) (held i stack) values left)
 
   next_is : (distance : ℕ) (i : ℤ) (pc : ℕ) (stack : List ℤ) (values : Values) (left line : ℕ) → IsCounter i
-      → act w.setting w.room (Next c.e c.leaf distance) line pc (held i stack) values left
+      → act w.env w.room (Next c.e c.leaf distance) line pc (held i stack) values left
       ≡ counted line left (λ n. next_by distance i pc stack values n i c.limit.bits c.apart.bits)
   next_is distance i pc stack values left line h =
       if_true (are_cells_of c.e (cell_of c.apart.bits) (cell_of c.limit.bits) (cell_of i))
-      (counted line left (turned w.setting.forced c.e c.leaf distance (number_in c.e (cell_of i) +ℤ number_in c.e (cell_of c.apart.bits))
+      (counted line left (turned w.env.setting.forced c.e c.leaf distance (number_in c.e (cell_of i) +ℤ number_in c.e (cell_of c.apart.bits))
       (cell_of c.apart.bits) (cell_of c.limit.bits) (cell_of i) pc stack values)) stuck (cells_are i h)
       ∙ ap (λ x. counted line left (λ n. next_by distance i pc stack values n x (number_in c.e (cell_of c.limit.bits)) (number_in c.e (cell_of c.apart.bits)))) (number_back c.e i h)
       ∙ ap (λ x. counted line left (λ n. next_by distance i pc stack values n i x (number_in c.e (cell_of c.apart.bits)))) (number_of_value c.e c.limit c.of_limit)
@@ -139,9 +139,9 @@ module _ (w : World) (c : Counting w) where
       runs_after w (state pc (held i stack) values (suc n)) (state home (held next stack) (store values next) n) pc' out last stack (suc n) n there
       (step w (Next c.e c.leaf distance) line pc (held i stack) values (suc n) _ at_next
       (next_is distance i pc stack values (suc n) line h
-      ∙ ap (λ t. if t then puts w.setting.forced c.e (cell_of next) c.leaf (pc - distance) (held next stack) values n
+      ∙ ap (λ t. if t then puts w.env.setting.forced c.e (cell_of next) c.leaf (pc - distance) (held next stack) values n
       else goes (state (pc + 1) (held i stack) values n)) e
-      ∙ ap (λ p. puts w.setting.forced c.e (cell_of next) c.leaf p (held next stack) values n) back
+      ∙ ap (λ p. puts w.env.setting.forced c.e (cell_of next) c.leaf p (held next stack) values n) back
       ∙ stores next home stack values n ok ranged)) (omega arith) (r ranged)
   next_test false distance i pc home pc' out last line stack values n there e ok h at_next at_leave back len r =
       let next = i +ℤ c.apart.bits in (
@@ -150,7 +150,7 @@ module _ (w : World) (c : Counting w) where
         leads_on w (state pc (held i stack) values (suc n)) (state (pc + 1) (held i stack) values n) _
             (step w (Next c.e c.leaf distance) line pc (held i stack) values (suc n) _ at_next
             (next_is distance i pc stack values (suc n) line h
-            ∙ ap (λ t. if t then puts w.setting.forced c.e (cell_of next) c.leaf (pc - distance) (held next stack) values n
+            ∙ ap (λ t. if t then puts w.env.setting.forced c.e (cell_of next) c.leaf (pc - distance) (held next stack) values n
             else goes (state (pc + 1) (held i stack) values n)) e))
             (led_at w _ (pc + 1 + 1) pc' stack values n len (step w Leave 0 (pc + 1) (held i stack) values n _ at_leave refl)),
       )
@@ -202,7 +202,7 @@ module _ (w : World) (c : Counting w) where
       → ((p : ℕ) → HasAt w.code p cb → (i : ℤ) (values : Values) (n : ℕ) → AreValuesOf w.root values → Runs w (state p (held i stack) values n) (p + length cb) 1 (2 + last) (held i stack) n (body values n))
       → (values : Values) (left : ℕ) → AreValuesOf w.root values
       → Runs w (state pc (held c.first.bits stack) values left) (pc + length (rest_code line c.e c.leaf cb)) out last stack left
-      (count_turns (suc left) line store c.limit.bits c.apart.bits body c.first.bits (stored_at w.root w.setting.forced values c.path c.first) left)
+      (count_turns (suc left) line store c.limit.bits c.apart.bits body c.first.bits (stored_at w.root w.env.setting.forced values c.path c.first) left)
   count_run line pc out last cb body stack has rb values left ok =
       let i = c.first.bits in
       let h = number_ranged c.first c.of_first in

@@ -9,11 +9,11 @@ use Rattle.st_leaves.specs.Places.{count, extent, extent_of}
 use Rattle.st_leaves.specs.Selected.{element_of, selected_by, subscripts_of}
 use Rattle.st_meaning.specs.Offsets.{offset_of}
 use Rattle.st_meaning.specs.Sound.{is_fixed, term_type}
-use Rattle.st_meaning.specs.Terms.{Term, constant, stored, unary, binary, selection, Terms, no_terms, more_terms, Parts, whole, field_part, element_part, Command, nothing, assign, choice, cases, count_loop, while_loop, repeat_loop, invoke, exit, finish, Moves, no_moves, more_moves, Commands, no_commands, more_commands, Branches, no_branches, more_branches, Cases, no_cases, more_cases}
+use Rattle.st_meaning.specs.Terms.{Term, constant, stored, unary, binary, selection, Terms, no_terms, more_terms, Parts, whole, field_part, element_part, Command, nothing, assign, choice, cases, count_loop, while_loop, repeat_loop, invoke, enter, exit, finish, Moves, no_moves, more_moves, Commands, no_commands, more_commands, Branches, no_branches, more_branches, Cases, no_cases, more_cases}
 use Rattle.st_code.specs.Code.{Line, added, at, base_of, branch_code, branches_code, case_test, cases_code, command_code, commands_code, count_code, index_code, moves_code, parts_code, plain, repeat_code, store_code, term_code, terms_code, types_in, while_code}
 use Rattle.st_code.specs.Correct.{DepthIsAtMostTheLength}
 use Rattle.st_code.specs.Depth.{branches_depth, cases_depth, command_depth, commands_depth, moves_depth, parts_depth, term_depth, terms_depth}
-use Rattle.st_code.specs.declared.instr.Instr.TheVariants.{Get, GetAt, Put, PutAt, IndexBelow, Apply, Combine, Select, Step, GoOn, SkipUnless, SkipIf, GoBack, Drop, Begin, Test, Next, Leave, Invoke}
+use Rattle.st_code.specs.declared.instr.Instr.TheVariants.{Get, GetAt, Put, PutAt, IndexBelow, Apply, Combine, Select, Step, GoOn, SkipUnless, SkipIf, GoBack, Drop, Begin, Test, Next, Leave, Invoke, Enter}
 
 -- subscripts leave a distance
 index_length : (line size : ℕ) (es : List Elem) (rs : List Subrange) → 1 ≤ length (index_code line size es rs)
@@ -87,6 +87,13 @@ module _ (root : Composition) where
   moves_length (more_moves ps t more) =
       omega (arith, move_length ps t, moves_length more, length-append (term_code root t ++ store_code root (term_type root t) ps) (moves_code root more))
 
+  -- inputs, an invocation, and outputs
+  call_length : (inputs outputs : Moves) (call : List Line)
+      → max (moves_depth inputs) (moves_depth outputs) ≤ length (moves_code root inputs ++ (call ++ moves_code root outputs)) + 2
+  call_length inputs outputs call =
+      let ci = moves_code root inputs in let co = moves_code root outputs in
+      omega (arith, moves_length inputs, moves_length outputs, length-append ci (call ++ co), length-append call co)
+
   branch_length : (test body rest : List Line) → length (branch_code test body rest) ≡ length test + length body + length rest + 2
   branch_length test body rest =
       let jump = plain (GoOn (length rest)) in let tail = plain (SkipUnless (length body + 1)) ++ (body ++ jump) in
@@ -138,9 +145,9 @@ module _ (root : Composition) where
     command_length (repeat_loop line cs t) out end =
         omega (arith, term_length t, commands_length cs 1 (1 + end), repeat_length line (commands_code root cs 1 (1 + end)) (term_code root t))
     command_length (invoke line name b inputs outputs) out end =
-        let ci = moves_code root inputs in let co = moves_code root outputs in
-        let call = plain (Invoke b (offset_of root name)) in
-        omega (arith, moves_length inputs, moves_length outputs, length-append ci (call ++ co))
+        omega (arith, call_length inputs outputs (plain (Invoke b (offset_of root name))))
+    command_length (enter line name unit body inputs outputs) out end =
+        omega (arith, call_length inputs outputs (plain (Enter unit (offset_of root name))))
     command_length (exit line) out end = omega arith
     command_length (finish line) out end = omega arith
 

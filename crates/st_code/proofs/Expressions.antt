@@ -66,7 +66,7 @@ module _ (w : World) where
 
   answer_run : (s : State) (pc line : ℕ) (i : Instr) (top stack : List ℤ) (values : Values) (left : ℕ) (a : Answer Value) → Leads w s (state pc top values left)
       → slice_get w.code pc ≡ Some (line_of line i)
-      → act w.setting w.room i line pc top values left ≡ answered a pc stack values left → TermGoes w s (pc + 1) stack values left a
+      → act w.env w.room i line pc top values left ≡ answered a pc stack values left → TermGoes w s (pc + 1) stack values left a
   answer_run s pc line i top stack values left (gives v) l h e = leads_on w s (state pc top values left) _ l (step w i line pc top values left _ h e)
   answer_run s pc line i top stack values left (stops f) l h e = l.by (faulted f) (halt w i line pc top values left _ h e)
 

@@ -2,10 +2,16 @@ pub mod Beside
 pub mod Cells
 pub mod Counters
 pub mod Depths
+pub mod Entering
+pub mod Entrances
 pub mod Expressions
+pub mod Lengths
 pub mod Loops
 pub mod Moves
 pub mod Parts
+pub mod Relative
 pub mod Runs
 pub mod Statements
 pub mod Steps
+pub mod Stretches
+pub mod TypedInvocations

@@ -194,7 +194,7 @@ module _ (w : World) where
   subscript_run : (s : State) (pc line size stride d : ℕ) (i : Instr) (top : List ℤ) (r : Subrange) (x : ℤ) (rs : List Subrange) (is : List ℤ) (stack : List ℤ)
       (values : Values) (left : ℕ)
       → Leads w s (state pc top values left) → slice_get w.code pc ≡ Some (line_of line i)
-      → act w.setting w.room i line pc top values left ≡ indexed (x -ℤ number_of r.lower) (extent_of r - 1) stride d line pc stack values left
+      → act w.env w.room i line pc top values left ≡ indexed (x -ℤ number_of r.lower) (extent_of r - 1) stride d line pc stack values left
       → stride ≡ extent rs * size → IsDistance size rs is d → IsBounded r → extent (r ∷ rs) * size ≤ 65536
       → IndexRuns s (pc + 1) stack values left line size (r ∷ rs) (x ∷ is) (is_within r x)
   subscript_run s pc line size stride d i top r x rs is stack values left l h acts strides dist bounded few = from (x -ℤ number_of r.lower) refl where

@@ -196,8 +196,8 @@ module _ (w : World) where
   put_run : (s : State) (pc out last : ℕ) (i : Instr) (e : Elem) (v : Value) (path : Path) (k : ℕ) (ps : Parts) (top stack : List ℤ) (values : Values) (left : ℕ)
       → AreValuesOf w.root values → IsOf e v → IsPlaceOf w.root e ps
       → located w.root values w.root ps ≡ gives path → LeadsTo w.root path k → Leads w s (state pc top values left) → slice_get w.code pc ≡ Some (line_of 0 i)
-      → act w.setting w.room i 0 pc top values left ≡ puts w.setting.forced e (cell_of v.bits) k (pc + 1) stack values left
-      → Runs s (pc + 1) out last stack left (done (stored_at w.root w.setting.forced values path v) left)
+      → act w.env w.room i 0 pc top values left ≡ puts w.env.setting.forced e (cell_of v.bits) k (pc + 1) stack values left
+      → Runs s (pc + 1) out last stack left (done (stored_at w.root w.env.setting.forced values path v) left)
   put_run s pc out last i e v path k ps top stack values left ok of place found l leads h acts =
       let leaf = leaf_known w e ps path k values place found l in (
         omega arith,
@@ -210,11 +210,11 @@ module _ (w : World) where
       → IsPlaceOf w.root e ps → is_fixed ps ≡ true
       → slice_get w.code pc ≡ Some (line_of 0 (Put e (base_of w.root ps)))
       → Runs (state pc (cell_of v.bits ∷ stack) values left)
-      (pc + 1) out last stack left (given (located w.root values w.root ps) (λ path. done (stored_at w.root w.setting.forced values path v) left))
+      (pc + 1) out last stack left (given (located w.root values w.root ps) (λ path. done (stored_at w.root w.env.setting.forced values path v) left))
   fixed_put_run ps e v pc out last stack values left ok of place fixed h =
       let f = fixed_found w.root values ps w.root e place.type fixed in
       let s = state pc (cell_of v.bits ∷ stack) values left in
-      subst (λ a. Runs s (pc + 1) out last stack left (given a (λ path. done (stored_at w.root w.setting.forced values path v) left))) (sym f.found)
+      subst (λ a. Runs s (pc + 1) out last stack left (given a (λ path. done (stored_at w.root w.env.setting.forced values path v) left))) (sym f.found)
       (put_run s pc out last (Put e (base_of w.root ps)) e v f.path (base_of w.root ps) ps (cell_of v.bits ∷ stack) stack values left ok of place f.found f.leads (stays w s s refl) h refl)
 
   -- at one that is found with its distance
@@ -222,12 +222,12 @@ module _ (w : World) where
       → AreValuesOf w.root values → IsOf e v → IsPlaceOf w.root e ps
       → located w.root values w.root ps ≡ a → there ≡ true → PlaceRuns w s pc there (cell_of v.bits ∷ stack) values left 0 w.root n a
       → slice_get w.code pc ≡ Some (line_of 0 (PutAt e n))
-      → Runs s (pc + 1) out last stack left (given a (λ path. done (stored_at w.root w.setting.forced values path v) left))
+      → Runs s (pc + 1) out last stack left (given a (λ path. done (stored_at w.root w.env.setting.forced values path v) left))
   found_put_run s ps there e v pc n out last stack values left (stops f) ok of place found t r h = r
   found_put_run s ps true e v pc n out last stack values left (gives path) ok of place found t r h =
       let sum : n + (0 + r.0) ≡ n + r.0 = omega arith in
       put_run s pc out last (PutAt e n) e v path (n + r.0) ps (pos (0 + r.0) ∷ cell_of v.bits ∷ stack) stack values left ok of place found r.1 r.2 h
-      (ap (λ k. puts w.setting.forced e (cell_of v.bits) k (pc + 1) stack values left) sum)
+      (ap (λ k. puts w.env.setting.forced e (cell_of v.bits) k (pc + 1) stack values left) sum)
   found_put_run s ps false e v pc n out last stack values left (gives path) ok of place found t r h = absurd (cc)
 
   pub assign_run : (ps : Parts) (fixed : Bool) (e : Elem) (v : Value) (pc out last : ℕ) (stack : List ℤ) (values : Values) (left : ℕ) → AreValuesOf w.root values
@@ -238,13 +238,13 @@ module _ (w : World) where
       (cell_of v.bits ∷ stack) values left 0 w.root (base_of w.root ps) (located w.root values w.root ps))
       → Runs (state pc (cell_of v.bits ∷ stack) values left)
       (pc + length (if fixed then plain (Put e (base_of w.root ps)) else (parts_code w.root false w.root ps ++ plain (PutAt e (base_of w.root ps))))) out last stack left
-      (given (located w.root values w.root ps) (λ path. done (stored_at w.root w.setting.forced values path v) left))
+      (given (located w.root values w.root ps) (λ path. done (stored_at w.root w.env.setting.forced values path v) left))
   assign_run ps true e v pc out last stack values left ok of place fixed has go = fixed_put_run ps e v pc out last stack values left ok of place fixed has.0
   assign_run ps false e v pc out last stack values left ok of place fixed has go =
       let cp = parts_code w.root false w.root ps in
       let end' = plain (PutAt e (base_of w.root ps)) in
       let len : pc + length cp + 1 ≡ pc + length (cp ++ end') = omega (arith, length-append cp end') in
-      runs_at _ _ _ out last stack left (given (located w.root values w.root ps) (λ path. done (stored_at w.root w.setting.forced values path v) left)) len
+      runs_at _ _ _ out last stack left (given (located w.root values w.root ps) (λ path. done (stored_at w.root w.env.setting.forced values path v) left)) len
       (found_put_run (state pc (cell_of v.bits ∷ stack) values left) ps (has_distance false ps) e v (pc + length cp) (base_of w.root ps) out last stack values left (located w.root values w.root ps) ok of place refl
       (gives_distance ps fixed) (go (has_front w.code pc cp end' has)) (has_back w.code pc cp end' has).0)
 

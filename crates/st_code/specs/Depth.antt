@@ -1,6 +1,6 @@
 -- How many cells the code of terms and commands puts on the stack at most, beside those that stand there before.
 use Rattle.std.specs.Prelude.{ℕ, ◌+◌, max}
-use Rattle.st_meaning.specs.Terms.{Term, constant, stored, unary, binary, selection, Terms, no_terms, more_terms, Parts, whole, field_part, element_part, Command, nothing, assign, choice, cases, count_loop, while_loop, repeat_loop, invoke, exit, finish, Moves, no_moves, more_moves, Commands, no_commands, more_commands, Branches, no_branches, more_branches, Cases, no_cases, more_cases}
+use Rattle.st_meaning.specs.Terms.{Term, constant, stored, unary, binary, selection, Terms, no_terms, more_terms, Parts, whole, field_part, element_part, Command, nothing, assign, choice, cases, count_loop, while_loop, repeat_loop, invoke, enter, exit, finish, Moves, no_moves, more_moves, Commands, no_commands, more_commands, Branches, no_branches, more_branches, Cases, no_cases, more_cases}
 
 abbrev mutual
   pub term_depth : Term → ℕ
@@ -35,6 +35,8 @@ abbrev mutual
   command_depth (while_loop line t cs) = max (term_depth t) (commands_depth cs)
   command_depth (repeat_loop line cs t) = max (term_depth t) (commands_depth cs)
   command_depth (invoke line name b inputs outputs) = max (moves_depth inputs) (moves_depth outputs)
+  -- what its body needs is counted with the code of that
+  command_depth (enter line name unit body inputs outputs) = max (moves_depth inputs) (moves_depth outputs)
   command_depth (exit line) = 0
   command_depth (finish line) = 0
 

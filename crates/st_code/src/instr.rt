@@ -1,4 +1,7 @@
 //! Instructions.
+ghost use Rattle.std.specs.Prelude.{◌≡◌};
+ghost use Rattle.st_code.specs.Relative.{StaysSmall, from_leaf};
+
 use st_meaning::{Binary, Unary};
 use st_types::StandardBlock;
 use st_values::Elem;
@@ -60,4 +63,27 @@ pub enum Instr {
     Leave,
     /// Does what one invocation of a standard function block does to its leaves, the first of which is this one.
     Invoke(StandardBlock, u32),
+    /// Runs the body of the unit of this number on the values of an instance, the first leaf of which is this one.
+    Enter(u32, u32),
+}
+
+impl Instr {
+    /// The same instruction for an instance whose first leaf has this number.
+    pub fn from_leaf(self, first: u32) -> Instr
+        requires { StaysSmall first self }
+        ensures { result ≡ from_leaf first self }
+    {
+        match self {
+            Instr::Get(leaf) => Instr::Get(first + leaf),
+            Instr::GetAt(leaf) => Instr::GetAt(first + leaf),
+            Instr::Put(elem, leaf) => Instr::Put(elem, first + leaf),
+            Instr::PutAt(elem, leaf) => Instr::PutAt(elem, first + leaf),
+            Instr::Begin(elem, leaf) => Instr::Begin(elem, first + leaf),
+            Instr::Test(elem, leaf, distance) => Instr::Test(elem, first + leaf, distance),
+            Instr::Next(elem, leaf, distance) => Instr::Next(elem, first + leaf, distance),
+            Instr::Invoke(block, leaf) => Instr::Invoke(block, first + leaf),
+            Instr::Enter(unit, leaf) => Instr::Enter(unit, first + leaf),
+            other => other,
+        }
+    }
 }

@@ -1,8 +1,11 @@
 //! Laws of code.
 ghost use Rattle.st_code.specs.Correct.{CodeDoesAsCommandsMean, DepthIsAtMostTheLength};
+ghost use Rattle.st_code.specs.Entrances.{CodeEntersWhatIsInvoked};
+ghost use Rattle.st_code.specs.Invocations.{TypingInvokesBodies};
+ghost use Rattle.st_code.specs.Relative.{InstructionsAreRelative, InstructionsKeepLengths};
 
 /// The code of sound commands does as they mean, at each moment and from all values, forces and steps left, on a stack with room for
-/// its depth. It is never stuck.
+/// its depth, where the bodies of units do as the commands mean that invoke them. It is never stuck.
 pub fn code_does_as_commands_mean()
     ensures { CodeDoesAsCommandsMean }
 {}
@@ -10,4 +13,26 @@ pub fn code_does_as_commands_mean()
 /// The depth of the code of commands is at most its length.
 pub fn depth_is_at_most_the_length()
     ensures { DepthIsAtMostTheLength }
+{}
+
+/// What typing makes of statements invokes the bodies of those units alone that the names are instances of.
+pub fn typing_invokes_bodies()
+    ensures { TypingInvokesBodies }
+{}
+
+/// What an instruction does to the values of an instance, the same instruction from the first leaf of the instance on does among all
+/// values: nothing else changes there, it goes on at the same place with the same stack and steps left, and it ends at the same fault.
+/// This is not said of instructions that are stuck.
+pub fn instructions_are_relative()
+    ensures { InstructionsAreRelative }
+{}
+
+/// After an instruction there are as many values as before, where each body leaves as many of an instance as it has leaves.
+pub fn instructions_keep_lengths()
+    ensures { InstructionsKeepLengths }
+{}
+
+/// Each instance that the code of commands enters is one that they invoke: it passes each test that those pass.
+pub fn code_enters_what_is_invoked()
+    ensures { CodeEntersWhatIsInvoked }
 {}

@@ -7,4 +7,7 @@ mod laws;
 
 pub use code::Code;
 pub use instr::Instr;
-pub use laws::{code_does_as_commands_mean, depth_is_at_most_the_length};
+pub use laws::{
+    code_does_as_commands_mean, code_enters_what_is_invoked, depth_is_at_most_the_length,
+    instructions_are_relative, instructions_keep_lengths, typing_invokes_bodies,
+};

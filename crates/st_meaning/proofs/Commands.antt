@@ -6,14 +6,17 @@ use Rattle.st_values.specs.declared.elem.Elem.TheVariants as elems
 use Rattle.st_values.specs.declared.value.Value.{Value}
 use Rattle.st_types.specs.Compositions.{Composition}
 use Rattle.st_leaves.specs.Paths.{Path}
+use Rattle.st_leaves.specs.Selected.{selected_by}
 use Rattle.st_operators.specs.Laws.{IsOf}
 use Rattle.st_meaning.specs.Laws.{CommandsKeepTheFrame, HasLeaf, StaysInFrame}
 use Rattle.st_meaning.specs.Meaning.{Values, located, stored_at, value_of}
+use Rattle.st_meaning.specs.Offsets.{offset_of}
 use Rattle.st_meaning.specs.Sound.{AreSoundBranches, AreSoundCases, AreSoundCommands, AreValuesOf, HasOneLeafEach, IsCount, IsSoundCommand, term_type}
-use Rattle.st_meaning.specs.Statements.{Outcome, Setting, done, exited, returned, alike, branches_meaning, cases_meaning, command_meaning, commands_meaning, count_turns, given, goes_on, has_label, is_true, repeat_turns, while_turns}
-use Rattle.st_meaning.specs.Terms.{Term, Parts, Command, nothing, assign, choice, cases, count_loop, while_loop, repeat_loop, invoke, exit, finish, Commands, no_commands, more_commands, Branches, no_branches, more_branches, Cases, no_cases, more_cases}
+use Rattle.st_meaning.specs.Statements.{Outcome, Setting, done, exited, returned, alike, branches_meaning, cases_meaning, command_meaning, commands_meaning, count_turns, given, goes_on, has_label, is_true, repeat_turns, setting_from, while_turns}
+use Rattle.st_meaning.specs.Terms.{Term, Parts, Command, nothing, assign, choice, cases, count_loop, while_loop, repeat_loop, invoke, enter, exit, finish, Commands, no_commands, more_commands, Branches, no_branches, more_branches, Cases, no_cases, more_cases}
 use Rattle.st_meaning.proofs.Frames.{AlwaysStays, either_stays, given_stays, nothing_done, stays_after, step_stays, store_keeps, then_stays}
-use Rattle.st_meaning.proofs.Invocations.{invoke_stays}
+use Rattle.st_meaning.proofs.Instances.{part_has_one}
+use Rattle.st_meaning.proofs.Invocations.{enter_stays, invoke_stays}
 use Rattle.st_meaning.proofs.Places.{places_have_leaves}
 use Rattle.st_meaning.proofs.Ranges.{IsBehind, begins_behind, counter_in_range}
 use Rattle.st_meaning.proofs.TermValues.{term_value}
@@ -73,48 +76,68 @@ module _ (root : Composition) (setting : Setting) (now : IsTrue (in_range elems.
       (subst (λ t. IsOf t b) sound.last.type (term_value root values one all last b sound.last.sound k))
       values n all)))))
 
-  -- ---- all statements
+-- ---- all statements
 
-  mutual
-    command_stays : (c : Command) → IsSoundCommand root c → AlwaysStays root forced (command_meaning root setting c)
-    command_stays (nothing line) sound values left all = step_stays root forced values line left (λ n. done values n) all (λ n. nothing_done root forced values n all)
-    command_stays (assign line ps t) sound values left all = assign_stays line ps t sound values left all
-    command_stays (choice line bs others) sound values left all =
-        step_stays root forced values line left (branches_meaning root setting bs (commands_meaning root setting others) values) all
-        (λ n. branches_stay bs sound.0 (commands_meaning root setting others) (commands_stay others sound.1) values n all)
-    command_stays (cases line t cs others) sound values left all =
-        step_stays root forced values line left (λ n. given (value_of root values t) (λ v. cases_meaning root setting cs (commands_meaning root setting others) v.bits values n)) all
-        (λ n. given_stays root forced values n (value_of root values t) (λ v. cases_meaning root setting cs (commands_meaning root setting others) v.bits values n)
-        (λ v h. cases_stay cs (term_type root t) sound.1 (commands_meaning root setting others) (commands_stay others sound.2) v.bits values n all))
-    command_stays (count_loop line ps first last step cs) sound values left all = count_loop_stays line ps first last step cs sound.0 (commands_stay cs sound.1) values left all
-    command_stays (while_loop line t cs) sound values left all =
-        step_stays root forced values line left (λ n. while_turns (suc n) line (λ others. value_of root others t) (commands_meaning root setting cs) values n) all
-        (λ n. while_stays root forced line (commands_meaning root setting cs) (commands_stay cs sound.1) (suc n) (λ others. value_of root others t) values n all)
-    command_stays (repeat_loop line cs t) sound values left all =
-        step_stays root forced values line left (λ n. repeat_turns (suc n) line (λ others. value_of root others t) (commands_meaning root setting cs) values n) all
-        (λ n. repeat_stays root forced line (commands_meaning root setting cs) (commands_stay cs sound.0) (suc n) (λ others. value_of root others t) values n all)
-    command_stays (invoke line name b inputs outputs) sound values left all = invoke_stays root setting one now line name b inputs outputs sound values left all
-    command_stays (exit line) sound values left all = step_stays root forced values line left (λ n. exited values n) all (λ n. nothing_done root forced values n all)
-    command_stays (finish line) sound values left all = step_stays root forced values line left (λ n. returned values n) all (λ n. nothing_done root forced values n all)
+abbrev InTime : Setting → Type 0
+InTime setting = IsTrue (in_range elems.Time setting.now)
 
-    commands_stay : (cs : Commands) → AreSoundCommands root cs → AlwaysStays root forced (commands_meaning root setting cs)
-    commands_stay no_commands sound values left all = nothing_done root forced values left all
-    commands_stay (more_commands c cs) sound values left all =
-        then_stays root forced values left (command_meaning root setting c values left) (commands_meaning root setting cs) (command_stays c sound.0 values left all) (commands_stay cs sound.1)
+mutual
+  command_stays : (root : Composition) (setting : Setting) → InTime setting → HasOneLeafEach root → (c : Command) → IsSoundCommand root c
+      → AlwaysStays root setting.forced (command_meaning root setting c)
+  command_stays root setting now one (nothing line) sound values left all =
+      step_stays root setting.forced values line left (λ n. done values n) all (λ n. nothing_done root setting.forced values n all)
+  command_stays root setting now one (assign line ps t) sound values left all = assign_stays root setting now one line ps t sound values left all
+  command_stays root setting now one (choice line bs others) sound values left all =
+      step_stays root setting.forced values line left (branches_meaning root setting bs (commands_meaning root setting others) values) all
+      (λ n. branches_stay root setting now one bs sound.0 (commands_meaning root setting others) (commands_stay root setting now one others sound.1) values n all)
+  command_stays root setting now one (cases line t cs others) sound values left all =
+      let to : ℤ → Values → ℕ → Outcome = cases_meaning root setting cs (commands_meaning root setting others) in
+      step_stays root setting.forced values line left (λ n. given (value_of root values t) (λ v. to v.bits values n)) all
+      (λ n. given_stays root setting.forced values n (value_of root values t) (λ v. to v.bits values n)
+      (λ v h. cases_stay root setting now one cs (term_type root t) sound.1 (commands_meaning root setting others) (commands_stay root setting now one others sound.2) v.bits values n all))
+  command_stays root setting now one (count_loop line ps first last step cs) sound values left all =
+      count_loop_stays root setting now one line ps first last step cs sound.0 (commands_stay root setting now one cs sound.1) values left all
+  command_stays root setting now one (while_loop line t cs) sound values left all =
+      let body = commands_meaning root setting cs in
+      step_stays root setting.forced values line left (λ n. while_turns (suc n) line (λ others. value_of root others t) body values n) all
+      (λ n. while_stays root setting.forced line body (commands_stay root setting now one cs sound.1) (suc n) (λ others. value_of root others t) values n all)
+  command_stays root setting now one (repeat_loop line cs t) sound values left all =
+      let body = commands_meaning root setting cs in
+      step_stays root setting.forced values line left (λ n. repeat_turns (suc n) line (λ others. value_of root others t) body values n) all
+      (λ n. repeat_stays root setting.forced line body (commands_stay root setting now one cs sound.0) (suc n) (λ others. value_of root others t) values n all)
+  command_stays root setting now one (invoke line name b inputs outputs) sound values left all =
+      invoke_stays root setting one now line name b inputs outputs sound values left all
+  command_stays root setting now one (enter line name unit body inputs outputs) sound values left all =
+      enter_stays root setting one line name unit body inputs outputs sound.0 sound.2
+      (commands_stay (selected_by root name) (setting_from (offset_of root name) setting) now (part_has_one root name one) body sound.1) values left all
+  command_stays root setting now one (exit line) sound values left all =
+      step_stays root setting.forced values line left (λ n. exited values n) all (λ n. nothing_done root setting.forced values n all)
+  command_stays root setting now one (finish line) sound values left all =
+      step_stays root setting.forced values line left (λ n. returned values n) all (λ n. nothing_done root setting.forced values n all)
 
-    branches_stay : (bs : Branches) → AreSoundBranches root bs → (others : Values → ℕ → Outcome) → AlwaysStays root forced others → AlwaysStays root forced (branches_meaning root setting bs others)
-    branches_stay no_branches sound others stays values left all = stays values left all
-    branches_stay (more_branches t cs bs) sound others stays values left all =
-        given_stays root forced values left (value_of root values t) (λ v. if is_true v then commands_meaning root setting cs values left else branches_meaning root setting bs others values left)
-        (λ v h. either_stays root forced values left (is_true v) (commands_meaning root setting cs values left) (branches_meaning root setting bs others values left)
-        (λ e. commands_stay cs sound.1 values left all) (branches_stay bs sound.2 others stays values left all))
+  commands_stay : (root : Composition) (setting : Setting) → InTime setting → HasOneLeafEach root → (cs : Commands) → AreSoundCommands root cs
+      → AlwaysStays root setting.forced (commands_meaning root setting cs)
+  commands_stay root setting now one no_commands sound values left all = nothing_done root setting.forced values left all
+  commands_stay root setting now one (more_commands c cs) sound values left all =
+      then_stays root setting.forced values left (command_meaning root setting c values left) (commands_meaning root setting cs)
+      (command_stays root setting now one c sound.0 values left all) (commands_stay root setting now one cs sound.1)
 
-    cases_stay : (cs : Cases) (e : Elem) → AreSoundCases root e cs → (others : Values → ℕ → Outcome) → AlwaysStays root forced others → (i : ℤ)
-        → AlwaysStays root forced (cases_meaning root setting cs others i)
-    cases_stay no_cases e sound others stays i values left all = stays values left all
-    cases_stay (more_cases labels cs more) e sound others stays i values left all =
-        either_stays root forced values left (has_label labels i) (commands_meaning root setting cs values left) (cases_meaning root setting more others i values left)
-        (λ h. commands_stay cs sound.1 values left all) (cases_stay more e sound.2 others stays i values left all)
+  branches_stay : (root : Composition) (setting : Setting) → InTime setting → HasOneLeafEach root → (bs : Branches) → AreSoundBranches root bs → (others : Values → ℕ → Outcome)
+      → AlwaysStays root setting.forced others → AlwaysStays root setting.forced (branches_meaning root setting bs others)
+  branches_stay root setting now one no_branches sound others stays values left all = stays values left all
+  branches_stay root setting now one (more_branches t cs bs) sound others stays values left all =
+      let run = commands_meaning root setting cs in
+      let more = branches_meaning root setting bs others in
+      given_stays root setting.forced values left (value_of root values t) (λ v. if is_true v then run values left else more values left)
+      (λ v h. either_stays root setting.forced values left (is_true v) (run values left) (more values left)
+      (λ e. commands_stay root setting now one cs sound.1 values left all) (branches_stay root setting now one bs sound.2 others stays values left all))
+
+  cases_stay : (root : Composition) (setting : Setting) → InTime setting → HasOneLeafEach root → (cs : Cases) (e : Elem) → AreSoundCases root e cs → (others : Values → ℕ → Outcome)
+      → AlwaysStays root setting.forced others → (i : ℤ) → AlwaysStays root setting.forced (cases_meaning root setting cs others i)
+  cases_stay root setting now one no_cases e sound others stays i values left all = stays values left all
+  cases_stay root setting now one (more_cases labels cs more) e sound others stays i values left all =
+      either_stays root setting.forced values left (has_label labels i) (commands_meaning root setting cs values left) (cases_meaning root setting more others i values left)
+      (λ h. commands_stay root setting now one cs sound.1 values left all) (cases_stay root setting now one more e sound.2 others stays i values left all)
 
 pub commands_keep_the_frame : CommandsKeepTheFrame
 commands_keep_the_frame root setting cs values left now one all sound = commands_stay root setting now one cs sound values left all

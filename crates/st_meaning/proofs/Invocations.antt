@@ -1,6 +1,5 @@
--- Invocations of standard function blocks keep the frame (3.3.2.2).
-use Rattle.std.proofs.Common.{◌≡◌, ℕ, ◌+◌, ◌<◌, ◌≤◌, Bool, true, false, List, IsTrue, drop, length, get_or, if◌then◌else◌, ap, sym, ◌∙◌, subst, arith}
-use Rattle.std.proofs.lemmas.List.{get_or-drop}
+-- Invocations of function blocks keep the frame (3.3.2.2).
+use Rattle.std.proofs.Common.{◌≡◌, ℕ, ◌<◌, ℤ, Bool, true, false, List, IsTrue, drop, length, get_or, if◌then◌else◌, refl, ap, sym, ◌∙◌, subst, arith}
 use Rattle.std.proofs.lemmas.Slice.Zip.{AllZip-long}
 use Rattle.st_values.specs.Values.{in_range}
 use Rattle.st_values.specs.declared.elem.Elem.TheVariants as elems
@@ -12,123 +11,57 @@ use Rattle.st_blocks.specs.Cells.{AreLeavesOf, IsOfType, types_of}
 use Rattle.st_blocks.specs.Steps.{stepped}
 use Rattle.st_blocks.proofs.TypeLemmas.{blocks_keep_their_types, cell_typed}
 use Rattle.st_operators.specs.Laws.{IsOf}
-use Rattle.st_meaning.specs.Laws.{KeepsFrame}
+use Rattle.st_meaning.specs.Laws.{KeepsFrame, StaysInFrame}
 use Rattle.st_meaning.specs.Meaning.{Values, located, no_value, stored_at, value_of}
 use Rattle.st_meaning.specs.Offsets.{offset_of}
 use Rattle.st_meaning.specs.Sound.{AreSoundMoves, AreValuesOf, HasOneLeafEach, IsInvocation, term_type, type_at}
-use Rattle.st_meaning.specs.Statements.{Outcome, Setting, after_step, block_done, command_meaning, given, moves_meaning, stretch, then_do, unless_forced}
-use Rattle.st_meaning.specs.Terms.{Moves, no_moves, more_moves, invoke}
+use Rattle.st_meaning.specs.Statements.{Outcome, Setting, done, exited, returned, faulted, after_step, block_done, command_meaning, commands_meaning, ended, given, instance_meaning, left_by, moves_meaning, setting_from, stretch, then_do, unless_forced}
+use Rattle.st_meaning.specs.Terms.{Commands, Moves, no_moves, more_moves, invoke, enter}
 use Rattle.st_meaning.proofs.Frames.{AlwaysStays, given_stays, nothing_done, stays_after, step_stays, store_keeps, then_stays}
+use Rattle.st_meaning.proofs.Instances.{part_keeps}
 use Rattle.st_meaning.proofs.Places.{places_have_leaves}
-use Rattle.st_meaning.proofs.Stretches.{Stands, before, inside, past, block_count, block_fits, block_type_at, block_values, stands, stretch_at, stretch_length, unless_at, unless_length, with_before, with_inside, with_length, with_past}
+use Rattle.st_meaning.proofs.Stretches.{block_count, block_type, cells_typed, part_values, unless_at, unless_length}
 use Rattle.st_meaning.proofs.TermValues.{term_value}
 
--- ---- what a block does to all values
+-- ---- what a block does to the values of an instance
 
-module _ (setting : Setting) (now : IsTrue (in_range elems.Time setting.now)) (b : StandardBlock) (offset : ℕ) (values : Values)
-    (few : offset + count (standard b) ≤ length values) (typed : AreLeavesOf b (stretch values offset (count (standard b)))) where
-  -- the values of its leaves, and what it makes of them
-  abbrev pub old_cells : Values
-  old_cells = stretch values offset (count (standard b))
-
-  abbrev pub new_cells : Values
-  new_cells = stepped b old_cells setting.now
-
-  abbrev kept_cells : Values
-  kept_cells = unless_forced (drop offset setting.forced) old_cells new_cells
-
-  pub new_typed : AreLeavesOf b new_cells
-  new_typed = blocks_keep_their_types b old_cells setting.now now typed
-
-  pub old_length : length old_cells ≡ count (standard b)
-  old_length = stretch_length values offset (count (standard b)) few
-
-  pub new_length : length new_cells ≡ count (standard b)
-  new_length = AllZip-long IsOfType (types_of b) new_cells new_typed ∙ block_count b
-
-  kept_length : length kept_cells ≡ count (standard b)
-  kept_length = unless_length (drop offset setting.forced) old_cells new_cells (old_length ∙ sym new_length) ∙ new_length
-
-  kept_few : offset + length kept_cells ≤ length values
-  kept_few = subst (λ n. offset + n ≤ length values) (sym kept_length) few
-
-  -- there are as many values,
-  pub done_length : length (block_done setting b offset values) ≡ length values
-  done_length = with_length values offset kept_cells kept_few
-
-  -- those before the block's leaves stay,
-  pub done_before : (n : ℕ) → n < offset → get_or (block_done setting b offset values) n no_value ≡ get_or values n no_value
-  done_before n h = with_before values offset kept_cells kept_few n h
-
-  -- those behind them stay,
-  pub done_past : (i : ℕ)
-      → get_or (block_done setting b offset values) (offset + count (standard b) + i) no_value
-      ≡ get_or values (offset + count (standard b) + i) no_value
-  done_past i =
-      subst (λ n. get_or (block_done setting b offset values) (offset + n + i) no_value ≡ get_or values (offset + n + i) no_value) kept_length
-      (with_past values offset kept_cells kept_few i)
-
-  -- and each of the block's leaves takes the new value unless it is forced.
-  pub done_inside : (i : ℕ) → i < count (standard b)
-      → get_or (block_done setting b offset values) (offset + i) no_value
-      ≡ (if get_or setting.forced (offset + i) false then get_or values (offset + i) no_value else get_or new_cells i no_value)
-  done_inside i h =
-      with_inside values offset kept_cells kept_few i (subst (λ n. i < n) (sym kept_length) h)
-      ∙ unless_at (drop offset setting.forced) old_cells new_cells (old_length ∙ sym new_length) i
-      ∙ ap (λ f. if f then get_or old_cells i no_value else get_or new_cells i no_value) (get_or-drop offset setting.forced i false)
-      ∙ ap (λ v. if get_or setting.forced (offset + i) false then v else get_or new_cells i no_value) (stretch_at values offset (count (standard b)) i h)
-
--- ---- an instance
-
-module _ (root : Composition) (setting : Setting) (now : IsTrue (in_range elems.Time setting.now)) (name : List ℕ) (b : StandardBlock)
-    (is : selected_by root name ≡ standard b) (values : Values) (all : AreValuesOf root values) where
-  abbrev offset : ℕ
-  offset = offset_of root name
-
-  abbrev size : ℕ
-  size = count (standard b)
-
-  -- its leaves stand among the values
-  pub leaves_stand : offset + size ≤ length values
-  leaves_stand = omega (arith, block_fits root name b is, all.all)
-
-  typed : AreLeavesOf b (stretch values offset size)
-  typed = block_values root name b is values all
-
+module _ (b : StandardBlock) (now : ℤ) (in_time : IsTrue (in_range elems.Time now)) (forced : List Bool) (old : Values) (all : AreValuesOf (standard b) old) where
   abbrev made : Values
-  made = stepped b (stretch values offset size) setting.now
+  made = stepped b old now
 
-  abbrev others : Values
-  others = block_done setting b offset values
+  made_typed : AreLeavesOf b made
+  made_typed = blocks_keep_their_types b old now in_time (cells_typed b old all)
 
-  either_is : (i : ℕ) → i < size → (f : Bool) → IsOf (type_at root (offset + i)) (if f then get_or values (offset + i) no_value else get_or made i no_value)
-  either_is i h true = all.each (offset + i) (omega (arith, block_fits root name b is, h))
+  made_length : length made ≡ count (standard b)
+  made_length = AllZip-long IsOfType (types_of b) made made_typed ∙ block_count b
+
+  as_many : length old ≡ length made
+  as_many = all.all ∙ sym made_length
+
+  either_is : (i : ℕ) → i < count (standard b) → (f : Bool) → IsOf (type_at (standard b) i) (if f then get_or old i no_value else get_or made i no_value)
+  either_is i h true = all.each i h
   either_is i h false =
-      let less : i < length (types_of b) = subst (λ n. i < n) (sym (block_count b)) h in
-      let cell = cell_typed (types_of b) made (new_typed setting now b offset values leaves_stand typed) i less in
-      record { in_range = cell.1; of_type = cell.0 ∙ sym (block_type_at root name b is i h) }
+      let cell = cell_typed (types_of b) made made_typed i (subst (λ n. i < n) (sym (block_count b)) h) in
+      record { in_range = cell.1; of_type = cell.0 ∙ sym (block_type b i) }
 
-  each_is : (n : ℕ) → Stands offset size n → n < count root → IsOf (type_at root n) (get_or others n no_value)
-  each_is n (before h) less = subst (IsOf (type_at root n)) (sym (done_before setting now b offset values leaves_stand typed n h)) (all.each n less)
-  each_is n (inside i h) less =
-      subst (IsOf (type_at root n)) (sym (done_inside setting now b offset values leaves_stand typed i h)) (either_is i h (get_or setting.forced n false))
-  each_is n (past i) less = subst (IsOf (type_at root n)) (sym (done_past setting now b offset values leaves_stand typed i)) (all.each n less)
-
-  each_kept : (n : ℕ) → Stands offset size n → get_or setting.forced n false ≡ true → get_or others n no_value ≡ get_or values n no_value
-  each_kept n (before h) f = done_before setting now b offset values leaves_stand typed n h
-  each_kept n (inside i h) f =
-      done_inside setting now b offset values leaves_stand typed i h ∙ ap (λ t. if t then get_or values n no_value else get_or made i no_value) f
-  each_kept n (past i) f = done_past setting now b offset values leaves_stand typed i
-
-  pub block_keeps : (left : ℕ) → KeepsFrame root setting.forced values left others left
-  block_keeps left = record {
+  cells_keep : (left : ℕ) → KeepsFrame (standard b) forced old left (unless_forced forced old made) left
+  cells_keep left = record {
     all = record {
-      all = done_length setting now b offset values leaves_stand typed ∙ all.all;
-      each = λ n less. each_is n (stands offset size n) less;
+      all = unless_length forced old made as_many ∙ made_length;
+      each = λ i less. subst (IsOf (type_at (standard b) i)) (sym (unless_at forced old made as_many i)) (either_is i less (get_or forced i false));
     };
-    kept = λ n f. each_kept n (stands offset size n) f;
+    kept = λ i f. unless_at forced old made as_many i ∙ ap (λ t. if t then get_or old i no_value else get_or made i no_value) f;
     steps = omega arith;
   }
+
+pub block_keeps : (root : Composition) (setting : Setting) → IsTrue (in_range elems.Time setting.now) → (name : List ℕ) (b : StandardBlock) → selected_by root name ≡ standard b
+    → (values : Values) → AreValuesOf root values → (left : ℕ) → KeepsFrame root setting.forced values left (block_done setting b (offset_of root name) values) left
+block_keeps root setting now name b is values all left =
+    let offset = offset_of root name in
+    let old = stretch values offset (count (standard b)) in
+    let forced = drop offset setting.forced in
+    part_keeps root name (standard b) is setting.forced values all left (unless_forced forced old (stepped b old setting.now)) left
+    (cells_keep b setting.now now forced old (part_values root name (standard b) is values all) left)
 
 -- ---- inputs and outputs
 
@@ -160,3 +93,43 @@ module _ (root : Composition) (setting : Setting) (one : HasOneLeafEach root) wh
       let kept = block_keeps root setting now name b sound.block others whole k in
       let made = block_done setting b (offset_of root name) others in
       stays_after root forced others made k k (moves_meaning root setting outputs made k) kept (moves_stay outputs sound.outputs made k kept.all))))
+
+  -- ---- function blocks of the text
+
+  -- what a body leaves of an instance keeps the frame of the whole where it keeps that of the instance
+  left_stays : (name : List ℕ) (unit : ℕ) (values : Values) (left : ℕ) → AreValuesOf root values → (o : Outcome)
+      → StaysInFrame (selected_by root name) (drop (offset_of root name) setting.forced) (stretch values (offset_of root name) (count (selected_by root name))) left o
+      → StaysInFrame root setting.forced values left (left_by unit (offset_of root name) values (ended o))
+  left_stays name unit values left all (done part rest) keeps = part_keeps root name (selected_by root name) refl setting.forced values all left part rest keeps
+  left_stays name unit values left all (exited part rest) keeps = part_keeps root name (selected_by root name) refl setting.forced values all left part rest keeps
+  left_stays name unit values left all (returned part rest) keeps = part_keeps root name (selected_by root name) refl setting.forced values all left part rest keeps
+  left_stays name unit values left all (faulted f) keeps = tt
+
+  -- the body of an instance always stays in its frame
+  abbrev pub BodyStays : List ℕ → (Setting → Values → ℕ → Outcome) → Type 0
+  BodyStays name body =
+      AlwaysStays (selected_by root name) (drop (offset_of root name) setting.forced) (body (setting_from (offset_of root name) setting))
+
+  instance_stays : (name : List ℕ) (unit : ℕ) (body : Setting → Values → ℕ → Outcome) → BodyStays name body
+      → AlwaysStays root setting.forced (instance_meaning root setting name unit body)
+  instance_stays name unit body stays values left all =
+      let offset = offset_of root name in
+      let part = selected_by root name in
+      let old = stretch values offset (count part) in
+      left_stays name unit values left all (body (setting_from offset setting) old left) (stays old left (part_values root name part refl values all))
+
+  pub enter_stays : (line : ℕ) (name : List ℕ) (unit : ℕ) (body : Commands) (inputs outputs : Moves) → AreSoundMoves root inputs → AreSoundMoves root outputs
+      → BodyStays name (λ within part i. commands_meaning (selected_by root name) within body part i)
+      → AlwaysStays root setting.forced (command_meaning root setting (enter line name unit body inputs outputs))
+  enter_stays line name unit body inputs outputs entering leaving stays values left all =
+      let forced = setting.forced in
+      let run : Values → ℕ → Outcome = instance_meaning root setting name unit (λ within part i. commands_meaning (selected_by root name) within body part i) in
+      let after : Values → ℕ → Outcome = (λ them j. moves_meaning root setting outputs them j) in
+      let behind : Values → ℕ → Outcome = (λ others k. then_do (run others k) after) in
+      let go : ℕ → Outcome = (λ n. then_do (moves_meaning root setting inputs values n) behind) in
+      step_stays root forced values line left (λ m. after_step line m go) all
+      (λ m. step_stays root forced values line m go all
+      (λ n. then_stays root forced values n (moves_meaning root setting inputs values n) behind (moves_stay inputs entering values n all)
+      (λ others k whole. then_stays root forced others k (run others k) after
+      (instance_stays name unit (λ within part i. commands_meaning (selected_by root name) within body part i) stays others k whole)
+      (λ them j full. moves_stay outputs leaving them j full))))

@@ -3,6 +3,7 @@ pub mod Constants
 pub mod Elements
 pub mod Frames
 pub mod Giving
+pub mod Instances
 pub mod Invocations
 pub mod LeafTypes
 pub mod Operands

@@ -1,12 +1,13 @@
 -- Where a place is found, a leaf of its type stands.
-use Rattle.std.proofs.Common.{◌≡◌, ◌⊎◌, inl, inr, ℕ, suc, ◌+◌, ◌*◌, ◌<◌, ℤ, Bool, true, false, List, [], ◌∷◌, ◌++◌, length, Option, Some, None, refl, ap, sym, ◌∙◌, subst, if◌then◌else◌, arith}
+use Rattle.std.proofs.Common.{◌≡◌, ◌⊎◌, inl, inr, ℕ, suc, ◌+◌, ◌*◌, ◌<◌, ℤ, Bool, true, false, List, [], ◌∷◌, ◌++◌, length, get_or, Option, Some, None, refl, ap, sym, ◌∙◌, subst, if◌then◌else◌, arith}
+use Rattle.std.proofs.lemmas.List.{get_or-append-add, get_or-map, get_or_append_left}
 use Rattle.st_values.specs.Words.{is_word}
 use Rattle.st_values.specs.declared.elem.Elem.{Elem}
 use Rattle.st_types.specs.Compositions.{Composition, unknown, elementary, array, composed, standard, Members, none, member}
 use Rattle.st_types.specs.Initials.{zero_of}
 use Rattle.st_types.specs.Standard.{Pin, pin_named, pins_of}
 use Rattle.st_leaves.specs.Charts.{stored_by}
-use Rattle.st_leaves.specs.LeavesIn.{block_name, chart_in, elements_in, kept_by, kept_leaf, leaves_in, member_names, members_in, pin_leaf, subscript_lists, within}
+use Rattle.st_leaves.specs.LeavesIn.{LeafIn, block_name, chart_in, elements_in, kept_by, kept_leaf, leaves_in, member_names, members_in, pin_leaf, subscript_lists, within}
 use Rattle.st_leaves.specs.Paths.{Path, field, index}
 use Rattle.st_leaves.specs.Places.{IsMember, here, later, IsPart, first, behind, LeadsTo, end, element, into, pin, count, counts}
 use Rattle.st_leaves.specs.Selected.{element_of, member_selected, pin_selected, selected_by, subscripts_of, takes_subscripts, value_type}
@@ -17,16 +18,16 @@ use Rattle.st_meaning.specs.Laws.{HasLeaf, PlacesHaveLeaves}
 use Rattle.st_meaning.specs.Meaning.{Values, are_within, located, numbers_in, values_of, when_within}
 use Rattle.st_meaning.specs.Offsets.{member_offset}
 use Rattle.st_meaning.specs.Operations.{gives, then_with}
-use Rattle.st_meaning.specs.Sound.{type_at}
+use Rattle.st_meaning.specs.Sound.{no_leaf, type_at}
 use Rattle.st_meaning.specs.Terms.{Parts, whole, field_part, element_part, how_many}
 use Rattle.st_meaning.specs.Wholes.{type_of}
 use Rattle.st_meaning.proofs.Giving.{given_in, same_given, within_given}
 use Rattle.st_meaning.proofs.Elements.{element_within}
-use Rattle.st_meaning.proofs.LeafTypes.{elem_at, elem_elements, elem_left, elem_right, elem_within}
+use Rattle.st_meaning.proofs.LeafTypes.{elem_at, elem_elements, elem_left}
 
 -- ---- nowhere
 
-nothing_leads : (path : Path) (n : ℕ) → LeadsTo unknown path n → ⊥
+pub nothing_leads : (path : Path) (n : ℕ) → LeadsTo unknown path n → ⊥
 nothing_leads path n h = elim h [ ]
 
 no_leaf_in : (c : Composition) (e : Elem) (path : Path) → c ≡ unknown → HasLeaf c e path → ⊥
@@ -47,24 +48,51 @@ select name (member other kind c ms) = by (is_word other name) refl (select name
   by false q (inl h) = inl h
   by false q (inr h) = inr (later q h)
 
+-- the leaf of a member, seen from a whole of this name, where the member is declared under this one
+abbrev pub below : (whole' other : List ℕ) → LeafIn → LeafIn
+below whole' other l = record { path = field other ∷ l.path; spine = whole' ∷ l.spine; initial = l.initial; use' = l.use' }
+
+pub record IsMemberLeaf (whole' name : List ℕ) (ms : Members) (number : ℕ) (l : LeafIn) : Type 0 where
+  pub other : List ℕ
+  pub same : is_word other name ≡ true
+  pub leaf : get_or (members_in whole' ms) number no_leaf ≡ below whole' other l
+  pub few : number < counts ms
+
+-- the leaves of a member stand together in the whole
+pub member_leaf : (whole' name : List ℕ) (ms : Members) (d : ℕ) (c : Composition) (k : ℕ) → IsMember name ms d c → k < count c
+    → IsMemberLeaf whole' name ms (d + k) (get_or (leaves_in c) k no_leaf)
+member_leaf whole' name ms d c k (here {other = other} {ms = more} e) few =
+    let z : 0 + k ≡ k = omega arith in
+    let few' : k < length (leaves_in c) = subst (λ n. k < n) (sym (length_is_count c)) few in
+    let less : k < length (within (field other) whole' (leaves_in c)) = subst (λ n. k < n) (sym (length_within (field other) whole' (leaves_in c))) few' in
+    record {
+      other = other;
+      same = e;
+      leaf = ap (λ n. get_or (within (field other) whole' (leaves_in c) ++ members_in whole' more) n no_leaf) z
+          ∙ get_or_append_left (within (field other) whole' (leaves_in c)) (members_in whole' more) no_leaf k less
+          ∙ get_or-map (below whole' other) (leaves_in c) k no_leaf no_leaf few';
+      few = omega arith;
+    }
+member_leaf whole' name ms d c k (later {other = other} {c = b} {ms = more} {k = n} e h) few =
+    let z : count b + n + k ≡ count b + (n + k) = omega arith in
+    let front = within (field other) whole' (leaves_in b) in
+    let size : length front ≡ count b = length_within (field other) whole' (leaves_in b) ∙ length_is_count b in
+    let rest = member_leaf whole' name more n c k h few in
+    record {
+      other = rest.other;
+      same = rest.same;
+      leaf = ap (λ i. get_or (front ++ members_in whole' more) i no_leaf) z
+          ∙ ap (λ i. get_or (front ++ members_in whole' more) (i + (n + k)) no_leaf) (sym size)
+          ∙ get_or-append-add front (members_in whole' more) (n + k) no_leaf
+          ∙ rest.leaf;
+      few = omega (arith, rest.few);
+    }
+
 -- the leaves of a member have the types that they have by themselves
 pub member_type : (whole' name : List ℕ) (ms : Members) (d : ℕ) (c : Composition) (k : ℕ) → IsMember name ms d c → k < count c
     → (elem_at (members_in whole' ms) (d + k) ≡ elem_at (leaves_in c) k) × (d + k < counts ms)
-member_type whole' name ms d c k (here {other = other} {ms = more} e) few =
-    let z : 0 + k ≡ k = omega arith in
-    let less : k < length (within (field other) whole' (leaves_in c)) = subst (λ n. k < n) (sym (length_within (field other) whole' (leaves_in c) ∙ length_is_count c)) few in (
-      ap (elem_at (within (field other) whole' (leaves_in c) ++ members_in whole' more)) z ∙ elem_left (within (field other) whole' (leaves_in c)) (members_in whole' more) k less
-          ∙ elem_within (field other) whole' (leaves_in c) k,
-      omega arith,
-    )
-member_type whole' name ms d c k (later {other = other} {c = b} {ms = more} {k = n} e h) few =
-    let z : count b + n + k ≡ count b + (n + k) = omega arith in
-    let rest = member_type whole' name more n c k h few in (
-      ap (elem_at (within (field other) whole' (leaves_in b) ++ members_in whole' more)) z
-          ∙ elem_right (within (field other) whole' (leaves_in b)) (members_in whole' more) (count b) (n + k) (length_within (field other) whole' (leaves_in b) ∙ length_is_count b)
-          ∙ rest.0,
-      omega (arith, rest.1),
-    )
+member_type whole' name ms d c k m few =
+    let one = member_leaf whole' name ms d c k m few in (ap (λ l. l.initial.elem) one.leaf, one.few)
 
 -- ---- inputs and outputs
 

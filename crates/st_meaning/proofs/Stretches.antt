@@ -16,6 +16,7 @@ use Rattle.st_leaves.specs.Places.{IsMember, count, counts}
 use Rattle.st_leaves.specs.Selected.{member_selected, pin_selected, selected_by}
 use Rattle.st_leaves.proofs.Numbers.{length_is_count, length_is_counts}
 use Rattle.st_blocks.specs.Cells.{AreLeavesOf, IsOfType, types_of}
+use Rattle.st_operators.specs.Laws.{IsOf}
 use Rattle.st_meaning.specs.Meaning.{Values, no_value}
 use Rattle.st_meaning.specs.Offsets.{member_offset, offset_of, pin_offset}
 use Rattle.st_meaning.specs.Sound.{AreValuesOf, type_at}
@@ -135,7 +136,7 @@ elem_listed [] n = refl
 elem_listed (l ∷ ls) zero = refl
 elem_listed (l ∷ ls) (suc n) = elem_listed ls n
 
-block_type : (b : StandardBlock) (i : ℕ) → type_at (standard b) i ≡ get_or (types_of b) i elems.Bool
+pub block_type : (b : StandardBlock) (i : ℕ) → type_at (standard b) i ≡ get_or (types_of b) i elems.Bool
 block_type b i = elem_listed (block_leaves b) i ∙ ap (λ ts. get_or ts i elems.Bool) (block_types b)
 
 -- ---- the leaves of what a name selects
@@ -204,6 +205,29 @@ selected_type (standard b) name i few =
     let pin = pin_type (block_name b) (pins_of b) name i few in
     elem_left (flat_map (pin_leaf (block_name b)) (pins_of b)) (flat_map (kept_leaf (block_name b)) (kept_by b)) (pin_offset (pins_of b) name + i) pin.1 ∙ pin.0
 
+-- ---- instances
+
+-- a part of the whole, which the name selects
+module _ (root : Composition) (name : List ℕ) (c : Composition) (is : selected_by root name ≡ c) where
+  -- its leaves are leaves of the whole,
+  pub part_fits : offset_of root name + count c ≤ count root
+  part_fits = subst (λ d. offset_of root name + count d ≤ count root) is (selected_fits root name)
+
+  -- and have the types that they have by themselves,
+  pub part_type : (i : ℕ) → i < count c → type_at root (offset_of root name + i) ≡ type_at c i
+  part_type i few = selected_type root name i (subst (λ d. i < count d) (sym is) few) ∙ ap (λ d. type_at d i) is
+
+  -- as their values do.
+  pub part_values : (values : Values) → AreValuesOf root values → AreValuesOf c (stretch values (offset_of root name) (count c))
+  part_values values all =
+      let offset = offset_of root name in
+      let size = count c in
+      record {
+        all = stretch_length values offset size (omega (arith, part_fits, all.all));
+        each = λ i less. subst (IsOf (type_at c i)) (sym (stretch_at values offset size i less))
+            (subst (λ e. IsOf e (get_or values (offset + i) no_value)) (part_type i less) (all.each (offset + i) (omega (arith, part_fits, less))));
+      }
+
 -- ---- instances of standard function blocks
 
 zipped : (types : List Elem) (cells : Values) → length cells ≡ length types
@@ -213,25 +237,13 @@ zipped [] (v ∷ cells) e h = absurd (omega (arith, e))
 zipped (t ∷ types) [] e h = absurd (omega (arith, e))
 zipped (t ∷ types) (v ∷ cells) e h = (h 0 (omega arith), zipped types cells (omega (arith, e)) (λ i less. h (suc i) (omega (arith, less))))
 
-module _ (root : Composition) (name : List ℕ) (b : StandardBlock) (is : selected_by root name ≡ standard b) where
-  -- its leaves are leaves of the whole,
-  pub block_fits : offset_of root name + count (standard b) ≤ count root
-  block_fits = subst (λ c. offset_of root name + count c ≤ count root) is (selected_fits root name)
+-- the values of an instance have the types of the block's leaves
+pub cells_typed : (b : StandardBlock) (cells : Values) → AreValuesOf (standard b) cells → AreLeavesOf b cells
+cells_typed b cells all =
+    zipped (types_of b) cells (all.all ∙ sym (block_count b))
+    (λ i h. let at = all.each i (subst (λ n. i < n) (block_count b) h) in (at.of_type ∙ block_type b i, at.in_range))
 
-  -- and have the types of the block's leaves,
-  pub block_type_at : (i : ℕ) → i < count (standard b) → type_at root (offset_of root name + i) ≡ get_or (types_of b) i elems.Bool
-  block_type_at i few =
-      selected_type root name i (subst (λ c. i < count c) (sym is) few) ∙ ap (λ c. type_at c i) is ∙ block_type b i
-
-  -- as their values do.
-  pub block_values : (values : Values) → AreValuesOf root values → AreLeavesOf b (stretch values (offset_of root name) (count (standard b)))
-  block_values values all =
-      let offset = offset_of root name in
-      let size = count (standard b) in
-      let few : offset + size ≤ length values = omega (arith, block_fits, all.all) in
-      zipped (types_of b) (stretch values offset size) (stretch_length values offset size few ∙ sym (block_count b))
-      (λ i h.
-      let less : i < size = subst (λ n. i < n) (block_count b) h in
-      let below : offset + i < count root = omega (arith, block_fits, less) in
-      let at = all.each (offset + i) below in
-      subst (λ v. IsOfType (get_or (types_of b) i elems.Bool) v) (sym (stretch_at values offset size i less)) (at.of_type ∙ block_type_at i less, at.in_range))
+pub block_values : (root : Composition) (name : List ℕ) (b : StandardBlock) → selected_by root name ≡ standard b → (values : Values) → AreValuesOf root values
+    → AreLeavesOf b (stretch values (offset_of root name) (count (standard b)))
+block_values root name b is values all =
+    cells_typed b (stretch values (offset_of root name) (count (standard b))) (part_values root name (standard b) is values all)

@@ -11,10 +11,10 @@ use Rattle.st_tree.specs.declared.tree.expression.Variable.{Variable}
 use Rattle.st_types.specs.Compositions.{Composition, unknown, elementary, array, composed, standard}
 use Rattle.st_types.specs.declared.standard.StandardBlock.{StandardBlock}
 use Rattle.st_leaves.specs.Selected.{selected_by}
-use Rattle.st_meaning.specs.Sound.{AreSoundMoves, IsPlaceOf, IsSoundCommand, term_type}
+use Rattle.st_meaning.specs.Sound.{AreSoundCommands, AreSoundMoves, IsPlaceOf, IsSoundCommand, term_type}
 use Rattle.st_meaning.specs.Terms.{Moves}
-use Rattle.st_meaning.specs.Typing.{call_command, input_moves, input_of, inputs_of, invocation, output_moves, output_of, outputs_of, pin_of, place_of, place_typed, typed}
-use Rattle.st_meaning.specs.Wholes.{Whole, block_of, type_of}
+use Rattle.st_meaning.specs.Typing.{call_command, entrance, input_moves, input_of, inputs_of, invocation, output_moves, output_of, outputs_of, pin_of, place_of, place_typed, typed}
+use Rattle.st_meaning.specs.Wholes.{Invoked, Whole, block_of, type_of}
 use Rattle.st_meaning.proofs.TypedExpressions.{expression_sound, place_parts}
 use Rattle.st_meaning.proofs.TypedTerms.{HasValues, place_sound}
 
@@ -25,7 +25,11 @@ block_is (array ranges firsts c) b h = cc
 block_is (composed name ms chart) b h = cc
 block_is (standard other) b h = cc
 
-module _ (w : Whole) (values : HasValues w) where
+-- the bodies of the units whose instances are invoked are sound
+abbrev pub AreSoundBodies : (Composition → Option Invoked) → Type 0
+AreSoundBodies invoked = (c : Composition) (unit : Invoked) → invoked c ≡ Some unit → AreSoundCommands c unit.body
+
+module _ (w : Whole) (values : HasValues w) (bodies : AreSoundBodies w.invoked) where
   input_sound : (name pin : List ℕ) (e : Option Elem) (x : Expression) (more : Moves) → type_of w.variables (pin_of name pin) ≡ e
       → AreSoundMoves w.variables more → AreSoundMoves w.variables (input_moves w name e pin x more)
   input_sound name pin None x more h rest = rest
@@ -69,9 +73,14 @@ module _ (w : Whole) (values : HasValues w) where
   outputs_sound name [] = tt
   outputs_sound name (a ∷ more) = one_output_sound name (out-Argument a) (outputs_of w name more) (outputs_sound name more)
 
+  entrance_sound : (line : ℕ) (name : List ℕ) (unit : Option Invoked) (xs : List Argument) → w.invoked (selected_by w.variables name) ≡ unit
+      → IsSoundCommand w.variables (entrance w line name unit xs)
+  entrance_sound line name None xs h = tt
+  entrance_sound line name (Some unit) xs h = (inputs_sound name xs, bodies (selected_by w.variables name) unit h, outputs_sound name xs)
+
   invocation_sound : (line : ℕ) (name : List ℕ) (b : Option StandardBlock) (xs : List Argument) → block_of (selected_by w.variables name) ≡ b
       → IsSoundCommand w.variables (invocation w line name b xs)
-  invocation_sound line name None xs h = tt
+  invocation_sound line name None xs h = entrance_sound line name (w.invoked (selected_by w.variables name)) xs refl
   invocation_sound line name (Some b) xs h = record {
     block = block_is (selected_by w.variables name) b h;
     inputs = inputs_sound name xs;

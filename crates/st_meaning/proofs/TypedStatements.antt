@@ -26,7 +26,7 @@ use Rattle.st_meaning.specs.Sound.{AreSoundBranches, AreSoundCases, AreSoundComm
 use Rattle.st_meaning.specs.Terms.{Parts, whole, field_part, Command, choice, while_loop, repeat_loop, Commands, Branches, more_branches, Cases, more_cases}
 use Rattle.st_meaning.specs.Typing.{Typed, alone, assignment, branch_of, branches_of, case_command, case_of, cases_of, command_of, commands_of, condition, for_command, label_range, place_of, step_typed, typed, typed_statement}
 use Rattle.st_meaning.specs.Wholes.{Whole, type_of}
-use Rattle.st_meaning.proofs.TypedCalls.{call_command_sound}
+use Rattle.st_meaning.proofs.TypedCalls.{AreSoundBodies, call_command_sound}
 use Rattle.st_meaning.proofs.TypedExpressions.{expression_sound, place_parts}
 use Rattle.st_meaning.proofs.TypedTerms.{HasValues, IsSound, alone_sound}
 
@@ -104,7 +104,7 @@ assignment_sound root line ps (Some e) x h parts k =
     let place : IsPlaceOf root (term_type root (x.as_type e)) ps = record { type = h ∙ ap (λ d. Some d) (sym (k e).type); parts = parts } in
     (place, (k e).sound)
 
-module _ (w : Whole) (values : HasValues w) where
+module _ (w : Whole) (values : HasValues w) (bodies : AreSoundBodies w.invoked) where
   step_sound : (step : Option Expression) (e : Elem) → IsTermOf w.variables e (step_typed w step e)
   step_sound None e = record { type = refl; sound = one_is_value e }
   step_sound (Some x) e = expression_sound w values x e
@@ -157,7 +157,7 @@ module _ (w : Whole) (values : HasValues w) where
   statement_made (Statement-F.Assignment v x) =
       subst (IsSoundCommand w.variables) (sym (fold-roll-Statement _ _ _ _ _ _ _ _ _ _ _ _ _ _ _ _ _))
       (assignment_sound w.variables v.name.position.line (place_of w v) (type_of w.variables (place_of w v)) (typed w x) refl (place_parts w values v) (expression_sound w values x))
-  statement_made (Statement-F.Call c) = subst (IsSoundCommand w.variables) (sym (fold-roll-Statement _ _ _ _ _ _ _ _ _ _ _ _ _ _ _ _ _)) (call_command_sound w values c)
+  statement_made (Statement-F.Call c) = subst (IsSoundCommand w.variables) (sym (fold-roll-Statement _ _ _ _ _ _ _ _ _ _ _ _ _ _ _ _ _)) (call_command_sound w values bodies c)
   statement_made (Statement-F.Return p) = subst (IsSoundCommand w.variables) (sym (fold-roll-Statement _ _ _ _ _ _ _ _ _ _ _ _ _ _ _ _ _)) tt
   statement_made (Statement-F.Exit p) = subst (IsSoundCommand w.variables) (sym (fold-roll-Statement _ _ _ _ _ _ _ _ _ _ _ _ _ _ _ _ _)) tt
   statement_made (Statement-F.If c) = subst (IsSoundCommand w.variables) (sym (fold-roll-Statement _ _ _ _ _ _ _ _ _ _ _ _ _ _ _ _ _)) c.1

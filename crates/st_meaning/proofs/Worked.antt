@@ -11,10 +11,11 @@ use Rattle.st_types.specs.Compositions.{Composition, elementary, array, composed
 use Rattle.st_types.specs.Initials.{zero_of}
 use Rattle.st_types.specs.declared.standard.StandardBlock.TheVariants as blocks
 use Rattle.st_meaning.specs.Meaning.{Values, value_of}
-use Rattle.st_meaning.specs.Operations.{gives, stops, stop}
-use Rattle.st_meaning.specs.Statements.{Outcome, Setting, done, returned, faulted, command_meaning}
-use Rattle.st_meaning.specs.Terms.{Term, constant, stored, binary, no_terms, more_terms, Parts, whole, field_part, element_part, Command, assign, cases, count_loop, while_loop, invoke, exit, finish, Moves, no_moves, more_moves, no_commands, more_commands, no_cases, more_cases}
+use Rattle.st_meaning.specs.Operations.{gives, stops, Stop, stop}
+use Rattle.st_meaning.specs.Statements.{Outcome, Setting, done, returned, faulted, command_meaning, commands_meaning}
+use Rattle.st_meaning.specs.Terms.{Term, constant, stored, binary, no_terms, more_terms, Parts, whole, field_part, element_part, Command, assign, cases, count_loop, while_loop, invoke, enter, exit, finish, Moves, no_moves, more_moves, Commands, no_commands, more_commands, no_cases, more_cases}
 use Rattle.st_meaning.specs.Typing.{joined, literal, pin_of, place_typed}
+use Rattle.st_meaning.specs.declared.fault.RunFaultKind.{RunFaultKind}
 use Rattle.st_meaning.specs.declared.fault.RunFaultKind.TheVariants as faults
 use Rattle.st_meaning.specs.declared.operation.Binary.TheVariants as binaries
 
@@ -202,6 +203,144 @@ invocation_takes_two_steps : command_meaning timers (at (pos 1000)) (timer divid
     (timed (pos 0) (pos 0) (pos 0) (pos 0) (pos 0) (pos 0) (pos 0) (pos 0)) 1
     ≡ faulted (stop faults.StepLimit 1)
 invocation_takes_two_steps = refl
+
+-- ---- invocations of function blocks of the text (3.3.2.2)
+
+-- FUNCTION_BLOCK COUNTER VAR_INPUT BY : INT; END_VAR VAR_OUTPUT N : INT; END_VAR: the unit with the number 3
+abbrev counter : Composition
+counter =
+    composed (codes "COUNTER")
+    (member (codes "BY") var_kinds.Input (elementary (zero_of elems.Int)) (member (codes "N") var_kinds.Output (elementary (zero_of elems.Int)) none)) []
+
+-- VAR X : INT; C : COUNTER; Y : INT; END_VAR
+abbrev counting : Composition
+counting =
+    composed (codes "PROGRAM")
+    (member (codes "X") var_kinds.Internal (elementary (zero_of elems.Int))
+    (member (codes "C") var_kinds.Internal counter (member (codes "Y") var_kinds.Internal (elementary (zero_of elems.Int)) none)))
+    []
+
+-- X, the leaves of C, and Y
+abbrev counted : (x by n y : ℤ) → Values
+counted x by n y = of elems.Int x ∷ of elems.Int by ∷ of elems.Int n ∷ of elems.Int y ∷ []
+
+abbrev counts_by : Parts
+counts_by = field_part (codes "BY") whole
+
+abbrev counted_so_far : Parts
+counted_so_far = field_part (codes "N") whole
+
+-- in the body of COUNTER, on this line: N := N + t
+abbrev add : ℕ → Term → Command
+add line t = assign line counted_so_far (binary (binaries.Operator operators.Add) line (stored counted_so_far) t)
+
+abbrev count_one : Commands
+count_one = more_commands (add 11 (int (pos 1))) no_commands
+
+abbrev one_command : Command → Commands
+one_command c = more_commands c no_commands
+
+-- C(..) on line 1, where this is the body of COUNTER
+abbrev enter_counter : Commands → Moves → Moves → Command
+enter_counter body inputs outputs = enter 1 (codes "C") 3 body inputs outputs
+
+abbrev in_counter : List ℕ → Parts
+in_counter name = pin_of (codes "c") name
+
+-- N => Y
+abbrev to_y : Moves
+to_y = more_moves y (stored (in_counter (codes "N"))) no_moves
+
+-- a fault in the unit of this number
+abbrev stop_in : ℕ → RunFaultKind → ℕ → Stop
+stop_in number kind line = record { kind = kind; line = line; unit = Some number }
+
+-- C(); C(); where the body is N := N + 1: an instance keeps its values, and each invocation takes two steps beside those of the body.
+counted_twice : commands_meaning counting (at (pos 0)) (more_commands (enter_counter count_one no_moves no_moves) (one_command (enter_counter count_one no_moves no_moves)))
+    (counted (pos 7) (pos 0) (pos 0) (pos 8)) 100
+    ≡ done (counted (pos 7) (pos 0) (pos 2) (pos 8)) 94
+counted_twice = refl
+
+-- In C(BY := X, N => Y), where the body is N := N + BY, the body sees the new BY, and Y gets the new N.
+input_before_output_after : command_meaning counting (at (pos 0))
+    (enter_counter (one_command (add 11 (stored counts_by))) (more_moves (in_counter (codes "BY")) (stored x) no_moves) to_y)
+    (counted (pos 5) (pos 0) (pos 2) (pos 0)) 100
+    ≡ done (counted (pos 5) (pos 5) (pos 7) (pos 7)) 97
+input_before_output_after = refl
+
+-- An N that is forced stays as it is in N := N + 1; BY := N; and Y gets it.
+forced_inside_stays : command_meaning counting (record { now = pos 0; forced = false ∷ false ∷ true ∷ [] })
+    (enter_counter (more_commands (add 11 (int (pos 1))) (one_command (assign 12 counts_by (stored counted_so_far)))) no_moves to_y)
+    (counted (pos 0) (pos 0) (pos 2) (pos 0)) 100
+    ≡ done (counted (pos 0) (pos 2) (pos 2) (pos 2)) 96
+forced_inside_stays = refl
+
+-- C(N => Y); X := 1; where the body is N := N + 1; RETURN; N := 10; : RETURN ends the body alone.
+abbrev returning : Commands
+returning = more_commands (add 11 (int (pos 1))) (more_commands (finish 12) (one_command (assign 13 counted_so_far (int (pos 10)))))
+
+return_ends_the_body : commands_meaning counting (at (pos 0)) (more_commands (enter_counter returning no_moves to_y) (one_command (assign 2 x (int (pos 1)))))
+    (counted (pos 0) (pos 0) (pos 2) (pos 0)) 100
+    ≡ done (counted (pos 1) (pos 0) (pos 3) (pos 3)) 95
+return_ends_the_body = refl
+
+-- N := 1 / BY
+abbrev dividing : Commands
+dividing = one_command (assign 11 counted_so_far (binary (binaries.Operator operators.Div) 12 (int (pos 1)) (stored counts_by)))
+
+-- A fault in the body is in COUNTER,
+fault_in_the_body : command_meaning counting (at (pos 0)) (enter_counter dividing no_moves no_moves) (counted (pos 0) (pos 0) (pos 0) (pos 0)) 100
+    ≡ faulted (stop_in 3 faults.ZeroDivisor 12)
+fault_in_the_body = refl
+
+-- but one in C(BY := 1 / X) isn't.
+fault_in_an_input : command_meaning counting (at (pos 0))
+    (enter_counter dividing (more_moves (in_counter (codes "BY")) (binary (binaries.Operator operators.Div) 1 (int (pos 1)) (stored x)) no_moves) no_moves)
+    (counted (pos 0) (pos 0) (pos 0) (pos 0)) 100
+    ≡ faulted (stop faults.ZeroDivisor 1)
+fault_in_an_input = refl
+
+-- Three steps are as many as C() with one statement in its body takes. With two the run stops in the body, with less on the line of C().
+invocation_takes_three : command_meaning counting (at (pos 0)) (enter_counter count_one no_moves no_moves) (counted (pos 0) (pos 0) (pos 0) (pos 0)) 3
+    ≡ done (counted (pos 0) (pos 0) (pos 1) (pos 0)) 0
+invocation_takes_three = refl
+
+limit_in_the_body : command_meaning counting (at (pos 0)) (enter_counter count_one no_moves no_moves) (counted (pos 0) (pos 0) (pos 0) (pos 0)) 2
+    ≡ faulted (stop_in 3 faults.StepLimit 11)
+limit_in_the_body = refl
+
+limit_at_the_invocation : command_meaning counting (at (pos 0)) (enter_counter count_one no_moves no_moves) (counted (pos 0) (pos 0) (pos 0) (pos 0)) 1
+    ≡ faulted (stop faults.StepLimit 1)
+limit_at_the_invocation = refl
+
+limit_before_the_invocation : command_meaning counting (at (pos 0)) (enter_counter count_one no_moves no_moves) (counted (pos 0) (pos 0) (pos 0) (pos 0)) 0
+    ≡ faulted (stop faults.StepLimit 1)
+limit_before_the_invocation = refl
+
+-- FUNCTION_BLOCK OUTER VAR C : COUNTER; END_VAR, the unit with the number 4; VAR O : OUTER; END_VAR
+abbrev nested : Composition
+nested =
+    composed (codes "PROGRAM")
+    (member (codes "O") var_kinds.Internal (composed (codes "OUTER") (member (codes "C") var_kinds.Internal counter none) []) none)
+    []
+
+-- O(), where this is the body of COUNTER, and that of OUTER is C();
+abbrev both_enter : Commands → Command
+both_enter body = enter 2 (codes "O") 4 (one_command (enter_counter body no_moves no_moves)) no_moves no_moves
+
+-- the leaves of O, which are those of its C
+abbrev nested_values : (by n : ℤ) → Values
+nested_values by n = of elems.Int by ∷ of elems.Int n ∷ []
+
+counted_in_both : command_meaning nested (at (pos 0)) (both_enter count_one) (nested_values (pos 0) (pos 0)) 100 ≡ done (nested_values (pos 0) (pos 1)) 95
+counted_in_both = refl
+
+-- A fault is in the innermost unit: in COUNTER, or, where the steps end on the line of its invocation, in OUTER.
+innermost_has_the_fault : command_meaning nested (at (pos 0)) (both_enter dividing) (nested_values (pos 0) (pos 0)) 100 ≡ faulted (stop_in 3 faults.ZeroDivisor 12)
+innermost_has_the_fault = refl
+
+limit_in_outer : command_meaning nested (at (pos 0)) (both_enter count_one) (nested_values (pos 0) (pos 0)) 3 ≡ faulted (stop_in 4 faults.StepLimit 1)
+limit_in_outer = refl
 
 -- ---- subscripts (2.4.1.2)
 

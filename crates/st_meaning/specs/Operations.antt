@@ -1,5 +1,5 @@
 -- What an expression does with the values of its operands.
-use Rattle.std.specs.Prelude.{ℕ, Bool, true, false, Result, Ok, Err}
+use Rattle.std.specs.Prelude.{ℕ, Bool, true, false, Option, None, Result, Ok, Err}
 use Rattle.st_values.specs.declared.elem.Elem.{Elem}
 use Rattle.st_values.specs.declared.value.Value.{Value}
 use Rattle.st_operators.specs.Functions.{absolute_of, converted_to, greatest_of, least_of, places_of, rotated_left_by, rotated_right_by, shifted_left_by, shifted_right_by}
@@ -12,13 +12,14 @@ use Rattle.st_meaning.specs.declared.operation.Binary.TheVariants as binaries
 use Rattle.st_meaning.specs.declared.operation.Unary.{Unary}
 use Rattle.st_meaning.specs.declared.operation.Unary.TheVariants as unaries
 
--- what stops a run, and the line
+-- what stops a run, and the line. It is in the body that runs, or in that of the unit of this number, which it invoked.
 pub record Stop : Type 0 where
   pub kind : RunFaultKind
   pub line : ℕ
+  pub unit : Option ℕ
 
 abbrev pub stop : RunFaultKind → ℕ → Stop
-stop kind line = record { kind = kind; line = line }
+stop kind line = record { kind = kind; line = line; unit = None }
 
 -- something, or what stopped the run
 pub data Answer (A : Type 0) : Type 0 where

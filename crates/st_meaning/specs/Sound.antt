@@ -14,7 +14,7 @@ use Rattle.st_leaves.specs.Selected.{selected_by}
 use Rattle.st_operators.specs.Laws.{IsOf}
 use Rattle.st_meaning.specs.Meaning.{Values, leaf_with, no_value}
 use Rattle.st_meaning.specs.Operations.{binary_type, has_count, takes_one, takes_two, unary_type}
-use Rattle.st_meaning.specs.Terms.{Term, constant, stored, unary, binary, selection, Terms, no_terms, more_terms, Parts, whole, field_part, element_part, LabelRange, Command, nothing, assign, choice, cases, count_loop, while_loop, repeat_loop, invoke, exit, finish, Moves, no_moves, more_moves, Commands, no_commands, more_commands, Branches, no_branches, more_branches, Cases, no_cases, more_cases}
+use Rattle.st_meaning.specs.Terms.{Term, constant, stored, unary, binary, selection, Terms, no_terms, more_terms, Parts, whole, field_part, element_part, LabelRange, Command, nothing, assign, choice, cases, count_loop, while_loop, repeat_loop, invoke, enter, exit, finish, Moves, no_moves, more_moves, Commands, no_commands, more_commands, Branches, no_branches, more_branches, Cases, no_cases, more_cases}
 use Rattle.st_meaning.specs.Wholes.{type_of}
 
 -- the type of the value of a term
@@ -94,6 +94,7 @@ abbrev mutual
   IsSoundCommand root (while_loop line t cs) = IsSoundTerm root t × AreSoundCommands root cs
   IsSoundCommand root (repeat_loop line cs t) = AreSoundCommands root cs × IsSoundTerm root t
   IsSoundCommand root (invoke line name b inputs outputs) = IsInvocation root name b inputs outputs
+  IsSoundCommand root (enter line name unit body inputs outputs) = AreSoundMoves root inputs × AreSoundCommands (selected_by root name) body × AreSoundMoves root outputs
   IsSoundCommand root (exit line) = Unit {0}
   IsSoundCommand root (finish line) = Unit {0}
 

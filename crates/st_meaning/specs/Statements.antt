@@ -1,15 +1,16 @@
 -- What statements do (3.3.2): from the values of variables, the forced leaves and the steps left, to new values and the steps that
 -- are left then, or to what stops the run.
-use Rattle.std.specs.Prelude.{ℕ, zero, suc, ◌+◌, Bool, true, false, ◌&&◌, ◌||◌, if◌then◌else◌, ℤ, pos, negsuc, ◌+ℤ◌, int_le, List, [], ◌∷◌, ◌++◌, drop, length, take}
+use Rattle.std.specs.Prelude.{ℕ, zero, suc, ◌+◌, Bool, true, false, ◌&&◌, ◌||◌, if◌then◌else◌, ℤ, pos, negsuc, ◌+ℤ◌, int_le, List, [], ◌∷◌, ◌++◌, drop, length, take, Option, Some, None}
 use Rattle.st_values.specs.declared.value.Value.{Value}
 use Rattle.st_types.specs.Compositions.{Composition, standard}
 use Rattle.st_types.specs.declared.standard.StandardBlock.{StandardBlock}
 use Rattle.st_leaves.specs.Places.{count}
+use Rattle.st_leaves.specs.Selected.{selected_by}
 use Rattle.st_blocks.specs.Steps.{stepped}
 use Rattle.st_meaning.specs.Meaning.{Values, located, stored_at, value_of}
 use Rattle.st_meaning.specs.Offsets.{offset_of}
 use Rattle.st_meaning.specs.Operations.{Answer, gives, stops, Stop, stop}
-use Rattle.st_meaning.specs.Terms.{LabelRange, Command, nothing, assign, choice, cases, count_loop, while_loop, repeat_loop, invoke, exit, finish, Moves, no_moves, more_moves, Commands, no_commands, more_commands, Branches, no_branches, more_branches, Cases, no_cases, more_cases}
+use Rattle.st_meaning.specs.Terms.{LabelRange, Command, nothing, assign, choice, cases, count_loop, while_loop, repeat_loop, invoke, enter, exit, finish, Moves, no_moves, more_moves, Commands, no_commands, more_commands, Branches, no_branches, more_branches, Cases, no_cases, more_cases}
 use Rattle.st_meaning.specs.declared.fault.RunFaultKind.TheVariants as faults
 
 -- what a run is given beside the values: the moment, in milliseconds, and which leaves are forced
@@ -111,6 +112,40 @@ block_done setting b offset values =
     let old = stretch values offset (count (standard b)) in
     with_stretch values offset (unless_forced (drop offset setting.forced) old (stepped b old setting.now))
 
+-- ---- invocations of function blocks of the text: the body runs on the values of the instance
+
+-- the same moment, and which of the leaves from this one on are forced
+abbrev pub setting_from : ℕ → Setting → Setting
+setting_from offset setting = record { now = setting.now; forced = drop offset setting.forced }
+
+-- RETURN ends the body, and so would an EXIT that stands in no loop, which no program that keeps the rules has.
+abbrev pub ended : Outcome → Outcome
+ended (done values left) = done values left
+ended (exited values left) = done values left
+ended (returned values left) = done values left
+ended (faulted f) = faulted f
+
+-- a fault is in the unit of this number, or in one that its body invoked
+abbrev pub unit_or : ℕ → Option ℕ → ℕ
+unit_or unit None = unit
+unit_or unit (Some other) = other
+
+abbrev pub in_unit : ℕ → Stop → Stop
+in_unit unit f = record { kind = f.kind; line = f.line; unit = Some (unit_or unit f.unit) }
+
+-- what the body of this unit leaves of an instance stands among the values from its first leaf on
+abbrev pub left_by : ℕ → ℕ → Values → Outcome → Outcome
+left_by unit offset values (done part left) = done (with_stretch values offset part) left
+left_by unit offset values (exited part left) = exited (with_stretch values offset part) left
+left_by unit offset values (returned part left) = returned (with_stretch values offset part) left
+left_by unit offset values (faulted f) = faulted (in_unit unit f)
+
+-- what the body of a unit, which does this, does to an instance of it
+abbrev pub instance_meaning : Composition → Setting → List ℕ → ℕ → (Setting → Values → ℕ → Outcome) → Values → ℕ → Outcome
+instance_meaning root setting name unit body values left =
+    let offset = offset_of root name in
+    left_by unit offset values (ended (body (setting_from offset setting) (stretch values offset (count (selected_by root name))) left))
+
 -- ---- statements
 
 -- this number as a value of the type that the other one has
@@ -146,6 +181,11 @@ abbrev mutual
   command_meaning root setting (invoke line name b inputs outputs) values left =
       after_step line left (λ m. after_step line m (λ n.
       then_do (moves_meaning root setting inputs values n) (λ others k. moves_meaning root setting outputs (block_done setting b (offset_of root name) others) k)))
+  -- Its inputs are stored one after the other, its body runs, and its outputs are assigned. It takes the same steps.
+  command_meaning root setting (enter line name unit body inputs outputs) values left =
+      after_step line left (λ m. after_step line m (λ n.
+      then_do (moves_meaning root setting inputs values n) (λ others k.
+      then_do (instance_meaning root setting name unit (λ within part i. commands_meaning (selected_by root name) within body part i) others k) (λ them j. moves_meaning root setting outputs them j))))
   command_meaning root setting (exit line) values left = after_step line left (λ n. exited values n)
   command_meaning root setting (finish line) values left = after_step line left (λ n. returned values n)
 
@@ -164,13 +204,6 @@ abbrev mutual
   cases_meaning root setting no_cases others i values left = others values left
   cases_meaning root setting (more_cases labels cs more) others i values left =
       if has_label labels i then commands_meaning root setting cs values left else cases_meaning root setting more others i values left
-
--- RETURN ends the body, and so would an EXIT that stands in no loop, which no program that keeps the rules has.
-abbrev pub ended : Outcome → Outcome
-ended (done values left) = done values left
-ended (exited values left) = done values left
-ended (returned values left) = done values left
-ended (faulted f) = faulted f
 
 -- a body
 abbrev pub body_meaning : Composition → Setting → Commands → Values → ℕ → Outcome

@@ -55,6 +55,9 @@ mutual
     -- an invocation of a standard function block (3.3.2.2): the name of the instance, what its inputs are given, and what its outputs
     -- are assigned to
     invoke : ℕ → List ℕ → StandardBlock → Moves → Moves → Command
+    -- an invocation of a function block of the text: the name of the instance, the number of its unit, what the body of that unit is,
+    -- what its inputs are given, and what its outputs are assigned to
+    enter : ℕ → List ℕ → ℕ → Commands → Moves → Moves → Command
     exit : ℕ → Command
     finish : ℕ → Command
 

@@ -31,8 +31,8 @@ use Rattle.st_types.specs.declared.standard.StandardFunction.{StandardFunction}
 use Rattle.st_types.specs.declared.standard.StandardFunction.TheVariants as functions
 use Rattle.st_leaves.specs.Selected.{selected_by}
 use Rattle.st_meaning.specs.Operations.{takes_one, takes_two}
-use Rattle.st_meaning.specs.Terms.{Term, constant, stored, unary, binary, selection, Terms, no_terms, more_terms, Parts, whole, field_part, element_part, LabelRange, Command, nothing, assign, choice, cases, count_loop, while_loop, repeat_loop, invoke, exit, finish, Moves, no_moves, more_moves, Commands, no_commands, more_commands, Branches, no_branches, more_branches, Cases, no_cases, more_cases}
-use Rattle.st_meaning.specs.Wholes.{Whole, block_of, type_of}
+use Rattle.st_meaning.specs.Terms.{Term, constant, stored, unary, binary, selection, Terms, no_terms, more_terms, Parts, whole, field_part, element_part, LabelRange, Command, nothing, assign, choice, cases, count_loop, while_loop, repeat_loop, invoke, enter, exit, finish, Moves, no_moves, more_moves, Commands, no_commands, more_commands, Branches, no_branches, more_branches, Cases, no_cases, more_cases}
+use Rattle.st_meaning.specs.Wholes.{Invoked, Whole, block_of, type_of}
 use Rattle.st_meaning.specs.declared.operation.Binary.{Binary}
 use Rattle.st_meaning.specs.declared.operation.Binary.TheVariants as binaries
 use Rattle.st_meaning.specs.declared.operation.Unary.{Unary}
@@ -231,7 +231,7 @@ abbrev pub for_command : Whole → ℕ → Parts → Option Elem → Expression 
 for_command w line ps None first last step cs = nothing line
 for_command w line ps (Some e) first last step cs = count_loop line ps ((typed w first).as_type e) ((typed w last).as_type e) (step_typed w step e) cs
 
--- ---- invocations of standard function blocks (3.3.2.2): arguments are inputs with `:=` and outputs with `=>`
+-- ---- invocations of function blocks (3.3.2.2): arguments are inputs with `:=` and outputs with `=>`
 
 -- an input or an output of an instance
 abbrev pub pin_of : List ℕ → List ℕ → Parts
@@ -263,8 +263,14 @@ abbrev pub outputs_of : Whole → List ℕ → List Argument → Moves
 outputs_of w name [] = no_moves
 outputs_of w name (a ∷ more) = output_of w name (out-Argument a) (outputs_of w name more)
 
+-- of an instance of a function block of the text
+abbrev pub entrance : Whole → ℕ → List ℕ → Option Invoked → List Argument → Command
+entrance w line name None xs = nothing line
+entrance w line name (Some unit) xs = enter line name unit.number unit.body (inputs_of w name xs) (outputs_of w name xs)
+
+-- of an instance of a standard function block
 abbrev pub invocation : Whole → ℕ → List ℕ → Option StandardBlock → List Argument → Command
-invocation w line name None xs = nothing line
+invocation w line name None xs = entrance w line name (w.invoked (selected_by w.variables name)) xs
 invocation w line name (Some b) xs = invoke line name b (inputs_of w name xs) (outputs_of w name xs)
 
 -- a call statement

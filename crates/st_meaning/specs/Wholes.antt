@@ -7,12 +7,19 @@ use Rattle.st_types.specs.Compositions.{Composition, elementary, standard, compo
 use Rattle.st_types.specs.Names.{Declared, Declares, Named, variables_in}
 use Rattle.st_types.specs.declared.standard.StandardBlock.{StandardBlock}
 use Rattle.st_leaves.specs.Selected.{element_of, selected_by, takes_subscripts, value_type}
-use Rattle.st_meaning.specs.Terms.{Parts, whole, field_part, element_part, how_many}
+use Rattle.st_meaning.specs.Terms.{Commands, Parts, whole, field_part, element_part, how_many}
 
--- the variables of a unit, as what they consist of, and the values of its constants
+-- a unit whose instances are invoked: its number, and what its body is
+pub record Invoked : Type 0 where
+  pub number : ℕ
+  pub body : Commands
+
+-- the variables of a unit, as what they consist of, the values of its constants, and the function block of the text that something is
+-- an instance of
 pub record Whole : Type 0 where
   pub variables : Composition
   pub constants : List ℕ → Option Value
+  pub invoked : Composition → Option Invoked
 
 abbrev pub constant_value : Composition → Option Value
 constant_value (elementary v) = Some v
@@ -27,6 +34,7 @@ unfoldable pub whole_of : List Named → Declares → Whole
 whole_of units unit = record {
   variables = composition_of units unit;
   constants = constant_among (declared_composition units (composition_within units (suc (length units)))) (variables_in unit);
+  invoked = λ c. None;
 }
 
 -- the elementary type of a place in something, where it has one

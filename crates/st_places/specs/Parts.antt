@@ -84,7 +84,7 @@ is_array _ = false
 -- ---- units
 
 abbrev pub optional_whole : List Named → Option Named → Whole
-optional_whole units None = record { variables = unknown; constants = λ name. None }
+optional_whole units None = record { variables = unknown; constants = λ name. None; invoked = λ c. None }
 optional_whole units (Some u) = whole_of units u.declares
 
 -- what the names in the statements of the unit of this number stand for
