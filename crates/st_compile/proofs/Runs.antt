@@ -14,7 +14,8 @@ use Rattle.st_values.specs.declared.elem.Elem.TheVariants as elems
 use Rattle.st_values.specs.declared.value.Value.{Value}
 use Rattle.st_code.specs.Code.{Line, body_code}
 use Rattle.st_code.specs.Correct.{CodeDoesAsCommandsMean, DepthIsAtMostTheLength, DoesAs}
-use Rattle.st_code.specs.Machine.{Reaches, state}
+use Rattle.st_code.specs.Invocations.{TypingInvokesBodies}
+use Rattle.st_code.specs.Machine.{Environment, Reaches, state}
 use Rattle.st_meaning.specs.Laws.{CommandsKeepTheFrame, KeepsFrame, StaysInFrame, TypingGivesSoundCommands}
 use Rattle.st_meaning.specs.Meaning.{Values, no_value}
 use Rattle.st_meaning.specs.Operations.{stop}
@@ -26,6 +27,7 @@ use Rattle.st_meaning.specs.Typing.{body_of}
 use Rattle.st_meaning.specs.Wholes.{whole_of}
 use Rattle.st_meaning.specs.declared.fault.RunFault.{RunFault}
 use Rattle.st_meaning.specs.declared.fault.RunFaultKind.{RunFaultKind}
+use Rattle.st_machine.specs.Running.{no_units}
 use Rattle.st_compile.specs.Depths.{statements_depth}
 use Rattle.st_compile.specs.Programs.{HasRoom, main_unit, name_in, optional_code, optional_depth, optional_result, program_code, program_depth, program_name, result_in, RunsKeepTheFrame, scan_result, statements_of, unit_code, unit_meaning}
 use Rattle.st_compile.proofs.BodyDepths.{body_deep}
@@ -59,10 +61,14 @@ name_of_main program u main = sym (ap name_in main)
 
 -- ---- its code
 
-module _ (does : CodeDoesAsCommandsMean) (depth : DepthIsAtMostTheLength) (sound : TypingGivesSoundCommands) (small : CheckedIsSmall) where
+-- a run at this moment, without units
+abbrev pub alone : Setting → Environment
+alone setting = record { setting = setting; bodies = no_units }
+
+module _ (does : CodeDoesAsCommandsMean) (depth : DepthIsAtMostTheLength) (sound : TypingGivesSoundCommands) (small : CheckedIsSmall) (calls : TypingInvokesBodies) where
   unit_reaches : (program : ProgramView) → IsChecked program → (u : Named) → main_unit program ≡ Some u → (setting : Setting) (values : Values) (limit room : ℕ)
       → IsTrue (in_range elems.Time setting.now) → IsSound (program_leaves (units_of (text_of program)) u) → AllZip IsValueOf (program_leaves (units_of (text_of program)) u) values → min (statements_depth (statements_of u.declares)) (length (unit_code (units_of (text_of program)) u.declares)) ≤ room
-      → Reaches setting room (unit_code (units_of (text_of program)) u.declares) (unit_meaning (units_of (text_of program)) u.declares setting values limit) (state 0 [] values limit)
+      → Reaches (alone setting) room (unit_code (units_of (text_of program)) u.declares) (unit_meaning (units_of (text_of program)) u.declares setting values limit) (state 0 [] values limit)
   unfolding whole_of
   unit_reaches program checked u main setting values limit room moment leaves h enough =
       let units = units_of (text_of program) in
@@ -72,18 +78,18 @@ module _ (does : CodeDoesAsCommandsMean) (depth : DepthIsAtMostTheLength) (sound
       let fits : IsSmall w.variables = record { bounds = few.bounds; few = few.few } in
       let deep = depth w.variables body in
       (does w.variables body room fits (places_have_one_leaf units u leaves) (sound units u.declares (statements_of u.declares)) (omega (arith, deep, body_deep w (statements_of u.declares), enough))).same
-      setting values limit moment (values_of_root units u values h)
+      (alone setting) values limit moment (calls w no_units (λ c unit is. cc) (statements_of u.declares)) (values_of_root units u values h)
 
   pub program_reaches : (program : ProgramView) (checked : IsChecked program) → (stack : List ℤ × ℕ) → HasRoom program stack → (setting : Setting) (values : Values) (limit : ℕ)
       → IsTrue (in_range elems.Time setting.now) → IsSound (leaves_of_program program) → AllZip IsValueOf (leaves_of_program program) values
-      → Reaches setting stack.1 (program_code program) (unit_meaning (units_of (text_of program)) checked.unit.declares setting values limit) (state 0 [] values limit)
+      → Reaches (alone setting) stack.1 (program_code program) (unit_meaning (units_of (text_of program)) checked.unit.declares setting values limit) (state 0 [] values limit)
   unfolding program_code program_depth leaves_of_program HasRoom
   program_reaches program checked stack room setting values limit moment are_sound h =
       let units = units_of (text_of program) in
       let code : optional_code units (main_unit program) ≡ unit_code units checked.unit.declares = ap (optional_code units) checked.found in
       let leaves : optional_leaves units (main_unit program) ≡ program_leaves units checked.unit = ap (optional_leaves units) checked.found in
       let depth_is : optional_depth (main_unit program) ≡ statements_depth (statements_of checked.unit.declares) = ap optional_depth checked.found in
-      subst (λ lines. Reaches setting stack.1 lines (unit_meaning units checked.unit.declares setting values limit) (state 0 [] values limit)) (sym code)
+      subst (λ lines. Reaches (alone setting) stack.1 lines (unit_meaning units checked.unit.declares setting values limit) (state 0 [] values limit)) (sym code)
       (unit_reaches program checked checked.unit checked.found setting values limit stack.1 moment (subst (λ ls. IsSound ls) leaves are_sound) (subst (λ ls. AllZip IsValueOf ls values) leaves h) (subst (λ lines. min (statements_depth (statements_of checked.unit.declares)) (length lines) ≤ stack.1) code (subst (λ n. min n (length (program_code program)) ≤ stack.1) depth_is room)))
 
 pub room_kept : (program : ProgramView) (stack other : List ℤ × ℕ) → other.1 ≡ stack.1 → HasRoom program stack → HasRoom program other
@@ -97,13 +103,13 @@ room_made program n is = omega (arith, is)
 -- ---- its result
 
 pub result_of : (program : ProgramView) (checked : IsChecked program) (setting : Setting) (values : Values) (limit : ℕ)
-    → scan_result program setting values limit ≡ result_in checked.unit.name.spelling (unit_meaning (units_of (text_of program)) checked.unit.declares setting values limit)
+    → scan_result program setting values limit ≡ result_in (units_of (text_of program)) checked.unit.name.spelling (unit_meaning (units_of (text_of program)) checked.unit.declares setting values limit)
 unfolding scan_result
 result_of program checked setting values limit = ap (λ u. optional_result (units_of (text_of program)) u setting values limit) checked.found
 
 pub result_done : (program : ProgramView) (checked : IsChecked program) (setting : Setting) (values others : Values) (limit left : ℕ)
     → unit_meaning (units_of (text_of program)) checked.unit.declares setting values limit ≡ done others left → scan_result program setting values limit ≡ Ok others
-result_done program checked setting values others limit left is = result_of program checked setting values limit ∙ ap (result_in checked.unit.name.spelling) is
+result_done program checked setting values others limit left is = result_of program checked setting values limit ∙ ap (result_in (units_of (text_of program)) checked.unit.name.spelling) is
 
 pub result_faulted : (program : ProgramView) (checked : IsChecked program) (setting : Setting) (values : Values) (limit : ℕ) (kind : RunFaultKind) (line : ℕ)
     → unit_meaning (units_of (text_of program)) checked.unit.declares setting values limit ≡ faulted (stop kind line)
@@ -111,19 +117,19 @@ pub result_faulted : (program : ProgramView) (checked : IsChecked program) (sett
 unfolding program_name
 result_faulted program checked setting values limit kind line is =
     let name : checked.unit.name.spelling ≡ name_in (main_unit program) = sym (ap name_in checked.found) in
-    result_of program checked setting values limit ∙ ap (result_in checked.unit.name.spelling) is ∙ ap (λ n. Err (record { kind = kind; unit = n; line = line })) name
+    result_of program checked setting values limit ∙ ap (result_in (units_of (text_of program)) checked.unit.name.spelling) is ∙ ap (λ n. Err (record { kind = kind; unit = n; line = line })) name
 
 -- ---- the frame
 
 abbrev Keeps : Composition → List Bool → Values → Values → Type 0
 Keeps root forced values others = AreValuesOf root others × ((n : ℕ) → get_or forced n false ≡ true → get_or others n no_value ≡ get_or values n no_value)
 
-keeps_by : (root : Composition) (forced : List Bool) (values others : Values) (limit : ℕ) (name : List ℕ) (o : Outcome) → StaysInFrame root forced values limit o → result_in name (ended o) ≡ Ok others
+keeps_by : (root : Composition) (forced : List Bool) (values others : Values) (limit : ℕ) (units : List Named) (name : List ℕ) (o : Outcome) → StaysInFrame root forced values limit o → result_in units name (ended o) ≡ Ok others
     → Keeps root forced values others
-keeps_by root forced values others limit name (done ws left) h is = let same : ws ≡ others = cc in subst (Keeps root forced values) same (h.all, h.kept)
-keeps_by root forced values others limit name (exited ws left) h is = let same : ws ≡ others = cc in subst (Keeps root forced values) same (h.all, h.kept)
-keeps_by root forced values others limit name (returned ws left) h is = let same : ws ≡ others = cc in subst (Keeps root forced values) same (h.all, h.kept)
-keeps_by root forced values others limit name (faulted f) h is = absurd cc
+keeps_by root forced values others limit units name (done ws left) h is = let same : ws ≡ others = cc in subst (Keeps root forced values) same (h.all, h.kept)
+keeps_by root forced values others limit units name (exited ws left) h is = let same : ws ≡ others = cc in subst (Keeps root forced values) same (h.all, h.kept)
+keeps_by root forced values others limit units name (returned ws left) h is = let same : ws ≡ others = cc in subst (Keeps root forced values) same (h.all, h.kept)
+keeps_by root forced values others limit units name (faulted f) h is = absurd cc
 
 module _ (frame : CommandsKeepTheFrame) (sound : TypingGivesSoundCommands) where
   -- of one unit, or of none
@@ -137,7 +143,7 @@ module _ (frame : CommandsKeepTheFrame) (sound : TypingGivesSoundCommands) where
   optional_keeps units (Some u) setting values others limit moment leaves h is =
       let w = whole_of units u.declares in
       let body = body_of w (statements_of u.declares) in
-      let kept = keeps_by w.variables setting.forced values others limit u.name.spelling (commands_meaning w.variables setting body values limit)
+      let kept = keeps_by w.variables setting.forced values others limit units u.name.spelling (commands_meaning w.variables setting body values limit)
       (frame w.variables setting body values limit moment (places_have_one_leaf units u leaves) (values_of_root units u values h) (sound units u.declares (statements_of u.declares))) is in
       (values_of_program units u others kept.0, kept.1)
 

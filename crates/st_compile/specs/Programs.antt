@@ -51,16 +51,21 @@ abbrev pub unit_meaning : List Named → Declares → Setting → Values → ℕ
 unit_meaning units unit setting values left =
     body_meaning (whole_of units unit).variables setting (body_of (whole_of units unit) (statements_of unit)) values left
 
--- the values, or the fault in a unit of this name
-abbrev pub result_in : List ℕ → Outcome → Result Values RunFault
-result_in name (done values left) = Ok values
-result_in name (exited values left) = Ok values
-result_in name (returned values left) = Ok values
-result_in name (faulted f) = Err (record { kind = f.kind; unit = name; line = f.line })
+-- the name of the unit that a fault is in, as it is declared: the one of this number, which the body invoked, or else its own
+abbrev pub faulty_unit : List Named → List ℕ → Option ℕ → List ℕ
+faulty_unit units name None = name
+faulty_unit units name (Some number) = name_in (unit_at units number)
+
+-- the values, or the fault, where the body is that of a unit of this name
+abbrev pub result_in : List Named → List ℕ → Outcome → Result Values RunFault
+result_in units name (done values left) = Ok values
+result_in units name (exited values left) = Ok values
+result_in units name (returned values left) = Ok values
+result_in units name (faulted f) = Err (record { kind = f.kind; unit = faulty_unit units name f.unit; line = f.line })
 
 abbrev pub optional_result : List Named → Option Named → Setting → Values → ℕ → Result Values RunFault
 optional_result units None setting values left = Ok values
-optional_result units (Some unit) setting values left = result_in unit.name.spelling (unit_meaning units unit.declares setting values left)
+optional_result units (Some unit) setting values left = result_in units unit.name.spelling (unit_meaning units unit.declares setting values left)
 
 -- what the program makes of the values in which the inputs are stored, at this moment, where these leaves are forced and so many
 -- steps are allowed: new values, or a fault

@@ -7,7 +7,7 @@ ghost use Rattle.st_compile.specs.Programs.{HasRoom, scan_result};
 
 use crate::image::Image;
 use st_check::checked_program_is_small;
-use st_code::{code_does_as_commands_mean, depth_is_at_most_the_length};
+use st_code::{code_does_as_commands_mean, depth_is_at_most_the_length, typing_invokes_bodies};
 use st_layout::Memory;
 use st_machine::{Stack, run_fused};
 use st_meaning::{RunFault, typing_gives_sound_commands};
@@ -35,6 +35,7 @@ pub fn run<M: Memory>(
     typing_gives_sound_commands();
     code_does_as_commands_mean();
     depth_is_at_most_the_length();
+    typing_invokes_bodies();
     let _main = image.program().main();
     let _leaves = image.layout().len();
     match run_fused(image.code(), memory, image.layout(), stack, now, limit) {

@@ -8,4 +8,5 @@ pub mod Readiness
 pub mod Stores
 pub mod Stretches
 pub mod Turns
+pub mod Units
 pub mod Way

@@ -5,7 +5,7 @@ ghost use Rattle.st_code.specs.Machine.{act, has_leaves};
 ghost use Rattle.st_code.specs.declared.instr.Instr.{Instr};
 ghost use Rattle.st_layout.specs.Memory.{Content};
 ghost use Rattle.st_machine.specs.Ready.{FitFrom};
-ghost use Rattle.st_machine.specs.Running.{moved, setting_at};
+ghost use Rattle.st_machine.specs.Running.{environment_at, moved, setting_at};
 ghost use Rattle.st_meaning.specs.Statements.{block_done, stretch, unless_forced, with_stretch};
 
 use crate::leaves::store_value;
@@ -34,7 +34,7 @@ pub fn invoke<M: Memory>(
     requires ready { IsTrue (has_leaves (M.content layout.now memory.old).values block leaf) }
     ensures over { M.IsOver layout.now memory.new }
     ensures forced { (M.content layout.now memory.new).forced ≡ (M.content layout.now memory.old).forced }
-    ensures does { (room line place left : ℕ) (stack : List ℤ) → act (setting_at now (M.content layout.now memory.old).forced) room (Instr.Invoke block leaf) line place stack (M.content layout.now memory.old).values left ≡ moved result line place stack (M.content layout.now memory.new).values left }
+    ensures does { (room line place left : ℕ) (stack : List ℤ) → act (environment_at now (M.content layout.now memory.old).forced) room (Instr.Invoke block leaf) line place stack (M.content layout.now memory.old).values left ≡ moved result line place stack (M.content layout.now memory.new).values left }
 {
     let mut cells = [EMPTY; MOST_LEAVES];
     do_block(

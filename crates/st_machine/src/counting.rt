@@ -4,7 +4,7 @@ ghost use Rattle.st_code.specs.declared.instr.Instr.{Instr};
 ghost use Rattle.st_layout.specs.Memory.{Content};
 ghost use Rattle.st_meaning.specs.Statements.{goes_on};
 ghost use Rattle.st_machine.specs.Ready.{can_begin, can_go_next, can_test, has_three, next_cell, next_of};
-ghost use Rattle.st_machine.specs.Running.{Counts, DoesWith, moved, setting_at};
+ghost use Rattle.st_machine.specs.Running.{Counts, DoesWith, environment_at, moved};
 ghost use Rattle.st_code.specs.Machine.{act, number_in};
 
 use crate::cells::{cell_of, number_in};
@@ -211,7 +211,7 @@ pub fn go_next<M: Memory>(
     requires ready { IsTrue (can_go_next elem leaf stack.old.0 (M.content layout.now memory.old).values left.old) }
     ensures over { M.IsOver layout.now memory.new }
     ensures forced { (M.content layout.now memory.new).forced ≡ (M.content layout.now memory.old).forced }
-    ensures does { (moment : ℤ) (line place : ℕ) → act (setting_at moment (M.content layout.now memory.old).forced) stack.old.1 (Instr.Next elem leaf distance) line place stack.old.0 (M.content layout.now memory.old).values left.old ≡ moved result line place stack.new.0 (M.content layout.now memory.new).values left.new }
+    ensures does { (moment : ℤ) (line place : ℕ) → act (environment_at moment (M.content layout.now memory.old).forced) stack.old.1 (Instr.Next elem leaf distance) line place stack.old.0 (M.content layout.now memory.old).values left.old ≡ moved result line place stack.new.0 (M.content layout.now memory.new).values left.new }
     ensures room { stack.new.1 ≡ stack.old.1 }
 {
     if *left == 0 {

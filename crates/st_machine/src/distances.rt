@@ -34,12 +34,28 @@ pub fn add(stack: &mut Stack) -> Move
 }
 
 /// How far a subscript lies behind the lower bound, where that is at most the last distance.
-#[inline]
+#[inline(always)]
 fn far_in(elem: Elem, subscript: i64, low: i64, last: u16) -> Option<u16>
     ensures { result ≡ far_in (number_in elem subscript -ℤ low) last }
 {
+    if elem.is_signed() || subscript >= 0 {
+        return near_in(subscript, low, last);
+    }
     let far = behind(elem, subscript, low);
     if far < 0 || far > i128::from(last) {
+        None
+    } else {
+        Some(far as u16)
+    }
+}
+
+/// The same of numbers of 64 bits.
+#[inline(always)]
+fn near_in(subscript: i64, low: i64, last: u16) -> Option<u16>
+    ensures { result ≡ far_in (subscript -ℤ low) last }
+{
+    let far = subscript.abs_diff(low);
+    if subscript < low || far > u64::from(last) {
         None
     } else {
         Some(far as u16)
@@ -75,6 +91,7 @@ fn push_sum(stack: &mut Stack, more: u64, distance: u64)
 }
 
 /// Does `Index`.
+#[inline(always)]
 pub fn index(stack: &mut Stack, elem: Elem, last: u16, stride: u32, low: i64) -> Move
     requires { IsTrue (can_index elem last stride low stack.old.0) }
     ensures does { Does (Instr.Index elem last stride low) result stack.old.1 stack.old.0 stack.new.0 }

@@ -19,5 +19,5 @@ mod stack;
 mod transfers;
 
 pub use looping::run_fused;
-pub use run::{Halt, run_code};
+pub use run::Halt;
 pub use stack::Stack;

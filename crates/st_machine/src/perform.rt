@@ -3,7 +3,7 @@ ghost use Rattle.std.specs.Prelude.{◌≡◌, ◌≤◌, ℕ, length, IsTrue};
 ghost use Rattle.st_code.specs.Machine.{act};
 ghost use Rattle.st_layout.specs.Memory.{Content};
 ghost use Rattle.st_machine.specs.Ready.{is_ready};
-ghost use Rattle.st_machine.specs.Running.{moved, setting_at};
+ghost use Rattle.st_machine.specs.Running.{environment_at, moved};
 
 use crate::blocks::invoke;
 use crate::counting::{begin, go_back, go_next, step, test};
@@ -32,7 +32,7 @@ pub fn perform<M: Memory>(
     requires ready { IsTrue (is_ready stack.old.1 instr.now stack.old.0 (M.content layout.now memory.old).values left.old) }
     ensures over { M.IsOver layout.now memory.new }
     ensures forced { (M.content layout.now memory.new).forced ≡ (M.content layout.now memory.old).forced }
-    ensures does { (line place : ℕ) → act (setting_at now (M.content layout.now memory.old).forced) stack.old.1 instr.now line place stack.old.0 (M.content layout.now memory.old).values left.old ≡ moved result line place stack.new.0 (M.content layout.now memory.new).values left.new }
+    ensures does { (line place : ℕ) → act (environment_at now (M.content layout.now memory.old).forced) stack.old.1 instr.now line place stack.old.0 (M.content layout.now memory.old).values left.old ≡ moved result line place stack.new.0 (M.content layout.now memory.new).values left.new }
     ensures room { stack.new.1 ≡ stack.old.1 }
 {
     match *instr {
@@ -61,5 +61,7 @@ pub fn perform<M: Memory>(
         }
         Instr::Leave => leave(stack),
         Instr::Invoke(block, leaf) => invoke(memory, layout, block, leaf, now),
+        // no code that runs has it yet
+        Instr::Enter(_unit, _leaf) => Move::On,
     }
 }

@@ -24,6 +24,7 @@ pub fn leaf_behind(leaf: u32, cell: i64) -> u32
 }
 
 /// Does `Get`.
+#[inline(always)]
 pub fn get<M: Memory>(memory: &M, layout: &Layout, stack: &mut Stack, leaf: u32) -> Move
     requires over { M.IsOver layout.now memory.now }
     requires there { leaf < length (M.content layout.now memory.now).values }
@@ -36,6 +37,7 @@ pub fn get<M: Memory>(memory: &M, layout: &Layout, stack: &mut Stack, leaf: u32)
 }
 
 /// Does `GetAt`.
+#[inline(always)]
 pub fn get_at<M: Memory>(memory: &M, layout: &Layout, stack: &mut Stack, leaf: u32) -> Move
     requires over { M.IsOver layout.now memory.now }
     requires few { length (M.content layout.now memory.now).values ≤ 65536 }
@@ -49,6 +51,7 @@ pub fn get_at<M: Memory>(memory: &M, layout: &Layout, stack: &mut Stack, leaf: u
 }
 
 /// Does `Put`.
+#[inline(always)]
 pub fn put<M: Memory>(
     memory: &mut M,
     layout: &Layout,
@@ -69,6 +72,7 @@ pub fn put<M: Memory>(
 }
 
 /// Does `PutAt`.
+#[inline(always)]
 pub fn put_at<M: Memory>(
     memory: &mut M,
     layout: &Layout,

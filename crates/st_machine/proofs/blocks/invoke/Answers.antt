@@ -1,6 +1,6 @@
 use Rattle.std.proofs.Common.{rules, w64}
 use Rattle.std.proofs.lemmas.Int.{to_z-of_z}
-use Rattle.st_machine.specs.Running.{setting_at}
+use Rattle.st_machine.specs.Running.{environment_at}
 use Rattle.st_machine.proofs.Invocations.{invoke_goes}
 use Rattle.st_machine.proofs.blocks.invoke.Goals as goal
 
@@ -8,4 +8,4 @@ pub returns-clause-does : goal.returns-clause-does
 returns-clause-does g c =
     let content = g.M.Memory.content c.args.layout.now c.args.memory.now in
     let values = rw (to_z-of_z w64 c.args.now (search rules)) at c.do_block.ensures.values in
-    invoke_goes (setting_at c.args.now content.forced) c.args.block c.args.leaf content.values _ c.requires.ready values
+    invoke_goes (environment_at c.args.now content.forced) c.args.block c.args.leaf content.values _ c.requires.ready values
