@@ -4,6 +4,8 @@ ghost use Rattle.st_check.specs.Programs.{leaves_of_program};
 ghost use Rattle.st_compile.specs.Plain.{is_plain};
 ghost use Rattle.st_compile.specs.Programs.{HasRoom, program_code, program_depth, program_name};
 
+mod apart;
+
 use crate::making::made_of;
 use st_check::Program;
 use st_fused::Fused;

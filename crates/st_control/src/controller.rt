@@ -13,6 +13,8 @@ ghost use Rattle.st_check.specs.Programs.{text_of};
 ghost use Rattle.st_tree.specs.declared.tree.unit.Unit.{Unit as ProgramUnit};
 ghost use Rattle.st_values.specs.Values.{IsValue};
 
+mod apart;
+
 use crate::changing::{Counts, raised};
 use crate::image::load_image;
 use crate::record::Record;

@@ -5,6 +5,8 @@ ghost use Rattle.st_leaves.specs.Sound.{IsValueOf};
 ghost use Rattle.st_layout.specs.Layout.{IsOpenAt, IsValueAt, is_open};
 ghost use Rattle.st_layout.specs.Memory.{forced_at, value_at};
 
+mod apart;
+
 use crate::record::Record;
 use crate::refusal::{
     IS_FORCED, NO_SUCH_PATH, NOT_FORCED, NOT_OF_TYPE, NOT_OPEN, Refusal, UNDO_FULL,
