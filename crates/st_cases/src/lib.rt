@@ -28,6 +28,8 @@ mod refused_texts;
 #[cfg(test)]
 mod run_block_leaves;
 #[cfg(test)]
+mod run_blocks;
+#[cfg(test)]
 mod run_counters;
 #[cfg(test)]
 mod run_functions;

@@ -635,8 +635,9 @@ PROGRAM Main VAR A : INT := 3; END_VAR A := Square(A); END_PROGRAM
 = ok kept 1 dropped 0 new 0
 = ok
 = Main.A = 9
-# an invocation of a function block of the text
-FUNCTION_BLOCK Half VAR_INPUT X : INT; END_VAR VAR_OUTPUT Y : INT; END_VAR Y := X / 2; END_FUNCTION_BLOCK
+# a function block of the text whose body calls a function of it
+FUNCTION One : INT One := 1; END_FUNCTION
+FUNCTION_BLOCK Half VAR_INPUT X : INT; END_VAR VAR_OUTPUT Y : INT; END_VAR Y := X / 2 + One(); END_FUNCTION_BLOCK
 PROGRAM Main VAR H : Half; A : INT := 6; END_VAR H(X := A, Y => A); END_PROGRAM
 ? scan 10
 ? show Main.H.X
@@ -646,10 +647,9 @@ PROGRAM Main VAR H : Half; A : INT := 6; END_VAR H(X := A, Y => A); END_PROGRAM
 = running 0 forces 0 undo 0
 # nothing of a program runs where one part of it doesn't, however deep that stands
 FUNCTION One : INT One := 1; END_FUNCTION
-FUNCTION_BLOCK Half VAR_INPUT X : INT; END_VAR VAR_OUTPUT Y : INT; END_VAR Y := X / 2; END_FUNCTION_BLOCK
-PROGRAM Main VAR T1 : TON; H : Half; A : INT; R : ARRAY [1..2] OF BOOL; END_VAR
+PROGRAM Main VAR T1 : TON; A : INT; R : ARRAY [1..2] OF BOOL; END_VAR
 T1(IN := TRUE, PT := T#1s);
-IF FALSE THEN CASE A OF 1: ; ELSE H(X := 1); END_CASE; END_IF;
+IF FALSE THEN CASE A OF 1: ; ELSE A := One(); END_CASE; END_IF;
 END_PROGRAM
 ? scan 0
 ? change
@@ -668,7 +668,7 @@ END_PROGRAM
 ? scan 0
 ? show Main.R[1]
 = refused O10
-= ok kept 9 dropped 2 new 0
+= ok kept 9 dropped 0 new 0
 = refused O10
 = ok kept 9 dropped 0 new 0
 = refused O10

@@ -1,8 +1,8 @@
-mod Apart
+pub mod Apart
 mod Checked
 mod Cyclic
 mod Deciding
-mod DistinctNames
+pub mod DistinctNames
 mod Firsts
 mod Kept
 mod Named
@@ -10,9 +10,9 @@ mod NamesStored
 mod Passing
 mod ShortRanges
 mod ShortSubscripts
-mod ShortUnits
-mod Small
+pub mod ShortUnits
+pub mod Small
 mod SoundLeaves
 mod Thinned
-mod UnitsApart
-mod UnitsShort
+pub mod UnitsApart
+pub mod UnitsShort

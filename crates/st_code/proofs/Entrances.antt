@@ -10,7 +10,8 @@ use Rattle.st_leaves.specs.Selected.{element_of, selected_by, subscripts_of}
 use Rattle.st_meaning.specs.Sound.{is_fixed, term_type}
 use Rattle.st_meaning.specs.Terms.{Term, constant, stored, unary, binary, selection, Terms, no_terms, more_terms, Parts, whole, field_part, element_part, LabelRange, Command, nothing, assign, choice, cases, count_loop, while_loop, repeat_loop, invoke, enter, exit, finish, Moves, no_moves, more_moves, Commands, no_commands, more_commands, Branches, no_branches, more_branches, Cases, no_cases, more_cases}
 use Rattle.st_code.specs.Code.{Line, added, branch_code, branches_code, case_test, cases_code, command_code, commands_code, index_code, labels_code, moves_code, parts_code, plain, store_code, term_code, terms_code, types_in}
-use Rattle.st_code.specs.Entrances.{BranchesInvokeWhere, CasesInvokeWhere, CodeEntersWhatIsInvoked, CommandInvokesWhere, EntersWhere, InstanceTest, InvokeWhere}
+use Rattle.st_code.specs.Entrances.{CodeEntersWhatIsInvoked, EntersWhere, InstanceTest, InvokeWhere, IsInvokedWhere}
+use Rattle.st_code.specs.Invocations.{BranchesInvoke, CasesInvoke, CommandInvokes}
 use Rattle.st_code.specs.declared.instr.Instr.TheVariants.{Drop}
 
 module _ (test : InstanceTest) where
@@ -85,7 +86,7 @@ module _ (test : InstanceTest) where
         both (condition ++ (plain _ ++ (body ++ plain _))) rest (both condition _ h (tt, both body _ k (tt, tt))) more
 
     mutual
-      command_each : (c : Command) (out end : ℕ) → CommandInvokesWhere root test c → Each (command_code root c out end)
+      command_each : (c : Command) (out end : ℕ) → CommandInvokes (IsInvokedWhere root test) c → Each (command_code root c out end)
       command_each (nothing line) out end h = (tt, tt)
       command_each (assign line ps t) out end h = (tt, move_each ps t)
       command_each (choice line bs others) out end h = (tt, branches_each bs (commands_code root others out end) out end h.0 (commands_each others out end h.1))
@@ -117,7 +118,7 @@ module _ (test : InstanceTest) where
           let rest = commands_code root cs out end in
           both (command_code root c (length rest + out) (length rest + end)) rest (command_each c (length rest + out) (length rest + end) h.0) (commands_each cs out end h.1)
 
-      branches_each : (bs : Branches) (others : List Line) (out end : ℕ) → BranchesInvokeWhere root test bs → Each others
+      branches_each : (bs : Branches) (others : List Line) (out end : ℕ) → BranchesInvoke (IsInvokedWhere root test) bs → Each others
           → Each (branches_code root bs others out end)
       branches_each no_branches others out end h k = k
       branches_each (more_branches t cs bs) others out end h k =
@@ -125,7 +126,7 @@ module _ (test : InstanceTest) where
           branch_each (term_code root t) (commands_code root cs (1 + length rest + out) (1 + length rest + end)) rest (term_each t)
           (commands_each cs (1 + length rest + out) (1 + length rest + end) h.0) (branches_each bs others out end h.1 k)
 
-      cases_each : (e : Elem) (cs : Cases) (others : List Line) (out end : ℕ) → CasesInvokeWhere root test cs → Each others
+      cases_each : (e : Elem) (cs : Cases) (others : List Line) (out end : ℕ) → CasesInvoke (IsInvokedWhere root test) cs → Each others
           → Each (cases_code root e cs others out end)
       cases_each e no_cases others out end h k = k
       cases_each e (more_cases labels cs more) others out end h k =

@@ -5,6 +5,7 @@ pub mod Depths
 pub mod Entering
 pub mod Entrances
 pub mod Expressions
+pub mod Instances
 pub mod Lengths
 pub mod Loops
 pub mod Moves

@@ -15,7 +15,7 @@ use Rattle.st_meaning.specs.Terms.{Term, Parts, Command, nothing, assign, choice
 use Rattle.st_code.specs.Code.{Line, at, base_of, body_code, branches_code, case_test, cases_code, cell_of, command_code, commands_code, plain, repeat_code, term_code, while_code}
 use Rattle.st_code.specs.Correct.{CodeDoesAsCommandsMean}
 use Rattle.st_code.specs.Depth.{branches_depth, cases_depth, command_depth, commands_depth}
-use Rattle.st_code.specs.Invocations.{BranchesInvokeAs, CasesInvokeAs, CommandInvokesAs, InvokesAs}
+use Rattle.st_code.specs.Invocations.{BranchesInvoke, CasesInvoke, CommandInvokes, InvokesAs, IsInvokedAs}
 use Rattle.st_code.specs.Machine.{State, ends_here, next_at, state, truth_of}
 use Rattle.st_code.specs.declared.instr.Instr.TheVariants.{Drop, GoOn, Step}
 use Rattle.st_code.proofs.Cells.{nonzero_cell}
@@ -74,7 +74,7 @@ module _ (w : World) where
 
   mutual
     command_runs : (c : Command) (pc out last : ℕ) (stack : List ℤ) → HasAt w.code pc (command_code w.root c out last) → IsSoundCommand w.root c
-        → CommandInvokesAs w.root w.env.bodies c → length stack + command_depth c ≤ w.room → (values : Values) (left : ℕ) → AreValuesOf w.root values
+        → CommandInvokes (IsInvokedAs w.root w.env.bodies) c → length stack + command_depth c ≤ w.room → (values : Values) (left : ℕ) → AreValuesOf w.root values
         → Runs w (state pc stack values left) (pc + length (command_code w.root c out last)) out last stack left
         (command_meaning w.root w.env.setting c values left)
     command_runs (nothing line) pc out last stack has sound calls room values left ok =
@@ -178,7 +178,7 @@ module _ (w : World) where
         (commands_run cs (pc + length cc') out last stack (has_back w.code pc cc' cr has) sound.1 calls.1 (omega (arith, room)) others n fine))
 
     branches_run : (bs : Branches) (co : List Line) (other : Values → ℕ → Outcome) (pc out last : ℕ) (stack : List ℤ)
-        → HasAt w.code pc (branches_code w.root bs co out last) → AreSoundBranches w.root bs → BranchesInvokeAs w.root w.env.bodies bs
+        → HasAt w.code pc (branches_code w.root bs co out last) → AreSoundBranches w.root bs → BranchesInvoke (IsInvokedAs w.root w.env.bodies) bs
         → length stack + branches_depth bs ≤ w.room
         → (values : Values) (left : ℕ) → AreValuesOf w.root values
         → ((p : ℕ) → HasAt w.code p co → Runs w (state p stack values left) (p + length co) out last stack left (other values left))
@@ -199,7 +199,7 @@ module _ (w : World) where
 
     cases_run : (cs : Cases) (e : Elem) (co : List Line) (other : Values → ℕ → Outcome) (v : Value) (pc out last : ℕ) (stack : List ℤ) → IsOf e v
         → HasAt w.code pc (cases_code w.root e cs co out last) → AreSoundCases w.root e cs
-        → CasesInvokeAs w.root w.env.bodies cs → length stack + cases_depth cs ≤ w.room → (values : Values) (left : ℕ) → AreValuesOf w.root values
+        → CasesInvoke (IsInvokedAs w.root w.env.bodies) cs → length stack + cases_depth cs ≤ w.room → (values : Values) (left : ℕ) → AreValuesOf w.root values
         → ((p : ℕ) → HasAt w.code p co → Runs w (state p (cell_of v.bits ∷ stack) values left) (p + length co) out last stack left (other values left))
         → Runs w (state pc (cell_of v.bits ∷ stack) values left)
         (pc + length (cases_code w.root e cs co out last)) out last stack left (cases_meaning w.root w.env.setting cs other v.bits values left)

@@ -19,22 +19,22 @@ use Rattle.st_leaves.specs.Selected.{selected_by}
 use Rattle.st_meaning.specs.Terms.{Parts, whole, field_part, Command, Commands, Branches, Cases}
 use Rattle.st_meaning.specs.Typing.{Typed, assignment, body_of, branch_of, branches_of, call_command, case_of, cases_of, command_of, commands_of, entrance, for_command, invocation, place_of, typed}
 use Rattle.st_meaning.specs.Wholes.{Invoked, Whole, block_of, type_of}
-use Rattle.st_code.specs.Invocations.{BranchesInvokeAs, CasesInvokeAs, CommandInvokesAs, HasBodies, InvokesAs, TypingInvokesBodies}
-use Rattle.st_code.specs.Machine.{UnitBody}
+use Rattle.st_code.specs.Entrances.{IsInvokedWhere, TypingEntersInstances}
+use Rattle.st_code.specs.Invocations.{Asked, BranchesInvoke, CasesInvoke, CommandInvokes, Invoke, IsInvokedAs, TypingInvokesBodies}
 
-module _ (w : Whole) (bodies : ℕ → UnitBody) (are : HasBodies w bodies) where
+module _ (w : Whole) (asked : Asked) (are : (name : List ℕ) (unit : Invoked) → w.invoked name ≡ Some unit → asked name unit.number unit.body) where
   abbrev Invokes : Command → Type 0
-  Invokes = CommandInvokesAs w.variables bodies
+  Invokes = CommandInvokes asked
 
   -- ---- one statement
 
-  entrance_invokes : (line : ℕ) (name : List ℕ) (unit : Option Invoked) (xs : List Argument) → w.invoked (selected_by w.variables name) ≡ unit
+  entrance_invokes : (line : ℕ) (name : List ℕ) (unit : Option Invoked) (xs : List Argument) → w.invoked name ≡ unit
       → Invokes (entrance w line name unit xs)
   entrance_invokes line name None xs h = tt
   entrance_invokes line name (Some unit) xs h = are name unit h
 
   invocation_invokes : (line : ℕ) (name : List ℕ) (b : Option StandardBlock) (xs : List Argument) → Invokes (invocation w line name b xs)
-  invocation_invokes line name None xs = entrance_invokes line name (w.invoked (selected_by w.variables name)) xs refl
+  invocation_invokes line name None xs = entrance_invokes line name (w.invoked name) xs refl
   invocation_invokes line name (Some b) xs = tt
 
   call_invokes : (c : Call) → Invokes (call_command w c)
@@ -47,28 +47,28 @@ module _ (w : Whole) (bodies : ℕ → UnitBody) (are : HasBodies w bodies) wher
   assignment_invokes line ps (Some e) x = tt
 
   for_invokes : (line : ℕ) (ps : Parts) (e : Option Elem) (first last : Expression) (step : Option Expression) (cs : Commands)
-      → InvokesAs w.variables bodies cs → Invokes (for_command w line ps e first last step cs)
+      → Invoke asked cs → Invokes (for_command w line ps e first last step cs)
   for_invokes line ps None first last step cs calls = tt
   for_invokes line ps (Some e) first last step cs calls = calls
 
   -- ---- lists
 
-  each_command : (xs : List ((z : Statement) × Invokes (command_of w z))) → InvokesAs w.variables bodies (commands_of (map (command_of w) (map (λ e. e.0) xs)))
+  each_command : (xs : List ((z : Statement) × Invokes (command_of w z))) → Invoke asked (commands_of (map (command_of w) (map (λ e. e.0) xs)))
   each_command [] = tt
   each_command (x ∷ xs) = (x.1, each_command xs)
 
   -- a branch before others, and a case before others
   abbrev PartInvokes : ConditionalPart → Type 0
-  PartInvokes z = (bs : Branches) → BranchesInvokeAs w.variables bodies bs → BranchesInvokeAs w.variables bodies (branch_of w z bs)
+  PartInvokes z = (bs : Branches) → BranchesInvoke asked bs → BranchesInvoke asked (branch_of w z bs)
 
-  each_branch : (xs : List ((z : ConditionalPart) × PartInvokes z)) → BranchesInvokeAs w.variables bodies (branches_of (map (branch_of w) (map (λ e. e.0) xs)))
+  each_branch : (xs : List ((z : ConditionalPart) × PartInvokes z)) → BranchesInvoke asked (branches_of (map (branch_of w) (map (λ e. e.0) xs)))
   each_branch [] = tt
   each_branch (x ∷ xs) = x.1 (branches_of (map (branch_of w) (map (λ e. e.0) xs))) (each_branch xs)
 
   abbrev ElementInvokes : CaseElement → Type 0
-  ElementInvokes z = (e : Elem) (cs : Cases) → CasesInvokeAs w.variables bodies cs → CasesInvokeAs w.variables bodies (case_of w z e cs)
+  ElementInvokes z = (e : Elem) (cs : Cases) → CasesInvoke asked cs → CasesInvoke asked (case_of w z e cs)
 
-  each_case : (e : Elem) (xs : List ((z : CaseElement) × ElementInvokes z)) → CasesInvokeAs w.variables bodies (cases_of e (map (case_of w) (map (λ z. z.0) xs)))
+  each_case : (e : Elem) (xs : List ((z : CaseElement) × ElementInvokes z)) → CasesInvoke asked (cases_of e (map (case_of w) (map (λ z. z.0) xs)))
   each_case e [] = tt
   each_case e (x ∷ xs) = x.1 e (cases_of e (map (case_of w) (map (λ z. z.0) xs))) (each_case e xs)
 
@@ -129,10 +129,10 @@ module _ (w : Whole) (bodies : ℕ → UnitBody) (are : HasBodies w bodies) wher
   statement_made (Statement-F.Repeat c) = c.1
 
   element_made : (y : CaseElement-F InStatement InElement InCase InPart InFor InIf InRepeat InWhile) → ElementInvokes (roll-CaseElement (map-CaseElement _ _ _ _ _ _ _ _ Statement CaseElement CaseStatement ConditionalPart ForStatement IfStatement RepeatStatement WhileStatement (λ e. e.0) (λ e. e.0) (λ e. e.0) (λ e. e.0) (λ e. e.0) (λ e. e.0) (λ e. e.0) (λ e. e.0) y))
-  element_made y e cs h = subst (λ (f : Elem → Cases → Cases). CasesInvokeAs w.variables bodies (f e cs)) (sym (fold-roll-CaseElement _ _ _ _ _ _ _ _ _ _ _ _ _ _ _ _ _)) (each_command y.statements, h)
+  element_made y e cs h = subst (λ (f : Elem → Cases → Cases). CasesInvoke asked (f e cs)) (sym (fold-roll-CaseElement _ _ _ _ _ _ _ _ _ _ _ _ _ _ _ _ _)) (each_command y.statements, h)
 
   part_made : (y : ConditionalPart-F InStatement InElement InCase InPart InFor InIf InRepeat InWhile) → PartInvokes (roll-ConditionalPart (map-ConditionalPart _ _ _ _ _ _ _ _ Statement CaseElement CaseStatement ConditionalPart ForStatement IfStatement RepeatStatement WhileStatement (λ e. e.0) (λ e. e.0) (λ e. e.0) (λ e. e.0) (λ e. e.0) (λ e. e.0) (λ e. e.0) (λ e. e.0) y))
-  part_made y bs h = subst (λ (f : Branches → Branches). BranchesInvokeAs w.variables bodies (f bs)) (sym (fold-roll-ConditionalPart _ _ _ _ _ _ _ _ _ _ _ _ _ _ _ _ _)) (each_command y.statements, h)
+  part_made y bs h = subst (λ (f : Branches → Branches). BranchesInvoke asked (f bs)) (sym (fold-roll-ConditionalPart _ _ _ _ _ _ _ _ _ _ _ _ _ _ _ _ _)) (each_command y.statements, h)
 
   case_made : (y : CaseStatement-F InStatement InElement InCase InPart InFor InIf InRepeat InWhile) → CaseInvokes (roll-CaseStatement (map-CaseStatement _ _ _ _ _ _ _ _ Statement CaseElement CaseStatement ConditionalPart ForStatement IfStatement RepeatStatement WhileStatement (λ e. e.0) (λ e. e.0) (λ e. e.0) (λ e. e.0) (λ e. e.0) (λ e. e.0) (λ e. e.0) (λ e. e.0) y))
   case_made y =
@@ -178,9 +178,12 @@ module _ (w : Whole) (bodies : ℕ → UnitBody) (are : HasBodies w bodies) wher
       (λ x y is. subst (λ z. RepeatInvokes (roll-RepeatStatement z)) is (repeat_made y))
       (λ x y is. subst (λ z. WhileInvokes (roll-WhileStatement z)) is (while_made y))
 
-  body_invokes : (body : List Statement) → InvokesAs w.variables bodies (body_of w body)
+  body_invokes : (body : List Statement) → Invoke asked (body_of w body)
   body_invokes [] = tt
   body_invokes (x ∷ body) = (statement_invokes x, body_invokes body)
 
 pub typing_invokes_bodies : TypingInvokesBodies
-typing_invokes_bodies w bodies are body = body_invokes w bodies are body
+typing_invokes_bodies w bodies are body = body_invokes w (IsInvokedAs w.variables bodies) are body
+
+pub typing_enters_instances : TypingEntersInstances
+typing_enters_instances w test are body = body_invokes w (IsInvokedWhere w.variables test) are body

@@ -1,12 +1,21 @@
 -- Which instances code enters: those of the function blocks of the text that its commands invoke.
-use Rattle.std.specs.Prelude.{ℕ, Bool, IsTrue}
+use Rattle.std.specs.Prelude.{◌≡◌, ℕ, Bool, IsTrue, List, Option, Some, None}
 use Rattle.std.specs.List.{All}
+use Rattle.st_tree.specs.declared.tree.statement.Statement.{Statement}
 use Rattle.st_types.specs.Compositions.{Composition}
 use Rattle.st_meaning.specs.Offsets.{offset_of}
-use Rattle.st_meaning.specs.Terms.{Command, nothing, assign, choice, cases, count_loop, while_loop, repeat_loop, invoke, enter, exit, finish, Commands, no_commands, more_commands, Branches, no_branches, more_branches, Cases, no_cases, more_cases}
+use Rattle.st_meaning.specs.Terms.{Commands}
+use Rattle.st_meaning.specs.Typing.{body_of}
+use Rattle.st_meaning.specs.Wholes.{Invoked, Whole}
 use Rattle.st_code.specs.Code.{body_code}
+use Rattle.st_code.specs.Invocations.{Asked, Invoke}
 use Rattle.st_code.specs.declared.instr.Instr.{Instr}
 use Rattle.st_code.specs.declared.instr.Instr.TheVariants.{Enter}
+
+-- the instance that an instruction enters: the number of its unit, and its first leaf
+abbrev pub entrance_of : Instr → Option (ℕ × ℕ)
+entrance_of (Enter unit leaf) = Some (unit, leaf)
+entrance_of i = None
 
 -- the test is of a unit's number and the first leaf of an instance of it
 abbrev pub InstanceTest : Type 0
@@ -17,34 +26,22 @@ abbrev pub EntersWhere : InstanceTest → Instr → Type 0
 EntersWhere test (Enter unit leaf) = IsTrue (test unit leaf)
 EntersWhere test i = Unit {0}
 
--- The unit and the first leaf of each invocation in the commands pass the test. What the invoked body invokes is not asked here.
-abbrev mutual
-  pub CommandInvokesWhere : Composition → InstanceTest → Command → Type 0
-  CommandInvokesWhere root test (nothing line) = Unit {0}
-  CommandInvokesWhere root test (assign line ps t) = Unit {0}
-  CommandInvokesWhere root test (choice line bs others) = BranchesInvokeWhere root test bs × InvokeWhere root test others
-  CommandInvokesWhere root test (cases line t cs others) = CasesInvokeWhere root test cs × InvokeWhere root test others
-  CommandInvokesWhere root test (count_loop line ps a b c cs) = InvokeWhere root test cs
-  CommandInvokesWhere root test (while_loop line t cs) = InvokeWhere root test cs
-  CommandInvokesWhere root test (repeat_loop line cs t) = InvokeWhere root test cs
-  CommandInvokesWhere root test (invoke line name b inputs outputs) = Unit {0}
-  CommandInvokesWhere root test (enter line name unit body inputs outputs) = IsTrue (test unit (offset_of root name))
-  CommandInvokesWhere root test (exit line) = Unit {0}
-  CommandInvokesWhere root test (finish line) = Unit {0}
+-- the unit and the first leaf of the invoked instance pass the test
+abbrev pub IsInvokedWhere : Composition → InstanceTest → Asked
+IsInvokedWhere root test name unit body = IsTrue (test unit (offset_of root name))
 
-  pub InvokeWhere : Composition → InstanceTest → Commands → Type 0
-  InvokeWhere root test no_commands = Unit {0}
-  InvokeWhere root test (more_commands c cs) = CommandInvokesWhere root test c × InvokeWhere root test cs
-
-  pub BranchesInvokeWhere : Composition → InstanceTest → Branches → Type 0
-  BranchesInvokeWhere root test no_branches = Unit {0}
-  BranchesInvokeWhere root test (more_branches t cs bs) = InvokeWhere root test cs × BranchesInvokeWhere root test bs
-
-  pub CasesInvokeWhere : Composition → InstanceTest → Cases → Type 0
-  CasesInvokeWhere root test no_cases = Unit {0}
-  CasesInvokeWhere root test (more_cases labels cs more) = InvokeWhere root test cs × CasesInvokeWhere root test more
+abbrev pub InvokeWhere : Composition → InstanceTest → Commands → Type 0
+InvokeWhere root test cs = Invoke (IsInvokedWhere root test) cs
 
 -- the code of commands enters no instances but those that the commands invoke
 abbrev pub CodeEntersWhatIsInvoked : Type 0
 CodeEntersWhatIsInvoked = (root : Composition) (test : InstanceTest) (body : Commands) → InvokeWhere root test body
     → All (λ l. EntersWhere test l.instr) (body_code root body)
+
+-- all instances that names of the whole are pass the test
+abbrev pub HasEntrances : Whole → InstanceTest → Type 0
+HasEntrances w test = (name : List ℕ) (unit : Invoked) → w.invoked name ≡ Some unit → IsTrue (test unit.number (offset_of w.variables name))
+
+-- then what typing makes of statements invokes no others
+abbrev pub TypingEntersInstances : Type 0
+TypingEntersInstances = (w : Whole) (test : InstanceTest) → HasEntrances w test → (body : List Statement) → InvokeWhere w.variables test (body_of w body)

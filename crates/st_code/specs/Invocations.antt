@@ -21,37 +21,49 @@ pub record IsBodyOf (variables : Composition) (body : Commands) (made : UnitBody
   pub same : (setting : Setting) (values : Values) (left : ℕ) → IsTrue (in_range elems.Time setting.now) → AreValuesOf variables values
       → ended (made.run setting values left) ≡ body_meaning variables setting body values left
 
--- Each invocation in the commands is of a unit whose body does what the invocation means. What that body invokes is not asked here.
+-- what is asked of an invocation: the name of the instance, the number of its unit, and what the body of that unit is
+abbrev pub Asked : Type 1
+Asked = List ℕ → ℕ → Commands → Type 0
+
+-- it is so of each invocation in the commands. Of what the invoked bodies invoke it is not asked here.
 abbrev mutual
-  pub CommandInvokesAs : Composition → (ℕ → UnitBody) → Command → Type 0
-  CommandInvokesAs root bodies (nothing line) = Unit {0}
-  CommandInvokesAs root bodies (assign line ps t) = Unit {0}
-  CommandInvokesAs root bodies (choice line bs others) = BranchesInvokeAs root bodies bs × InvokesAs root bodies others
-  CommandInvokesAs root bodies (cases line t cs others) = CasesInvokeAs root bodies cs × InvokesAs root bodies others
-  CommandInvokesAs root bodies (count_loop line ps a b c cs) = InvokesAs root bodies cs
-  CommandInvokesAs root bodies (while_loop line t cs) = InvokesAs root bodies cs
-  CommandInvokesAs root bodies (repeat_loop line cs t) = InvokesAs root bodies cs
-  CommandInvokesAs root bodies (invoke line name b inputs outputs) = Unit {0}
-  CommandInvokesAs root bodies (enter line name unit body inputs outputs) = IsBodyOf (selected_by root name) body (bodies unit)
-  CommandInvokesAs root bodies (exit line) = Unit {0}
-  CommandInvokesAs root bodies (finish line) = Unit {0}
+  pub CommandInvokes : Asked → Command → Type 0
+  CommandInvokes asked (nothing line) = Unit {0}
+  CommandInvokes asked (assign line ps t) = Unit {0}
+  CommandInvokes asked (choice line bs others) = BranchesInvoke asked bs × Invoke asked others
+  CommandInvokes asked (cases line t cs others) = CasesInvoke asked cs × Invoke asked others
+  CommandInvokes asked (count_loop line ps a b c cs) = Invoke asked cs
+  CommandInvokes asked (while_loop line t cs) = Invoke asked cs
+  CommandInvokes asked (repeat_loop line cs t) = Invoke asked cs
+  CommandInvokes asked (invoke line name b inputs outputs) = Unit {0}
+  CommandInvokes asked (enter line name unit body inputs outputs) = asked name unit body
+  CommandInvokes asked (exit line) = Unit {0}
+  CommandInvokes asked (finish line) = Unit {0}
 
-  pub InvokesAs : Composition → (ℕ → UnitBody) → Commands → Type 0
-  InvokesAs root bodies no_commands = Unit {0}
-  InvokesAs root bodies (more_commands c cs) = CommandInvokesAs root bodies c × InvokesAs root bodies cs
+  pub Invoke : Asked → Commands → Type 0
+  Invoke asked no_commands = Unit {0}
+  Invoke asked (more_commands c cs) = CommandInvokes asked c × Invoke asked cs
 
-  pub BranchesInvokeAs : Composition → (ℕ → UnitBody) → Branches → Type 0
-  BranchesInvokeAs root bodies no_branches = Unit {0}
-  BranchesInvokeAs root bodies (more_branches t cs bs) = InvokesAs root bodies cs × BranchesInvokeAs root bodies bs
+  pub BranchesInvoke : Asked → Branches → Type 0
+  BranchesInvoke asked no_branches = Unit {0}
+  BranchesInvoke asked (more_branches t cs bs) = Invoke asked cs × BranchesInvoke asked bs
 
-  pub CasesInvokeAs : Composition → (ℕ → UnitBody) → Cases → Type 0
-  CasesInvokeAs root bodies no_cases = Unit {0}
-  CasesInvokeAs root bodies (more_cases labels cs more) = InvokesAs root bodies cs × CasesInvokeAs root bodies more
+  pub CasesInvoke : Asked → Cases → Type 0
+  CasesInvoke asked no_cases = Unit {0}
+  CasesInvoke asked (more_cases labels cs more) = Invoke asked cs × CasesInvoke asked more
+
+-- ---- what the invoked bodies do
+
+-- the body of the unit does what the invocation means
+abbrev pub IsInvokedAs : Composition → (ℕ → UnitBody) → Asked
+IsInvokedAs root bodies name unit body = IsBodyOf (selected_by root name) body (bodies unit)
+
+abbrev pub InvokesAs : Composition → (ℕ → UnitBody) → Commands → Type 0
+InvokesAs root bodies cs = Invoke (IsInvokedAs root bodies) cs
 
 -- among these are the bodies of all units whose instances names of the whole are
 abbrev pub HasBodies : Whole → (ℕ → UnitBody) → Type 0
-HasBodies w bodies = (name : List ℕ) (unit : Invoked) → w.invoked (selected_by w.variables name) ≡ Some unit
-    → IsBodyOf (selected_by w.variables name) unit.body (bodies unit.number)
+HasBodies w bodies = (name : List ℕ) (unit : Invoked) → w.invoked name ≡ Some unit → IsBodyOf (selected_by w.variables name) unit.body (bodies unit.number)
 
 -- then what typing makes of statements invokes no others
 abbrev pub TypingInvokesBodies : Type 0

@@ -1,23 +1,11 @@
 -- The leaves in the code of a unit are those of an instance of it, by their distance from its first leaf.
-use Rattle.std.specs.Prelude.{◌≡◌, ℕ, ◌+◌, ◌^◌, ◌≤◌, ◌<◌, ℤ, List, length}
+use Rattle.std.specs.Prelude.{◌≡◌, ℕ, ◌+◌, ◌≤◌, min, ℤ, List, [], length, map}
 use Rattle.st_meaning.specs.Meaning.{Values}
 use Rattle.st_meaning.specs.Statements.{Setting, Outcome, done, exited, returned, faulted, ended, setting_from, stretch, with_stretch}
-use Rattle.st_code.specs.Machine.{After, goes, ends, stuck, Environment, UnitBody, act, state}
+use Rattle.st_code.specs.Code.{Line}
+use Rattle.st_code.specs.Machine.{After, goes, ends, stuck, Environment, UnitBody, Reaches, act, state}
 use Rattle.st_code.specs.declared.instr.Instr.{Instr}
 use Rattle.st_code.specs.declared.instr.Instr.TheVariants.{Get, GetAt, Put, PutAt, Begin, Test, Next, Invoke, Enter}
-
--- the same instruction for an instance whose first leaf has this number
-abbrev pub from_leaf : ℕ → Instr → Instr
-from_leaf first (Get leaf) = Get (first + leaf)
-from_leaf first (GetAt leaf) = GetAt (first + leaf)
-from_leaf first (Put e leaf) = Put e (first + leaf)
-from_leaf first (PutAt e leaf) = PutAt e (first + leaf)
-from_leaf first (Begin e leaf) = Begin e (first + leaf)
-from_leaf first (Test e leaf distance) = Test e (first + leaf) distance
-from_leaf first (Next e leaf distance) = Next e (first + leaf) distance
-from_leaf first (Invoke b leaf) = Invoke b (first + leaf)
-from_leaf first (Enter unit leaf) = Enter unit (first + leaf)
-from_leaf first i = i
 
 -- the leaf in an instruction, and 0 where it has none
 abbrev pub leaf_in : Instr → ℕ
@@ -32,9 +20,26 @@ leaf_in (Invoke b leaf) = leaf
 leaf_in (Enter unit leaf) = leaf
 leaf_in i = 0
 
--- the leaf is still a number of 32 bits then
-abbrev pub StaysSmall : ℕ → Instr → Type 0
-StaysSmall first i = first + leaf_in i < 2 ^ 32
+-- the instruction with another leaf in its place
+abbrev pub with_leaf : Instr → ℕ → Instr
+with_leaf (Get leaf) n = Get n
+with_leaf (GetAt leaf) n = GetAt n
+with_leaf (Put e leaf) n = Put e n
+with_leaf (PutAt e leaf) n = PutAt e n
+with_leaf (Begin e leaf) n = Begin e n
+with_leaf (Test e leaf distance) n = Test e n distance
+with_leaf (Next e leaf distance) n = Next e n distance
+with_leaf (Invoke b leaf) n = Invoke b n
+with_leaf (Enter unit leaf) n = Enter unit n
+with_leaf i n = i
+
+-- the same instruction for an instance whose first leaf has this number
+abbrev pub from_leaf : ℕ → Instr → Instr
+from_leaf first i = with_leaf i (first + leaf_in i)
+
+-- the same, where a number that is too large for 32 bits is the greatest one that isn't
+abbrev pub clipped_from : ℕ → Instr → Instr
+clipped_from first i = with_leaf i (min (first + leaf_in i) 4294967295)
 
 -- ---- what an instruction does to the values of an instance, it does among all values
 
@@ -77,3 +82,24 @@ HasSoMany n stuck = Unit {0}
 abbrev pub InstructionsKeepLengths : Type 0
 InstructionsKeepLengths = (env : Environment) (room : ℕ) (i : Instr) (line place : ℕ) (stack : List ℤ) (values : Values) (left : ℕ) → KeepLengths env.bodies
     → HasSoMany (length values) (act env room i line place stack values left)
+
+-- ---- what a run does to the values of an instance, it does among all values
+
+-- the line for an instance whose first leaf has this number
+abbrev pub line_from : ℕ → Line → Line
+line_from first l = record { instr = from_leaf first l.instr; line = l.line }
+
+abbrev pub code_from : ℕ → List Line → List Line
+code_from first code = map (line_from first) code
+
+-- what a run leaves of a stretch of the values, among all of them
+abbrev pub among : Values → ℕ → Outcome → Outcome
+among values first (done part left) = done (with_stretch values first part) left
+among values first (exited part left) = exited (with_stretch values first part) left
+among values first (returned part left) = returned (with_stretch values first part) left
+among values first (faulted f) = faulted f
+
+abbrev pub RunsAreRelative : Type 0
+RunsAreRelative = (env : Environment) (room : ℕ) (code : List Line) (o : Outcome) (values : Values) (left first size : ℕ) → KeepLengths env.bodies
+    → first + size ≤ length values → Reaches (environment_from first env) room code o (state 0 [] (stretch values first size) left)
+    → Reaches env room (code_from first code) (among values first o) (state 0 [] values left)

@@ -1,6 +1,7 @@
 //! Instructions.
 ghost use Rattle.std.specs.Prelude.{◌≡◌};
-ghost use Rattle.st_code.specs.Relative.{StaysSmall, from_leaf};
+ghost use Rattle.st_code.specs.Entrances.{entrance_of};
+ghost use Rattle.st_code.specs.Relative.{clipped_from};
 
 use st_meaning::{Binary, Unary};
 use st_types::StandardBlock;
@@ -64,26 +65,38 @@ pub enum Instr {
     /// Does what one invocation of a standard function block does to its leaves, the first of which is this one.
     Invoke(StandardBlock, u32),
     /// Runs the body of the unit of this number on the values of an instance, the first leaf of which is this one.
-    Enter(u32, u32),
+    Enter(usize, u32),
 }
 
 impl Instr {
-    /// The same instruction for an instance whose first leaf has this number.
+    /// The same instruction for an instance whose first leaf has this number. A leaf's number stops at the greatest of its type, which
+    /// no leaf has.
+    #[inline(always)]
     pub fn from_leaf(self, first: u32) -> Instr
-        requires { StaysSmall first self }
-        ensures { result ≡ from_leaf first self }
+        ensures { result ≡ clipped_from first self }
     {
         match self {
-            Instr::Get(leaf) => Instr::Get(first + leaf),
-            Instr::GetAt(leaf) => Instr::GetAt(first + leaf),
-            Instr::Put(elem, leaf) => Instr::Put(elem, first + leaf),
-            Instr::PutAt(elem, leaf) => Instr::PutAt(elem, first + leaf),
-            Instr::Begin(elem, leaf) => Instr::Begin(elem, first + leaf),
-            Instr::Test(elem, leaf, distance) => Instr::Test(elem, first + leaf, distance),
-            Instr::Next(elem, leaf, distance) => Instr::Next(elem, first + leaf, distance),
-            Instr::Invoke(block, leaf) => Instr::Invoke(block, first + leaf),
-            Instr::Enter(unit, leaf) => Instr::Enter(unit, first + leaf),
+            Instr::Get(leaf) => Instr::Get(first.saturating_add(leaf)),
+            Instr::GetAt(leaf) => Instr::GetAt(first.saturating_add(leaf)),
+            Instr::Put(elem, leaf) => Instr::Put(elem, first.saturating_add(leaf)),
+            Instr::PutAt(elem, leaf) => Instr::PutAt(elem, first.saturating_add(leaf)),
+            Instr::Begin(elem, leaf) => Instr::Begin(elem, first.saturating_add(leaf)),
+            Instr::Test(elem, leaf, far) => Instr::Test(elem, first.saturating_add(leaf), far),
+            Instr::Next(elem, leaf, far) => Instr::Next(elem, first.saturating_add(leaf), far),
+            Instr::Invoke(block, leaf) => Instr::Invoke(block, first.saturating_add(leaf)),
+            Instr::Enter(unit, leaf) => Instr::Enter(unit, first.saturating_add(leaf)),
             other => other,
+        }
+    }
+
+    /// The instance that the instruction enters: the number of its unit, and its first leaf.
+    #[inline(always)]
+    pub fn entrance(&self) -> Option<(usize, u32)>
+        ensures { result ≡ entrance_of self.now }
+    {
+        match *self {
+            Instr::Enter(unit, leaf) => Some((unit, leaf)),
+            _ => None,
         }
     }
 }

@@ -1,8 +1,8 @@
 //! Laws of code.
 ghost use Rattle.st_code.specs.Correct.{CodeDoesAsCommandsMean, DepthIsAtMostTheLength};
-ghost use Rattle.st_code.specs.Entrances.{CodeEntersWhatIsInvoked};
+ghost use Rattle.st_code.specs.Entrances.{CodeEntersWhatIsInvoked, TypingEntersInstances};
 ghost use Rattle.st_code.specs.Invocations.{TypingInvokesBodies};
-ghost use Rattle.st_code.specs.Relative.{InstructionsAreRelative, InstructionsKeepLengths};
+ghost use Rattle.st_code.specs.Relative.{InstructionsAreRelative, InstructionsKeepLengths, RunsAreRelative};
 
 /// The code of sound commands does as they mean, at each moment and from all values, forces and steps left, on a stack with room for
 /// its depth, where the bodies of units do as the commands mean that invoke them. It is never stuck.
@@ -20,11 +20,22 @@ pub fn typing_invokes_bodies()
     ensures { TypingInvokesBodies }
 {}
 
+/// What typing makes of statements enters those instances alone that the names are: it passes each test that all of these pass.
+pub fn typing_enters_instances()
+    ensures { TypingEntersInstances }
+{}
+
 /// What an instruction does to the values of an instance, the same instruction from the first leaf of the instance on does among all
 /// values: nothing else changes there, it goes on at the same place with the same stack and steps left, and it ends at the same fault.
 /// This is not said of instructions that are stuck.
 pub fn instructions_are_relative()
     ensures { InstructionsAreRelative }
+{}
+
+/// A run over the values of an instance is one among all values, of the same code from the first leaf of the instance on: it leaves of
+/// the instance what the other leaves, and nothing else changes.
+pub fn runs_are_relative()
+    ensures { RunsAreRelative }
 {}
 
 /// After an instruction there are as many values as before, where each body leaves as many of an instance as it has leaves.

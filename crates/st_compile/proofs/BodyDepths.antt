@@ -1,5 +1,5 @@
 -- Trees need at least as many cells as what they are typed as: statements.
-use Rattle.std.proofs.Common.{◌≡◌, ℕ, ◌+◌, ◌≤◌, List, [], ◌∷◌, map, Option, Some, None, refl, subst, arith}
+use Rattle.std.proofs.Common.{ℕ, ◌+◌, ◌≤◌, List, [], ◌∷◌, map, Option, Some, None, subst, arith}
 use Rattle.std.specs.Prelude.{max}
 use Rattle.st_values.specs.declared.elem.Elem.{Elem}
 use Rattle.st_values.specs.declared.elem.Elem.TheVariants as elems
@@ -23,7 +23,7 @@ use Rattle.st_types.specs.OwnTypes.{or_lint}
 use Rattle.st_types.specs.declared.standard.StandardBlock.{StandardBlock}
 use Rattle.st_leaves.specs.Selected.{selected_by}
 use Rattle.st_meaning.specs.Terms.{Parts, whole, field_part, Command, choice, while_loop, repeat_loop, Moves, Branches, more_branches, Cases, more_cases}
-use Rattle.st_meaning.specs.Typing.{Typed, alone, assignment, branch_of, branches_of, call_command, case_command, case_of, cases_of, command_of, commands_of, condition, entrance, for_command, input_moves, input_of, inputs_of, invocation, label_range, output_moves, output_of, outputs_of, pin_of, place_of, place_typed, step_typed, typed, typed_statement}
+use Rattle.st_meaning.specs.Typing.{Typed, assignment, branch_of, branches_of, call_command, case_command, case_of, cases_of, command_of, commands_of, condition, entrance, for_command, input_moves, input_of, inputs_of, invocation, label_range, output_moves, output_of, outputs_of, pin_of, place_of, step_typed, typed, typed_statement}
 use Rattle.st_meaning.specs.Wholes.{Invoked, Whole, block_of, type_of}
 use Rattle.st_code.specs.Depth.{branches_depth, cases_depth, command_depth, commands_depth, moves_depth, parts_depth, term_depth}
 use Rattle.st_compile.specs.Depths.{branch_depth, case_depth, element_depth, expression_depth, for_depth, if_depth, invocation_depth, most, move_cells, move_depth, place_depth, repeat_depth, statement_depth, step_depth, while_depth}
@@ -108,7 +108,7 @@ module _ (w : Whole) where
   entrance_deep line name (Some unit) xs = omega (arith, inputs_deep name xs, outputs_deep name xs)
 
   invocation_deep : (line : ℕ) (name : List ℕ) (b : Option StandardBlock) (xs : List Argument) → command_depth (invocation w line name b xs) ≤ most (map move_depth xs)
-  invocation_deep line name None xs = entrance_deep line name (w.invoked (selected_by w.variables name)) xs
+  invocation_deep line name None xs = entrance_deep line name (w.invoked name) xs
   invocation_deep line name (Some b) xs = omega (arith, inputs_deep name xs, outputs_deep name xs)
 
   call_deep : (c : Call) → command_depth (call_command w c) ≤ invocation_depth c

@@ -1,49 +1,179 @@
--- The code of the main unit's body is that of the program; its statements tell whether it runs, and the room that it needs.
-use Rattle.std.proofs.Common.{◌≡◌, ℕ, List, refl, ap, sym, ◌∙◌, subst, ◌≤◌, length, Some, arith}
-use Rattle.std.specs.Prelude.{min}
+-- Units of a checked program by their numbers in the tables: what their names stand for, that they are small, and what is made of them.
+use Rattle.std.proofs.Common.{◌≡◌, ℕ, zero, suc, ◌<◌, ◌≤◌, true, false, ◌&&◌, ◌||◌, not, nat_le, List, [], ◌∷◌, codes, get_or, length, map, Option, Some, None, refl, ap, sym, ◌∙◌, subst, arith}
+use Rattle.std.specs.Prelude.{if◌then◌else◌, min}
+use Rattle.std.proofs.lemmas.Bool.{and_parts, leb-true}
+use Rattle.std.proofs.lemmas.List.{length-map}
+use Rattle.std.proofs.lemmas.Option.{same_Some}
+use Rattle.st_check.specs.Faults.{is_program}
 use Rattle.st_check.specs.Laws.{CheckedIsSmall}
 use Rattle.st_check.specs.Programs.{IsChecked, ProgramView, main_of, text_of}
 use Rattle.st_code.specs.Code.{body_code}
+use Rattle.st_leaves.specs.Bounds.{HasBounds}
+use Rattle.st_leaves.specs.Places.{count}
+use Rattle.st_machine.specs.Blocks.{Rooms}
 use Rattle.st_meaning.specs.Offsets.{IsSmall}
 use Rattle.st_meaning.specs.Typing.{body_of}
-use Rattle.st_meaning.specs.Wholes.{whole_of}
-use Rattle.st_places.specs.Parts.{TablesView, optional_whole, whole_in}
-use Rattle.st_tree.specs.declared.tree.statement.Statement.{Statement}
-use Rattle.st_types.specs.Names.{Named, unit_at, units_of}
+use Rattle.st_meaning.specs.Units.{root_name, root_of, statements_of, unit_whole}
+use Rattle.st_meaning.specs.Wholes.{Whole}
+use Rattle.st_places.specs.Laws.{UnitsAreSound}
+use Rattle.st_places.specs.Parts.{TablesView, is_block, is_small_block, is_small_block_in, optional_small_block, optional_whole, whole_in}
+use Rattle.st_types.proofs.Units.{unit_at-map}
+use Rattle.st_types.specs.Compositions.{composition_of, composition_within, unit_composition}
+use Rattle.st_types.specs.Inside.{named_by}
+use Rattle.st_types.specs.Names.{Declares, Named, unit_at, units_of}
+use Rattle.st_types.specs.Names as names
+use Rattle.st_types.specs.declared.unit.NamedUnit.{NamedUnit}
 use Rattle.st_compile.specs.Depths.{statements_depth}
-use Rattle.st_compile.specs.Plain.{blocks_in, is_plain, is_plain_optional_unit, is_plain_unit, stands_for_block}
-use Rattle.st_compile.specs.Programs.{main_unit, optional_code, optional_depth, program_code, program_depth, statements_of}
+use Rattle.st_compile.specs.Plain.{all, instances_at, is_plain, is_plain_block, is_plain_named, is_plain_optional_unit, is_plain_unit, stands_for_instance}
+use Rattle.st_compile.specs.Programs.{HasRoom, block_code, faulty, faulty_name, main_unit, name_in, optional_code, optional_depth, program_code, program_depth, program_depths, program_names, unit_code}
 
-module _ (program : ProgramView) (tables : TablesView) (main : ℕ) (text : tables.text ≡ text_of program) (is : main ≡ main_of program) (u : Named) (found : main_unit program ≡ Some u) where
-  -- the main unit is that of its number in the tables
-  main_whole : whole_in tables main ≡ whole_of (units_of (text_of program)) u.declares
+-- the variables of a unit
+pub variables_are : (units : List Named) (u : Named) → (unit_whole units u).variables ≡ root_of units u
+unfolding unit_whole
+variables_are units u = refl
+
+-- those of a program bear no other name than they do as leaves
+program_root : (units : List Named) (u : Named) → is_program u.declares ≡ true → root_of units u ≡ composition_of units u.declares
+unfolding composition_of
+program_root units u is = by u.declares is where
+  by : (d : Declares) → is_program d ≡ true → unit_composition units (composition_within units (suc (length units))) (root_name u.name.spelling d) d ≡ unit_composition units (composition_within units (suc (length units))) (codes "PROGRAM") d
+  by (names.type d) e = absurd cc
+  by (names.function f) e = absurd cc
+  by (names.block b) e = absurd cc
+  by (names.program p) e = refl
+
+-- a function block that a program has room for is small, where its arrays have bounds
+pub small_where : (tables : TablesView) (n : ℕ) → HasBounds (whole_in tables n).variables → is_small_block_in tables n ≡ true → IsSmall (whole_in tables n).variables
+unfolding whole_in is_small_block_in unit_whole
+small_where tables n bounds small = by (unit_at (units_of tables.text) n) bounds small where
+  by : (u : Option Named) → HasBounds (optional_whole (units_of tables.text) u).variables → optional_small_block (units_of tables.text) u ≡ true
+      → IsSmall (optional_whole (units_of tables.text) u).variables
+  by None bounds small = absurd cc
+  by (Some u) bounds small = record {
+    bounds = bounds;
+    few = leb-true (count (root_of (units_of tables.text) u)) 65536 (and_parts (is_block u.declares) (nat_le (count (root_of (units_of tables.text) u)) 65536) small).1;
+  }
+
+module _ (program : ProgramView) (tables : TablesView) (text : tables.text ≡ text_of program) (n : ℕ) (u : Named) (found : unit_at (units_of (text_of program)) n ≡ Some u) where
+  abbrev units : List Named
+  units = units_of (text_of program)
+
+  -- what the names in the statements of the unit stand for
+  pub whole_at : whole_in tables n ≡ unit_whole (units_of (text_of program)) u
   unfolding whole_in
-  main_whole =
-      ap (λ t. optional_whole (units_of t) (unit_at (units_of t) main)) text
-      ∙ ap (λ i. optional_whole (units_of (text_of program)) (unit_at (units_of (text_of program)) i)) is
-      ∙ ap (optional_whole (units_of (text_of program))) found
+  whole_at = ap (λ t. optional_whole (units_of t) (unit_at (units_of t) n)) text ∙ ap (optional_whole units) found
 
-  pub main_small : CheckedIsSmall → IsChecked program → IsSmall (whole_in tables main).variables
-  unfolding whole_of
-  main_small small checked =
-      let few = small program checked u found in
-      let fits : IsSmall (whole_of (units_of (text_of program)) u.declares).variables = record { bounds = few.bounds; few = few.few } in
-      subst (λ w. IsSmall w.variables) (sym main_whole) fits
+  pub small_block_at : is_small_block_in tables n ≡ is_small_block (units_of (text_of program)) u
+  unfolding is_small_block_in
+  small_block_at = ap (λ t. optional_small_block (units_of t) (unit_at (units_of t) n)) text ∙ ap (optional_small_block units) found
 
-  pub main_code : (statements : List Statement) → statements ≡ statements_of u.declares → body_code (whole_in tables main).variables (body_of (whole_in tables main) statements) ≡ program_code program
+  pub bounds_at : UnitsAreSound → IsChecked program → HasBounds (whole_in tables n).variables
+  bounds_at sound checked =
+      subst (λ (w : Whole). HasBounds w.variables) (sym whole_at) (subst (λ c. HasBounds c) (sym (variables_are units u)) (sound program checked n u found).bounds)
+
+  -- the code of its body
+  pub code_at : body_code (whole_in tables n).variables (body_of (whole_in tables n) (statements_of u.declares)) ≡ unit_code (units_of (text_of program)) u
+  code_at = ap (λ (w : Whole). body_code w.variables (body_of w (statements_of u.declares))) whole_at
+
+  pub block_code_at : (if is_small_block_in tables n then body_code (whole_in tables n).variables (body_of (whole_in tables n) (statements_of u.declares)) else []) ≡ block_code (units_of (text_of program)) u
+  block_code_at = ap (λ b. if b then body_code (whole_in tables n).variables (body_of (whole_in tables n) (statements_of u.declares)) else []) small_block_at ∙ ap (λ ls. if is_small_block units u then ls else []) code_at
+
+  -- whether it runs
+  pub plain_at : is_plain_unit (instances_at (tables, n)) u.declares ≡ is_plain_named (units_of (text_of program)) u
+  plain_at = ap (λ w. is_plain_unit (stands_for_instance w) u.declares) whole_at
+
+  pub block_plain_then : is_small_block_in tables n ≡ true → is_plain_unit (instances_at (tables, n)) u.declares ≡ is_plain_block (units_of (text_of program)) u
+  block_plain_then small = plain_at ∙ sym (ap (λ b. not b || is_plain_named units u) (sym small_block_at ∙ small))
+
+  pub block_plain_else : is_small_block_in tables n ≡ false → is_plain_block (units_of (text_of program)) u ≡ true
+  block_plain_else other = ap (λ b. not b || is_plain_named units u) (sym small_block_at ∙ other)
+
+-- ---- the main unit
+
+module _ (program : ProgramView) (main : ℕ) (is : main ≡ main_of program) (u : Named) (found : unit_at (units_of (text_of program)) main ≡ Some u) where
+  main_found : unit_at (units_of (text_of program)) (main_of program) ≡ Some u
+  main_found = ap (unit_at (units_of (text_of program))) (sym is) ∙ found
+
+  pub main_small : (tables : TablesView) → tables.text ≡ text_of program → IsChecked program → CheckedIsSmall → IsSmall (whole_in tables main).variables
+  main_small tables text checked small =
+      let units = units_of (text_of program) in
+      let same : checked.unit ≡ u = same_Some checked.unit u (sym checked.found ∙ main_found) in
+      let is_main : is_program u.declares ≡ true = subst (λ (v : Named). is_program v.declares ≡ true) same checked.program in
+      let few = small program checked u main_found in
+      let fits : IsSmall (root_of units u) = subst (λ c. IsSmall c) (sym (program_root units u is_main)) (record { bounds = few.bounds; few = few.few }) in
+      subst (λ (w : Whole). IsSmall w.variables) (sym (whole_at program tables text main u found)) (subst (λ c. IsSmall c) (sym (variables_are units u)) fits)
+
+  pub main_code : unit_code (units_of (text_of program)) u ≡ program_code program
   unfolding program_code
-  main_code statements given =
-      ap (λ w. body_code w.variables (body_of w statements)) main_whole
-      ∙ ap (λ ss. body_code (whole_of (units_of (text_of program)) u.declares).variables (body_of (whole_of (units_of (text_of program)) u.declares) ss)) given
-      ∙ sym (ap (optional_code (units_of (text_of program))) found)
+  main_code = sym (ap (optional_code (units_of (text_of program))) main_found)
 
-  -- where so many cells and so many instructions can be counted
-  pub main_depth : (cells most size : ℕ) → cells ≡ min (statements_depth (statements_of u.declares)) most → size ≡ length (program_code program) → size ≤ most → min cells size ≡ program_depth program
+  pub main_depth : min (statements_depth (statements_of u.declares)) (length (unit_code (units_of (text_of program)) u)) ≡ program_depth program
   unfolding program_depth
-  main_depth cells most size counted number few =
-      let depth : optional_depth (main_unit program) ≡ statements_depth (statements_of u.declares) = ap optional_depth found in
-      omega (arith, counted, number, few, depth)
+  main_depth = sym (ap (optional_depth (units_of (text_of program))) main_found)
 
-  pub main_plain : is_plain_unit (blocks_in (tables, main)) u.declares ≡ is_plain program
+  main_plain : is_plain_optional_unit (units_of (text_of program)) (main_unit program) ≡ is_plain_named (units_of (text_of program)) u
+  main_plain = ap (is_plain_optional_unit (units_of (text_of program))) main_found
+
+  -- where it runs, the blocks decide
+  pub plain_then : is_plain_named (units_of (text_of program)) u ≡ true → all (map (is_plain_block (units_of (text_of program))) (units_of (text_of program))) ≡ is_plain program
   unfolding is_plain
-  main_plain = ap (λ w. is_plain_unit (stands_for_block w) u.declares) main_whole ∙ sym (ap (is_plain_optional_unit (units_of (text_of program))) found)
+  plain_then runs = sym (ap (λ b. b && all (map (is_plain_block (units_of (text_of program))) (units_of (text_of program)))) (main_plain ∙ runs))
+
+  pub plain_else : is_plain_named (units_of (text_of program)) u ≡ false → false ≡ is_plain program
+  unfolding is_plain
+  plain_else fails = sym (ap (λ b. b && all (map (is_plain_block (units_of (text_of program))) (units_of (text_of program)))) (main_plain ∙ fails))
+
+-- ---- units as they are read
+
+-- the unit that is read
+pub read_at : (program : ProgramView) (read : List NamedUnit) → map named_by read ≡ units_of (text_of program) → (n : ℕ) (x : NamedUnit) → n < length read → x ≡ get_or read n x
+    → unit_at (units_of (text_of program)) n ≡ Some (named_by x)
+read_at program read same n x below is = ap (λ us. unit_at us n) (sym same) ∙ unit_at-map named_by read n x below is
+
+pub read_number : (program : ProgramView) (read : List NamedUnit) → map named_by read ≡ units_of (text_of program) → length read ≡ length (units_of (text_of program))
+read_number program read same = sym (length-map read named_by) ∙ ap length same
+
+found_below : (units : List Named) (i : ℕ) (u : Named) → unit_at units i ≡ Some u → i < length units
+found_below [] i u found = absurd cc
+found_below (v ∷ vs) zero u found = omega arith
+found_below (v ∷ vs) (suc i) u found = let more = found_below vs i u found in omega (arith, more)
+
+-- there is a unit of each number below theirs
+pub unit_below : (units : List Named) (n : ℕ) → n < length units → (u : Named) × (unit_at units n ≡ Some u)
+unit_below [] n below = absurd (omega (arith, below))
+unit_below (u ∷ us) zero below = (u, refl)
+unit_below (u ∷ us) (suc n) below = unit_below us n (omega (arith, below))
+
+pub main_below : (program : ProgramView) (read : List NamedUnit) → map named_by read ≡ units_of (text_of program) → IsChecked program → (main : ℕ) → main ≡ main_of program → main < length read
+main_below program read same checked main is =
+    omega (arith, is, read_number program read same, found_below (units_of (text_of program)) (main_of program) checked.unit checked.found)
+
+-- ---- an image's stacks, and its names
+
+abbrev roomy : ℕ → List ℕ → Rooms
+roomy n ns = record { own = n; levels = ns }
+
+pub has_room : (program : ProgramView) (rooms : Rooms) (n : ℕ) (ns : List ℕ) → rooms ≡ record { own = n; levels = ns } → n ≡ program_depth program → ns ≡ program_depths program → HasRoom program rooms
+unfolding HasRoom
+has_room program rooms n ns is own levels = is ∙ ap (λ k. roomy k ns) own ∙ ap (roomy (program_depth program)) levels
+
+names_get : (us : List Named) (n : ℕ) (name : List ℕ) → n < length (map (λ (u : Named). u.name.spelling) us) → name ≡ get_or (map (λ (u : Named). u.name.spelling) us) n name → name ≡ name_in (unit_at us n)
+names_get [] n name below is = absurd (omega (arith, below))
+names_get (u ∷ us) zero name below is = is
+names_get (u ∷ us) (suc n) name below is = names_get us n name (omega (arith, below)) is
+
+names_none : (us : List Named) (n : ℕ) → length (map (λ (u : Named). u.name.spelling) us) ≤ n → [] ≡ name_in (unit_at us n)
+names_none [] n past = refl
+names_none (u ∷ us) zero past = absurd (omega (arith, past))
+names_none (u ∷ us) (suc n) past = names_none us n (omega (arith, past))
+
+module _ (program : ProgramView) (names : List (List ℕ)) (are : names ≡ program_names program) (number : Option ℕ) (n : ℕ) (is : n ≡ faulty (main_of program) number) where
+  pub faulty_some : (name : List ℕ) → n < length names → name ≡ get_or names n name → name ≡ faulty_name program number
+  unfolding program_names faulty_name
+  faulty_some name below found =
+      names_get (units_of (text_of program)) n name (subst (λ ns. n < length ns) are below) (found ∙ ap (λ ns. get_or ns n name) are) ∙ ap (λ i. name_in (unit_at (units_of (text_of program)) i)) is
+
+  pub faulty_none : length names ≤ n → [] ≡ faulty_name program number
+  unfolding program_names faulty_name
+  faulty_none past =
+      names_none (units_of (text_of program)) n (subst (λ ns. length ns ≤ n) are past) ∙ ap (λ i. name_in (unit_at (units_of (text_of program)) i)) is

@@ -1,5 +1,5 @@
 -- How many cells a node needs is told by its parts.
-use Rattle.std.proofs.Common.{rules, ◌≡◌, ℕ, ◌+◌, List, ◌∷◌, [], map, true}
+use Rattle.std.proofs.Common.{rules, ◌≡◌, ◌+◌, List, ◌∷◌, [], map, true}
 use Rattle.std.specs.List.{flat_map}
 use Rattle.std.specs.Prelude.{max}
 use Rattle.st_tree.specs.declared.tree.expression.Argument as the_argument

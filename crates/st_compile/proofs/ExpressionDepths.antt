@@ -1,5 +1,5 @@
 -- Trees need at least as many cells as what they are typed as: expressions.
-use Rattle.std.proofs.Common.{◌≡◌, ℕ, ◌+◌, ◌≤◌, List, [], ◌∷◌, map, refl, sym, subst, arith}
+use Rattle.std.proofs.Common.{◌≡◌, ℕ, ◌≤◌, List, [], ◌∷◌, map, sym, subst, arith}
 use Rattle.std.specs.List.{flat_map}
 use Rattle.std.specs.Prelude.{max}
 use Rattle.st_tree.specs.declared.tree.expression.Argument.{Argument, fold-roll-Argument, map-Argument, roll-Argument}
@@ -15,7 +15,7 @@ use Rattle.st_meaning.specs.Typing.{argument_typed, call_typed_in, operation_typ
 use Rattle.st_meaning.specs.Wholes.{Whole}
 use Rattle.st_meaning.specs.declared.operation.Unary.TheVariants as unaries
 use Rattle.st_code.specs.Depth.{parts_depth}
-use Rattle.st_compile.specs.Depths.{argument_depths, call_depth, expression_depth, in_turn, is_choice, most, operation_depth, part_depth, place_depth}
+use Rattle.st_compile.specs.Depths.{argument_depths, call_depth, expression_depth, operation_depth, part_depth, place_depth}
 use Rattle.st_compile.proofs.TypedDepths.{AddDepths, AddsDepth, HasDepth, HaveDepths, PutDepths, PutsDepth, append_depths, call_typed_depth, chained_depth, joined_depth, literal_depth, more_depth, prefixed_depth, terms_of_depth, through_depth, variable_depth}
 
 abbrev PlaceDepth : Parts → ℕ → Type 0

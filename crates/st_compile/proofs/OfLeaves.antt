@@ -1,32 +1,20 @@
--- The values of a program's leaves are those of what its variables consist of.
-use Rattle.std.proofs.Common.{◌≡◌, ℕ, zero, suc, ◌+◌, ◌<◌, List, [], ◌∷◌, map, length, get_or, refl, ap, sym, ◌∙◌, subst, arith}
+-- The values of a program's leaves, and their types, are those of what its variables consist of.
+use Rattle.std.proofs.Common.{◌≡◌, ℕ, suc, List, [], ◌∷◌, map, refl, ap, sym, ◌∙◌, subst}
 use Rattle.std.specs.List.{AllZip}
-use Rattle.std.proofs.lemmas.List.{length-map}
-use Rattle.st_values.specs.declared.elem.Elem.{Elem}
-use Rattle.st_values.specs.declared.value.Value.{Value}
-use Rattle.st_types.specs.Compositions.{Composition, composition_of}
+use Rattle.st_types.specs.Compositions.{composition_of}
 use Rattle.st_types.specs.Names.{Named}
-use Rattle.st_tree.specs.declared.leaf.Leaf.{Leaf}
 use Rattle.st_leaves.specs.LeavesIn.{LeafIn, leaves_in, leaves_of_whole}
 use Rattle.st_leaves.specs.Charts.{LeafBelow}
 use Rattle.st_leaves.specs.Compositions.{counted}
-use Rattle.st_leaves.specs.Places.{count}
-use Rattle.st_leaves.specs.Programs.{leaf_at, leaves_from, program_leaves}
+use Rattle.st_leaves.specs.Programs.{leaves_from, program_leaves}
 use Rattle.st_leaves.specs.Sound.{IsValueOf}
 use Rattle.st_leaves.proofs.Counted.{counts_whole}
-use Rattle.st_leaves.proofs.Numbers.{leaves_are_counted}
-use Rattle.st_operators.specs.Laws.{IsOf}
-use Rattle.st_layout.specs.Layout.{no_value}
 use Rattle.st_meaning.specs.Meaning.{Values}
-use Rattle.st_meaning.specs.Sound.{AreValuesOf, no_leaf, type_at}
-
--- the types of leaves
-abbrev elems_of : List LeafIn → List Elem
-elems_of ls = map (λ l. l.initial.elem) ls
-
--- a value of each of the types
-abbrev HaveTypes : List Elem → Values → Type 0
-HaveTypes es values = AllZip (λ e v. IsOf e v) es values
+use Rattle.st_meaning.specs.Sound.{AreValuesOf}
+use Rattle.st_meaning.specs.Units.{root_of}
+use Rattle.st_machine.specs.Blocks.{types_in}
+use Rattle.st_compile.proofs.OfTypes.{HaveTypes, elems_of, typed_values, values_typed}
+use Rattle.st_compile.proofs.Renamed.{counts_root}
 
 counted_elems : (ls others : List LeafIn) → map counted ls ≡ map counted others → elems_of ls ≡ elems_of others
 counted_elems [] [] e = refl
@@ -37,9 +25,6 @@ counted_elems (l ∷ ls) (o ∷ others) e =
     let elem : l.initial.elem ≡ o.initial.elem = ap (λ (b : LeafBelow). b.elem) here in
     let rest = counted_elems ls others cc in
     cc
-
-elems_whole : (c : Composition) → elems_of (leaves_of_whole c) ≡ elems_of (leaves_in c)
-elems_whole c = counted_elems (leaves_of_whole c) (leaves_in c) (counts_whole c)
 
 -- ---- of a program's leaves
 
@@ -55,41 +40,28 @@ to_leaves main n [] (v ∷ values) h = h
 to_leaves main n (l ∷ ls) [] h = h
 to_leaves main n (l ∷ ls) (v ∷ values) h = (record { elem = h.0.of_type; in_range = h.0.in_range }, to_leaves main (suc n) ls values h.1)
 
--- ---- leaf by leaf
+-- their types are those of the leaves
+types_from : (main : List ℕ) (n : ℕ) (ls : List LeafIn) → types_in (leaves_from main n ls) ≡ elems_of ls
+types_from main n [] = refl
+types_from main n (l ∷ ls) = ap (λ es. l.initial.elem ∷ es) (types_from main (suc n) ls)
 
-zip_length : (es : List Elem) (values : Values) → HaveTypes es values → length values ≡ length es
-zip_length [] [] h = refl
-zip_length [] (v ∷ values) h = absurd h
-zip_length (e ∷ es) [] h = absurd h
-zip_length (e ∷ es) (v ∷ values) h = ap suc (zip_length es values h.1)
+module _ (units : List Named) (u : Named) where
+  abbrev declared : List LeafIn
+  declared = leaves_of_whole (composition_of units u.declares)
 
-zip_each : (ls : List LeafIn) (values : Values) → HaveTypes (elems_of ls) values → (n : ℕ) → n < length ls → IsOf (get_or ls n no_leaf).initial.elem (get_or values n no_value)
-zip_each [] values h n below = absurd (omega (arith, below))
-zip_each (l ∷ ls) [] h n below = absurd h
-zip_each (l ∷ ls) (v ∷ values) h zero below = h.0
-zip_each (l ∷ ls) (v ∷ values) h (suc n) below = zip_each ls values h.1 n (omega (arith, below))
+  elems_root : elems_of declared ≡ elems_of (leaves_in (root_of units u))
+  elems_root = counted_elems declared (leaves_in (root_of units u)) (sym (counts_root units u) ∙ counts_whole (root_of units u))
 
-each_zip : (ls : List LeafIn) (values : Values) → length values ≡ length ls → ((n : ℕ) → n < length ls → IsOf (get_or ls n no_leaf).initial.elem (get_or values n no_value)) → HaveTypes (elems_of ls) values
-each_zip [] [] same each = tt
-each_zip [] (v ∷ values) same each = absurd (omega (arith, same))
-each_zip (l ∷ ls) [] same each = absurd (omega (arith, same))
-each_zip (l ∷ ls) (v ∷ values) same each = (each 0 (omega arith), each_zip ls values (omega (arith, same)) (λ n below. each (suc n) (omega (arith, below))))
+  pub types_of_root : types_in (program_leaves units u) ≡ elems_of (leaves_in (root_of units u))
+  unfolding program_leaves
+  types_of_root = types_from u.name.spelling 0 declared ∙ elems_root
 
-module _ (units : List Named) (program : Named) where
-  abbrev root : Composition
-  root = composition_of units program.declares
-
-  pub values_of_root : (values : Values) → AllZip IsValueOf (program_leaves units program) values → AreValuesOf root values
-  unfolding composition_of program_leaves
+  pub values_of_root : (values : Values) → AllZip IsValueOf (program_leaves units u) values → AreValuesOf (root_of units u) values
+  unfolding program_leaves
   values_of_root values h =
-      let typed = subst (λ es. HaveTypes es values) (elems_whole root) (from_leaves program.name.spelling 0 (leaves_of_whole root) values h) in
-      record {
-        all = zip_length (elems_of (leaves_in root)) values typed ∙ length-map (leaves_in root) (λ l. l.initial.elem) ∙ (leaves_are_counted root).0;
-        each = λ n below. zip_each (leaves_in root) values typed n (subst (λ k. n < k) (sym (leaves_are_counted root).0) below);
-      }
+      values_typed (root_of units u) values (subst (λ es. HaveTypes es values) elems_root (from_leaves u.name.spelling 0 declared values h))
 
-  pub values_of_program : (values : Values) → AreValuesOf root values → AllZip IsValueOf (program_leaves units program) values
-  unfolding composition_of program_leaves
+  pub values_of_program : (values : Values) → AreValuesOf (root_of units u) values → AllZip IsValueOf (program_leaves units u) values
+  unfolding program_leaves
   values_of_program values h =
-      let typed = each_zip (leaves_in root) values (h.all ∙ sym (leaves_are_counted root).0) (λ n below. h.each n (subst (λ k. n < k) (leaves_are_counted root).0 below)) in
-      to_leaves program.name.spelling 0 (leaves_of_whole root) values (subst (λ es. HaveTypes es values) (sym (elems_whole root)) typed)
+      to_leaves u.name.spelling 0 declared values (subst (λ es. HaveTypes es values) (sym elems_root) (typed_values (root_of units u) values h))

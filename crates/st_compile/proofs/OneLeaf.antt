@@ -1,18 +1,16 @@
 -- Where names are distinct, each place is that of one leaf.
-use Rattle.std.proofs.Common.{◌≡◌, ℕ, zero, suc, ◌+◌, ℤ, Bool, true, false, cond, ◌&&◌, not, nat_lt, ◌<◌, List, [], ◌∷◌, ◌++◌, ◌≢◌, ◌<◌, map, codes, length, get_or, slice_index_or, Option, Some, None, refl, ap, sym, ◌∙◌, subst, arith}
+use Rattle.std.proofs.Common.{◌≡◌, ℕ, zero, suc, ◌+◌, ℤ, Bool, true, false, cond, not, nat_lt, ◌<◌, List, [], ◌∷◌, ◌++◌, ◌≢◌, ◌<◌, map, codes, length, get_or, slice_index_or, Option, Some, None, refl, ap, sym, ◌∙◌, subst, arith}
 use Rattle.std.specs.Ordering.{int_eq}
 use Rattle.std.specs.Char.{to_ascii_uppercase}
 use Rattle.std.specs.List.{AllPairs, position, position_or_len}
-use Rattle.std.proofs.lemmas.Bool.{and_parts, both_ways}
+use Rattle.std.proofs.lemmas.Bool.{and_parts}
 use Rattle.std.proofs.lemmas.Bool.Decides.{Decides-int_eq}
-use Rattle.st_types.specs.Compositions.{Composition, composition_of}
+use Rattle.st_types.specs.Compositions.{Composition}
 use Rattle.st_types.specs.Names.{Named}
 use Rattle.st_tree.specs.declared.leaf.Leaf.{Leaf}
 use Rattle.st_leaves.specs.LeavesIn.{LeafIn, leaves_in, leaves_of_whole}
 use Rattle.st_leaves.specs.Paths.{Path, Selector, field, kept, index, are_same_numbers, is_same_path, is_same_selector, path_text, selector_text}
-use Rattle.st_leaves.specs.Places.{HasPath, LeadsTo, count}
-use Rattle.st_leaves.specs.Programs.{leaf_at, leaves_from, program_leaves}
-use Rattle.st_leaves.specs.Sound.{IsSound}
+use Rattle.st_leaves.specs.Programs.{leaves_from}
 use Rattle.std.proofs.lemmas.List.{length-map, map-append}
 use Rattle.std.proofs.lemmas.List.Quantifiers.{position-Some}
 use Rattle.st_leaves.proofs.Numbers.{leaves_are_counted, whole_paths}
@@ -20,7 +18,9 @@ use Rattle.st_leaves.proofs.Places.{places_are_numbers}
 use Rattle.st_layout.proofs.Paths.{position-None}
 use Rattle.st_layout.proofs.Fronts.{Decides-is_word}
 use Rattle.st_values.specs.Words.{is_word, raised}
-use Rattle.st_meaning.specs.Meaning.{leaf_with}
+use Rattle.st_leaves.proofs.WaysApart.{ways_are_distinct}
+use Rattle.st_meaning.specs.Units.{root_of}
+use Rattle.st_places.specs.Laws.{IsSoundUnit}
 use Rattle.st_meaning.specs.Sound.{HasOneLeafEach, no_leaf}
 use Rattle.st_layout.specs.Layout.{no_leaf as a_leaf}
 
@@ -104,37 +104,26 @@ path_written (s ∷ p) (t ∷ q) e =
     let parts = and_parts (is_same_selector s t) (is_same_path p q) e in
     raised_before (selector_text s) (selector_text t) (path_text p) (path_text q) (selector_written s t parts.0) (path_written p q parts.1)
 
--- ---- of a program's leaves no two have the same path
+-- ---- of leaves no two of which have the same path
 
-written_as : (main : List ℕ) (k : ℕ) (ls : List LeafIn) (i : ℕ) (d : Leaf) (e : LeafIn) → i < length ls
-    → (slice_index_or (leaves_from main k ls) i d).path ≡ raised (main ++ path_text (slice_index_or ls i e).path)
-written_as main k [] i d e below = absurd (omega (arith, below))
-written_as main k (l ∷ ls) zero d e below = refl
-written_as main k (l ∷ ls) (suc i) d e below = written_as main (suc k) ls i d e (omega (arith, below))
+abbrev pub ArePathsApart : List LeafIn → Type 0
+ArePathsApart ls = AllPairs (λ l other. is_same_path l.path other.path ≡ false) ls
 
-as_many : (main : List ℕ) (k : ℕ) (ls : List LeafIn) → length (leaves_from main k ls) ≡ length ls
-as_many main k [] = refl
-as_many main k (l ∷ ls) = ap suc (as_many main (suc k) ls)
-
-abbrev ArePathsApart : List ℕ → List LeafIn → Type 0
-ArePathsApart main ls = AllPairs (λ leaf other. leaf.path ≢ other.path) (leaves_from main 0 ls)
-
-twice : (main : List ℕ) (ls : List LeafIn) → ArePathsApart main ls → (path : Path) (i n : ℕ) (d : LeafIn) → i < n → n < length ls
+twice : (ls : List LeafIn) → ArePathsApart ls → (path : Path) (i n : ℕ) (d : LeafIn) → i < n → n < length ls
     → has_path path (slice_index_or ls i d) ≡ true → has_path path (slice_index_or ls n d) ≡ true → ⊥
-twice main ls apart path i n d before below first second =
+twice ls apart path i n d before below first second =
     let same = path_between path (slice_index_or ls i d).path (slice_index_or ls n d).path first second in
-    let written = raised_behind main (path_text (slice_index_or ls i d).path) (path_text (slice_index_or ls n d).path) (path_written (slice_index_or ls i d).path (slice_index_or ls n d).path same) in
-    apart i n a_leaf before (subst (λ k. n < k) (sym (as_many main 0 ls)) below)
-    (written_as main 0 ls i a_leaf d (omega (arith, before, below)) ∙ written ∙ sym (written_as main 0 ls n a_leaf d below))
+    let other = apart i n d before below in
+    absurd cc
 
-first_with : (main : List ℕ) (ls : List LeafIn) → ArePathsApart main ls → (path : Path) (n : ℕ) (o : Option ℕ) → n < length ls → has_path path (get_or ls n no_leaf) ≡ true
+first_with : (ls : List LeafIn) → ArePathsApart ls → (path : Path) (n : ℕ) (o : Option ℕ) → n < length ls → has_path path (get_or ls n no_leaf) ≡ true
     → position (has_path path) ls ≡ o → o ≡ Some n
-first_with main ls apart path n None below passes none =
+first_with ls apart path n None below passes none =
     let fails = position-None (has_path path) ls n no_leaf none below in
     absurd cc
-first_with main ls apart path n (Some i) below passes found =
+first_with ls apart path n (Some i) below passes found =
     let at = position-Some (has_path path) ls i no_leaf found in
-    let not_before : i < n → ⊥ = λ before. twice main ls apart path i n no_leaf before below at.1 passes in
+    let not_before : i < n → ⊥ = λ before. twice ls apart path i n no_leaf before below at.1 passes in
     let not_behind : n < i → ⊥ = λ behind. absurd (let fails = at.2 n behind in cc) in
     ap Some (omega (arith, not_before, not_behind))
 
@@ -150,11 +139,39 @@ position_by_path path ls =
     ap (λ k. cond (nat_lt k (length ls)) (Some k) None) place
     ∙ ap (λ m. cond (nat_lt (position_or_len (is_same_path path) (map (λ l. l.path) ls)) m) (Some (position_or_len (is_same_path path) (map (λ l. l.path) ls))) None) (sym number)
 
-pub places_have_one_leaf : (units : List Named) (program : Named) → IsSound (program_leaves units program) → HasOneLeafEach (composition_of units program.declares)
-unfolding program_leaves
-places_have_one_leaf units program sound path n leads =
-    let c = composition_of units program.declares in
+pub apart_has_one : (c : Composition) → ArePathsApart (leaves_of_whole c) → HasOneLeafEach c
+apart_has_one c apart path n leads =
     let place = places_are_numbers c path n leads in
     let within : n < length (leaves_of_whole c) = subst (λ k. n < k) (sym (leaves_are_counted c).1) place.0 in
     position_by_path path (leaves_in c) ∙ ap (position (is_same_path path)) (sym (whole_paths c)) ∙ sym (position_by_path path (leaves_of_whole c))
-    ∙ first_with program.name.spelling (leaves_of_whole c) sound.distinct path n (position (has_path path) (leaves_of_whole c)) within (place.1.1 no_leaf) refl
+    ∙ first_with (leaves_of_whole c) apart path n (position (has_path path) (leaves_of_whole c)) within (place.1.1 no_leaf) refl
+
+-- ---- of the leaves of a program
+
+written_as : (main : List ℕ) (k : ℕ) (ls : List LeafIn) (i : ℕ) (d : Leaf) (e : LeafIn) → i < length ls
+    → (slice_index_or (leaves_from main k ls) i d).path ≡ raised (main ++ path_text (slice_index_or ls i e).path)
+written_as main k [] i d e below = absurd (omega (arith, below))
+written_as main k (l ∷ ls) zero d e below = refl
+written_as main k (l ∷ ls) (suc i) d e below = written_as main (suc k) ls i d e (omega (arith, below))
+
+as_many : (main : List ℕ) (k : ℕ) (ls : List LeafIn) → length (leaves_from main k ls) ≡ length ls
+as_many main k [] = refl
+as_many main k (l ∷ ls) = ap suc (as_many main (suc k) ls)
+
+-- they are written apart
+pub written_has_one : (main : List ℕ) (c : Composition) → AllPairs (λ (leaf other : Leaf). leaf.path ≢ other.path) (leaves_from main 0 (leaves_of_whole c)) → HasOneLeafEach c
+written_has_one main c apart = apart_has_one c (λ i n d before below. by i n d before below (is_same_path (slice_index_or (leaves_of_whole c) i d).path (slice_index_or (leaves_of_whole c) n d).path) refl) where
+  by : (i n : ℕ) (d : LeafIn) → i < n → n < length (leaves_of_whole c) → (b : Bool)
+      → is_same_path (slice_index_or (leaves_of_whole c) i d).path (slice_index_or (leaves_of_whole c) n d).path ≡ b → b ≡ false
+  by i n d before below false same = refl
+  by i n d before below true same =
+      let ls = leaves_of_whole c in
+      let p = (slice_index_or ls i d).path in
+      let q = (slice_index_or ls n d).path in
+      absurd (apart i n a_leaf before (subst (λ k. n < k) (sym (as_many main 0 ls)) below)
+      (written_as main 0 ls i a_leaf d (omega (arith, before, below)) ∙ raised_behind main (path_text p) (path_text q) (path_written p q same) ∙ sym (written_as main 0 ls n a_leaf d below)))
+
+-- ---- of the leaves of a unit
+
+pub one_leaf_each : (units : List Named) (u : Named) → IsSoundUnit units u → HasOneLeafEach (root_of units u)
+one_leaf_each units u sound = apart_has_one (root_of units u) (ways_are_distinct (root_of units u) sound.distinct)

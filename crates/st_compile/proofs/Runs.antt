@@ -1,158 +1,139 @@
 -- The code of a checked program runs as the program means.
-use Rattle.std.proofs.Common.{◌≡◌, ℕ, zero, suc, ◌+◌, ◌<◌, ◌≤◌, ℤ, Bool, true, false, IsTrue, List, [], ◌∷◌, length, Option, Some, None, Result, Ok, Err, refl, ap, sym, ◌∙◌, subst, arith, get_or}
-use Rattle.std.specs.List.{AllZip}
+use Rattle.std.proofs.Common.{◌≡◌, ℕ, ◌≤◌, ℤ, IsTrue, List, [], length, Ok, Err, ap, sym, ◌∙◌, subst, arith}
 use Rattle.std.specs.Prelude.{min}
-use Rattle.st_check.specs.Laws.{CheckedIsSmall}
-use Rattle.st_check.specs.Programs.{IsChecked, ProgramView, leaves_of_program, main_of, optional_leaves, text_of}
+use Rattle.std.proofs.lemmas.List.{length-map}
+use Rattle.st_check.specs.Programs.{IsChecked, ProgramView, leaves_of_program, main_of, optional_leaves, order_of, text_of}
 use Rattle.st_tree.specs.declared.leaf.Leaf.{Leaf}
-use Rattle.st_types.specs.Compositions.{Composition}
-use Rattle.st_types.specs.Names.{Declares, Named, unit_at, units_of}
+use Rattle.st_types.specs.Names.{Named, unit_at, units_of}
+use Rattle.st_leaves.specs.Places.{count}
 use Rattle.st_leaves.specs.Programs.{program_leaves}
-use Rattle.st_leaves.specs.Sound.{IsSound, IsValueOf}
+use Rattle.st_layout.specs.Memory.{AreValues, Content, Fits}
 use Rattle.st_values.specs.Values.{in_range}
 use Rattle.st_values.specs.declared.elem.Elem.TheVariants as elems
-use Rattle.st_values.specs.declared.value.Value.{Value}
-use Rattle.st_code.specs.Code.{Line, body_code}
-use Rattle.st_code.specs.Correct.{CodeDoesAsCommandsMean, DepthIsAtMostTheLength, DoesAs}
-use Rattle.st_code.specs.Invocations.{TypingInvokesBodies}
-use Rattle.st_code.specs.Machine.{Environment, Reaches, state}
-use Rattle.st_meaning.specs.Laws.{CommandsKeepTheFrame, KeepsFrame, StaysInFrame, TypingGivesSoundCommands}
-use Rattle.st_meaning.specs.Meaning.{Values, no_value}
-use Rattle.st_meaning.specs.Operations.{stop}
-use Rattle.st_meaning.specs.Offsets.{IsSmall}
-use Rattle.st_meaning.specs.Sound.{AreSoundCommands, AreValuesOf, HasOneLeafEach}
-use Rattle.st_meaning.specs.Statements.{Setting, Outcome, done, exited, returned, faulted, body_meaning, commands_meaning, ended}
-use Rattle.st_meaning.specs.Terms.{Commands}
-use Rattle.st_meaning.specs.Typing.{body_of}
-use Rattle.st_meaning.specs.Wholes.{whole_of}
-use Rattle.st_meaning.specs.declared.fault.RunFault.{RunFault}
-use Rattle.st_meaning.specs.declared.fault.RunFaultKind.{RunFaultKind}
-use Rattle.st_machine.specs.Running.{no_units}
+use Rattle.st_code.specs.Code.{Line}
+use Rattle.st_code.specs.Machine.{Reaches, state}
+use Rattle.st_machine.specs.Blocks.{BlockView, EntersBelow, Rooms, Run, types_in}
+use Rattle.st_machine.specs.Running.{setting_at, stop_of}
+use Rattle.st_machine.specs.declared.run.Halt.{Halt}
+use Rattle.st_meaning.specs.Meaning.{Values}
+use Rattle.st_meaning.specs.Statements.{Setting, Outcome, done, faulted}
+use Rattle.st_meaning.specs.Units.{root_of, statements_of}
 use Rattle.st_compile.specs.Depths.{statements_depth}
-use Rattle.st_compile.specs.Programs.{HasRoom, main_unit, name_in, optional_code, optional_depth, optional_result, program_code, program_depth, program_name, result_in, RunsKeepTheFrame, scan_result, statements_of, unit_code, unit_meaning}
-use Rattle.st_compile.proofs.BodyDepths.{body_deep}
-use Rattle.st_compile.proofs.OfLeaves.{values_of_program, values_of_root}
-use Rattle.st_compile.proofs.OneLeaf.{places_have_one_leaf}
+use Rattle.st_compile.specs.Programs.{HasRoom, block_depth, faulty_name, level_in, optional_code, optional_depth, optional_meaning, program_blocks, program_code, program_depth, program_depths, result_in, scan_result, unit_code, unit_meaning}
+use Rattle.st_compile.proofs.AreBlocks.{are_blocks, unit_enters, unit_reaches}
+use Rattle.st_compile.proofs.Known.{Known}
+use Rattle.st_compile.proofs.OfLeaves.{types_of_root, values_of_root}
+use Rattle.st_compile.proofs.Ordered.{at_its_level, level_below}
+use Rattle.st_compile.proofs.Renamed.{count_root}
+use Rattle.st_compile.proofs.Said.{said_of}
 
--- ---- the main unit
+-- room stays where nothing else is said of it
+pub room_kept : (program : ProgramView) (rooms others : Rooms) → others ≡ rooms → HasRoom program rooms → HasRoom program others
+room_kept program rooms others same room = subst (HasRoom program) (sym same) room
 
-zipped_length : (leaves : List Leaf) (values : Values) → AllZip IsValueOf leaves values → length values ≡ length leaves
-zipped_length [] [] h = refl
-zipped_length [] (v ∷ values) h = absurd h
-zipped_length (l ∷ leaves) [] h = absurd h
-zipped_length (l ∷ leaves) (v ∷ values) h = ap suc (zipped_length leaves values h.1)
+module _ (known : Known) (program : ProgramView) (checked : IsChecked program) where
+  abbrev units : List Named
+  units = units_of (text_of program)
 
-found_below : (units : List Named) (i : ℕ) (u : Named) → unit_at units i ≡ Some u → i < length units
-found_below [] i u found = absurd cc
-found_below (v ∷ vs) zero u found = omega arith
-found_below (v ∷ vs) (suc i) u found = let more = found_below vs i u found in omega (arith, more)
+  abbrev main : Named
+  main = checked.unit
 
-pub main_below : (program : ProgramView) → IsChecked program → (units : List Named) (main : ℕ) → units ≡ units_of (text_of program) → main ≡ main_of program → main < length units
-main_below program checked units main same is =
-    subst (λ us. main < length us) (sym same) (subst (λ i. i < length (units_of (text_of program))) (sym is) (found_below (units_of (text_of program)) (main_of program) checked.unit checked.found))
+  -- ---- the main unit
 
-pub is_main : (program : ProgramView) (units : List Named) (main : ℕ) (u : Named) → units ≡ units_of (text_of program) → main ≡ main_of program → Some u ≡ unit_at units main → main_unit program ≡ Some u
-is_main program units main u same is found =
-    sym (found ∙ ap (λ us. unit_at us main) same ∙ ap (unit_at (units_of (text_of program))) is)
+  few : count (root_of units main) ≤ 65536
+  few = subst (λ n. n ≤ 65536) (sym (count_root units main)) (known.small program checked main checked.found).few
 
-pub name_of_main : (program : ProgramView) (u : Named) → main_unit program ≡ Some u → u.name.spelling ≡ program_name program
-unfolding program_name
-name_of_main program u main = sym (ap name_in main)
+  leaves_are : leaves_of_program program ≡ program_leaves units main
+  unfolding leaves_of_program
+  leaves_are = ap (optional_leaves units) checked.found
 
--- ---- its code
+  code_is : program_code program ≡ unit_code units main
+  unfolding program_code
+  code_is = ap (optional_code units) checked.found
 
--- a run at this moment, without units
-abbrev pub alone : Setting → Environment
-alone setting = record { setting = setting; bodies = no_units }
+  depth_is : program_depth program ≡ min (statements_depth (statements_of main.declares)) (length (unit_code units main))
+  unfolding program_depth
+  depth_is = ap (optional_depth units) checked.found
 
-module _ (does : CodeDoesAsCommandsMean) (depth : DepthIsAtMostTheLength) (sound : TypingGivesSoundCommands) (small : CheckedIsSmall) (calls : TypingInvokesBodies) where
-  unit_reaches : (program : ProgramView) → IsChecked program → (u : Named) → main_unit program ≡ Some u → (setting : Setting) (values : Values) (limit room : ℕ)
-      → IsTrue (in_range elems.Time setting.now) → IsSound (program_leaves (units_of (text_of program)) u) → AllZip IsValueOf (program_leaves (units_of (text_of program)) u) values → min (statements_depth (statements_of u.declares)) (length (unit_code (units_of (text_of program)) u.declares)) ≤ room
-      → Reaches (alone setting) room (unit_code (units_of (text_of program)) u.declares) (unit_meaning (units_of (text_of program)) u.declares setting values limit) (state 0 [] values limit)
-  unfolding whole_of
-  unit_reaches program checked u main setting values limit room moment leaves h enough =
-      let units = units_of (text_of program) in
-      let w = whole_of units u.declares in
-      let body = body_of w (statements_of u.declares) in
-      let few = small program checked u main in
-      let fits : IsSmall w.variables = record { bounds = few.bounds; few = few.few } in
-      let deep = depth w.variables body in
-      (does w.variables body room fits (places_have_one_leaf units u leaves) (sound units u.declares (statements_of u.declares)) (omega (arith, deep, body_deep w (statements_of u.declares), enough))).same
-      (alone setting) values limit moment (calls w no_units (λ c unit is. cc) (statements_of u.declares)) (values_of_root units u values h)
+  -- it stands on a level, above those that it enters
+  level : level_in (order_of program) (main_of program) ≤ length (program_depths program)
+  unfolding program_depths
+  level =
+      let as_many = length-map (order_of program) (λ n. block_depth units (unit_at units n)) in
+      let below = level_below (order_of program) (main_of program) (at_its_level units (order_of program) checked.ordered (main_of program) main checked.found) in
+      omega (arith, as_many, below)
 
-  pub program_reaches : (program : ProgramView) (checked : IsChecked program) → (stack : List ℤ × ℕ) → HasRoom program stack → (setting : Setting) (values : Values) (limit : ℕ)
-      → IsTrue (in_range elems.Time setting.now) → IsSound (leaves_of_program program) → AllZip IsValueOf (leaves_of_program program) values
-      → Reaches (alone setting) stack.1 (program_code program) (unit_meaning (units_of (text_of program)) checked.unit.declares setting values limit) (state 0 [] values limit)
-  unfolding program_code program_depth leaves_of_program HasRoom
-  program_reaches program checked stack room setting values limit moment are_sound h =
-      let units = units_of (text_of program) in
-      let code : optional_code units (main_unit program) ≡ unit_code units checked.unit.declares = ap (optional_code units) checked.found in
-      let leaves : optional_leaves units (main_unit program) ≡ program_leaves units checked.unit = ap (optional_leaves units) checked.found in
-      let depth_is : optional_depth (main_unit program) ≡ statements_depth (statements_of checked.unit.declares) = ap optional_depth checked.found in
-      subst (λ lines. Reaches (alone setting) stack.1 lines (unit_meaning units checked.unit.declares setting values limit) (state 0 [] values limit)) (sym code)
-      (unit_reaches program checked checked.unit checked.found setting values limit stack.1 moment (subst (λ ls. IsSound ls) leaves are_sound) (subst (λ ls. AllZip IsValueOf ls values) leaves h) (subst (λ lines. min (statements_depth (statements_of checked.unit.declares)) (length lines) ≤ stack.1) code (subst (λ n. min n (length (program_code program)) ≤ stack.1) depth_is room)))
+  enters : EntersBelow (program_blocks program) (said_of program) (length (program_depths program)) (types_in (leaves_of_program program)) (program_code program)
+  enters =
+      subst (λ ls. EntersBelow (program_blocks program) (said_of program) (length (program_depths program)) (types_in ls) (program_code program)) (sym leaves_are)
+      (subst (λ es. EntersBelow (program_blocks program) (said_of program) (length (program_depths program)) es (program_code program)) (sym (types_of_root units main))
+      (subst (EntersBelow (program_blocks program) (said_of program) (length (program_depths program)) _) (sym code_is)
+      (unit_enters known program checked (main_of program) main checked.found (length (program_depths program)) level)))
 
-pub room_kept : (program : ProgramView) (stack other : List ℤ × ℕ) → other.1 ≡ stack.1 → HasRoom program stack → HasRoom program other
-unfolding HasRoom
-room_kept program stack other same room = subst (λ n. program_depth program ≤ n) (sym same) room
+  reaches : (setting : Setting) (values : Values) (limit : ℕ) → IsTrue (in_range elems.Time setting.now) → AreValues (leaves_of_program program) values
+      → Reaches (record { setting = setting; bodies = (said_of program).bodies }) (program_depth program) (program_code program) (unit_meaning units main setting values limit) (state 0 [] values limit)
+  reaches setting values limit time all =
+      subst (λ code. Reaches (record { setting = setting; bodies = (said_of program).bodies }) (program_depth program) code (unit_meaning units main setting values limit) (state 0 [] values limit)) (sym code_is)
+      (unit_reaches known program checked (main_of program) main checked.found few setting values limit (program_depth program) time
+      (values_of_root units main values (subst (λ ls. AreValues ls values) leaves_are all)) (omega (arith, depth_is)))
 
-pub room_made : (program : ProgramView) (n : ℕ) → n ≡ program_depth program → HasRoom program ([], n)
-unfolding HasRoom
-room_made program n is = omega (arith, is)
+  -- ---- its result
 
--- ---- its result
+  result_of : (setting : Setting) (values : Values) (limit : ℕ) (o : Outcome) → unit_meaning units main setting values limit ≡ o → scan_result program setting values limit ≡ result_in program o
+  unfolding scan_result
+  result_of setting values limit o is = ap (λ u. result_in program (optional_meaning units u setting values limit)) checked.found ∙ ap (result_in program) is
 
-pub result_of : (program : ProgramView) (checked : IsChecked program) (setting : Setting) (values : Values) (limit : ℕ)
-    → scan_result program setting values limit ≡ result_in (units_of (text_of program)) checked.unit.name.spelling (unit_meaning (units_of (text_of program)) checked.unit.declares setting values limit)
-unfolding scan_result
-result_of program checked setting values limit = ap (λ u. optional_result (units_of (text_of program)) u setting values limit) checked.found
+  -- ---- runs of what are the code and the blocks of the program, over what is held for what are its leaves
 
-pub result_done : (program : ProgramView) (checked : IsChecked program) (setting : Setting) (values others : Values) (limit left : ℕ)
-    → unit_meaning (units_of (text_of program)) checked.unit.declares setting values limit ≡ done others left → scan_result program setting values limit ≡ Ok others
-result_done program checked setting values others limit left is = result_of program checked setting values limit ∙ ap (result_in (units_of (text_of program)) checked.unit.name.spelling) is
+  module _ (rooms : Rooms) (room : HasRoom program rooms) (now : ℤ) (time : IsTrue (in_range elems.Time now)) (held : List Leaf → Content)
+      (fits : Fits (leaves_of_program program) (held (leaves_of_program program))) (limit : ℕ) where
+    abbrev content : Content
+    content = held (leaves_of_program program)
 
-pub result_faulted : (program : ProgramView) (checked : IsChecked program) (setting : Setting) (values : Values) (limit : ℕ) (kind : RunFaultKind) (line : ℕ)
-    → unit_meaning (units_of (text_of program)) checked.unit.declares setting values limit ≡ faulted (stop kind line)
-    → scan_result program setting values limit ≡ Err (record { kind = kind; unit = program_name program; line = line })
-unfolding program_name
-result_faulted program checked setting values limit kind line is =
-    let name : checked.unit.name.spelling ≡ name_in (main_unit program) = sym (ap name_in checked.found) in
-    result_of program checked setting values limit ∙ ap (result_in (units_of (text_of program)) checked.unit.name.spelling) is ∙ ap (λ n. Err (record { kind = kind; unit = n; line = line })) name
+    abbrev meant : Outcome
+    meant = unit_meaning units main (setting_at now content.forced) content.values limit
 
--- ---- the frame
+    abbrev own_rooms : Rooms
+    own_rooms = record { own = program_depth program; levels = program_depths program }
 
-abbrev Keeps : Composition → List Bool → Values → Values → Type 0
-Keeps root forced values others = AreValuesOf root others × ((n : ℕ) → get_or forced n false ≡ true → get_or others n no_value ≡ get_or values n no_value)
+    abbrev own_run : Run (program_code program) (program_blocks program) own_rooms (leaves_of_program program) now content limit
+    own_run = record {
+      said = said_of program;
+      are = are_blocks known program checked;
+      enters = enters;
+      outcome = meant;
+      comes = reaches (setting_at now content.forced) content.values limit time fits.types;
+    }
 
-keeps_by : (root : Composition) (forced : List Bool) (values others : Values) (limit : ℕ) (units : List Named) (name : List ℕ) (o : Outcome) → StaysInFrame root forced values limit o → result_in units name (ended o) ≡ Ok others
-    → Keeps root forced values others
-keeps_by root forced values others limit units name (done ws left) h is = let same : ws ≡ others = cc in subst (Keeps root forced values) same (h.all, h.kept)
-keeps_by root forced values others limit units name (exited ws left) h is = let same : ws ≡ others = cc in subst (Keeps root forced values) same (h.all, h.kept)
-keeps_by root forced values others limit units name (returned ws left) h is = let same : ws ≡ others = cc in subst (Keeps root forced values) same (h.all, h.kept)
-keeps_by root forced values others limit units name (faulted f) h is = absurd cc
+    module _ (moment : ℤ) (code : List Line) (blocks : List BlockView) (leaves : List Leaf) (is_now : moment ≡ now) (is_code : code ≡ program_code program)
+        (blocks_are : blocks ≡ program_blocks program) (are_leaves : leaves ≡ leaves_of_program program) where
+      pub its_run : Run code blocks rooms leaves moment (held leaves) limit
+      unfolding HasRoom
+      its_run =
+          subst (λ t. Run code blocks rooms leaves t (held leaves) limit) (sym is_now)
+          (subst (λ lines. Run lines blocks rooms leaves now (held leaves) limit) (sym is_code)
+          (subst (λ bs. Run (program_code program) bs rooms leaves now (held leaves) limit) (sym blocks_are)
+          (subst (λ ls. Run (program_code program) (program_blocks program) rooms ls now (held ls) limit) (sym are_leaves)
+          (subst (λ r. Run (program_code program) (program_blocks program) r (leaves_of_program program) now content limit) (sym room) own_run))))
 
-module _ (frame : CommandsKeepTheFrame) (sound : TypingGivesSoundCommands) where
-  -- of one unit, or of none
-  optional_keeps : (units : List Named) (u : Option Named) (setting : Setting) (values others : Values) (limit : ℕ) → IsTrue (in_range elems.Time setting.now)
-      → IsSound (optional_leaves units u) → AllZip IsValueOf (optional_leaves units u) values → optional_result units u setting values limit ≡ Ok others
-      → AllZip IsValueOf (optional_leaves units u) others × ((n : ℕ) → get_or setting.forced n false ≡ true → get_or others n no_value ≡ get_or values n no_value)
-  unfolding whole_of
-  optional_keeps units None setting values others limit moment leaves h is =
-      let same : values ≡ others = cc in
-      subst (λ vs. AllZip IsValueOf (optional_leaves units None) vs × ((n : ℕ) → get_or setting.forced n false ≡ true → get_or vs n no_value ≡ get_or values n no_value)) same (h, λ n e. refl)
-  optional_keeps units (Some u) setting values others limit moment leaves h is =
-      let w = whole_of units u.declares in
-      let body = body_of w (statements_of u.declares) in
-      let kept = keeps_by w.variables setting.forced values others limit units u.name.spelling (commands_meaning w.variables setting body values limit)
-      (frame w.variables setting body values limit moment (places_have_one_leaf units u leaves) (values_of_root units u values h) (sound units u.declares (statements_of u.declares))) is in
-      (values_of_program units u others kept.0, kept.1)
+      -- what follows from each such run follows from what the program means
+      followed : (P : List Leaf → Outcome → Type 0) → ((run : Run code blocks rooms leaves moment (held leaves) limit) → P leaves run.outcome) → P (leaves_of_program program) meant
+      unfolding HasRoom
+      followed P =
+          subst (λ t. ((run : Run code blocks rooms leaves t (held leaves) limit) → P leaves run.outcome) → P (leaves_of_program program) meant) (sym is_now)
+          (subst (λ lines. ((run : Run lines blocks rooms leaves now (held leaves) limit) → P leaves run.outcome) → P (leaves_of_program program) meant) (sym is_code)
+          (subst (λ bs. ((run : Run (program_code program) bs rooms leaves now (held leaves) limit) → P leaves run.outcome) → P (leaves_of_program program) meant) (sym blocks_are)
+          (subst (λ ls. ((run : Run (program_code program) (program_blocks program) rooms ls now (held ls) limit) → P ls run.outcome) → P (leaves_of_program program) meant) (sym are_leaves)
+          (subst (λ r. ((run : Run (program_code program) (program_blocks program) r (leaves_of_program program) now content limit) → P (leaves_of_program program) run.outcome) → P (leaves_of_program program) meant) (sym room)
+          (λ follows. follows own_run)))))
 
-  pub runs_keep : RunsKeepTheFrame
-  unfolding leaves_of_program scan_result
-  runs_keep program setting values others limit moment leaves fits is =
-      let units = units_of (text_of program) in
-      let kept = optional_keeps units (main_unit program) setting values others limit moment leaves fits.types is in
-      record {
-        fits = record { types = kept.0; values = zipped_length (optional_leaves units (main_unit program)) others kept.0; forced = fits.forced };
-        kept = kept.1;
-      }
+      pub result_done : (others : List Leaf → Values) → ((run : Run code blocks rooms leaves moment (held leaves) limit) → (left : ℕ) × (run.outcome ≡ done (others leaves) left))
+          → scan_result program (setting_at now content.forced) content.values limit ≡ Ok (others (leaves_of_program program))
+      result_done others ends =
+          let ended = followed (λ ls o. (left : ℕ) × (o ≡ done (others ls) left)) ends in
+          result_of (setting_at now content.forced) content.values limit (done (others (leaves_of_program program)) ended.0) ended.1
+
+      pub result_faulted : (halt : Halt) → ((run : Run code blocks rooms leaves moment (held leaves) limit) → run.outcome ≡ faulted (stop_of halt))
+          → scan_result program (setting_at now content.forced) content.values limit ≡ Err (record { kind = halt.kind; unit = faulty_name program halt.unit; line = halt.line })
+      result_faulted halt ends =
+          result_of (setting_at now content.forced) content.values limit (faulted (stop_of halt)) (followed (λ ls o. o ≡ faulted (stop_of halt)) ends)

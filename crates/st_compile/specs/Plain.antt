@@ -1,6 +1,6 @@
--- Bodies that run: of statements alone, with invocations of standard function blocks alone (3.3.2.2), and with calls of standard
--- functions and conversions alone.
-use Rattle.std.specs.Prelude.{ℕ, Bool, true, false, ◌&&◌, List, [], ◌∷◌, map, Option, Some, None}
+-- Bodies that run: of statements alone, with invocations of function blocks alone (3.3.2.2), and with calls of standard functions and
+-- conversions alone.
+use Rattle.std.specs.Prelude.{ℕ, Bool, true, false, not, ◌&&◌, ◌||◌, List, [], ◌∷◌, map, Option, Some, None}
 use Rattle.std.specs.Option.{is_some}
 use Rattle.st_check.specs.Programs.{ProgramView, text_of}
 use Rattle.st_tree.specs.declared.tree.expression.Argument.TheOpen.{Argument-F, Expression-F, Part-F}
@@ -27,8 +27,9 @@ use Rattle.st_types.specs.Standard.{standard_of}
 use Rattle.st_types.specs.declared.standard.Standard.{Standard}
 use Rattle.st_types.specs.declared.standard.Standard.TheVariants as standards
 use Rattle.st_leaves.specs.Selected.{selected_by}
-use Rattle.st_meaning.specs.Wholes.{Whole, block_of, whole_of}
-use Rattle.st_places.specs.Parts.{TablesView, whole_in}
+use Rattle.st_meaning.specs.Units.{unit_whole}
+use Rattle.st_meaning.specs.Wholes.{Whole, block_of}
+use Rattle.st_places.specs.Parts.{TablesView, is_small_block, whole_in}
 use Rattle.st_compile.specs.Programs.{main_unit}
 
 -- all of them are true
@@ -85,7 +86,7 @@ abbrev pub is_plain_optional : Option Expression → Bool
 is_plain_optional None = true
 is_plain_optional (Some x) = is_plain_expression x
 
--- `blocks` says which names stand for instances of standard function blocks
+-- `blocks` says which names stand for instances of function blocks
 abbrev pub is_plain_invocation : (List ℕ → Bool) → Call → Bool
 is_plain_invocation blocks c = blocks (out-Call c).name.spelling && all (map is_plain_argument (out-Call c).arguments)
 
@@ -130,23 +131,32 @@ abbrev pub is_plain_body : (List ℕ → Bool) → Body → Bool
 is_plain_body blocks (bodies.Statements statements) = all (map (is_plain_statement blocks) statements)
 is_plain_body blocks (bodies.Chart elements) = false
 
--- the name stands for an instance of a standard function block
-abbrev pub stands_for_block : Whole → List ℕ → Bool
-stands_for_block w name = is_some (block_of (selected_by w.variables name))
+-- the name stands for an instance of a function block
+abbrev pub stands_for_instance : Whole → List ℕ → Bool
+stands_for_instance w name = is_some (block_of (selected_by w.variables name)) || is_some (w.invoked name)
 
 -- in the statements of the unit of this number
-abbrev pub blocks_in : TablesView × ℕ → List ℕ → Bool
-blocks_in at = stands_for_block (whole_in at.0 at.1)
+abbrev pub instances_at : TablesView × ℕ → List ℕ → Bool
+instances_at at = stands_for_instance (whole_in at.0 at.1)
 
 abbrev pub is_plain_unit : (List ℕ → Bool) → Declares → Bool
 is_plain_unit blocks (names.program p) = is_plain_body blocks p.body
 is_plain_unit blocks (names.block b) = is_plain_body blocks b.body
 is_plain_unit blocks _ = false
 
+-- ---- programs
+
+abbrev pub is_plain_named : List Named → Named → Bool
+is_plain_named units unit = is_plain_unit (stands_for_instance (unit_whole units unit)) unit.declares
+
+-- of a unit that isn't a function block that a program has room for, nothing is asked
+abbrev pub is_plain_block : List Named → Named → Bool
+is_plain_block units unit = not (is_small_block units unit) || is_plain_named units unit
+
 abbrev pub is_plain_optional_unit : List Named → Option Named → Bool
 is_plain_optional_unit units None = false
-is_plain_optional_unit units (Some unit) = is_plain_unit (stands_for_block (whole_of units unit.declares)) unit.declares
+is_plain_optional_unit units (Some unit) = is_plain_named units unit
 
--- the body of a program runs
+-- the bodies of the program and of all function blocks of its text run
 unfoldable pub is_plain : ProgramView → Bool
-is_plain program = is_plain_optional_unit (units_of (text_of program)) (main_unit program)
+is_plain program = is_plain_optional_unit (units_of (text_of program)) (main_unit program) && all (map (is_plain_block (units_of (text_of program))) (units_of (text_of program)))

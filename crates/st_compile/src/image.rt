@@ -2,7 +2,7 @@
 ghost use Rattle.std.specs.Prelude.{◌≡◌, IfOk};
 ghost use Rattle.st_check.specs.Programs.{leaves_of_program};
 ghost use Rattle.st_compile.specs.Plain.{is_plain};
-ghost use Rattle.st_compile.specs.Programs.{HasRoom, program_code, program_depth, program_name};
+ghost use Rattle.st_compile.specs.Programs.{HasRoom, faulty_name, greatest_depth, program_blocks, program_code};
 
 mod apart;
 
@@ -10,22 +10,26 @@ use crate::making::made_of;
 use st_check::Program;
 use st_fused::Fused;
 use st_layout::Layout;
-use st_machine::Stack;
+use st_machine::{Block, Stacks};
 use st_tree::Name;
 use std::alloc::{AllocError, Global};
 use std::marker::Model;
 
-/// A program, the layout of its leaves, and the code of its body.
+/// A program, the layout of its leaves, and the code of its body and of its function blocks.
 #[derive(Drop)]
 pub struct Image {
     program: Program,
     layout: Layout,
     code: Fused,
-    /// For how many numbers a stack needs room to run the code.
+    /// The function blocks, by the numbers of their units.
+    blocks: Vec<Block>,
+    /// For how many numbers the stack of its own code needs room.
     depth: usize,
-    /// The program's name, as it is declared.
-    name: Name,
-    /// Whether its body runs.
+    /// For how many the stack of each level needs room.
+    depths: Vec<usize>,
+    /// The names of its units, as they are declared.
+    names: Vec<Name>,
+    /// Whether its bodies run.
     runs: bool,
 }
 
@@ -34,7 +38,7 @@ impl Model for Image {
     ghost use Rattle.std.specs.Prelude.{◌≡◌};
     ghost use Rattle.st_check.specs.Programs.{ProgramView, leaves_of_program};
     ghost use Rattle.st_compile.specs.Plain.{is_plain};
-    ghost use Rattle.st_compile.specs.Programs.{program_code, program_depth, program_name};
+    ghost use Rattle.st_compile.specs.Programs.{program_blocks, program_code, program_depth, program_depths, program_names};
     ghost use Rattle.st_tree.specs.contracts.tree.expression.Expression as expression;
     ghost use Rattle.st_tree.specs.contracts.tree.statement.Statement as statement;
 
@@ -44,7 +48,7 @@ impl Model for Image {
 
     ghost view = { λ image. image.program };
 
-    ghost invariant = { λ image. (image.layout ≡ leaves_of_program image.program) × (image.code ≡ program_code image.program) × (image.depth ≡ program_depth image.program) × (image.name ≡ program_name image.program) × (image.runs ≡ is_plain image.program) };
+    ghost invariant = { λ image. (image.layout ≡ leaves_of_program image.program) × (image.code ≡ program_code image.program) × (image.blocks.items ≡ program_blocks image.program) × (image.depth ≡ program_depth image.program) × (image.depths.items ≡ program_depths image.program) × (image.names.items ≡ program_names image.program) × (image.runs ≡ is_plain image.program) };
 }
 
 /// The image of a program. It is refused for want of memory alone.
@@ -57,8 +61,10 @@ pub fn compile(alloc: Global, program: Program) -> Result<Image, AllocError>
         program,
         layout,
         code: made.code,
+        blocks: made.blocks,
         depth: made.depth,
-        name: made.name,
+        depths: made.depths,
+        names: made.names,
         runs: made.runs,
     })
 }
@@ -78,26 +84,30 @@ impl Image {
         &self.layout
     }
 
-    /// Whether the program's body can be run: it holds statements alone, no invocation but of standard function blocks, and no call
-    /// but of standard functions and conversions.
+    /// Whether the program can be run: its body and those of all function blocks of its text hold statements alone, no invocation but
+    /// of function blocks, and no call but of standard functions and conversions.
     pub fn is_plain(&self) -> bool
         ensures { result ≡ is_plain self.now }
     {
         self.runs
     }
 
-    /// For how many numbers a stack needs room to run the code.
+    /// How many numbers there are at most on a stack while the program runs.
     pub fn depth(&self) -> usize
-        ensures { result ≡ program_depth self.now }
+        ensures { result ≡ greatest_depth self.now }
     {
-        self.depth
+        let mut depth = self.depth;
+        'levels: for level in &self.depths {
+            depth = depth.max(*level);
+        }
+        depth
     }
 
-    /// A stack with room to run the code. It is refused for want of memory alone.
-    pub fn stack(&self, alloc: Global) -> Result<Stack, AllocError>
-        ensures { IfOk result (λ stack. HasRoom self.now stack) }
+    /// Stacks with room to run the program. They are refused for want of memory alone.
+    pub fn stacks(&self, alloc: Global) -> Result<Stacks, AllocError>
+        ensures { IfOk result (λ stacks. HasRoom self.now stacks) }
     {
-        Stack::with_room(alloc, self.depth)
+        Stacks::with_room(alloc, self.depth, &self.depths)
     }
 
     /// The code of the program's body.
@@ -107,10 +117,21 @@ impl Image {
         &self.code
     }
 
-    /// The program's name, as it is declared.
-    pub(crate) fn name(&self) -> Name
-        ensures { result ≡ program_name self.now }
+    /// The function blocks of its text, by the numbers of their units.
+    pub(crate) fn blocks(&self) -> &[Block]
+        ensures { result.now ≡ program_blocks self.now }
     {
-        self.name
+        &self.blocks
+    }
+
+    /// The name of the unit that a fault is in, as it is declared: of the one of this number, which was invoked, or else of the program.
+    pub(crate) fn faulty(&self, unit: Option<usize>) -> Name
+        ensures { result ≡ faulty_name self.now unit }
+    {
+        let number = unit.unwrap_or(self.program.main());
+        match self.names.get(number) {
+            Some(name) => *name,
+            None => Name::of(&[]).unwrap(),
+        }
     }
 }

@@ -1,13 +1,16 @@
-//! The instances of standard function blocks among the variables of a unit.
+//! The instances of function blocks among the variables of a unit.
 ghost use Rattle.std.specs.Prelude.{◌≡◌};
+ghost use Rattle.std.specs.Option.{is_some};
+ghost use Rattle.st_leaves.specs.Selected.{selected_by};
 ghost use Rattle.st_meaning.specs.Offsets.{IsSmall};
+ghost use Rattle.st_meaning.specs.Wholes.{block_of};
 ghost use Rattle.st_places.specs.Parts.{whole_in};
-ghost use Rattle.st_compile.specs.Plain.{blocks_in};
+ghost use Rattle.st_compile.specs.Plain.{instances_at};
 
 use st_places::Tables;
 use std::marker::Model;
 
-/// Which names stand for instances of standard function blocks in the statements of a unit.
+/// Which names stand for instances of function blocks in the statements of a unit.
 #[derive(Drop)]
 pub(crate) struct Instances<'a> {
     tables: &'a Tables<'a>,
@@ -41,9 +44,16 @@ impl<'a> Instances<'a> {
         Instances { tables, unit }
     }
 
-    /// Whether the name stands for an instance of a standard function block.
-    pub(crate) fn is_block(&self, name: &[u8]) -> bool
-        ensures { result ≡ blocks_in self.now name.now }
+    /// Whether the name stands for an instance of a function block.
+    pub(crate) fn is_instance(&self, name: &[u8]) -> bool
+        ensures { result ≡ instances_at self.now name.now }
+    {
+        self.is_standard(name) || self.tables.instance(self.unit, name).is_some()
+    }
+
+    /// Whether that is a standard function block.
+    fn is_standard(&self, name: &[u8]) -> bool
+        ensures { result ≡ is_some (block_of (selected_by (whole_in self.now.0 self.now.1).variables name.now)) }
     {
         let root = self.tables.root(self.unit);
         match self.tables.select(root, name) {

@@ -1,10 +1,12 @@
 //! Images: programs with their layouts and their code, and how they run.
 #![tactic(auto)]
 
+mod bodies;
 mod depth;
 mod image;
 mod instances;
 mod laws;
+mod levels;
 mod making;
 mod plain;
 mod running;

@@ -1,7 +1,7 @@
-//! Bodies that run: of statements alone, with invocations of standard function blocks alone, and with calls of standard functions
-//! and conversions alone.
+//! Bodies that run: of statements alone, with invocations of function blocks alone, and with calls of standard functions and
+//! conversions alone.
 ghost use Rattle.std.specs.Prelude.{◌≡◌, map, option_map};
-ghost use Rattle.st_compile.specs.Plain.{all, blocks_in, is_function, is_plain_argument, is_plain_branch, is_plain_body, is_plain_call, is_plain_case, is_plain_element, is_plain_expression, is_plain_for, is_plain_if, is_plain_invocation, is_plain_operation, is_plain_optional, is_plain_part, is_plain_repeat, is_plain_statement, is_plain_variable, is_plain_while};
+ghost use Rattle.st_compile.specs.Plain.{all, instances_at, is_function, is_plain_argument, is_plain_branch, is_plain_body, is_plain_call, is_plain_case, is_plain_element, is_plain_expression, is_plain_for, is_plain_if, is_plain_invocation, is_plain_operation, is_plain_optional, is_plain_part, is_plain_repeat, is_plain_statement, is_plain_variable, is_plain_while};
 ghost use Rattle.st_types.specs.Standard.{standard_of};
 
 use crate::instances::Instances;
@@ -11,10 +11,10 @@ use st_tree::tree::{
 };
 use st_types::{Standard, standard_of};
 
-/// Whether the body holds statements alone, no invocation but of standard function blocks, and no call but of standard functions
-/// and conversions.
+/// Whether the body holds statements alone, no invocation but of function blocks, and no call but of standard functions and
+/// conversions.
 pub(crate) fn is_plain_body(body: &Body, instances: &Instances<'_>) -> bool
-    ensures { result ≡ is_plain_body (blocks_in instances.now) body.now }
+    ensures { result ≡ is_plain_body (instances_at instances.now) body.now }
 {
     match body {
         Body::Statements(statements) => are_plain_statements(statements.as_slice(), instances),
@@ -24,7 +24,7 @@ pub(crate) fn is_plain_body(body: &Body, instances: &Instances<'_>) -> bool
 
 #[cycle(plain_statement)]
 fn are_plain_statements(statements: &[Statement], instances: &Instances<'_>) -> bool
-    ensures { result ≡ all (map (is_plain_statement (blocks_in instances.now)) statements.now) }
+    ensures { result ≡ all (map (is_plain_statement (instances_at instances.now)) statements.now) }
 {
     'items: for item in statements {
         if !is_plain_statement(item, instances) {
@@ -36,7 +36,7 @@ fn are_plain_statements(statements: &[Statement], instances: &Instances<'_>) -> 
 
 #[cycle(plain_statement)]
 fn is_plain_statement(statement: &Statement, instances: &Instances<'_>) -> bool
-    ensures { result ≡ is_plain_statement (blocks_in instances.now) statement.now }
+    ensures { result ≡ is_plain_statement (instances_at instances.now) statement.now }
 {
     match statement {
         Statement::Empty(_) | Statement::Return(_) | Statement::Exit(_) => true,
@@ -54,7 +54,7 @@ fn is_plain_statement(statement: &Statement, instances: &Instances<'_>) -> bool
 
 #[cycle(plain_statement)]
 fn is_plain_if(statement: &IfStatement, instances: &Instances<'_>) -> bool
-    ensures { result ≡ is_plain_if (blocks_in instances.now) statement.now }
+    ensures { result ≡ is_plain_if (instances_at instances.now) statement.now }
 {
     are_plain_branches(statement.parts.as_slice(), instances)
         && are_plain_statements(statement.otherwise.as_slice(), instances)
@@ -62,7 +62,7 @@ fn is_plain_if(statement: &IfStatement, instances: &Instances<'_>) -> bool
 
 #[cycle(plain_statement)]
 fn are_plain_branches(branches: &[ConditionalPart], instances: &Instances<'_>) -> bool
-    ensures { result ≡ all (map (is_plain_branch (blocks_in instances.now)) branches.now) }
+    ensures { result ≡ all (map (is_plain_branch (instances_at instances.now)) branches.now) }
 {
     'items: for item in branches {
         if !is_plain_branch(item, instances) {
@@ -74,7 +74,7 @@ fn are_plain_branches(branches: &[ConditionalPart], instances: &Instances<'_>) -
 
 #[cycle(plain_statement)]
 fn is_plain_branch(branch: &ConditionalPart, instances: &Instances<'_>) -> bool
-    ensures { result ≡ is_plain_branch (blocks_in instances.now) branch.now }
+    ensures { result ≡ is_plain_branch (instances_at instances.now) branch.now }
 {
     is_plain_expression(&branch.condition)
         && are_plain_statements(branch.statements.as_slice(), instances)
@@ -82,7 +82,7 @@ fn is_plain_branch(branch: &ConditionalPart, instances: &Instances<'_>) -> bool
 
 #[cycle(plain_statement)]
 fn is_plain_case(statement: &CaseStatement, instances: &Instances<'_>) -> bool
-    ensures { result ≡ is_plain_case (blocks_in instances.now) statement.now }
+    ensures { result ≡ is_plain_case (instances_at instances.now) statement.now }
 {
     is_plain_expression(&statement.selector)
         && (are_plain_elements(statement.cases.as_slice(), instances)
@@ -91,7 +91,7 @@ fn is_plain_case(statement: &CaseStatement, instances: &Instances<'_>) -> bool
 
 #[cycle(plain_statement)]
 fn are_plain_elements(elements: &[CaseElement], instances: &Instances<'_>) -> bool
-    ensures { result ≡ all (map (is_plain_element (blocks_in instances.now)) elements.now) }
+    ensures { result ≡ all (map (is_plain_element (instances_at instances.now)) elements.now) }
 {
     'items: for item in elements {
         if !is_plain_element(item, instances) {
@@ -103,14 +103,14 @@ fn are_plain_elements(elements: &[CaseElement], instances: &Instances<'_>) -> bo
 
 #[cycle(plain_statement)]
 fn is_plain_element(element: &CaseElement, instances: &Instances<'_>) -> bool
-    ensures { result ≡ is_plain_element (blocks_in instances.now) element.now }
+    ensures { result ≡ is_plain_element (instances_at instances.now) element.now }
 {
     are_plain_statements(element.statements.as_slice(), instances)
 }
 
 #[cycle(plain_statement)]
 fn is_plain_for(statement: &ForStatement, instances: &Instances<'_>) -> bool
-    ensures { result ≡ is_plain_for (blocks_in instances.now) statement.now }
+    ensures { result ≡ is_plain_for (instances_at instances.now) statement.now }
 {
     is_plain_expression(&statement.first)
         && (is_plain_expression(&statement.last)
@@ -120,7 +120,7 @@ fn is_plain_for(statement: &ForStatement, instances: &Instances<'_>) -> bool
 
 #[cycle(plain_statement)]
 fn is_plain_while(statement: &WhileStatement, instances: &Instances<'_>) -> bool
-    ensures { result ≡ is_plain_while (blocks_in instances.now) statement.now }
+    ensures { result ≡ is_plain_while (instances_at instances.now) statement.now }
 {
     is_plain_expression(&statement.condition)
         && are_plain_statements(statement.statements.as_slice(), instances)
@@ -128,17 +128,17 @@ fn is_plain_while(statement: &WhileStatement, instances: &Instances<'_>) -> bool
 
 #[cycle(plain_statement)]
 fn is_plain_repeat(statement: &RepeatStatement, instances: &Instances<'_>) -> bool
-    ensures { result ≡ is_plain_repeat (blocks_in instances.now) statement.now }
+    ensures { result ≡ is_plain_repeat (instances_at instances.now) statement.now }
 {
     are_plain_statements(statement.statements.as_slice(), instances)
         && is_plain_expression(&statement.condition)
 }
 
-/// Whether an instance of a standard function block is invoked, with arguments that hold no other call.
+/// Whether an instance of a function block is invoked, with arguments that hold no other call.
 fn is_plain_invocation(call: &Call, instances: &Instances<'_>) -> bool
-    ensures { result ≡ is_plain_invocation (blocks_in instances.now) call.now }
+    ensures { result ≡ is_plain_invocation (instances_at instances.now) call.now }
 {
-    instances.is_block(call.name.spelling.as_slice())
+    instances.is_instance(call.name.spelling.as_slice())
         && are_plain_arguments(call.arguments.as_slice())
 }
 

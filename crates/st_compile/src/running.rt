@@ -7,42 +7,58 @@ ghost use Rattle.st_compile.specs.Programs.{HasRoom, scan_result};
 
 use crate::image::Image;
 use st_check::checked_program_is_small;
-use st_code::{code_does_as_commands_mean, depth_is_at_most_the_length, typing_invokes_bodies};
+use st_code::{
+    code_does_as_commands_mean, code_enters_what_is_invoked, depth_is_at_most_the_length,
+    typing_enters_instances, typing_invokes_bodies,
+};
 use st_layout::Memory;
-use st_machine::{Stack, run_fused};
-use st_meaning::{RunFault, typing_gives_sound_commands};
+use st_machine::{Stacks, run_fused};
+use st_meaning::{RunFault, commands_keep_the_frame, typing_gives_sound_bodies};
+use st_places::{instances_are_of_blocks, units_are_sound};
 
-/// Runs the body of a program once, over the values of its leaves, at a moment in milliseconds. It takes no memory.
+/// Runs a program once, over the values of its leaves, at a moment in milliseconds. It takes no memory.
 ///
 /// # Errors
 /// At a fault; then the values of leaves that aren't forced aren't said.
 pub fn run<M: Memory>(
     image: &Image,
     memory: &mut M,
-    stack: &mut Stack,
+    stacks: &mut Stacks,
     now: i64,
     limit: u32,
 ) -> Result<(), RunFault>
     requires over { M.IsOver (leaves_of_program image.now) memory.old }
-    requires room { HasRoom image.now stack.old }
+    requires room { HasRoom image.now stacks.old }
     requires plain { is_plain image.now ≡ true }
     ensures over { M.IsOver (leaves_of_program image.now) memory.new }
-    ensures room { HasRoom image.now stack.new }
+    ensures room { HasRoom image.now stacks.new }
     ensures forced { (M.content (leaves_of_program image.now) memory.new).forced ≡ (M.content (leaves_of_program image.now) memory.old).forced }
     ensures result { MatchResult result (λ done. scan_result image.now (setting_at now (M.content (leaves_of_program image.now) memory.old).forced) (M.content (leaves_of_program image.now) memory.old).values limit ≡ Ok (M.content (leaves_of_program image.now) memory.new).values) (λ fault. scan_result image.now (setting_at now (M.content (leaves_of_program image.now) memory.old).forced) (M.content (leaves_of_program image.now) memory.old).values limit ≡ Err fault) }
 {
     checked_program_is_small();
-    typing_gives_sound_commands();
+    units_are_sound();
+    instances_are_of_blocks();
+    typing_gives_sound_bodies();
+    commands_keep_the_frame();
     code_does_as_commands_mean();
     depth_is_at_most_the_length();
     typing_invokes_bodies();
+    typing_enters_instances();
+    code_enters_what_is_invoked();
     let _main = image.program().main();
-    let _leaves = image.layout().len();
-    match run_fused(image.code(), memory, image.layout(), stack, now, limit) {
+    match run_fused(
+        image.code(),
+        image.blocks(),
+        memory,
+        image.layout(),
+        stacks,
+        now,
+        limit,
+    ) {
         Ok(()) => Ok(()),
         Err(halt) => Err(RunFault {
             kind: halt.kind,
-            unit: image.name(),
+            unit: image.faulty(halt.unit),
             line: halt.line,
         }),
     }

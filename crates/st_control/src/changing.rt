@@ -88,7 +88,7 @@ impl<M: Memory> State<M> {
         ensures kind { IfOk result (λ newest. is_of_change newest ≡ true) }
         ensures err { OnErr result (self.new ≡ self.old) }
     {
-        let (second, stack) = room_for(alloc, &image)?;
+        let (second, stacks) = room_for(alloc, &image)?;
         let saved = carry_over(
             alloc,
             &mut self.memory,
@@ -98,7 +98,7 @@ impl<M: Memory> State<M> {
         )?;
         let old = mem::replace(&mut self.image, image);
         self.second = second;
-        self.stack = stack;
+        self.stacks = stacks;
         Ok(Record::Change {
             old,
             saved,

@@ -100,7 +100,7 @@ impl<M: Memory> Controller<M> {
         ensures { IfOk result (λ controller. controller ≡ first_controller image main limit) }
     {
         let memory = M::fresh(alloc, image.layout())?;
-        let (second, stack) = room_for(alloc, &image)?;
+        let (second, stacks) = room_for(alloc, &image)?;
         let records = Vec::with_capacity(alloc, MAX_RECORDS)?;
         let state = State {
             image,
@@ -108,7 +108,7 @@ impl<M: Memory> Controller<M> {
             now: 0,
             status: Status::Running,
             second,
-            stack,
+            stacks,
         };
         Ok(Controller {
             state,

@@ -10,7 +10,7 @@ use crate::refusal::{HALTED, MOMENT_PAST, NO_SUCH_PATH, NOT_AN_INPUT, NOT_OF_TYP
 use crate::state::{State, Status, is_value_of};
 use st_compile::{Image, run};
 use st_layout::{Layout, Memory};
-use st_machine::Stack;
+use st_machine::Stacks;
 use st_meaning::RunFault;
 use st_tree::Role;
 use st_values::Value;
@@ -64,7 +64,7 @@ impl<M: Memory> State<M> {
             &self.image,
             &self.memory,
             &mut self.second,
-            &mut self.stack,
+            &mut self.stacks,
             now,
             inputs,
             limit,
@@ -97,14 +97,14 @@ impl<M: Memory> State<M> {
     }
 }
 
-/// What a scan of a program needs: a second memory, and a stack. It is refused for want of memory alone.
-pub(crate) fn room_for<M: Memory>(alloc: Global, image: &Image) -> Result<(M, Stack), AllocError>
+/// What a scan of a program needs: a second memory, and stacks. It is refused for want of memory alone.
+pub(crate) fn room_for<M: Memory>(alloc: Global, image: &Image) -> Result<(M, Stacks), AllocError>
     ensures second { IfOk result (λ room. M.IsOver (leaves_of_program image.now) room.0) }
-    ensures stack { IfOk result (λ room. HasRoom image.now room.1) }
+    ensures stacks { IfOk result (λ room. HasRoom image.now room.1) }
 {
     let second = M::fresh(alloc, image.layout())?;
-    let stack = image.stack(alloc)?;
-    Ok((second, stack))
+    let stacks = image.stacks(alloc)?;
+    Ok((second, stacks))
 }
 
 /// Copies a memory to the second one, stores the inputs there, and runs the program once over it at a moment.
@@ -112,19 +112,19 @@ fn run_aside<M: Memory>(
     image: &Image,
     memory: &M,
     second: &mut M,
-    stack: &mut Stack,
+    stacks: &mut Stacks,
     now: i64,
     inputs: &[(u32, Value)],
     limit: u32,
 ) -> Result<(), RunFault>
     requires over { M.IsOver (leaves_of_program image.now) memory.now }
     requires second { M.IsOver (leaves_of_program image.now) second.old }
-    requires room { HasRoom image.now stack.old }
+    requires room { HasRoom image.now stacks.old }
     requires plain { is_plain image.now ≡ true }
     requires leaves { list_any (has_no_leaf (leaves_of_program image.now)) inputs.now ≡ false }
     requires types { list_any (has_other_type (leaves_of_program image.now)) inputs.now ≡ false }
     ensures second { M.IsOver (leaves_of_program image.now) second.new }
-    ensures room { HasRoom image.now stack.new }
+    ensures room { HasRoom image.now stacks.new }
     ensures forced { (M.content (leaves_of_program image.now) second.new).forced ≡ (M.content (leaves_of_program image.now) memory.now).forced }
     ensures result { MatchResult result
         (λ done. run_with now inputs.now limit image.now (M.content (leaves_of_program image.now) memory.now) ≡ Ok (M.content (leaves_of_program image.now) second.new).values)
@@ -132,7 +132,7 @@ fn run_aside<M: Memory>(
 {
     second.take_from(image.layout(), memory);
     store_inputs(second, image.layout(), inputs);
-    run(image, second, stack, now, limit)
+    run(image, second, stacks, now, limit)
 }
 
 /// Tests whether an input is for a leaf that isn't there.

@@ -13,7 +13,7 @@ use crate::refusal::{
 };
 use st_compile::Image;
 use st_layout::Memory;
-use st_machine::Stack;
+use st_machine::Stacks;
 use st_meaning::RunFault;
 use st_tree::{Leaf, Role};
 use st_values::{Value, is_value};
@@ -42,7 +42,7 @@ pub struct State<M: Memory> {
     /// Where a scan runs, so that a fault leaves the values as they were. What it holds between scans is nothing to anybody.
     pub(crate) second: M,
     /// The operands of a scan.
-    pub(crate) stack: Stack,
+    pub(crate) stacks: Stacks,
 }
 
 impl<M: Memory> Model for State<M> {
@@ -60,7 +60,7 @@ impl<M: Memory> Model for State<M> {
 
     ghost view = { λ s. record { program = s.image; content = M.content (leaves_of_program s.image) s.memory; now = s.now; status = s.status } };
 
-    ghost invariant = { λ s. M.IsOver (leaves_of_program s.image) s.memory × ForcesAreOpen (leaves_of_program s.image) (M.content (leaves_of_program s.image) s.memory).forced × IsMoment s.now × M.IsOver (leaves_of_program s.image) s.second × HasRoom s.image s.stack };
+    ghost invariant = { λ s. M.IsOver (leaves_of_program s.image) s.memory × ForcesAreOpen (leaves_of_program s.image) (M.content (leaves_of_program s.image) s.memory).forced × IsMoment s.now × M.IsOver (leaves_of_program s.image) s.second × HasRoom s.image s.stacks };
 }
 
 impl<M: Memory> State<M> {

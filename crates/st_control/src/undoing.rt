@@ -13,7 +13,7 @@ use crate::scanning::room_for;
 use crate::state::State;
 use st_compile::Image;
 use st_layout::{Layout, Memory, Plan, PlanFault, Rename, Saved};
-use st_machine::Stack;
+use st_machine::Stacks;
 use std::alloc::{AllocError, Global};
 
 /// Gives back the state before the command that left this record. Only where that is an online change it may be refused, for
@@ -49,10 +49,10 @@ pub fn revert<M: Memory>(alloc: Global, state: &mut State<M>, newest: Record) ->
                 &saved,
                 renames.as_slice(),
             ) {
-                Ok((second, stack)) => {
+                Ok((second, stacks)) => {
                     state.image = old;
                     state.second = second;
-                    state.stack = stack;
+                    state.stacks = stacks;
                 }
                 Err(_) => return Err(Record::Change {
                     old,
@@ -74,14 +74,14 @@ fn go_back<M: Memory>(
     new: &Layout,
     saved: &Saved,
     renames: &[Rename],
-) -> Result<(M, Stack), AllocError>
+) -> Result<(M, Stacks), AllocError>
     requires over { M.IsOver new.now memory.old }
     requires fits { FitsSaved (leaves_of_program old.now) new.now saved.now renames.now }
     ensures over { OnOk result (M.IsOver (leaves_of_program old.now) memory.new) }
     ensures unmoved { OnOk result (M.content (leaves_of_program old.now) memory.new ≡ unmoved (leaves_of_program old.now) (pairs_between (leaves_of_program old.now) new.now renames.now) (M.content new.now memory.old) saved.now) }
     ensures open { ForcesAreOpen new.now (M.content new.now memory.old).forced → OnOk result (ForcesAreOpen (leaves_of_program old.now) (M.content (leaves_of_program old.now) memory.new).forced) }
     ensures second { IfOk result (λ room. M.IsOver (leaves_of_program old.now) room.0) }
-    ensures stack { IfOk result (λ room. HasRoom old.now room.1) }
+    ensures stacks { IfOk result (λ room. HasRoom old.now room.1) }
     ensures err { OnErr result (memory.new ≡ memory.old) }
 {
     let room = room_for(alloc, old)?;

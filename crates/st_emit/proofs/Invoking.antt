@@ -1,5 +1,5 @@
 -- The code of invocations of function blocks, made from its last instruction to the first.
-use Rattle.std.proofs.Common.{◌≡◌, ℕ, suc, ◌+◌, ◌<◌, ◌≤◌, List, [], ◌∷◌, ◌++◌, length, drop, get_or, reverse, refl, sym, ap, ◌∙◌, rules, arith, append-nil, drop-cons}
+use Rattle.std.proofs.Common.{◌≡◌, ℕ, suc, ◌+◌, ◌<◌, ◌≤◌, Bool, true, false, if◌then◌else◌, List, [], ◌∷◌, ◌++◌, length, drop, get_or, reverse, refl, sym, ap, ◌∙◌, rules, arith, append-nil, drop-cons}
 use Rattle.std.specs.Prelude.{Option, Some, None}
 use Rattle.st_values.specs.declared.elem.Elem.{Elem}
 use Rattle.st_tree.specs.declared.tree.expression.Argument.{Argument, out-Argument}
@@ -12,17 +12,21 @@ use Rattle.st_tree.specs.declared.tree.expression.Variable.{Variable}
 use Rattle.st_tree.specs.declared.tree.statement.CaseElement.{the_lemmas}
 use Rattle.st_tree.specs.declared.tree.statement.Statement.{Statement}
 use Rattle.st_tree.specs.declared.tree.statement.Statement.TheVariants as statements
-use Rattle.st_types.specs.Compositions.{Composition}
+use Rattle.st_values.specs.Words.{is_word}
+use Rattle.st_types.specs.Compositions.{Composition, unknown, elementary, array, composed, standard, Members, none, member}
 use Rattle.st_types.specs.Names.{Named, unit_at, units_of}
 use Rattle.st_types.specs.declared.standard.StandardBlock.{StandardBlock}
-use Rattle.st_leaves.specs.Selected.{selected_by}
+use Rattle.st_leaves.specs.Selected.{member_selected, selected_by}
+use Rattle.st_meaning.specs.Offsets.{offset_of}
 use Rattle.st_meaning.specs.Typing.{call_command, command_of, entrance, input_moves, input_of, inputs_of, invocation, output_moves, output_of, outputs_of, pin_of, place_of}
-use Rattle.st_meaning.specs.Terms.{Moves, no_moves, invoke}
+use Rattle.st_meaning.specs.Terms.{Moves, no_moves}
+use Rattle.st_meaning.specs.Units.{instance_of, instances_in, member_instance, root_of, unit_whole}
 use Rattle.st_meaning.specs.Wholes.{Invoked, Whole, block_of, type_of}
-use Rattle.st_meaning.specs.Wholes as Wholes
-use Rattle.st_code.specs.Code.{Line, at, command_code, moves_code}
-use Rattle.st_code.specs.declared.instr.Instr.TheVariants.{Step}
+use Rattle.st_code.specs.Code.{Line, at, command_code, moves_code, plain}
+use Rattle.st_code.specs.declared.instr.Instr.{Instr}
+use Rattle.st_code.specs.declared.instr.Instr.TheVariants.{Enter, Invoke, Step}
 use Rattle.st_places.specs.Parts.{TablesView, optional_whole, whole_in}
+use Rattle.st_emit.specs.Instances.{entering, instance_instr, running}
 use Rattle.st_emit.specs.Trees.{whole_of}
 use Rattle.st_emit.proofs.Commands.{before_code}
 
@@ -74,30 +78,74 @@ moves_step root moves all i j a base code new joined e le q h g =
 call_is : (w : Whole) (c : Call) → command_of w (statements.Call c) ≡ call_command w c
 call_is w c = search (rules, the_lemmas)
 
--- a name that stands for no instance
-pub not_called : (w : Whole) (c : Call) → ((k : Composition) → w.invoked k ≡ None) → block_of (selected_by w.variables (out-Call c).name.spelling) ≡ None
-    → command_code w.variables (call_command w c) 0 0 ≡ at (out-Call c).name.position.line Step
-not_called w c none h =
+-- the code of an invocation, where this instruction runs the block
+abbrev pub invocation_code : Whole → Call → Instr → List Line
+invocation_code w c i =
     let x = out-Call c in
-    let of_block : Option StandardBlock → List Line = (λ b. command_code w.variables (invocation w x.name.position.line x.name.spelling b x.arguments) 0 0) in
-    let of_unit : Option Invoked → List Line = (λ u. command_code w.variables (entrance w x.name.position.line x.name.spelling u x.arguments) 0 0) in
-    ap of_block h ∙ ap of_unit (none (selected_by w.variables x.name.spelling))
+    let line = x.name.position.line in
+    at line Step
+    ++ (at line Step ++ (moves_code w.variables (inputs_of w x.name.spelling x.arguments) ++ (plain i ++ moves_code w.variables (outputs_of w x.name.spelling x.arguments))))
 
--- a name that stands for an instance of this block
-pub called : (w : Whole) (c : Call) (b : StandardBlock) → block_of (selected_by w.variables (out-Call c).name.spelling) ≡ Some b
-    → command_code w.variables (call_command w c) 0 0 ≡ command_code w.variables (invoke (out-Call c).name.position.line (out-Call c).name.spelling b (inputs_of w (out-Call c).name.spelling (out-Call c).arguments) (outputs_of w (out-Call c).name.spelling (out-Call c).arguments)) 0 0
-called w c b h =
-    let x = out-Call c in
-    let of_block : Option StandardBlock → List Line = (λ o. command_code w.variables (invocation w x.name.position.line x.name.spelling o x.arguments) 0 0) in
-    ap of_block h
+module _ (w : Whole) (c : Call) where
+  abbrev called_name : List ℕ
+  called_name = (out-Call c).name.spelling
 
--- No name stands for an instance of a function block of the text: these aren't invoked yet.
-pub nothing_invoked : (scope : TablesView × ℕ) (c : Composition) → (whole_of scope).invoked c ≡ None
-unfolding whole_in Wholes.whole_of
-nothing_invoked scope c = by (unit_at (units_of scope.0.text) scope.1) where
-  by : (unit : Option Named) → (optional_whole (units_of scope.0.text) unit).invoked c ≡ None
-  by None = refl
-  by (Some unit) = refl
+  abbrev called_line : ℕ
+  called_line = (out-Call c).name.position.line
+
+  abbrev called_with : List Argument
+  called_with = (out-Call c).arguments
+
+  -- a name that stands for no instance
+  not_entered : (u : Option Invoked) → entering (offset_of w.variables called_name) u ≡ None → command_code w.variables (entrance w called_line called_name u called_with) 0 0 ≡ at called_line Step
+  not_entered None h = refl
+  not_entered (Some unit) h = cc
+
+  not_run : (b : Option StandardBlock) → running (offset_of w.variables called_name) b (w.invoked called_name) ≡ None → command_code w.variables (invocation w called_line called_name b called_with) 0 0 ≡ at called_line Step
+  not_run None h = not_entered (w.invoked called_name) h
+  not_run (Some b) h = cc
+
+  pub not_called : instance_instr w called_name ≡ None → command_code w.variables (call_command w c) 0 0 ≡ at called_line Step
+  not_called h = not_run (block_of (selected_by w.variables called_name)) h
+
+  -- a name that stands for an instance, which this instruction runs
+  is_entered : (i : Instr) (u : Option Invoked) → entering (offset_of w.variables called_name) u ≡ Some i
+      → command_code w.variables (entrance w called_line called_name u called_with) 0 0 ≡ invocation_code w c i
+  is_entered i None h = cc
+  is_entered i (Some unit) h = let same : Enter unit.number (offset_of w.variables called_name) ≡ i = cc in ap (invocation_code w c) same
+
+  is_run : (i : Instr) (b : Option StandardBlock) → running (offset_of w.variables called_name) b (w.invoked called_name) ≡ Some i
+      → command_code w.variables (invocation w called_line called_name b called_with) 0 0 ≡ invocation_code w c i
+  is_run i None h = is_entered i (w.invoked called_name) h
+  is_run i (Some b) h = let same : Invoke b (offset_of w.variables called_name) ≡ i = cc in ap (invocation_code w c) same
+
+  pub called : (i : Instr) → instance_instr w called_name ≡ Some i → command_code w.variables (call_command w c) 0 0 ≡ invocation_code w c i
+  called i h = is_run i (block_of (selected_by w.variables called_name)) h
+
+-- ---- instances of function blocks of the text
+
+none_member : (units : List Named) (ms : Members) (name : List ℕ) → member_selected ms name ≡ unknown → member_instance units ms name ≡ None
+none_member units none name h = refl
+none_member units (member other kind c ms) name h = by (is_word other name) h (λ k. none_member units ms name k) where
+  by : (b : Bool) → (if b then c else member_selected ms name) ≡ unknown → (member_selected ms name ≡ unknown → member_instance units ms name ≡ None)
+      → (if b then instance_of units c else member_instance units ms name) ≡ None
+  by true k rest = ap (instance_of units) k
+  by false k rest = rest k
+
+none_in : (units : List Named) (c : Composition) (name : List ℕ) → selected_by c name ≡ unknown → instances_in units c name ≡ None
+none_in units unknown name h = refl
+none_in units (elementary v) name h = refl
+none_in units (array ranges firsts c) name h = refl
+none_in units (composed whole ms chart) name h = none_member units ms name h
+none_in units (standard b) name h = refl
+
+-- a name that selects nothing is none
+pub nothing_invoked : (scope : TablesView × ℕ) (name : List ℕ) → selected_by (whole_of scope).variables name ≡ unknown → (whole_of scope).invoked name ≡ None
+unfolding whole_in unit_whole
+nothing_invoked scope name h = by (unit_at (units_of scope.0.text) scope.1) h where
+  by : (unit : Option Named) → selected_by (optional_whole (units_of scope.0.text) unit).variables name ≡ unknown → (optional_whole (units_of scope.0.text) unit).invoked name ≡ None
+  by None k = refl
+  by (Some unit) k = none_in (units_of scope.0.text) (root_of (units_of scope.0.text) unit) name k
 
 -- it needs no distance
 pub call_code : (w : Whole) (y : Statement) (c d : Call) (out end : ℕ) → y ≡ statements.Call c → d ≡ c
@@ -113,5 +161,5 @@ call_code w y c d out end e f =
 
       by : (line : ℕ) (name : List ℕ) (b : Option StandardBlock) (xs : List Argument)
           → command_code w.variables (invocation w line name b xs) 0 0 ≡ command_code w.variables (invocation w line name b xs) out end
-      by line name None xs = by_unit line name (w.invoked (selected_by w.variables name)) xs
+      by line name None xs = by_unit line name (w.invoked name) xs
       by line name (Some b) xs = refl

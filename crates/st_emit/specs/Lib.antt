@@ -1,5 +1,6 @@
 pub mod Calls
 pub mod Emits
+pub mod Instances
 pub mod Places
 pub mod Statements
 pub mod Trees

@@ -1,11 +1,10 @@
-//! The code of invocations of standard function blocks (3.3.2.2).
+//! The code of invocations of function blocks (3.3.2.2).
 ghost use Rattle.std.specs.Prelude.{◌≡◌, ◌∷◌, ◌++◌, IfSome, OnOk, [], option_map, reverse};
-ghost use Rattle.st_leaves.specs.Selected.{selected_by};
-ghost use Rattle.st_meaning.specs.Offsets.{offset_of};
 ghost use Rattle.st_meaning.specs.Typing.{call_command, inputs_of, outputs_of, pin_of, place_typed};
-ghost use Rattle.st_meaning.specs.Wholes.{block_of, type_of};
+ghost use Rattle.st_meaning.specs.Wholes.{type_of};
 ghost use Rattle.st_code.specs.Code.{base_of, command_code, moves_code};
 ghost use Rattle.st_emit.specs.Emits.{Emits};
+ghost use Rattle.st_emit.specs.Instances.{instance_instr};
 ghost use Rattle.st_emit.specs.Trees.{whole_of};
 
 use crate::expression::{emit_expression, emit_store};
@@ -14,7 +13,6 @@ use crate::places::place_type;
 use crate::scope::Scope;
 use st_code::{Code, Instr};
 use st_tree::tree::{Argument, Call, Identifier};
-use st_types::StandardBlock;
 use st_values::Elem;
 use std::alloc::AllocError;
 
@@ -28,25 +26,27 @@ pub(crate) fn emit_invocation(
     ensures { OnOk result (code.new ≡ code.old ++ reverse (command_code (whole_of scope.now).variables (call_command (whole_of scope.now) call.now) 0 0)) }
 {
     let line = call.name.position.line;
-    let Some((block, first)) = instance(scope, &call.name) else {
+    let Some(block) = instance(scope, &call.name) else {
         return code.push(Instr::Step, line);
     };
     let arguments = call.arguments.as_slice();
     emit_outputs(code, scope, &call.name, arguments)?;
-    code.push(Instr::Invoke(block, first), 0)?;
+    code.push(block, 0)?;
     emit_inputs(code, scope, &call.name, arguments)?;
     code.push(Instr::Step, line)?;
     code.push(Instr::Step, line)
 }
 
-/// The standard block that the name stands for an instance of, and how many leaves stand before the instance.
-fn instance(scope: &Scope<'_>, name: &Identifier) -> Option<(StandardBlock, u32)>
-    ensures block { option_map (λ found. found.0) result ≡ block_of (selected_by (whole_of scope.now).variables name.now.spelling) }
-    ensures first { IfSome result (λ found. found.1 ≡ offset_of (whole_of scope.now).variables name.now.spelling) }
+/// The instruction that runs the block of which the name is an instance.
+fn instance(scope: &Scope<'_>, name: &Identifier) -> Option<Instr>
+    ensures { result ≡ instance_instr (whole_of scope.now) name.now.spelling }
 {
     let (first, node) = scope.select(scope.root(), name.spelling.as_slice())?;
-    let block = scope.block(node)?;
-    Some((block, first))
+    if let Some(block) = scope.block(node) {
+        return Some(Instr::Invoke(block, first));
+    }
+    let unit = scope.instance(name.spelling.as_slice())?;
+    Some(Instr::Enter(unit, first))
 }
 
 /// The type of an input or an output of an instance, and how many leaves stand before it.

@@ -1,5 +1,5 @@
 //! What the names in the statements of a unit stand for.
-ghost use Rattle.std.specs.Prelude.{◌≡◌, ◌<◌, IfSome, None, [], false, length, true};
+ghost use Rattle.std.specs.Prelude.{◌≡◌, ◌<◌, IfSome, None, [], false, length, option_map, true};
 ghost use Rattle.st_values.specs.Values.{IsValue};
 ghost use Rattle.st_types.specs.Compositions.{unknown};
 ghost use Rattle.st_leaves.specs.Places.{count};
@@ -119,5 +119,12 @@ impl<'a> Scope<'a> {
         ensures { result ≡ block_of (part_in self.now.0 node) }
     {
         self.tables.block(node)
+    }
+
+    /// The number of the function block of the text that a name is an instance of.
+    pub fn instance(&self, name: &[u8]) -> Option<usize>
+        ensures { result ≡ option_map (λ unit. unit.number) ((whole_of self.now).invoked name.now) }
+    {
+        self.tables.instance(self.unit, name)
     }
 }

@@ -1,12 +1,14 @@
-//! The stack machine: it runs the code of a unit over a memory, without allocating.
+//! The stack machine: it runs the code of a program and its function blocks over a memory, without allocating.
 #![tactic(auto)]
 
+mod block;
 mod blocks;
 mod cells;
 mod chains;
 mod counting;
 mod distances;
 mod entries;
+mod instances;
 mod leaves;
 mod looping;
 mod moves;
@@ -16,8 +18,11 @@ mod perform;
 mod quick;
 mod run;
 mod stack;
+mod stacks;
 mod transfers;
 
+pub use block::Block;
 pub use looping::run_fused;
 pub use run::Halt;
 pub use stack::Stack;
+pub use stacks::Stacks;

@@ -17,7 +17,7 @@ use crate::transfers::{get, get_at, put, put_at};
 use st_code::Instr;
 use st_layout::{Layout, Memory};
 
-/// Does an instruction.
+/// Does an instruction, which enters no instance of a block.
 #[inline(always)]
 pub fn perform<M: Memory>(
     instr: &Instr,
@@ -61,7 +61,7 @@ pub fn perform<M: Memory>(
         }
         Instr::Leave => leave(stack),
         Instr::Invoke(block, leaf) => invoke(memory, layout, block, leaf, now),
-        // no code that runs has it yet
-        Instr::Enter(_unit, _leaf) => Move::On,
+        // it is for the caller, who has the blocks
+        Instr::Enter(_unit, _leaf) => unreachable!(),
     }
 }

@@ -16,8 +16,8 @@ use Rattle.st_types.specs.Types.{Elements, elements_in, shape_of}
 use Rattle.st_types.specs.declared.base.Base.{Base}
 use Rattle.st_types.specs.declared.base.Base.TheVariants as bases
 use Rattle.st_operators.proofs.Results.{wrapped_is}
-use Rattle.st_meaning.specs.Wholes.{constant_among, constant_value, whole_of}
-use Rattle.st_meaning.proofs.TypedTerms.{HasValues, zero_is_value}
+use Rattle.st_meaning.specs.Wholes.{constant_among, constant_value}
+use Rattle.st_meaning.proofs.TypedTerms.{zero_is_value}
 
 -- what holds one value begins with one of its type
 abbrev HasValue : Composition → Type 0
@@ -87,7 +87,8 @@ among_has inside has (v ∷ vs) name value h = by (is_constant v.kind && is_word
   by true h more = constant_is_value (inside v) value (has v) h
   by false h more = more h
 
-pub whole_has : (units : List Named) (unit : Declares) → HasValues (whole_of units unit)
-unfolding whole_of
-whole_has units unit name value h =
+-- the constants of a unit, whatever its variables consist of
+pub constants_have : (units : List Named) (unit : Declares) (name : List ℕ) (value : Value)
+    → constant_among (declared_composition units (composition_within units (suc (length units)))) (variables_in unit) name ≡ Some value → IsValue value
+constants_have units unit name value h =
     among_has (declared_composition units (composition_within units (suc (length units)))) (declared_has units (suc (length units))) (variables_in unit) name value h

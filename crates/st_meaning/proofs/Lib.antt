@@ -18,3 +18,4 @@ pub mod TypedStatements
 pub mod TypedTerms
 pub mod Typing
 pub mod Worked
+pub mod WorkedUnits

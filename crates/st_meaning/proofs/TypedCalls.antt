@@ -26,10 +26,10 @@ block_is (composed name ms chart) b h = cc
 block_is (standard other) b h = cc
 
 -- the bodies of the units whose instances are invoked are sound
-abbrev pub AreSoundBodies : (Composition → Option Invoked) → Type 0
-AreSoundBodies invoked = (c : Composition) (unit : Invoked) → invoked c ≡ Some unit → AreSoundCommands c unit.body
+abbrev pub AreSoundBodies : Whole → Type 0
+AreSoundBodies w = (name : List ℕ) (unit : Invoked) → w.invoked name ≡ Some unit → AreSoundCommands (selected_by w.variables name) unit.body
 
-module _ (w : Whole) (values : HasValues w) (bodies : AreSoundBodies w.invoked) where
+module _ (w : Whole) (values : HasValues w) (bodies : AreSoundBodies w) where
   input_sound : (name pin : List ℕ) (e : Option Elem) (x : Expression) (more : Moves) → type_of w.variables (pin_of name pin) ≡ e
       → AreSoundMoves w.variables more → AreSoundMoves w.variables (input_moves w name e pin x more)
   input_sound name pin None x more h rest = rest
@@ -73,14 +73,14 @@ module _ (w : Whole) (values : HasValues w) (bodies : AreSoundBodies w.invoked) 
   outputs_sound name [] = tt
   outputs_sound name (a ∷ more) = one_output_sound name (out-Argument a) (outputs_of w name more) (outputs_sound name more)
 
-  entrance_sound : (line : ℕ) (name : List ℕ) (unit : Option Invoked) (xs : List Argument) → w.invoked (selected_by w.variables name) ≡ unit
+  entrance_sound : (line : ℕ) (name : List ℕ) (unit : Option Invoked) (xs : List Argument) → w.invoked name ≡ unit
       → IsSoundCommand w.variables (entrance w line name unit xs)
   entrance_sound line name None xs h = tt
-  entrance_sound line name (Some unit) xs h = (inputs_sound name xs, bodies (selected_by w.variables name) unit h, outputs_sound name xs)
+  entrance_sound line name (Some unit) xs h = (inputs_sound name xs, bodies name unit h, outputs_sound name xs)
 
   invocation_sound : (line : ℕ) (name : List ℕ) (b : Option StandardBlock) (xs : List Argument) → block_of (selected_by w.variables name) ≡ b
       → IsSoundCommand w.variables (invocation w line name b xs)
-  invocation_sound line name None xs h = entrance_sound line name (w.invoked (selected_by w.variables name)) xs refl
+  invocation_sound line name None xs h = entrance_sound line name (w.invoked name) xs refl
   invocation_sound line name (Some b) xs h = record {
     block = block_is (selected_by w.variables name) b h;
     inputs = inputs_sound name xs;

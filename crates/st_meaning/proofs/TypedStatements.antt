@@ -104,7 +104,7 @@ assignment_sound root line ps (Some e) x h parts k =
     let place : IsPlaceOf root (term_type root (x.as_type e)) ps = record { type = h ∙ ap (λ d. Some d) (sym (k e).type); parts = parts } in
     (place, (k e).sound)
 
-module _ (w : Whole) (values : HasValues w) (bodies : AreSoundBodies w.invoked) where
+module _ (w : Whole) (values : HasValues w) (bodies : AreSoundBodies w) where
   step_sound : (step : Option Expression) (e : Elem) → IsTermOf w.variables e (step_typed w step e)
   step_sound None e = record { type = refl; sound = one_is_value e }
   step_sound (Some x) e = expression_sound w values x e

@@ -1,15 +1,73 @@
 -- What typing makes of the statements of a unit is sound.
-use Rattle.std.proofs.Common.{List}
-use Rattle.st_types.specs.Names.{Declares, Named}
-use Rattle.st_meaning.specs.Laws.{TypingGivesSoundCommands}
-use Rattle.st_meaning.specs.Wholes.{whole_of}
-use Rattle.st_meaning.proofs.Constants.{whole_has}
+use Rattle.std.proofs.Common.{◌≡◌, ℕ, Bool, true, false, if◌then◌else◌, List, Option, Some, None, subst}
+use Rattle.st_values.specs.Words.{is_word}
+use Rattle.st_types.specs.Compositions.{Composition, unknown, elementary, array, composed, standard, Members, none, member}
+use Rattle.st_types.specs.Names.{Declares, Named, number_of, unit_at}
+use Rattle.st_types.specs.Names as names
+use Rattle.st_leaves.specs.Selected.{member_selected}
+use Rattle.st_meaning.specs.Laws.{TypingGivesSoundBodies}
+use Rattle.st_meaning.specs.Sound.{AreSoundCommands}
+use Rattle.st_meaning.specs.Typing.{body_of}
+use Rattle.st_meaning.specs.Units.{block_invoked, instance_of, instances_in, member_instance, number_invoked, root_of, statements_of, unit_invoked, unit_whole, whole_with}
+use Rattle.st_meaning.specs.Wholes.{Invoked}
+use Rattle.st_meaning.proofs.Constants.{constants_have}
 use Rattle.st_meaning.proofs.TypedCalls.{AreSoundBodies}
 use Rattle.st_meaning.proofs.TypedStatements.{body_sound}
 
-whole_bodies : (units : List Named) (unit : Declares) → AreSoundBodies (whole_of units unit).invoked
-unfolding whole_of
-whole_bodies units unit c invoked h = cc
+-- ---- the bodies of instances
 
-pub typing_gives_sound_commands : TypingGivesSoundCommands
-typing_gives_sound_commands units unit body = body_sound (whole_of units unit) (whole_has units unit) (whole_bodies units unit) body
+module _ (units : List Named) where
+  -- of the names in an instance whose variables consist of this
+  abbrev SoundInside : Composition → (List ℕ → Option Invoked) → Type 0
+  SoundInside c invoked = (unit : Declares) → AreSoundBodies (whole_with units unit c invoked)
+
+  block_sound : (number : ℕ) (c : Composition) (inside : List ℕ → Option Invoked) → SoundInside c inside → (unit : Declares) (found : Invoked)
+      → block_invoked units number c inside unit ≡ Some found → AreSoundCommands c found.body
+  block_sound number c inside sound (names.block b) found h =
+      let unit = names.block b in
+      let is : body_of (whole_with units unit c inside) (statements_of unit) ≡ found.body = cc in
+      subst (AreSoundCommands c) is (body_sound (whole_with units unit c inside) (constants_have units unit) (sound unit) (statements_of unit))
+  block_sound number c inside sound (names.type t) found h = cc
+  block_sound number c inside sound (names.function f) found h = cc
+  block_sound number c inside sound (names.program p) found h = cc
+
+  unit_sound : (number : ℕ) (c : Composition) (inside : List ℕ → Option Invoked) → SoundInside c inside → (unit : Option Named) (found : Invoked)
+      → unit_invoked units number c inside unit ≡ Some found → AreSoundCommands c found.body
+  unit_sound number c inside sound None found h = cc
+  unit_sound number c inside sound (Some unit) found h = block_sound number c inside sound unit.declares found h
+
+  number_sound : (c : Composition) (inside : List ℕ → Option Invoked) → SoundInside c inside → (number : Option ℕ) (found : Invoked)
+      → number_invoked units c inside number ≡ Some found → AreSoundCommands c found.body
+  number_sound c inside sound None found h = cc
+  number_sound c inside sound (Some number) found h = unit_sound number c inside sound (unit_at units number) found h
+
+  member_or : (b : Bool) (c d : Composition) (e f : Option Invoked) (found : Invoked) → (if b then e else f) ≡ Some found
+      → (e ≡ Some found → AreSoundCommands c found.body) → (f ≡ Some found → AreSoundCommands d found.body) → AreSoundCommands (if b then c else d) found.body
+  member_or true c d e f found h first other = first h
+  member_or false c d e f found h first other = other h
+
+  mutual
+    instance_sound : (c : Composition) (found : Invoked) → instance_of units c ≡ Some found → AreSoundCommands c found.body
+    instance_sound unknown found h = cc
+    instance_sound (elementary v) found h = cc
+    instance_sound (array ranges firsts c) found h = cc
+    instance_sound (composed name ms chart) found h =
+        number_sound (composed name ms chart) (member_instance units ms) (λ unit other inside k. member_sound ms other inside k) (number_of units name) found h
+    instance_sound (standard b) found h = cc
+
+    member_sound : (ms : Members) (name : List ℕ) (found : Invoked) → member_instance units ms name ≡ Some found → AreSoundCommands (member_selected ms name) found.body
+    member_sound none name found h = cc
+    member_sound (member other kind c ms) name found h =
+        member_or (is_word other name) c (member_selected ms name) (instance_of units c) (member_instance units ms name) found h (instance_sound c found) (member_sound ms name found)
+
+  instances_sound : (c : Composition) → SoundInside c (instances_in units c)
+  instances_sound unknown unit name found h = cc
+  instances_sound (elementary v) unit name found h = cc
+  instances_sound (array ranges firsts c) unit name found h = cc
+  instances_sound (composed whole ms chart) unit name found h = member_sound ms name found h
+  instances_sound (standard b) unit name found h = cc
+
+pub typing_gives_sound_bodies : TypingGivesSoundBodies
+unfolding unit_whole
+typing_gives_sound_bodies units unit body =
+    body_sound (unit_whole units unit) (constants_have units unit.declares) (instances_sound units (root_of units unit) unit.declares) body

@@ -6,7 +6,7 @@ use Rattle.st_values.specs.declared.elem.Elem.TheVariants as elems
 use Rattle.st_values.specs.declared.value.Value.{Value}
 use Rattle.st_tree.specs.declared.tree.statement.Statement.{Statement}
 use Rattle.st_types.specs.Compositions.{Composition}
-use Rattle.st_types.specs.Names.{Declares, Named}
+use Rattle.st_types.specs.Names.{Named}
 use Rattle.st_leaves.specs.Paths.{Path}
 use Rattle.st_leaves.specs.Places.{LeadsTo}
 use Rattle.st_operators.specs.Laws.{IsOf}
@@ -16,12 +16,12 @@ use Rattle.st_meaning.specs.Sound.{AreSoundCommands, AreValuesOf, HasOneLeafEach
 use Rattle.st_meaning.specs.Statements.{Setting, Outcome, done, exited, returned, faulted, commands_meaning}
 use Rattle.st_meaning.specs.Terms.{Commands, Parts, Term}
 use Rattle.st_meaning.specs.Typing.{body_of}
-use Rattle.st_meaning.specs.Wholes.{whole_of}
+use Rattle.st_meaning.specs.Units.{unit_whole}
 
 -- what typing makes of the statements of a unit is sound
-abbrev pub TypingGivesSoundCommands : Type 0
-TypingGivesSoundCommands = (units : List Named) (unit : Declares) (body : List Statement)
-    → AreSoundCommands (whole_of units unit).variables (body_of (whole_of units unit) body)
+abbrev pub TypingGivesSoundBodies : Type 0
+TypingGivesSoundBodies = (units : List Named) (unit : Named) (body : List Statement)
+    → AreSoundCommands (unit_whole units unit).variables (body_of (unit_whole units unit) body)
 
 -- a leaf of this type stands at the path
 pub record HasLeaf (root : Composition) (e : Elem) (path : Path) : Type 0 where

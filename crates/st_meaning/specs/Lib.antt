@@ -6,4 +6,5 @@ pub mod Sound
 pub mod Statements
 pub mod Terms
 pub mod Typing
+pub mod Units
 pub mod Wholes

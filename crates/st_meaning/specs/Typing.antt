@@ -270,7 +270,7 @@ entrance w line name (Some unit) xs = enter line name unit.number unit.body (inp
 
 -- of an instance of a standard function block
 abbrev pub invocation : Whole → ℕ → List ℕ → Option StandardBlock → List Argument → Command
-invocation w line name None xs = entrance w line name (w.invoked (selected_by w.variables name)) xs
+invocation w line name None xs = entrance w line name (w.invoked name) xs
 invocation w line name (Some b) xs = invoke line name b (inputs_of w name xs) (outputs_of w name xs)
 
 -- a call statement

@@ -1,10 +1,10 @@
 -- What the names in the statements of a unit stand for (2.4).
-use Rattle.std.specs.Prelude.{ℕ, suc, ◌&&◌, List, [], ◌∷◌, length, Option, Some, None, if◌then◌else◌}
+use Rattle.std.specs.Prelude.{ℕ, ◌&&◌, List, [], ◌∷◌, Option, Some, None, if◌then◌else◌}
 use Rattle.st_values.specs.Words.{is_word}
 use Rattle.st_values.specs.declared.elem.Elem.{Elem}
 use Rattle.st_values.specs.declared.value.Value.{Value}
-use Rattle.st_types.specs.Compositions.{Composition, elementary, standard, composition_of, composition_within, declared_composition, is_constant}
-use Rattle.st_types.specs.Names.{Declared, Declares, Named, variables_in}
+use Rattle.st_types.specs.Compositions.{Composition, elementary, standard, is_constant}
+use Rattle.st_types.specs.Names.{Declared}
 use Rattle.st_types.specs.declared.standard.StandardBlock.{StandardBlock}
 use Rattle.st_leaves.specs.Selected.{element_of, selected_by, takes_subscripts, value_type}
 use Rattle.st_meaning.specs.Terms.{Commands, Parts, whole, field_part, element_part, how_many}
@@ -14,12 +14,12 @@ pub record Invoked : Type 0 where
   pub number : ℕ
   pub body : Commands
 
--- the variables of a unit, as what they consist of, the values of its constants, and the function block of the text that something is
--- an instance of
+-- the variables of a unit, as what they consist of, the values of its constants, and which of its names are instances of function
+-- blocks of the text
 pub record Whole : Type 0 where
   pub variables : Composition
   pub constants : List ℕ → Option Value
-  pub invoked : Composition → Option Invoked
+  pub invoked : List ℕ → Option Invoked
 
 abbrev pub constant_value : Composition → Option Value
 constant_value (elementary v) = Some v
@@ -29,13 +29,6 @@ constant_value _ = None
 abbrev pub constant_among : (Declared → Composition) → List Declared → List ℕ → Option Value
 constant_among inside [] name = None
 constant_among inside (v ∷ vs) name = if is_constant v.kind && is_word v.name.spelling name then constant_value (inside v) else constant_among inside vs name
-
-unfoldable pub whole_of : List Named → Declares → Whole
-whole_of units unit = record {
-  variables = composition_of units unit;
-  constants = constant_among (declared_composition units (composition_within units (suc (length units)))) (variables_in unit);
-  invoked = λ c. None;
-}
 
 -- the elementary type of a place in something, where it has one
 abbrev pub type_of : Composition → Parts → Option Elem

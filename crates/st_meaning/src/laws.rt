@@ -1,9 +1,10 @@
 //! Laws of what programs mean.
-ghost use Rattle.st_meaning.specs.Laws.{CommandsKeepTheFrame, PlacesHaveLeaves, TermsGiveValues, TypingGivesSoundCommands};
+ghost use Rattle.st_meaning.specs.Laws.{CommandsKeepTheFrame, PlacesHaveLeaves, TermsGiveValues, TypingGivesSoundBodies};
 
-/// The commands that a body of statements is are sound, whatever stands in it.
-pub fn typing_gives_sound_commands()
-    ensures { TypingGivesSoundCommands }
+/// The commands that the statements of a unit are, are sound, whatever stands in them, and so are the bodies of the instances of
+/// function blocks that they invoke, however deep those lie.
+pub fn typing_gives_sound_bodies()
+    ensures { TypingGivesSoundBodies }
 {}
 
 /// A place that is found is that of a leaf, and the value there is one of the place's type.

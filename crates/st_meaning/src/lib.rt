@@ -8,6 +8,6 @@ mod operation;
 
 pub use fault::{RunFault, RunFaultKind};
 pub use laws::{
-    commands_keep_the_frame, places_have_leaves, terms_give_values, typing_gives_sound_commands,
+    commands_keep_the_frame, places_have_leaves, terms_give_values, typing_gives_sound_bodies,
 };
 pub use operation::{Binary, Unary};

@@ -23,7 +23,8 @@ use Rattle.st_values.specs.declared.elem.Elem.{Elem}
 use Rattle.st_values.specs.declared.elem.Elem.TheVariants as elems
 use Rattle.st_values.specs.declared.value.Value.{Value}
 use Rattle.st_leaves.proofs.Wrapped.{wrapped_is_value}
-use Rattle.st_meaning.specs.Wholes.{constant_among, constant_value, whole_of}
+use Rattle.st_meaning.specs.Units.{unit_whole}
+use Rattle.st_meaning.specs.Wholes.{constant_among, constant_value}
 use Rattle.st_places.specs.Contents.{AreOf}
 use Rattle.st_places.specs.Members.{value_declared}
 use Rattle.st_places.specs.Parts.{TablesView, constants_among, inside, optional_whole, whole_in}
@@ -91,7 +92,7 @@ module _ (units : List Named) where
   -- ---- in the tables
 
   constants_of : (u : Option Named) (name : List ℕ) → (optional_whole units u).constants name ≡ value_among (constants_among (names_by units u)) name
-  unfolding whole_of
+  unfolding unit_whole
   constants_of None name = refl
   constants_of (Some u) name = among (variables_in u.declares) name ∙ ap (λ vs. value_among vs name) (sym (same_constants u.declares))
 

@@ -17,7 +17,7 @@ use Rattle.st_tree.specs.declared.tree.declaration.Specification.TheVariants as 
 use Rattle.st_tree.specs.declared.tree.declaration.Subrange.{Subrange}
 use Rattle.st_tree.specs.declared.tree.unit.ChartElement.{ChartElement}
 use Rattle.st_types.proofs.Units.{unit_at-past}
-use Rattle.st_types.specs.Compositions.{Composition, unknown, elementary, array, composed, standard, Members as Parts, composition_of, composition_within, elements_composition, members_by, optional_composition, started, unit_composition}
+use Rattle.st_types.specs.Compositions.{Composition, unknown, elementary, array, composed, standard, Members as Parts, composition_within, elements_composition, members_by, optional_composition, started, unit_composition}
 use Rattle.st_types.specs.Initials.{first_values, unit_element_initial, zero_of}
 use Rattle.st_types.specs.Names.{Declared, Declares, Named, chart_in, unit_at}
 use Rattle.st_types.specs.Names as names
@@ -114,7 +114,6 @@ module _ (units : List Named) where
   unit_parts name (names.program p) = composed_parts name [] (members_by units (inside units) (names.variables_in (names.program p))) (chart_in (names.program p))
 
   pub whole_content : (u : Option Named) → HasSameParts (whole_part units u) (contents_of units u)
-  unfolding composition_of
   whole_content None = same_parts unknown unknown refl
   whole_content (Some u) = unit_parts _ u.declares
 

@@ -1,12 +1,17 @@
+pub mod Blocks
 pub mod Constants
 pub mod Contents
 pub mod Counts
 pub mod Dimensions
 pub mod Entries
 pub mod Insides
+pub mod Instances
 pub mod Lookups
 pub mod MemberContents
 pub mod Members
+pub mod NamedInstances
 pub mod PinNumbers
 pub mod Selections
 pub mod Settled
+pub mod SoundUnits
+pub mod UnitLaws

@@ -26,7 +26,8 @@ use Rattle.st_leaves.specs.Leaves.{number_of}
 use Rattle.st_leaves.specs.Places.{count, extent, extent_of}
 use Rattle.st_leaves.specs.Selected.{element_of, selected_by, subscripts_of, value_type}
 use Rattle.st_meaning.specs.Offsets.{IsSmall, offset_of}
-use Rattle.st_meaning.specs.Wholes.{block_of, whole_of}
+use Rattle.st_meaning.specs.Units.{unit_whole}
+use Rattle.st_meaning.specs.Wholes.{block_of}
 use Rattle.st_places.specs.Contents.{AreElementsOf, IsArrayOf, IsSelected, IsUnfolded}
 use Rattle.st_places.specs.Dimensions.{AreLimited, dimensions_in}
 use Rattle.st_places.specs.Members.{AreUnits, IsUnit}
@@ -167,7 +168,7 @@ module _ (t : TablesView) (node : Node) where
 -- ---- whole units
 
 pub root_part : (t : TablesView) (unit : ℕ) → part_in t (nodes.Whole unit) ≡ (whole_in t unit).variables
-unfolding part_in whole_in whole_of
+unfolding part_in whole_in unit_whole
 root_part t unit = by (unit_at (units_of t.text) unit)
   where
     by : (u : Option Named) → whole_part (units_of t.text) u ≡ (optional_whole (units_of t.text) u).variables

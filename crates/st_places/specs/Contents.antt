@@ -1,6 +1,7 @@
 -- What names and subscripts select of parts.
 use Rattle.std.specs.Borrow.{Bor}
-use Rattle.std.specs.Prelude.{◌≡◌, ℕ, suc, false, ◌≤◌, List, [], length, Option, Some, None}
+use Rattle.std.specs.Char.{to_ascii_uppercase}
+use Rattle.std.specs.Prelude.{◌≡◌, ℕ, suc, false, ◌≤◌, List, [], map, length, Option, Some, None}
 use Rattle.std.specs.List.{slice_get}
 use Rattle.std.specs.Option.{option_and_then}
 use Rattle.st_tree.specs.declared.tree.constant.Constant.{Constant}
@@ -8,9 +9,10 @@ use Rattle.st_tree.specs.declared.tree.declaration.Subrange.{Subrange}
 use Rattle.st_scopes.specs.Declarations.{names_in}
 use Rattle.st_types.specs.Compositions.{Composition, array, composed, elementary, standard, unknown, composition_within, members_by}
 use Rattle.st_types.specs.Initials.{zero_of}
-use Rattle.st_types.specs.Names.{Named, chart_in, unit_at}
+use Rattle.st_types.specs.Names.{Named, chart_in, number_of, unit_at}
 use Rattle.st_types.specs.Types.{type_at}
 use Rattle.st_types.specs.declared.base.Base.{Base}
+use Rattle.st_types.specs.declared.base.Base.TheVariants as bases
 use Rattle.st_leaves.specs.Places.{count}
 use Rattle.st_leaves.specs.Selected.{selected_by, value_type}
 use Rattle.st_meaning.specs.Offsets.{offset_of}
@@ -30,11 +32,16 @@ use Rattle.st_places.specs.declared.unit.UnitParts.{UnitParts}
 abbrev pub IsUnfolded : List Named → Base → Type 0
 IsUnfolded units base = inside units base ≡ composition_within units (suc (suc (length units))) base
 
--- the tables of all units of a text, none of which contains itself
+-- each unit is found by its name in upper case
+abbrev pub AreNamed : List Named → Type 0
+AreNamed units = (i : ℕ) (u : Named) → unit_at units i ≡ Some u → number_of units (map to_ascii_uppercase u.name.spelling) ≡ Some i
+
+-- the tables of all units of a text, none of which contains itself, and all of which are found by their names
 pub record AreOf (units : List Named) (all : List UnitParts) : Type 0 where
   pub len : length all ≡ length units
   pub each : AreUnits units all
   pub unfolded : (i : ℕ) → IsUnfolded units (type_at units i)
+  pub named : AreNamed units
 
 -- the table of a member, and of the elements of an array type
 abbrev pub member_in : List UnitParts → ℕ → ℕ → Option Member
@@ -42,6 +49,14 @@ member_in all unit number = option_and_then (λ (parts : UnitParts). slice_get p
 
 abbrev pub elements_of : List UnitParts → ℕ → Option ArrayParts
 elements_of all unit = option_and_then (λ (parts : UnitParts). parts.elements) (slice_get all unit)
+
+-- the number of the function block that what has this table is an instance of
+abbrev pub block_by : Option (List Dimension) → Base → Option ℕ
+block_by None (bases.Block i) = Some i
+block_by _ _ = None
+
+abbrev pub member_block : Member → Option ℕ
+member_block m = block_by m.dimensions m.base
 
 -- the unit's names and its chart, whatever its name
 abbrev pub contents_of : List Named → Option Named → Composition

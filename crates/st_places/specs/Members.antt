@@ -1,12 +1,13 @@
 -- The tables of a unit: its variables with where their leaves stand, its constants, and the elements of an array type.
-use Rattle.std.specs.Prelude.{◌≡◌, ℕ, ◌+◌, ◌*◌, List, [], ◌∷◌, Option, Some, None, map, min}
+use Rattle.std.specs.Prelude.{◌≡◌, ℕ, ◌+◌, ◌*◌, nat_le, Bool, false, List, [], ◌∷◌, Option, Some, None, map, min}
 use Rattle.std.specs.List.{slice_get}
 use Rattle.st_values.specs.declared.value.Value.{Value}
 use Rattle.st_tree.specs.declared.tree.declaration.Subrange.{Subrange}
 use Rattle.st_scopes.specs.Declarations.{names_at, spellings_of}
 use Rattle.st_types.specs.Compositions.{declared_composition}
 use Rattle.st_types.specs.Names.{Declared, Named}
-use Rattle.st_types.specs.Types.{Elements, elements_in, shape_of}
+use Rattle.st_types.specs.Types.{Elements, elements_in, shape_of, type_at}
+use Rattle.st_types.specs.declared.base.Base.{Base}
 use Rattle.st_types.specs.declared.base.Base.TheVariants as bases
 use Rattle.st_leaves.specs.Places.{count, extent}
 use Rattle.st_meaning.specs.Wholes.{constant_value}
@@ -78,10 +79,16 @@ pub record HasNames (units : List Named) (vs : List Declared) (parts : UnitParts
   pub members : HasMembers units (variables_among vs) parts.members
   pub constants : HasConstants units (constants_among vs) parts.constants
 
+-- a function block of the text whose instances have at most 65536 leaves
+abbrev pub is_small_type : List Named → Base → Bool
+is_small_type units (bases.Block i) = nat_le (count (inside units (bases.Block i))) 65536
+is_small_type units _ = false
+
 -- of the unit of this number
 pub record IsUnit (units : List Named) (i : ℕ) (parts : UnitParts) : Type 0 where
   pub names : HasNames units (names_at units i) parts
   pub elements : AreElements units (elements_in units (bases.Array i)) parts.elements
+  pub small : parts.is_small_block ≡ is_small_type units (type_at units i)
 
 -- of all units
 abbrev pub AreUnits : List Named → List UnitParts → Type 0

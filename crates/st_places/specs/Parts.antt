@@ -1,16 +1,19 @@
 -- What the parts of variables consist of, by what they are parts of.
-use Rattle.std.specs.Prelude.{ℕ, suc, ◌<◌, Bool, true, false, List, [], ◌∷◌, length, Option, Some, None, if◌then◌else◌}
+use Rattle.std.specs.Prelude.{ℕ, suc, ◌<◌, ◌&&◌, nat_le, Bool, true, false, List, [], ◌∷◌, length, Option, Some, None, if◌then◌else◌}
 use Rattle.std.specs.List.{slice_get}
 use Rattle.st_tree.specs.declared.tree.unit.Unit.{Unit as Section}
-use Rattle.st_types.specs.Compositions.{Composition, array, elementary, unknown, composition_of, composition_within, declared_composition, elements_composition, is_constant, started}
+use Rattle.st_types.specs.Compositions.{Composition, array, elementary, unknown, composition_within, declared_composition, elements_composition, is_constant, started}
 use Rattle.st_types.specs.Initials.{element_initial, unit_element_initial, zero_of}
-use Rattle.st_types.specs.Names.{Declared, Named, unit_at, units_of}
+use Rattle.st_types.specs.Names.{Declared, Declares, Named, unit_at, units_of}
+use Rattle.st_types.specs.Names as names
 use Rattle.st_types.specs.Types.{elements_in, shape_of}
 use Rattle.st_types.specs.declared.base.Base.{Base}
 use Rattle.st_types.specs.declared.base.Base.TheVariants as bases
+use Rattle.st_leaves.specs.Places.{count}
 use Rattle.st_leaves.specs.Selected.{element_of}
 use Rattle.st_scopes.specs.Declarations.{names_at}
-use Rattle.st_meaning.specs.Wholes.{Whole, whole_of}
+use Rattle.st_meaning.specs.Units.{root_of, unit_whole}
+use Rattle.st_meaning.specs.Wholes.{Whole}
 use Rattle.st_places.specs.declared.node.Node.{Node}
 use Rattle.st_places.specs.declared.node.Node.TheVariants as nodes
 
@@ -40,7 +43,7 @@ variables_at units unit = variables_among (names_at units unit)
 
 abbrev pub whole_part : List Named → Option Named → Composition
 whole_part units None = unknown
-whole_part units (Some u) = composition_of units u.declares
+whole_part units (Some u) = root_of units u
 
 abbrev pub member_part : List Named → Option Declared → Composition
 member_part units None = unknown
@@ -83,9 +86,25 @@ is_array _ = false
 
 -- ---- units
 
+abbrev pub is_block : Declares → Bool
+is_block (names.block b) = true
+is_block _ = false
+
+-- a function block whose instances have at most 65536 leaves
+abbrev pub is_small_block : List Named → Named → Bool
+is_small_block units unit = is_block unit.declares && nat_le (count (root_of units unit)) 65536
+
+abbrev pub optional_small_block : List Named → Option Named → Bool
+optional_small_block units None = false
+optional_small_block units (Some u) = is_small_block units u
+
+-- whether the unit of this number is such a function block
+unfoldable pub is_small_block_in : TablesView → ℕ → Bool
+is_small_block_in tables unit = optional_small_block (units_of tables.text) (unit_at (units_of tables.text) unit)
+
 abbrev pub optional_whole : List Named → Option Named → Whole
-optional_whole units None = record { variables = unknown; constants = λ name. None; invoked = λ c. None }
-optional_whole units (Some u) = whole_of units u.declares
+optional_whole units None = record { variables = unknown; constants = λ name. None; invoked = λ name. None }
+optional_whole units (Some u) = unit_whole units u
 
 -- what the names in the statements of the unit of this number stand for
 unfoldable pub whole_in : TablesView → ℕ → Whole

@@ -1,11 +1,11 @@
 //! What names and subscripts select of parts.
 ghost use Rattle.std.specs.Prelude.{◌≡◌, List as Items};
 ghost use Rattle.std.specs.List.{position, slice_get};
-ghost use Rattle.std.specs.Option.{option_copied};
+ghost use Rattle.std.specs.Option.{option_copied, option_map};
 ghost use Rattle.st_leaves.specs.Selected.{value_type};
-ghost use Rattle.st_meaning.specs.Wholes.{block_of};
-ghost use Rattle.st_places.specs.Contents.{AreElementsOf, AreOf, IsContent, IsSelected, IsUnfolded, contents_of, elements_of, member_in};
-ghost use Rattle.st_places.specs.Parts.{inside, node_part, optional_whole};
+ghost use Rattle.st_meaning.specs.Wholes.{Invoked, block_of};
+ghost use Rattle.st_places.specs.Contents.{AreElementsOf, AreOf, IsContent, IsSelected, IsUnfolded, contents_of, elements_of, member_block, member_in};
+ghost use Rattle.st_places.specs.Parts.{inside, node_part, optional_small_block, optional_whole};
 ghost use Rattle.st_places.specs.declared.node.Node.TheVariants as nodes;
 ghost use Rattle.st_types.specs.Compositions.{standard};
 ghost use Rattle.st_types.specs.Names.{Named, unit_at};
@@ -132,6 +132,34 @@ pub(crate) fn constant_named(units: &[UnitParts<'_>], unit: usize, name: &[u8]) 
     let constants = &parts_of(units, unit)?.constants;
     let number = constants.names.find(name)?;
     value_at(constants.values.as_slice(), number)?
+}
+
+/// The number of the function block that the variable of this name in the unit of this number is an instance of.
+pub(crate) fn instance_named(units: &[UnitParts<'_>], unit: usize, name: &[u8]) -> Option<usize>
+    ensures { (text : Items Named) → AreOf text units.now → result ≡ option_map (λ (found : Invoked). found.number) ((optional_whole text (unit_at text unit)).invoked name.now) }
+{
+    let number = parts_of(units, unit)?.members.names.find(name)?;
+    member_block(member_at(units, unit, number)?)
+}
+
+/// The number of the function block that the member is an instance of.
+fn member_block(member: &Member) -> Option<usize>
+    ensures { result ≡ member_block member.now }
+{
+    match (&member.dimensions, member.base) {
+        (None, Base::Block(unit)) => Some(unit),
+        _ => None,
+    }
+}
+
+/// Whether the unit of this number is a function block whose instances have at most 65,536 leaves.
+pub(crate) fn is_small_block(units: &[UnitParts<'_>], unit: usize) -> bool
+    ensures { (text : Items Named) → AreOf text units.now → result ≡ optional_small_block text (unit_at text unit) }
+{
+    match parts_of(units, unit) {
+        Some(parts) => parts.is_small_block,
+        None => false,
+    }
 }
 
 /// The value of this number.

@@ -6,10 +6,12 @@ mod constant;
 mod content;
 mod count;
 mod dimension;
+mod laws;
 mod member;
 mod node;
 mod tables;
 mod unit;
 
+pub use laws::{instances_are_of_blocks, units_are_sound};
 pub use node::{Dimension, Node};
 pub use tables::Tables;

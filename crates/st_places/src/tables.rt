@@ -1,21 +1,24 @@
 //! Tables of what names stand for in the statements of a text.
 ghost use Rattle.std.specs.Prelude.{◌≡◌, ◌<◌, IfOk, IfSome, None, false, length, true, ℕ};
+ghost use Rattle.std.specs.Option.{option_map};
 ghost use Rattle.st_initials.specs.Tables.{AreInitials};
 ghost use Rattle.st_check.specs.Programs.{text_of};
 ghost use Rattle.st_leaves.specs.Places.{count};
 ghost use Rattle.st_leaves.specs.Selected.{element_of, selected_by, subscripts_of, value_type};
 ghost use Rattle.st_meaning.specs.Offsets.{IsSmall, offset_of};
-ghost use Rattle.st_meaning.specs.Wholes.{block_of};
+ghost use Rattle.st_meaning.specs.Wholes.{Invoked, block_of};
 ghost use Rattle.st_places.specs.Dimensions.{dimensions_in};
 ghost use Rattle.st_places.specs.Members.{AreUnits};
-ghost use Rattle.st_places.specs.Parts.{IsNodeOf, is_array, part_in, whole_in};
+ghost use Rattle.st_places.specs.Parts.{IsNodeOf, is_array, is_small_block_in, part_in, whole_in};
 ghost use Rattle.st_program_sizes.specs.Sized.{IsSized};
 ghost use Rattle.st_types.specs.Compositions.{unknown};
 ghost use Rattle.st_types.specs.Names.{units_of};
 ghost use Rattle.st_types.specs.Types.{type_at};
 ghost use Rattle.st_values.specs.Values.{IsValue};
 
-use crate::content::{block_of, constant_named, elements, selected, value_type};
+use crate::content::{
+    block_of, constant_named, elements, instance_named, is_small_block, selected, value_type,
+};
 use crate::node::{Dimension, Node};
 use crate::unit::UnitParts;
 use st_check::Program;
@@ -83,6 +86,20 @@ impl<'a> Tables<'a> {
         ensures in_range { IfSome result (λ value. IsValue value) }
     {
         constant_named(&self.units, unit, name)
+    }
+
+    /// The number of the function block that the variable of this name in the unit of this number is an instance of.
+    pub fn instance(&self, unit: usize, name: &[u8]) -> Option<usize>
+        ensures { result ≡ option_map (λ (found : Invoked). found.number) ((whole_in self.now unit).invoked name.now) }
+    {
+        instance_named(&self.units, unit, name)
+    }
+
+    /// Whether the unit of this number is a function block whose instances have at most 65,536 leaves.
+    pub fn is_small_block(&self, unit: usize) -> bool
+        ensures { result ≡ is_small_block_in self.now unit }
+    {
+        is_small_block(&self.units, unit)
     }
 
     /// What a name selects, and how many leaves stand before it.

@@ -1,11 +1,11 @@
 //! What is declared in a unit: its variables, its constants, and of an array type its elements.
 ghost use Rattle.std.specs.Prelude.{◌≡◌, ◌<◌, ◌++◌, ◌∷◌, [], ℕ, IfOk, List as Items, OnOk, length};
 ghost use Rattle.st_initials.specs.Tables.{AreInitials};
-ghost use Rattle.st_places.specs.Members.{AreElements, HasNames, IsUnit};
+ghost use Rattle.st_places.specs.Members.{AreElements, HasNames, IsUnit, is_small_type};
 ghost use Rattle.st_program_sizes.specs.Sized.{IsSized};
 ghost use Rattle.st_scopes.specs.Declarations.{seen};
 ghost use Rattle.st_types.specs.Compositions.{is_constant};
-ghost use Rattle.st_types.specs.Names.{Declared as Name, units_of};
+ghost use Rattle.st_types.specs.Names.{Declared as Name, Named, units_of};
 ghost use Rattle.st_types.specs.Types.{elements_in, type_at};
 ghost use Rattle.st_types.specs.declared.base.Base.TheVariants as bases;
 
@@ -37,6 +37,8 @@ pub(crate) struct UnitParts<'a> {
     pub constants: Constants<'a>,
     /// Of an array type.
     pub elements: Option<ArrayParts>,
+    /// Whether it is a function block whose instances have at most 65,536 leaves.
+    pub is_small_block: bool,
 }
 
 impl<'a> UnitParts<'a> {
@@ -57,6 +59,7 @@ impl<'a> UnitParts<'a> {
             members: Members::new(alloc),
             constants: Constants::new(alloc),
             elements: elements_of(alloc, tables, sizes, unit)?,
+            is_small_block: is_small(sizes, tables.type_at(unit)),
         };
         'names: for declared in tables.declared(unit) {
             parts.add(alloc, tables, initials, sizes, declared)?;
@@ -77,12 +80,27 @@ impl<'a> UnitParts<'a> {
         requires sizes { (i : ℕ) → IsSized (units_of tables.now) sizes.now (type_at (units_of tables.now) i) }
         ensures names { OnOk result ((vs : Items Name) → HasNames (units_of tables.now) vs self.old → HasNames (units_of tables.now) (vs ++ seen declared.now ∷ []) self.new) }
         ensures elements { OnOk result (self.new.elements ≡ self.old.elements) }
+        ensures small { OnOk result (self.new.is_small_block ≡ self.old.is_small_block) }
     {
         if is_constant(declared.kind) {
             self.constants.add(tables, initials, declared)
         } else {
             self.members.add(alloc, tables, sizes, declared)
         }
+    }
+}
+
+/// Whether what has this type is an instance of a function block of the text, and has at most 65,536 leaves.
+fn is_small(sizes: &[Size], base: Base) -> bool
+    ensures { (units : Items Named) → IsSized units sizes.now base → result ≡ is_small_type units base }
+{
+    match base {
+        Base::Block(_) => leaves_of(sizes, base) <= 65_536,
+        Base::Unknown
+        | Base::Elementary(_)
+        | Base::Array(_)
+        | Base::Structure(_)
+        | Base::Standard(_) => false,
     }
 }
 

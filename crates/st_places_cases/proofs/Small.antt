@@ -1,24 +1,43 @@
 -- The variables of the program of a checked text aren't too large.
-use Rattle.std.proofs.Common.{◌≡◌, ℕ, ap, subst, sym, ◌∙◌}
+use Rattle.std.proofs.Common.{◌≡◌, ◌≤◌, ℕ, true, List, codes, refl, ap, subst, sym, ◌∙◌}
+use Rattle.st_check.specs.Faults.{is_program}
 use Rattle.st_check.specs.Laws.{CheckedIsSmall}
 use Rattle.st_check.specs.Programs.{IsChecked, ProgramView, main_of, text_of}
+use Rattle.st_leaves.specs.Bounds.{HasBounds}
+use Rattle.st_leaves.specs.Places.{count}
 use Rattle.st_meaning.specs.Offsets.{IsSmall}
-use Rattle.st_meaning.specs.Wholes.{whole_of}
-use Rattle.st_places.specs.Parts.{TablesView, optional_whole, whole_in}
-use Rattle.st_types.specs.Names.{unit_at, units_of}
+use Rattle.st_meaning.specs.Units.{root_name, root_of, unit_whole}
+use Rattle.st_places.specs.Parts.{TablesView, inside, optional_whole, whole_in}
+use Rattle.st_types.specs.Compositions.{composition_of, unit_composition}
+use Rattle.st_types.specs.Names.{Declares, Named, unit_at, units_of}
+use Rattle.st_types.specs.Names as names
 
 main_whole : (program : ProgramView) (checked : IsChecked program) (tables : TablesView) (main : ℕ) → tables.text ≡ text_of program → main ≡ main_of program
-    → whole_in tables main ≡ whole_of (units_of (text_of program)) checked.unit.declares
+    → whole_in tables main ≡ unit_whole (units_of (text_of program)) checked.unit
 unfolding whole_in
 main_whole program checked tables main text is =
     ap (λ t. optional_whole (units_of t) (unit_at (units_of t) main)) text
     ∙ ap (λ i. optional_whole (units_of (text_of program)) (unit_at (units_of (text_of program)) i)) is
     ∙ ap (optional_whole (units_of (text_of program))) checked.found
 
+-- what is no function block is named as a program is
+root_named : (units : List Named) (name : List ℕ) (d : Declares) → is_program d ≡ true
+    → unit_composition units (inside units) (root_name name d) d ≡ unit_composition units (inside units) (codes "PROGRAM") d
+root_named units name (names.type t) h = refl
+root_named units name (names.function f) h = refl
+root_named units name (names.block b) h = absurd cc
+root_named units name (names.program p) h = refl
+
+root_is : (units : List Named) (u : Named) → is_program u.declares ≡ true → root_of units u ≡ composition_of units u.declares
+unfolding composition_of
+root_is units u h = root_named units u.name.spelling u.declares h
+
 pub main_small : (program : ProgramView) → IsChecked program → (tables : TablesView) (main : ℕ) → tables.text ≡ text_of program → main ≡ main_of program → CheckedIsSmall
     → IsSmall (whole_in tables main).variables
-unfolding whole_of
+unfolding unit_whole
 main_small program checked tables main text is small =
+    let units = units_of (text_of program) in
     let few = small program checked checked.unit checked.found in
-    let fits : IsSmall (whole_of (units_of (text_of program)) checked.unit.declares).variables = record { bounds = few.bounds; few = few.few } in
+    let root = root_is units checked.unit checked.program in
+    let fits : IsSmall (unit_whole units checked.unit).variables = record { bounds = subst HasBounds (sym root) few.bounds; few = subst (λ c. count c ≤ 65536) (sym root) few.few } in
     subst (λ w. IsSmall w.variables) (sym (main_whole program checked tables main text is)) fits

@@ -2,30 +2,51 @@
 ghost use Rattle.std.specs.Prelude.{◌≡◌};
 ghost use Rattle.st_check.specs.Programs.{leaves_of_program};
 ghost use Rattle.st_compile.specs.Plain.{is_plain};
-ghost use Rattle.st_compile.specs.Programs.{program_code, program_depth, program_name};
+ghost use Rattle.st_compile.specs.Programs.{program_blocks, program_code, program_depth, program_depths, program_names};
 
 use crate::image::Image;
 use st_check::Program;
 use st_fused::Fused;
 use st_layout::Layout;
+use st_machine::Block;
 use st_tree::Name;
 
 /// Takes an image apart. The pattern names all its fields. What stands beside the program is what its functions give.
-fn image_apart(image: &Image) -> (&Program, &Layout, &Fused, usize, Name, bool)
+fn image_apart(
+    image: &Image,
+) -> (
+    &Program,
+    &Layout,
+    (&Fused, &[Block]),
+    (usize, &[usize]),
+    &[Name],
+    bool,
+)
     ensures program { result.0.now ≡ image.now }
     ensures layout { result.1.now ≡ leaves_of_program image.now }
-    ensures code { result.2.now ≡ program_code image.now }
-    ensures depth { result.3 ≡ program_depth image.now }
-    ensures name { result.4 ≡ program_name image.now }
+    ensures code { result.2.0.now ≡ program_code image.now }
+    ensures blocks { result.2.1.now ≡ program_blocks image.now }
+    ensures depth { result.3.0 ≡ program_depth image.now }
+    ensures depths { result.3.1.now ≡ program_depths image.now }
+    ensures names { result.4.now ≡ program_names image.now }
     ensures runs { result.5 ≡ is_plain image.now }
 {
     let Image {
         program,
         layout,
         code,
+        blocks,
         depth,
-        name,
+        depths,
+        names,
         runs,
     } = image;
-    (program, layout, code, *depth, *name, *runs)
+    (
+        program,
+        layout,
+        (code, blocks.as_slice()),
+        (*depth, depths.as_slice()),
+        names.as_slice(),
+        *runs,
+    )
 }

@@ -5,10 +5,10 @@ ghost use Rattle.st_control.specs.States.{leaves_of};
 use crate::state::{State, Status};
 use st_compile::Image;
 use st_layout::Memory;
-use st_machine::Stack;
+use st_machine::Stacks;
 
 /// Takes a state apart. The pattern names all its fields.
-fn state_apart<M: Memory>(state: &State<M>) -> (&Image, &M, i64, Status, &M, &Stack)
+fn state_apart<M: Memory>(state: &State<M>) -> (&Image, &M, i64, Status, &M, &Stacks)
     ensures program { result.0.now ≡ state.entry.now.program }
     ensures content { M.content (leaves_of state.entry.now) result.1.now ≡ state.entry.now.content }
     ensures now { result.2 ≡ state.entry.now.now }
@@ -20,7 +20,7 @@ fn state_apart<M: Memory>(state: &State<M>) -> (&Image, &M, i64, Status, &M, &St
         now,
         status,
         second,
-        stack,
+        stacks,
     } = state;
-    (image, memory, *now, *status, second, stack)
+    (image, memory, *now, *status, second, stacks)
 }

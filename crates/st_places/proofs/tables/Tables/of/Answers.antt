@@ -7,7 +7,8 @@ use Rattle.st_sizes.specs.declared.size.Size.{Size}
 use Rattle.st_tree.specs.declared.tree.unit.Unit.{Unit as Section}
 use Rattle.st_types.specs.Names.{units_of}
 use Rattle.st_types.specs.Types.{type_at}
-use Rattle.st_places.specs.Contents.{AreOf}
+use Rattle.st_places.specs.Contents.{AreNamed, AreOf}
+use Rattle.st_places.proofs.Blocks.{all_named}
 use Rattle.st_places.proofs.Selections.{all_unfolded}
 use Rattle.st_places.proofs.tables.Tables.of.Goals as goal
 
@@ -21,5 +22,7 @@ invariant_of-result c =
     let ordered : IsOrder (graph_of (units_of c.in_ok-scopes.scopes)) c.order-order.result.now =
     subst (λ (text : List Section). IsOrder (graph_of (units_of text)) c.order-order.result.now) (sym same)
     (subst (IsOrder (graph_of (units_of (text_of c.args.program.now)))) (sym c.order-order.ensures.order) c.order-order.ensures.checked.ordered) in
+    let named : AreNamed (units_of c.in_ok-scopes.scopes) =
+    subst (λ (text : List Section). AreNamed (units_of text)) (sym same) (all_named (units_of (text_of c.args.program.now)) c.order-order.ensures.checked.faultless) in
     subst (λ (text : List Section). AreOf (units_of text) c.in_ok-units.units.items) c.in_ok-scopes.ensures
-    (record { len = c.in_ok-units.ensures.len; each = c.in_ok-units.ensures.units; unfolded = all_unfolded (units_of c.in_ok-scopes.scopes) c.order-order.result.now ordered })
+    (record { len = c.in_ok-units.ensures.len; each = c.in_ok-units.ensures.units; unfolded = all_unfolded (units_of c.in_ok-scopes.scopes) c.order-order.result.now ordered; named = named })

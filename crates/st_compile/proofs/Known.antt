@@ -1,0 +1,19 @@
+-- What is known of units and of code: laws of the crates below.
+use Rattle.st_check.specs.Laws.{CheckedIsSmall}
+use Rattle.st_code.specs.Correct.{CodeDoesAsCommandsMean, DepthIsAtMostTheLength}
+use Rattle.st_code.specs.Entrances.{CodeEntersWhatIsInvoked, TypingEntersInstances}
+use Rattle.st_code.specs.Invocations.{TypingInvokesBodies}
+use Rattle.st_meaning.specs.Laws.{CommandsKeepTheFrame, TypingGivesSoundBodies}
+use Rattle.st_places.specs.Laws.{InstancesAreOfBlocks, UnitsAreSound}
+
+pub record Known : Type 0 where
+  pub small : CheckedIsSmall
+  pub units : UnitsAreSound
+  pub instances : InstancesAreOfBlocks
+  pub typed : TypingGivesSoundBodies
+  pub frame : CommandsKeepTheFrame
+  pub does : CodeDoesAsCommandsMean
+  pub depth : DepthIsAtMostTheLength
+  pub invokes : TypingInvokesBodies
+  pub entering : TypingEntersInstances
+  pub enters : CodeEntersWhatIsInvoked

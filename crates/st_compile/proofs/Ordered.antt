@@ -1,0 +1,90 @@
+-- Function blocks of a program, by their numbers and by their places in the order.
+use Rattle.std.proofs.Common.{◌≡◌, ℕ, zero, suc, ◌+◌, ◌<◌, Bool, true, false, if◌then◌else◌, nat_eq, List, [], ◌∷◌, map, length, get_or, Some, refl, ap, sym, ◌∙◌, subst, arith}
+use Rattle.std.specs.List.{Contains, slice_get}
+use Rattle.std.specs.Prelude.{slice_index_or}
+use Rattle.std.proofs.lemmas.Bool.{eqb-true, eqb-false}
+use Rattle.std.proofs.lemmas.List.{length-map}
+use Rattle.st_order.specs.Graphs.{IsOrder}
+use Rattle.st_references.specs.References.{graph_of, references}
+use Rattle.st_types.specs.Names.{Named, unit_at}
+use Rattle.st_machine.specs.Blocks.{BlockView}
+use Rattle.st_compile.specs.Programs.{block_view, blocks_from, level_in}
+
+-- ---- by their numbers
+
+pub found_below : (units : List Named) (i : ℕ) (u : Named) → unit_at units i ≡ Some u → i < length units
+found_below [] i u found = absurd cc
+found_below (v ∷ vs) zero u found = omega arith
+found_below (v ∷ vs) (suc i) u found = let more = found_below vs i u found in omega (arith, more)
+
+module _ (units : List Named) (order : List ℕ) where
+  behind_at : (k : ℕ) (us : List Named) (i : ℕ) (u : Named) → unit_at us i ≡ Some u → slice_get (blocks_from units order k us) i ≡ Some (block_view units order (k + i) u)
+  behind_at k [] i u is = absurd cc
+  behind_at k (v ∷ us) zero u is =
+      let same : k + zero ≡ k = omega arith in
+      let found : v ≡ u = cc in
+      ap (λ w. Some (block_view units order k w)) found ∙ ap (λ n. Some (block_view units order n u)) (sym same)
+  behind_at k (v ∷ us) (suc i) u is =
+      let same : suc k + i ≡ k + suc i = omega arith in
+      behind_at (suc k) us i u is ∙ ap (λ n. Some (block_view units order n u)) same
+
+  pub block_at : (i : ℕ) (u : Named) → unit_at units i ≡ Some u → slice_get (blocks_from units order 0 units) i ≡ Some (block_view units order i u)
+  block_at i u is =
+      let same : 0 + i ≡ i = omega arith in
+      behind_at 0 units i u is ∙ ap (λ n. Some (block_view units order n u)) same
+
+  -- the unit that a block is of, which has this number among these
+  pub record IsOf (us : List Named) (i number : ℕ) (b : BlockView) : Type 0 where
+    pub unit : Named
+    pub at : unit_at us i ≡ Some unit
+    pub is : b ≡ block_view units order number unit
+
+  unit_behind : (k : ℕ) (us : List Named) (i : ℕ) (b : BlockView) → slice_get (blocks_from units order k us) i ≡ Some b → IsOf us i (k + i) b
+  unit_behind k [] i b is = absurd cc
+  unit_behind k (v ∷ us) zero b is =
+      let same : k + zero ≡ k = omega arith in
+      let found : block_view units order k v ≡ b = cc in
+      record { unit = v; at = refl; is = sym found ∙ ap (λ n. block_view units order n v) (sym same) }
+  unit_behind k (v ∷ us) (suc i) b is =
+      let same : suc k + i ≡ k + suc i = omega arith in
+      let rest = unit_behind (suc k) us i b is in
+      record { unit = rest.unit; at = rest.at; is = rest.is ∙ ap (λ n. block_view units order n rest.unit) same }
+
+  pub unit_of_block : (i : ℕ) (b : BlockView) → slice_get (blocks_from units order 0 units) i ≡ Some b → IsOf units i i b
+  unit_of_block i b is =
+      let same : 0 + i ≡ i = omega arith in
+      subst (λ n. IsOf units i n b) same (unit_behind 0 units i b is)
+
+-- ---- by their places
+
+found_level : (order : List ℕ) (n k : ℕ) → k < length order → slice_index_or order k n ≡ n → slice_get order (level_in order n) ≡ Some n
+found_level [] n k below is = absurd (omega (arith, below))
+found_level (m ∷ order) n k below is = by (nat_eq m n) refl k below is (λ j less same. found_level order n j less same) where
+  by : (b : Bool) → nat_eq m n ≡ b → (k : ℕ) → k < length (m ∷ order) → slice_index_or (m ∷ order) k n ≡ n
+      → ((j : ℕ) → j < length order → slice_index_or order j n ≡ n → slice_get order (level_in order n) ≡ Some n)
+      → slice_get (m ∷ order) (if b then 0 else suc (level_in order n)) ≡ Some n
+  by true e k below is more = ap Some (eqb-true m n e)
+  by false e zero below is more = absurd (eqb-false m n e is)
+  by false e (suc j) below is more = more j (omega (arith, below)) is
+
+module _ (units : List Named) (order : List ℕ) (ordered : IsOrder (graph_of units) order) where
+  -- each unit stands in the order, at its level
+  pub at_its_level : (n : ℕ) (u : Named) → unit_at units n ≡ Some u → slice_get order (level_in order n) ≡ Some n
+  at_its_level n u at =
+      let rows = length-map units (λ v. references units v.declares) in
+      let has : Contains order n = ordered.all n (omega (arith, rows, found_below units n u at)) in
+      found_level order n has.0 has.1 has.2
+
+got_below : {X : Type 0} (xs : List X) (i : ℕ) (x : X) → slice_get xs i ≡ Some x → i < length xs
+got_below [] i x is = absurd cc
+got_below (y ∷ xs) zero x is = omega arith
+got_below (y ∷ xs) (suc i) x is = let more = got_below xs i x is in omega (arith, more)
+
+pub level_below : (order : List ℕ) (n : ℕ) → slice_get order (level_in order n) ≡ Some n → level_in order n < length order
+level_below order n is = got_below order (level_in order n) n is
+
+-- what is given for each unit in the order, at its level
+pub given_at : {Y : Type 0} (f : ℕ → Y) (order : List ℕ) (p n : ℕ) (d : Y) → slice_get order p ≡ Some n → get_or (map f order) p d ≡ f n
+given_at f [] p n d is = absurd cc
+given_at f (m ∷ order) zero n d is = let same : m ≡ n = cc in ap f same
+given_at f (m ∷ order) (suc p) n d is = given_at f order p n d is

@@ -1,0 +1,29 @@
+use Rattle.std.proofs.Common.{◌≡◌, ◌≤◌, length}
+use Rattle.st_code.specs.Machine.{Reaches, state}
+use Rattle.st_code.specs.Relative.{among, code_from}
+use Rattle.st_machine.specs.Blocks.{Entrance, environment_with, rooms_of, run_by}
+use Rattle.st_machine.proofs.Ends.{weight}
+use Rattle.st_machine.proofs.instances.+enter.Given as goal
+
+-- each level has as many stacks as stand before it
+abbrev pub decreases-enter : goal.decreases-enter
+decreases-enter g l = length l.levels.now
+
+-- the run is on its way among all values
+abbrev pub invariant-loop-place : goal.invariant-loop-place
+invariant-loop-place g l =
+    let before = g.M.Memory.content l.layout l.fn.memory in
+    let content = g.M.Memory.content l.layout l.memory in
+    record {
+      over : g.M.Memory.IsOver l.layout l.memory;
+      forced : content.forced ≡ before.forced;
+      lower : rooms_of l.lower ≡ rooms_of l.initial.lower;
+      room : l.stack.1 ≡ l.initial.stack.1;
+      steps : l.left ≤ l.fn.left;
+      way : (e : Entrance l.number l.first l.blocks (rooms_of l.fn.levels) l.layout)
+          → Reaches (environment_with e.said.bodies l.now before.forced) l.initial.stack.1 (code_from l.first l.block.code)
+          (among before.values l.first (run_by e.said l.number l.first l.now before l.fn.left)) (state l.place l.stack.0 content.values l.left);
+    }
+
+abbrev pub decreases-loop-place : goal.decreases-loop-place
+decreases-loop-place g l = weight (length l.block.code) l.place l.left

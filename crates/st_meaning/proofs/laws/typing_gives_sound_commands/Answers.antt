@@ -1,5 +1,0 @@
-use Rattle.st_meaning.proofs.Typing.{typing_gives_sound_commands}
-use Rattle.st_meaning.proofs.laws.typing_gives_sound_commands.Goals as goal
-
-pub returns : goal.returns
-returns c = typing_gives_sound_commands
