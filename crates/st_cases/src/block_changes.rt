@@ -238,19 +238,17 @@ PROGRAM Main VAR_INPUT Go : BOOL; END_VAR VAR T : TON; END_VAR T(IN := Go, PT :=
 | 59 - => TRUE! T#49ms FALSE
 | 60 - => TRUE! T#50ms TRUE
 # a program that doesn't run yet in the place of one whose timer runs, and back
-FUNCTION One : INT One := 1; END_FUNCTION
 PROGRAM Main VAR T : TON; N : INT; END_VAR T(IN := TRUE, PT := T#100ms); END_PROGRAM
 ? scan 10
 ? change
-? FUNCTION One : INT One := 1; END_FUNCTION
-? PROGRAM Main VAR T : TON; N : INT; END_VAR T(IN := TRUE, PT := T#100ms); N := One(); END_PROGRAM
+? PROGRAM Main VAR T : TON; N : INT; END_VAR INITIAL_STEP S1: END_STEP ACTION Go: T(IN := TRUE, PT := T#100ms); END_ACTION END_PROGRAM
 ? end_change
 ? scan 20
 ? undo
 ? scan 30
 ? show Main.T.ET
 = ok
-= ok kept 7 dropped 0 new 0
+= ok kept 7 dropped 0 new 4
 = refused O10
 = ok
 = ok

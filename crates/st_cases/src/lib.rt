@@ -30,6 +30,12 @@ mod run_block_leaves;
 #[cfg(test)]
 mod run_blocks;
 #[cfg(test)]
+mod run_call_steps;
+#[cfg(test)]
+mod run_call_stops;
+#[cfg(test)]
+mod run_calls;
+#[cfg(test)]
 mod run_counters;
 #[cfg(test)]
 mod run_functions;

@@ -278,7 +278,7 @@ fn put_named(
 }
 
 /// Puts a piece for each of 676 names.
-fn put_for_each(text: &mut Vec<u8>, before: &[u8], behind: &[u8]) -> Result<(), AllocError> {
+pub fn put_for_each(text: &mut Vec<u8>, before: &[u8], behind: &[u8]) -> Result<(), AllocError> {
     for first in b'a'..=b'z' {
         put_named(text, first, before, behind)?;
     }

@@ -5,12 +5,19 @@ use st_layout::Cells;
 use st_values::{Elem, Value};
 use std::alloc::Global;
 
-/// A program with statements of all forms, and invocations among them.
+/// A program with statements of all forms, invocations and calls of functions among them.
 const PROGRAM: &[u8] = b"TYPE Pair : STRUCT A : INT; B : ARRAY [0..2] OF INT; END_STRUCT; END_TYPE
+FUNCTION Share : INT VAR_INPUT X : INT; Y : INT := 3; END_VAR VAR CONSTANT K : INT := 2; END_VAR VAR N : INT := 1; END_VAR
+N := N + Twice(Y);
+Share := X * K - N;
+END_FUNCTION
+FUNCTION Twice : INT VAR_INPUT X : INT; END_VAR Twice := X * 2; END_FUNCTION
+FUNCTION One : INT One := 1; RETURN; END_FUNCTION
+FUNCTION_BLOCK Keep VAR_INPUT X : INT; END_VAR VAR_OUTPUT Y : INT; END_VAR Y := Y + Share(Y := X, X := Twice(3)); END_FUNCTION_BLOCK
 PROGRAM Main
 VAR_INPUT Go : BOOL; END_VAR
 VAR CONSTANT K : INT := 2; END_VAR
-VAR P : Pair; T1 : TON; C : CTU; E : F_TRIG; L : ARRAY [0..2] OF BOOL; I, N : INT; W : WORD; END_VAR
+VAR P : Pair; T1 : TON; C : CTU; E : F_TRIG; L : ARRAY [0..2] OF BOOL; I, N, S, M : INT; W : WORD; Q : Keep; END_VAR
 ;
 FOR I := 0 TO 2 DO P.B[I] := P.B[I] + I * K; END_FOR;
 WHILE N < 3 DO N := N + 1; IF N = 2 THEN EXIT; END_IF; END_WHILE;
@@ -19,6 +26,8 @@ CASE P.B[1] OF 0: P.A := 0; 1..5, 7: P.A := MAX(P.A, 1, 2); ELSE P.A := -P.A; EN
 W := ROL(WORD#16#8001, 1) XOR SEL(Go, W, 16#FF);
 T1(IN := Go AND NOT T1.Q, PT := T#10ms, Q => L[P.B[0]]);
 C(CU := T1.Q, PV := 1, CV => N, Q => L[C.CV]);
+Q(X := Twice(K), Y => S);
+M := Share(X := 5) + Share(Twice(One()), 0) + One();
 E(CLK := INT_TO_BOOL(P.A));
 IF E.Q THEN RETURN; ELSIF Go THEN P.A := 3; ELSE P.A := 4; END_IF;
 END_PROGRAM";
@@ -28,8 +37,9 @@ const CHANGED: &[u8] =
     b"PROGRAM Main VAR_INPUT Go : BOOL; END_VAR VAR X : LINT; C : CTU; T1 : TON; END_VAR
 T1(IN := Go, PT := T#100ms);
 C(CU := NOT T1.Q, PV := 3);
-X := X + 1;
-END_PROGRAM";
+X := Next(X := X);
+END_PROGRAM
+FUNCTION Next : LINT VAR_INPUT X : LINT; By_So_Many : LINT := 1; END_VAR Next := X + By_So_Many; END_FUNCTION";
 
 /// The controller of the program. Where the load is refused for want of memory it is tried once more.
 fn loaded_in_two_tries(alloc: Global) -> Option<Controller<Cells>> {
@@ -70,6 +80,8 @@ fn is_as_before(controller: &Controller<Cells>) -> bool {
             (b"Main.P.B[2]", 12),
             (b"Main.N", 1),
             (b"Main.W", 252),
+            (b"Main.S", 9),
+            (b"Main.M", 7),
             (b"Main.L[1]", 1),
             (b"Main.L[2]", 0),
             (b"Main.T1.ET", 10),
@@ -83,7 +95,7 @@ fn is_as_before(controller: &Controller<Cells>) -> bool {
 fn is_changed_in_two_tries(alloc: Global, controller: &mut Controller<Cells>) -> bool {
     for _ in 0..2 {
         match controller.change(alloc, CHANGED) {
-            Ok(counts) => return (counts.kept, counts.dropped, counts.fresh) == (13, 13, 1),
+            Ok(counts) => return (counts.kept, counts.dropped, counts.fresh) == (13, 17, 1),
             Err(Refusal::M) if is_as_before(controller) => (),
             Err(_) => return false,
         }

@@ -40,7 +40,7 @@ own_names (names.function f) = variable_names f.variables
 own_names (names.block b) = variable_names b.variables ++ chart_names (chart_of b.body)
 own_names (names.program p) = variable_names p.variables ++ chart_names (chart_of p.body)
 
-abbrev names_of : List Declared → List (List ℕ)
+abbrev pub names_of : List Declared → List (List ℕ)
 names_of vs = map (λ v. v.name.spelling) vs
 
 of_declaration : (kind : VarKind) (d : Declaration) (ns : List Identifier)
@@ -54,7 +54,7 @@ of_declarations kind (d ∷ ds) =
     map-append (λ v. v.name.spelling) (declared_in kind d) (flat_map (declared_in kind) ds) ∙ ap (λ t. t ++ names_of (flat_map (declared_in kind) ds)) (of_declaration kind d d.names)
     ∙ ap (λ t. spellings d.names ++ t) (of_declarations kind ds) ∙ sym (map-append (λ n. n.spelling) d.names (declared_names ds))
 
-of_blocks : (blocks : List VarBlock) → names_of (variables_of blocks) ≡ spellings (variable_names blocks)
+pub of_blocks : (blocks : List VarBlock) → names_of (variables_of blocks) ≡ spellings (variable_names blocks)
 of_blocks [] = refl
 of_blocks (b ∷ bs) =
     map-append (λ v. v.name.spelling) (flat_map (declared_in b.kind) b.declarations) (variables_of bs) ∙ ap (λ t. t ++ names_of (variables_of bs)) (of_declarations b.kind b.declarations)
@@ -124,7 +124,7 @@ module _ (units : List Named) (inside : Base → Composition) (distinct : (base 
   distinct_members (v ∷ vs) = distinct_more (is_constant v.kind) v (members_by units inside vs) (distinct_members vs)
 
   -- of what is declared so, and its chart
-  distinct_composed : (name : List ℕ) (vs : List Declared) (chart : List ChartElement) (ns : List Identifier) → names_of vs ≡ spellings ns
+  pub distinct_composed : (name : List ℕ) (vs : List Declared) (chart : List ChartElement) (ns : List Identifier) → names_of vs ≡ spellings ns
       → NamesAreApart (ns ++ chart_names chart) → HasDistinctNames (composed name (members_by units inside vs) chart)
   distinct_composed name vs chart ns same apart = (
     all_pairs (λ a b. is_word a b ≡ false) (member_names (members_by units inside vs) ++ step_names chart)

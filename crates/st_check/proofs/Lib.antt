@@ -1,8 +1,10 @@
 pub mod Apart
 mod Checked
 mod Cyclic
+mod DataTypes
 mod Deciding
 pub mod DistinctNames
+pub mod ElementaryFunctions
 mod Firsts
 mod Kept
 mod Named

@@ -1,10 +1,14 @@
 -- What follows of the definitions of the checks.
-use Rattle.std.specs.Prelude.{◌≡◌, ℕ, ◌++◌, ◌⊎◌, ◌≤◌, List, Some, length}
+use Rattle.std.specs.Prelude.{◌≡◌, ℕ, suc, ◌++◌, ◌⊎◌, ◌≤◌, List, Some, length}
 use Rattle.std.specs.List.{All, Contains}
+use Rattle.st_values.specs.Values.{IsValue}
+use Rattle.st_values.specs.declared.value.Value.{Value}
+use Rattle.st_tree.specs.declared.tree.unit.Function.{Function}
 use Rattle.st_tree.specs.declared.tree.unit.Unit.{Unit as Section}
 use Rattle.st_faults.specs.declared.fault.Fault.{Fault}
-use Rattle.st_types.specs.Compositions.{composition_of}
-use Rattle.st_types.specs.Names.{Named, chart_in, unit_at, units_of, variables_in}
+use Rattle.st_types.specs.Compositions.{Composition, elementary, composition_of, composition_within, declared_composition}
+use Rattle.st_types.specs.Names.{Named, chart_in, unit_at, units_of, variables_in, variables_of}
+use Rattle.st_types.specs.Names as names
 use Rattle.st_order.specs.Graphs.{Reaches}
 use Rattle.st_references.specs.References.{graph_of}
 use Rattle.st_leaves.specs.Bounds.{HasBounds}
@@ -66,3 +70,15 @@ CheckedIsSmall = (program : ProgramView) → IsChecked program → (unit : Named
 abbrev pub CheckedHasSoundLeaves : Type 0
 CheckedHasSoundLeaves = (program : ProgramView) → IsChecked program → (unit : Named) → unit_at (units_of (text_of program)) (main_of program) ≡ Some unit
     → All (λ l. HasWords l.path) (leaves_of_whole (composition_of (units_of (text_of program)) unit.declares)) → IsSound (leaves_of_program program)
+
+-- one value, of its type
+pub record IsOneValue (c : Composition) : Type 0 where
+  pub value : Value
+  pub is : c ≡ elementary value
+  pub valid : IsValue value
+
+-- each variable and each constant of a function in a checked program is one value, and begins with one of its type (2.5.1)
+abbrev pub CheckedHasElementaryFunctions : Type 0
+CheckedHasElementaryFunctions = (program : ProgramView) → IsChecked program → (i : ℕ) (unit : Named) (f : Function) → unit_at (units_of (text_of program)) i ≡ Some unit
+    → unit.declares ≡ names.function f
+    → All (λ v. IsOneValue (declared_composition (units_of (text_of program)) (composition_within (units_of (text_of program)) (suc (length (units_of (text_of program))))) v)) (variables_of f.variables)

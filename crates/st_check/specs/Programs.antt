@@ -1,5 +1,5 @@
 -- Checked programs.
-use Rattle.std.specs.Prelude.{◌≡◌, ℕ, true, false, List, [], length, Option, Some, None}
+use Rattle.std.specs.Prelude.{◌≡◌, ℕ, suc, nat_eq, true, false, if◌then◌else◌, List, [], ◌∷◌, length, Option, Some, None}
 use Rattle.st_tree.specs.declared.leaf.Leaf.{Leaf}
 use Rattle.st_tree.specs.declared.tree.unit.Unit.{Unit as Section}
 use Rattle.st_types.specs.Names.{Named, unit_at, units_of}
@@ -23,6 +23,11 @@ main_of program = program.1.0
 
 abbrev pub order_of : ProgramView → List ℕ
 order_of program = program.1.1
+
+-- the place of a unit in an order
+abbrev pub level_in : List ℕ → ℕ → ℕ
+level_in [] number = 0
+level_in (n ∷ order) number = if nat_eq n number then 0 else suc (level_in order number)
 
 -- no rule but that of sizes is broken in a text, and this is an order of its units
 pub record IsOrdered (text : List Section) (order : List ℕ) : Type 0 where

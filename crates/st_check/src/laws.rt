@@ -1,5 +1,5 @@
 //! Laws of checked texts.
-ghost use Rattle.st_check.specs.Laws.{AcceptedOnce, CheckedHasDistinctNames, CheckedHasSoundLeaves, CheckedIsSmall, CheckedStoresDeclaredNames, FirstIsOne, FirstIsNotAccepted, HasNoRecursion, IsDecided, MissingIsNotAccepted, MissingIsNotFirst};
+ghost use Rattle.st_check.specs.Laws.{AcceptedOnce, CheckedHasDistinctNames, CheckedHasElementaryFunctions, CheckedHasSoundLeaves, CheckedIsSmall, CheckedStoresDeclaredNames, FirstIsOne, FirstIsNotAccepted, HasNoRecursion, IsDecided, MissingIsNotAccepted, MissingIsNotFirst};
 
 /// As a program of a name, a text is accepted, or has a first fault, or has no such program: exactly one of the three. It is
 /// accepted for one number, and all first faults stand at one token and break one rule.
@@ -37,4 +37,9 @@ pub fn checked_program_has_sound_leaves()
 /// The bounds of all arrays of a checked program are numbers of LINT, it has at most 65536 leaves, and its name at most 128 bytes.
 pub fn checked_program_is_small()
     ensures { CheckedIsSmall }
+{}
+
+/// Each variable and each constant of a function in a checked program is one value, and begins with one of its type.
+pub fn checked_program_has_elementary_functions()
+    ensures { CheckedHasElementaryFunctions }
 {}

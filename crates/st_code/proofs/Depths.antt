@@ -1,5 +1,5 @@
 -- Code is at least as long as the stack that it needs.
-use Rattle.std.proofs.Common.{◌≡◌, ℕ, ◌+◌, ◌-◌, ◌*◌, ◌≤◌, Bool, true, false, if◌then◌else◌, List, [], ◌∷◌, ◌++◌, length, refl, arith, length-append}
+use Rattle.std.proofs.Common.{◌≡◌, ℕ, ◌+◌, ◌-◌, ◌*◌, ◌≤◌, Bool, true, false, if◌then◌else◌, List, [], ◌∷◌, ◌++◌, length, refl, ap, suc, arith, length-append}
 use Rattle.std.specs.Prelude.{max}
 use Rattle.st_values.specs.declared.elem.Elem.{Elem}
 use Rattle.st_tree.specs.declared.tree.declaration.Subrange.{Subrange}
@@ -8,12 +8,12 @@ use Rattle.st_leaves.specs.Leaves.{number_of}
 use Rattle.st_leaves.specs.Places.{count, extent, extent_of}
 use Rattle.st_leaves.specs.Selected.{element_of, selected_by, subscripts_of}
 use Rattle.st_meaning.specs.Offsets.{offset_of}
-use Rattle.st_meaning.specs.Sound.{is_fixed, term_type}
-use Rattle.st_meaning.specs.Terms.{Term, constant, stored, unary, binary, selection, Terms, no_terms, more_terms, Parts, whole, field_part, element_part, Command, nothing, assign, choice, cases, count_loop, while_loop, repeat_loop, invoke, enter, exit, finish, Moves, no_moves, more_moves, Commands, no_commands, more_commands, Branches, no_branches, more_branches, Cases, no_cases, more_cases}
-use Rattle.st_code.specs.Code.{Line, added, at, base_of, branch_code, branches_code, case_test, cases_code, command_code, commands_code, count_code, index_code, moves_code, parts_code, plain, repeat_code, store_code, term_code, terms_code, types_in, while_code}
+use Rattle.st_meaning.specs.Sound.{is_fixed, term_type, types_in}
+use Rattle.st_meaning.specs.Terms.{Source, written, left_out, Term, constant, stored, unary, binary, selection, call, Terms, no_terms, more_terms, how_many, Parts, whole, field_part, element_part, Command, nothing, assign, choice, cases, count_loop, while_loop, repeat_loop, invoke, enter, exit, finish, Moves, no_moves, more_moves, Commands, no_commands, more_commands, Branches, no_branches, more_branches, Cases, no_cases, more_cases}
+use Rattle.st_code.specs.Code.{Line, added, are_in_order, at, base_of, branch_code, branches_code, call_code, case_test, cases_code, command_code, commands_code, count_code, index_code, inputs_code, moves_code, parts_code, plain, repeat_code, store_code, term_code, terms_code, while_code}
 use Rattle.st_code.specs.Correct.{DepthIsAtMostTheLength}
-use Rattle.st_code.specs.Depth.{branches_depth, cases_depth, command_depth, commands_depth, moves_depth, parts_depth, term_depth, terms_depth}
-use Rattle.st_code.specs.declared.instr.Instr.TheVariants.{Get, GetAt, Put, PutAt, IndexBelow, Apply, Combine, Select, Step, GoOn, SkipUnless, SkipIf, GoBack, Drop, Begin, Test, Next, Leave, Invoke, Enter}
+use Rattle.st_code.specs.Depth.{branches_depth, call_depth, cases_depth, command_depth, commands_depth, moves_depth, parts_depth, term_depth, terms_depth}
+use Rattle.st_code.specs.declared.instr.Instr.TheVariants.{Get, GetAt, Put, PutAt, IndexBelow, Apply, Combine, Select, Step, GoOn, SkipUnless, SkipIf, GoBack, Drop, Begin, Test, Next, Leave, Invoke, Enter, Call}
 
 -- subscripts leave a distance
 index_length : (line size : ℕ) (es : List Elem) (rs : List Subrange) → 1 ≤ length (index_code line size es rs)
@@ -39,6 +39,24 @@ placed_depth : (ps : Parts) (fixed : Bool) (access : List Line) (code last : Lis
 placed_depth ps true access code last e h g d = omega (arith, h, fixed_depth ps e)
 placed_depth ps false access code last e h g d = omega (arith, g, d, length-append code last)
 
+call_positive : (n : ℕ) (sources : List Source) → 1 ≤ call_depth n sources
+call_positive n sources = by (are_in_order n 0 sources) where
+  by : (b : Bool) → 1 ≤ (if b then 1 else (1 + n + length sources))
+  by true = omega arith
+  by false = omega arith
+
+inputs_length : (n j : ℕ) (sources : List Source) → length (inputs_code n j sources) ≡ length sources
+inputs_length n j [] = refl
+inputs_length n j (written place ∷ ss) = ap suc (inputs_length n (1 + j) ss)
+inputs_length n j (left_out v ∷ ss) = ap suc (inputs_length n (1 + j) ss)
+
+-- behind as many lines as there are arguments, and a step
+function_length : (unit n : ℕ) (sources : List Source) → call_depth n sources ≤ 1 + n + length (call_code unit n sources)
+function_length unit n sources = by (are_in_order n 0 sources) where
+  by : (b : Bool) → (if b then 1 else (1 + n + length sources)) ≤ 1 + n + length (if b then plain (Call unit n 0) else (inputs_code n 0 sources ++ plain (Call unit (length sources) n)))
+  by true = omega arith
+  by false = omega (arith, inputs_length n 0 sources, length-append (inputs_code n 0 sources) (plain (Call unit (length sources) n)))
+
 -- the value of a term stands on the stack
 depth_positive : (t : Term) → 1 ≤ term_depth t
 depth_positive (constant v) = omega arith
@@ -46,6 +64,7 @@ depth_positive (stored ps) = omega arith
 depth_positive (unary o a) = depth_positive a
 depth_positive (binary o line a b) = omega (arith, depth_positive a)
 depth_positive (selection g a b) = omega (arith, depth_positive g)
+depth_positive (call line unit result ts sources) = omega (arith, call_positive (how_many ts) sources)
 
 module _ (root : Composition) where
   mutual
@@ -60,6 +79,14 @@ module _ (root : Composition) where
     term_length (selection g a b) =
         let cg = term_code root g in let ca = term_code root a in let cb = term_code root b in
         omega (arith, term_length g, term_length a, term_length b, depth_positive g, depth_positive a, length-append cg (ca ++ (cb ++ plain Select)), length-append ca (cb ++ plain Select), length-append cb (plain Select))
+    term_length (call line unit result ts sources) =
+        let ct = terms_code root ts in let cs = call_code unit (how_many ts) sources in
+        omega (arith, terms_length ts, each_length ts, function_length unit (how_many ts) sources, length-append ct cs)
+
+    -- each term has a line
+    each_length : (ts : Terms) → how_many ts ≤ length (terms_code root ts)
+    each_length no_terms = omega arith
+    each_length (more_terms t ts) = omega (arith, term_length t, depth_positive t, each_length ts, length-append (term_code root t) (terms_code root ts))
 
     terms_length : (ts : Terms) → terms_depth ts ≤ length (terms_code root ts)
     terms_length no_terms = omega arith
@@ -88,11 +115,11 @@ module _ (root : Composition) where
       omega (arith, move_length ps t, moves_length more, length-append (term_code root t ++ store_code root (term_type root t) ps) (moves_code root more))
 
   -- inputs, an invocation, and outputs
-  call_length : (inputs outputs : Moves) (call : List Line)
-      → max (moves_depth inputs) (moves_depth outputs) ≤ length (moves_code root inputs ++ (call ++ moves_code root outputs)) + 2
-  call_length inputs outputs call =
+  call_length : (inputs outputs : Moves) (entry : List Line)
+      → max (moves_depth inputs) (moves_depth outputs) ≤ length (moves_code root inputs ++ (entry ++ moves_code root outputs)) + 2
+  call_length inputs outputs entry =
       let ci = moves_code root inputs in let co = moves_code root outputs in
-      omega (arith, moves_length inputs, moves_length outputs, length-append ci (call ++ co), length-append call co)
+      omega (arith, moves_length inputs, moves_length outputs, length-append ci (entry ++ co), length-append entry co)
 
   branch_length : (test body rest : List Line) → length (branch_code test body rest) ≡ length test + length body + length rest + 2
   branch_length test body rest =

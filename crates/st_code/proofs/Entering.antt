@@ -20,27 +20,27 @@ use Rattle.st_code.specs.Machine.{act, entered, enters, state, stuck}
 use Rattle.st_code.specs.declared.instr.Instr.TheVariants.{Enter, Step}
 use Rattle.st_code.proofs.Moves.{moves_run}
 use Rattle.st_code.proofs.Runs.{Runs, runs_at, step_run, then_run}
-use Rattle.st_code.proofs.Steps.{HasAt, World, halt, has_back, has_front, if_true, line_of, step}
+use Rattle.st_code.proofs.Steps.{HasAt, World, called, halt, has_back, has_front, if_true, line_of, step}
 
 module _ (w : World) where
   -- what the body of an invocation does to the values of the instance
   abbrev body_does : (name : List ℕ) (body : Commands) → Values → ℕ → Outcome
   body_does name body values left =
-      commands_meaning (selected_by w.root name) (setting_from (offset_of w.root name) w.env.setting) body
+      commands_meaning (called w) (selected_by w.root name) (setting_from (offset_of w.root name) w.env.setting) body
       (stretch values (offset_of w.root name) (count (selected_by w.root name))) left
 
   -- it keeps the frame of the instance
-  body_stays : (name : List ℕ) (body : Commands) (values : Values) (left : ℕ) → AreSoundCommands (selected_by w.root name) body → AreValuesOf w.root values
+  body_stays : (name : List ℕ) (body : Commands) (values : Values) (left : ℕ) → AreSoundCommands w.functions (selected_by w.root name) body → AreValuesOf w.root values
       → StaysInFrame (selected_by w.root name) (drop (offset_of w.root name) w.env.setting.forced)
       (stretch values (offset_of w.root name) (count (selected_by w.root name))) left (body_does name body values left)
   body_stays name body values left sound ok =
       let part = selected_by w.root name in
-      commands_keep_the_frame part (setting_from (offset_of w.root name) w.env.setting) body (stretch values (offset_of w.root name) (count part)) left
-      w.moment (part_has_one w.root name w.apart) (part_values w.root name part refl values ok) sound
+      commands_keep_the_frame w.functions (called w) part (setting_from (offset_of w.root name) w.env.setting) body (stretch values (offset_of w.root name) (count part)) left
+      w.known w.moment (part_has_one w.root name w.apart) (part_values w.root name part refl values ok) sound
 
   -- the unit's body is the one that the invocation means, and the instance stands among the values
   enters_so : (name : List ℕ) (unit : ℕ) (body : Commands) (pc : ℕ) (stack : List ℤ) (values : Values) (left : ℕ)
-      → IsBodyOf (selected_by w.root name) body (w.env.bodies unit) → AreValuesOf w.root values
+      → IsBodyOf (called w) (selected_by w.root name) body (w.env.bodies unit) → AreValuesOf w.root values
       → act w.env w.room (Enter unit (offset_of w.root name)) 0 pc stack values left
       ≡ entered pc stack (left_by unit (offset_of w.root name) values (ended (body_does name body values left)))
   enters_so name unit body pc stack values left is ok =
@@ -82,20 +82,20 @@ module _ (w : World) where
   left_run name unit pc out last stack values left (faulted f) ok h e keeps = halt w (Enter unit (offset_of w.root name)) 0 pc stack values left _ h e
 
   instance_run : (name : List ℕ) (unit : ℕ) (body : Commands) (pc out last : ℕ) (stack : List ℤ) (values : Values) (left : ℕ)
-      → slice_get w.code pc ≡ Some (line_of 0 (Enter unit (offset_of w.root name))) → IsBodyOf (selected_by w.root name) body (w.env.bodies unit)
-      → AreSoundCommands (selected_by w.root name) body → AreValuesOf w.root values
+      → slice_get w.code pc ≡ Some (line_of 0 (Enter unit (offset_of w.root name))) → IsBodyOf (called w) (selected_by w.root name) body (w.env.bodies unit)
+      → AreSoundCommands w.functions (selected_by w.root name) body → AreValuesOf w.root values
       → Runs w (state pc stack values left) (pc + 1) out last stack left
-      (instance_meaning w.root w.env.setting name unit (λ within part i. commands_meaning (selected_by w.root name) within body part i) values left)
+      (instance_meaning w.root w.env.setting name unit (λ within part i. commands_meaning (called w) (selected_by w.root name) within body part i) values left)
   instance_run name unit body pc out last stack values left h is sound ok =
       left_run name unit pc out last stack values left (body_does name body values left) ok h (enters_so name unit body pc stack values left is ok)
       (body_stays name body values left sound ok)
 
   pub enter_run : (line : ℕ) (name : List ℕ) (unit : ℕ) (body : Commands) (inputs outputs : Moves) (pc out last : ℕ) (stack : List ℤ)
       → HasAt w.code pc (command_code w.root (enter line name unit body inputs outputs) out last)
-      → IsSoundCommand w.root (enter line name unit body inputs outputs) → IsBodyOf (selected_by w.root name) body (w.env.bodies unit)
+      → IsSoundCommand w.functions w.root (enter line name unit body inputs outputs) → IsBodyOf (called w) (selected_by w.root name) body (w.env.bodies unit)
       → length stack + command_depth (enter line name unit body inputs outputs) ≤ w.room → (values : Values) (left : ℕ) → AreValuesOf w.root values
       → Runs w (state pc stack values left) (pc + length (command_code w.root (enter line name unit body inputs outputs) out last)) out last stack left
-      (command_meaning w.root w.env.setting (enter line name unit body inputs outputs) values left)
+      (command_meaning (called w) w.root w.env.setting (enter line name unit body inputs outputs) values left)
   enter_run line name unit body inputs outputs pc out last stack has sound is room values left ok =
       let leaf = offset_of w.root name in
       let ci = moves_code w.root inputs in let co = moves_code w.root outputs in
@@ -105,13 +105,13 @@ module _ (w : World) where
       let past : q + (1 + length co) ≡ pc + length (at line Step ++ (at line Step ++ (ci ++ (call ++ co)))) = omega (arith, length-append ci (call ++ co)) in
       let len : q + 1 + length co ≡ pc + length (at line Step ++ (at line Step ++ (ci ++ (call ++ co)))) = omega (arith, past) in
       let means : Values → ℕ → Outcome = (λ others k.
-      instance_meaning w.root w.env.setting name unit (λ within part i. commands_meaning (selected_by w.root name) within body part i) others k) in
-      let after : Values → ℕ → Outcome = (λ them j. moves_meaning w.root w.env.setting outputs them j) in
+      instance_meaning w.root w.env.setting name unit (λ within part i. commands_meaning (called w) (selected_by w.root name) within body part i) others k) in
+      let after : Values → ℕ → Outcome = (λ them j. moves_meaning (called w) w.root w.env.setting outputs them j) in
       let behind : Values → ℕ → Outcome = (λ others k. then_do (means others k) after) in
-      let run : ℕ → Outcome = (λ n. then_do (moves_meaning w.root w.env.setting inputs values n) behind) in
+      let run : ℕ → Outcome = (λ n. then_do (moves_meaning (called w) w.root w.env.setting inputs values n) behind) in
       step_run w line pc _ out last stack stack values left (λ m. after_step line m run) has.0
       (λ m e. step_run w line (pc + 1) _ out last stack stack values m run has.1.0
-      (λ n f. then_run w (state (pc + 1 + 1) stack values n) q _ (1 + length co) out last stack n (moves_meaning w.root w.env.setting inputs values n) behind past
+      (λ n f. then_run w (state (pc + 1 + 1) stack values n) q _ (1 + length co) out last stack n (moves_meaning (called w) w.root w.env.setting inputs values n) behind past
       (moves_run w inputs (pc + 1 + 1) _ _ stack (has_front w.code (pc + 1 + 1) ci (call ++ co) has.1.1) sound.0 (omega (arith, room)) values n ok)
       (λ others k fine. then_run w (state q stack others k) (q + 1) _ (length co) out last stack k (means others k) after len
       (instance_run name unit body q _ _ stack others k at_call.0 is sound.1 fine)

@@ -7,9 +7,9 @@ use Rattle.st_tree.specs.declared.tree.declaration.Subrange.{Subrange}
 use Rattle.st_types.specs.Compositions.{Composition}
 use Rattle.st_leaves.specs.Places.{count}
 use Rattle.st_leaves.specs.Selected.{element_of, selected_by, subscripts_of}
-use Rattle.st_meaning.specs.Sound.{is_fixed, term_type}
-use Rattle.st_meaning.specs.Terms.{Term, constant, stored, unary, binary, selection, Terms, no_terms, more_terms, Parts, whole, field_part, element_part, LabelRange, Command, nothing, assign, choice, cases, count_loop, while_loop, repeat_loop, invoke, enter, exit, finish, Moves, no_moves, more_moves, Commands, no_commands, more_commands, Branches, no_branches, more_branches, Cases, no_cases, more_cases}
-use Rattle.st_code.specs.Code.{Line, added, branch_code, branches_code, case_test, cases_code, command_code, commands_code, index_code, labels_code, moves_code, parts_code, plain, store_code, term_code, terms_code, types_in}
+use Rattle.st_meaning.specs.Sound.{is_fixed, term_type, types_in}
+use Rattle.st_meaning.specs.Terms.{Source, written, left_out, Term, constant, stored, unary, binary, selection, call, Terms, no_terms, more_terms, how_many, Parts, whole, field_part, element_part, LabelRange, Command, nothing, assign, choice, cases, count_loop, while_loop, repeat_loop, invoke, enter, exit, finish, Moves, no_moves, more_moves, Commands, no_commands, more_commands, Branches, no_branches, more_branches, Cases, no_cases, more_cases}
+use Rattle.st_code.specs.Code.{Line, added, are_in_order, call_code, inputs_code, branch_code, branches_code, case_test, cases_code, command_code, commands_code, index_code, labels_code, moves_code, parts_code, plain, store_code, term_code, terms_code}
 use Rattle.st_code.specs.Entrances.{CodeEntersWhatIsInvoked, EntersWhere, InstanceTest, InvokeWhere, IsInvokedWhere}
 use Rattle.st_code.specs.Invocations.{BranchesInvoke, CasesInvoke, CommandInvokes}
 use Rattle.st_code.specs.declared.instr.Instr.TheVariants.{Drop}
@@ -41,6 +41,14 @@ module _ (test : InstanceTest) where
   index_each line size (e ∷ es) (r ∷ []) = (tt, tt)
   index_each line size (e ∷ es) (r ∷ q ∷ rs) = both (index_code line size es (q ∷ rs)) _ (index_each line size es (q ∷ rs)) (tt, tt)
 
+  inputs_each : (n j : ℕ) (sources : List Source) → Each (inputs_code n j sources)
+  inputs_each n j [] = tt
+  inputs_each n j (written place ∷ ss) = (tt, inputs_each n (1 + j) ss)
+  inputs_each n j (left_out v ∷ ss) = (tt, inputs_each n (1 + j) ss)
+
+  call_each : (unit n : ℕ) (sources : List Source) → Each (call_code unit n sources)
+  call_each unit n sources = one_of (are_in_order n 0 sources) _ _ (tt, tt) (both (inputs_code n 0 sources) _ (inputs_each n 0 sources) (tt, tt))
+
   module _ (root : Composition) where
     mutual
       term_each : (t : Term) → Each (term_code root t)
@@ -50,6 +58,7 @@ module _ (test : InstanceTest) where
       term_each (binary o line a b) = both (term_code root a) _ (term_each a) (both (term_code root b) _ (term_each b) (tt, tt))
       term_each (selection g a b) =
           both (term_code root g) _ (term_each g) (both (term_code root a) _ (term_each a) (both (term_code root b) _ (term_each b) (tt, tt)))
+      term_each (call line unit result ts sources) = (tt, both (terms_code root ts) _ (terms_each ts) (call_each unit (how_many ts) sources))
 
       terms_each : (ts : Terms) → Each (terms_code root ts)
       terms_each no_terms = tt

@@ -1,4 +1,6 @@
 pub mod Beside
+pub mod CalledFunctions
+pub mod Calls
 pub mod Cells
 pub mod Counters
 pub mod Depths

@@ -38,15 +38,15 @@ module _ (w : World) where
   -- ---- WHILE
 
   -- a test and the turn behind it
-  abbrev while_tested : ℕ → ℕ → (Values → Answer Value) → (Values → ℕ → Outcome) → Values → ℕ → Outcome
-  while_tested k line test body values n = given (test values) (λ v. if is_true v then after_turn (body values n) (while_turns k line test body) else done values n)
+  abbrev while_tested : ℕ → ℕ → (Values → ℕ → Answer Value) → (Values → ℕ → Outcome) → Values → ℕ → Outcome
+  while_tested k line test body values n = given (test values n) (λ v m. if is_true v then after_turn (body values m) (while_turns k line test body) else done values m)
 
   abbrev while_rest : ℕ → List Line → List Line → List Line
   while_rest line ct cb = plain (SkipUnless (length cb + 1)) ++ (cb ++ at line (GoBack (length ct + 1 + length cb)))
 
-  while_turn : (line pc out last : ℕ) (e : Elem) (ct cb : List Line) (test : Values → Answer Value) (body : Values → ℕ → Outcome) (stack : List ℤ)
+  while_turn : (line pc out last : ℕ) (e : Elem) (ct cb : List Line) (test : Values → ℕ → Answer Value) (body : Values → ℕ → Outcome) (stack : List ℤ)
       → HasAt w.code pc (ct ++ while_rest line ct cb)
-      → ((values : Values) (n : ℕ) → AreValuesOf w.root values → TermRuns w (state pc stack values n) (pc + length ct) e stack values n (test values))
+      → ((values : Values) (n : ℕ) → AreValuesOf w.root values → TermRuns w (state pc stack values n) (pc + length ct) e stack values n (test values n))
       → ((values : Values) (n : ℕ) → AreValuesOf w.root values → Runs w (state (pc + length ct + 1) stack values n) (pc + length ct + 1 + length cb) 1 (1 + last) stack n (body values n))
       → (k : ℕ) (values : Values) (n : ℕ) → AreValuesOf w.root values → n < k → Runs w (state pc stack values n)
       (pc + length (ct ++ while_rest line ct cb)) out last stack n (while_tested k line test body values n)
@@ -60,16 +60,16 @@ module _ (w : World) where
       let past : q + 1 + length cb + 1 ≡ pc + length (ct ++ tail) = omega (arith, length-append ct tail, length-append cb (at line back)) in
       let skip : q + 1 + (length cb + 1) ≡ pc + length (ct ++ tail) = omega (arith, length-append ct tail, length-append cb (at line back)) in
       let home : q + 1 + length cb - (length ct + 1 + length cb) ≡ pc = omega arith in
-      given_run w (state pc stack values n) q _ out last e stack stack values n (test values) (λ v. if is_true v then after_turn (body values n) (while_turns (suc k) line test body) else done values n) (rt values n ok)
-      (λ v of. skip_run w (cell_of v.bits) (is_true v) q (length cb + 1) _ out last stack stack values n (after_turn (body values n) (while_turns (suc k) line test body)) (done values n) (nonzero_cell e v of) at_tail.0
-      (turn_run _ (q + 1 + length cb) _ out last stack n (body values n) (while_turns (suc k) line test body) past (rb values n ok)
+      given_run w (state pc stack values n) q _ out last e stack stack values n (test values n) (λ v i. if is_true v then after_turn (body values i) (while_turns (suc k) line test body) else done values i) (rt values n ok)
+      (λ v i of less_than. skip_run w (cell_of v.bits) (is_true v) q (length cb + 1) _ out last stack stack values i (after_turn (body values i) (while_turns (suc k) line test body)) (done values i) (nonzero_cell e v of) at_tail.0
+      (turn_run _ (q + 1 + length cb) _ out last stack i (body values i) (while_turns (suc k) line test body) past (rb values i ok)
       (λ others j down fine. back_run line (q + 1 + length cb) (length ct + 1 + length cb) pc _ out last stack others j (while_tested k line test body others) at_back home
-      (λ m less. while_turn line pc out last e ct cb test body stack has rt rb k others m fine (omega (arith, less, down, lt)))))
-      (omega arith, ok, stays w _ _ (ap (λ p. state p stack values n) skip)))
+      (λ m less. while_turn line pc out last e ct cb test body stack has rt rb k others m fine (omega (arith, less, down, lt, less_than)))))
+      (omega arith, ok, stays w _ _ (ap (λ p. state p stack values i) skip)))
 
-  pub while_run : (line pc out last : ℕ) (e : Elem) (ct cb : List Line) (test : Values → Answer Value) (body : Values → ℕ → Outcome) (stack : List ℤ)
+  pub while_run : (line pc out last : ℕ) (e : Elem) (ct cb : List Line) (test : Values → ℕ → Answer Value) (body : Values → ℕ → Outcome) (stack : List ℤ)
       → HasAt w.code pc (while_code line ct cb)
-      → ((p : ℕ) → HasAt w.code p ct → (values : Values) (n : ℕ) → AreValuesOf w.root values → TermRuns w (state p stack values n) (p + length ct) e stack values n (test values))
+      → ((p : ℕ) → HasAt w.code p ct → (values : Values) (n : ℕ) → AreValuesOf w.root values → TermRuns w (state p stack values n) (p + length ct) e stack values n (test values n))
       → ((p : ℕ) → HasAt w.code p cb → (values : Values) (n : ℕ) → AreValuesOf w.root values → Runs w (state p stack values n) (p + length cb) 1 (1 + last) stack n (body values n))
       → (values : Values) (left : ℕ) → AreValuesOf w.root values → Runs w (state pc stack values left)
       (pc + length (while_code line ct cb)) out last stack left (while_turns (suc left) line test body values left)
@@ -99,9 +99,9 @@ module _ (w : World) where
   abbrev repeat_rest : ℕ → List Line → List Line → List Line
   repeat_rest line ct cb = plain (SkipIf (length cb + 1)) ++ (cb ++ at line (GoBack (length ct + 1 + length cb)))
 
-  repeat_turn : (line pc out last : ℕ) (e : Elem) (ct cb : List Line) (test : Values → Answer Value) (body : Values → ℕ → Outcome) (stack : List ℤ)
+  repeat_turn : (line pc out last : ℕ) (e : Elem) (ct cb : List Line) (test : Values → ℕ → Answer Value) (body : Values → ℕ → Outcome) (stack : List ℤ)
       → HasAt w.code pc (ct ++ repeat_rest line ct cb)
-      → ((values : Values) (n : ℕ) → AreValuesOf w.root values → TermRuns w (state pc stack values n) (pc + length ct) e stack values n (test values))
+      → ((values : Values) (n : ℕ) → AreValuesOf w.root values → TermRuns w (state pc stack values n) (pc + length ct) e stack values n (test values n))
       → ((values : Values) (n : ℕ) → AreValuesOf w.root values → Runs w (state (pc + length ct + 1) stack values n) (pc + length ct + 1 + length cb) 1 (1 + last) stack n (body values n))
       → (k : ℕ) (values : Values) (n : ℕ) → AreValuesOf w.root values → n < k → Runs w (state (pc + length ct + 1) stack values n)
       (pc + length (ct ++ repeat_rest line ct cb)) out last stack n (repeat_turns k line test body values n)
@@ -116,16 +116,16 @@ module _ (w : World) where
       let skip : q + 1 + (length cb + 1) ≡ pc + length (ct ++ tail) = omega (arith, length-append ct tail, length-append cb (at line back)) in
       let home : q + 1 + length cb - (length ct + 1 + length cb) ≡ pc = omega arith in
       turn_run (state (q + 1) stack values n) (q + 1 + length cb) _ out last stack n (body values n)
-      (λ others m. after_step line m (λ j. given (test others) (λ v. if is_true v then done others j else repeat_turns k line test body others j))) past (rb values n ok)
-      (λ others m down fine. back_run line (q + 1 + length cb) (length ct + 1 + length cb) pc _ out last stack others m (λ j. given (test others) (λ v. if is_true v then done others j else repeat_turns k line test body others j)) at_back home
-      (λ j less. given_run w (state pc stack others j) q _ out last e stack stack others j (test others) (λ v. if is_true v then done others j else repeat_turns k line test body others j) (rt others j fine)
-      (λ v of. skip_if_run (cell_of v.bits) (is_true v) q (length cb + 1) _ out last stack others j (done others j) (repeat_turns k line test body others j) (nonzero_cell e v of) at_tail.0
-      (omega arith, fine, stays w _ _ (ap (λ p. state p stack others j) skip))
-      (repeat_turn line pc out last e ct cb test body stack has rt rb k others j fine (omega (arith, less, down, lt))))))
+      (λ others m. after_step line m (λ j. given (test others j) (λ v i. if is_true v then done others i else repeat_turns k line test body others i))) past (rb values n ok)
+      (λ others m down fine. back_run line (q + 1 + length cb) (length ct + 1 + length cb) pc _ out last stack others m (λ j. given (test others j) (λ v i. if is_true v then done others i else repeat_turns k line test body others i)) at_back home
+      (λ j less. given_run w (state pc stack others j) q _ out last e stack stack others j (test others j) (λ v i. if is_true v then done others i else repeat_turns k line test body others i) (rt others j fine)
+      (λ v i of less_than. skip_if_run (cell_of v.bits) (is_true v) q (length cb + 1) _ out last stack others i (done others i) (repeat_turns k line test body others i) (nonzero_cell e v of) at_tail.0
+      (omega arith, fine, stays w _ _ (ap (λ p. state p stack others i) skip))
+      (repeat_turn line pc out last e ct cb test body stack has rt rb k others i fine (omega (arith, less, down, lt, less_than))))))
 
-  pub repeat_run : (line pc out last : ℕ) (e : Elem) (ct cb : List Line) (test : Values → Answer Value) (body : Values → ℕ → Outcome) (stack : List ℤ)
+  pub repeat_run : (line pc out last : ℕ) (e : Elem) (ct cb : List Line) (test : Values → ℕ → Answer Value) (body : Values → ℕ → Outcome) (stack : List ℤ)
       → HasAt w.code pc (repeat_code line cb ct)
-      → ((p : ℕ) → HasAt w.code p ct → (values : Values) (n : ℕ) → AreValuesOf w.root values → TermRuns w (state p stack values n) (p + length ct) e stack values n (test values))
+      → ((p : ℕ) → HasAt w.code p ct → (values : Values) (n : ℕ) → AreValuesOf w.root values → TermRuns w (state p stack values n) (p + length ct) e stack values n (test values n))
       → ((p : ℕ) → HasAt w.code p cb → (values : Values) (n : ℕ) → AreValuesOf w.root values → Runs w (state p stack values n) (p + length cb) 1 (1 + last) stack n (body values n))
       → (values : Values) (left : ℕ) → AreValuesOf w.root values → Runs w (state pc stack values left)
       (pc + length (repeat_code line cb ct)) out last stack left (repeat_turns (suc left) line test body values left)

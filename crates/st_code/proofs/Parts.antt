@@ -18,15 +18,15 @@ use Rattle.st_leaves.specs.Paths.{Path, field, index}
 use Rattle.st_leaves.specs.Places.{IsDistance, no_more, above, IsMember, here, later, IsPart, first, behind, LeadsTo, end, element, into, pin, count, counts, extent, extent_of}
 use Rattle.st_leaves.specs.Selected.{member_selected, pin_selected, selected_by}
 use Rattle.st_operators.specs.Laws.{IsOf}
-use Rattle.st_meaning.specs.Meaning.{Values, are_within, is_within, located, numbers_in, when_within}
+use Rattle.st_meaning.specs.Meaning.{Calls, Values, are_within, is_within, located, numbers_in, when_within}
 use Rattle.st_meaning.specs.Offsets.{member_offset, offset_of, pin_offset}
 use Rattle.st_meaning.specs.Operations.{Answer, gives, stops, stop, then_with}
-use Rattle.st_meaning.specs.Sound.{is_fixed}
+use Rattle.st_meaning.specs.Sound.{is_fixed, types_in}
 use Rattle.st_meaning.specs.Statements.{faulted}
 use Rattle.st_meaning.specs.Terms.{Parts, whole, field_part, element_part, Terms}
 use Rattle.st_meaning.specs.Wholes.{type_of}
 use Rattle.st_meaning.specs.declared.fault.RunFaultKind.TheVariants as faults
-use Rattle.st_code.specs.Code.{Line, added, at, base_of, cell_of, index_code, terms_code, types_in}
+use Rattle.st_code.specs.Code.{Line, added, at, base_of, cell_of, index_code, terms_code}
 use Rattle.st_code.specs.Machine.{State, act, ends, goes, indexed, puts_distance, state, stuck}
 use Rattle.st_code.specs.declared.instr.Instr.{Instr}
 use Rattle.st_code.specs.declared.instr.Instr.TheVariants.{Push, Index, IndexBelow, Add}
@@ -144,21 +144,22 @@ over_length false acc stack = omega arith
 -- ---- places without subscripts
 
 -- the path of a place, and its leaf
-pub record IsFound (root c : Composition) (values : Values) (ps : Parts) : Type 0 where
+pub record IsFound (calls : Calls) (root c : Composition) (values : Values) (ps : Parts) (left : ℕ) : Type 0 where
   pub path : Path
-  pub found : located root values c ps ≡ gives path
+  pub found : located calls root values c ps left ≡ gives path left
   pub leads : LeadsTo c path (base_of c ps)
 
-pub fixed_found : (root : Composition) (values : Values) (ps : Parts) (c : Composition) (e : Elem) → type_of c ps ≡ Some e → is_fixed ps ≡ true → IsFound root c values ps
-fixed_found root values whole (elementary v) e t h = record { path = []; found = refl; leads = end }
-fixed_found root values whole unknown e t h = absurd (cc)
-fixed_found root values whole (array ranges firsts c) e t h = absurd (cc)
-fixed_found root values whole (composed n ms chart) e t h = absurd (cc)
-fixed_found root values whole (standard b) e t h = absurd (cc)
-fixed_found root values (field_part name ps) c e t h =
-    let f = fixed_found root values ps (selected_by c name) e t h in
-    record { path = field name ∷ f.path; found = ap (λ a. then_with a (λ path. gives (field name ∷ path))) f.found; leads = named_leads c name f.path (base_of (selected_by c name) ps) f.leads }
-fixed_found root values (element_part line ts ps) c e t h = absurd (cc)
+pub fixed_found : (calls : Calls) (root : Composition) (values : Values) (ps : Parts) (left : ℕ) (c : Composition) (e : Elem) → type_of c ps ≡ Some e → is_fixed ps ≡ true
+    → IsFound calls root c values ps left
+fixed_found calls root values whole left (elementary v) e t h = record { path = []; found = refl; leads = end }
+fixed_found calls root values whole left unknown e t h = absurd (cc)
+fixed_found calls root values whole left (array ranges firsts c) e t h = absurd (cc)
+fixed_found calls root values whole left (composed n ms chart) e t h = absurd (cc)
+fixed_found calls root values whole left (standard b) e t h = absurd (cc)
+fixed_found calls root values (field_part name ps) left c e t h =
+    let f = fixed_found calls root values ps left (selected_by c name) e t h in
+    record { path = field name ∷ f.path; found = ap (λ a. then_with a (λ path n. gives (field name ∷ path) n)) f.found; leads = named_leads c name f.path (base_of (selected_by c name) ps) f.leads }
+fixed_found calls root values (element_part line ts ps) left c e t h = absurd (cc)
 
 -- whether a distance stands on the stack behind a place
 abbrev pub has_distance : Bool → Parts → Bool
@@ -177,12 +178,12 @@ gives_distance (field_part name ps) h = gives_distance ps h
 gives_distance (element_part line ts ps) h = keeps_distance ps
 
 module _ (w : World) where
-  pub place_from : (s t : State) (pc pc' : ℕ) (there : Bool) (stack : List ℤ) (values : Values) (left acc : ℕ) (c : Composition) (n : ℕ) (a : Answer Path) → Leads w s t
+  pub place_from : (s t : State) (pc pc' : ℕ) (there : Bool) (stack : List ℤ) (values : Values) (acc : ℕ) (c : Composition) (n : ℕ) (a : Answer Path) → Leads w s t
       → pc ≡ pc'
-      → PlaceRuns w t pc there stack values left acc c n a → PlaceRuns w s pc' there stack values left acc c n a
-  place_from s t pc pc' there stack values left acc c n (gives path) l e r =
+      → PlaceRuns w t pc there stack values acc c n a → PlaceRuns w s pc' there stack values acc c n a
+  place_from s t pc pc' there stack values acc c n (gives path left) l e r =
       (r.0, r.1, leads_on w s t _ l (subst (λ q. Leads w t (state q (over there (acc + r.0) stack) values left)) e r.2))
-  place_from s t pc pc' there stack values left acc c n (stops f) l e r = l.by (faulted f) r
+  place_from s t pc pc' there stack values acc c n (stops f) l e r = l.by (faulted f) r
 
   -- ---- subscripts
 
@@ -297,12 +298,12 @@ module _ (w : World) where
       let len : pc ≡ pc + 0 = omega arith in
       stays w _ _ (ap (λ p. state p (pos d ∷ stack) values left) len ∙ ap (λ n. state (pc + 0) (pos n ∷ stack) values left) sum)
 
-  further_run : (s t : State) (pc acc : ℕ) (there : Bool) (stack : List ℤ) (values : Values) (left : ℕ) (rs : List Subrange) (firsts : List (Option Constant))
+  further_run : (s t : State) (pc acc : ℕ) (there : Bool) (stack : List ℤ) (values : Values) (rs : List Subrange) (firsts : List (Option Constant))
       (c : Composition) (is : List ℤ) (d n : ℕ) (a : Answer Path)
-      → IsDistance (count c) rs is d → Leads w s t → PlaceRuns w t pc there stack values left (acc + d) c n a
-      → PlaceRuns w s pc there stack values left acc (array rs firsts c) n (then_with a (λ path. gives (index is ∷ path)))
-  further_run s t pc acc there stack values left rs firsts c is d n (stops f) dist l r = l.by (faulted f) r
-  further_run s t pc acc there stack values left rs firsts c is d n (gives path) dist l r =
+      → IsDistance (count c) rs is d → Leads w s t → PlaceRuns w t pc there stack values (acc + d) c n a
+      → PlaceRuns w s pc there stack values acc (array rs firsts c) n (then_with a (λ path m. gives (index is ∷ path) m))
+  further_run s t pc acc there stack values rs firsts c is d n (stops f) dist l r = l.by (faulted f) r
+  further_run s t pc acc there stack values rs firsts c is d n (gives path left) dist l r =
       let k : d + (n + r.0) ≡ n + (d + r.0) = omega arith in
       let j : acc + d + r.0 ≡ acc + (d + r.0) = omega arith in (
         d + r.0,
@@ -315,25 +316,25 @@ module _ (w : World) where
       (c : Composition) (is : List ℤ) (n : ℕ) (s : State) (b : Bool) (a : Answer Path)
       → (more ≡ false → acc ≡ 0) → acc + extent rs * count c ≤ 65536 → IndexRuns s pc (over more acc stack) values left line (count c) rs is b
       → HasAt w.code pc (added more)
-      → ((d : ℕ) → acc + d + count c ≤ 65536 → PlaceRuns w (state (pc + length (added more)) (pos (acc + d) ∷ stack) values left) pc2 there stack values left (acc + d) c n a)
-      → PlaceRuns w s pc2 there stack values left acc (array rs firsts c) n (if b then then_with a (λ path. gives (index is ∷ path)) else stops (stop faults.IndexOutOfRange line))
+      → ((d : ℕ) → acc + d + count c ≤ 65536 → PlaceRuns w (state (pc + length (added more)) (pos (acc + d) ∷ stack) values left) pc2 there stack values (acc + d) c n a)
+      → PlaceRuns w s pc2 there stack values acc (array rs firsts c) n (if b then then_with a (λ path m. gives (index is ∷ path) m) else stops (stop faults.IndexOutOfRange line))
   within_run line pc pc2 acc more there stack values left rs firsts c is n s false a z few r has go = r
   within_run line pc pc2 acc more there stack values left rs firsts c is n s true a z few r has go =
       let among = distance_few (count c) rs is r.0 r.1 in
-      further_run s _ pc2 acc there stack values left rs firsts c is r.0 n a r.1 (leads_on w s _ _ r.2 (add_run more acc r.0 pc stack values left z (omega (arith, few, among)) has)) (go r.0 (omega (arith, few, among)))
+      further_run s _ pc2 acc there stack values rs firsts c is r.0 n a r.1 (leads_on w s _ _ r.2 (add_run more acc r.0 pc stack values left z (omega (arith, few, among)) has)) (go r.0 (omega (arith, few, among)))
 
   -- a list of subscripts, and what follows
   pub group_run : (line : ℕ) (ts : Terms) (more : Bool) (acc : ℕ) (rs : List Subrange) (firsts : List (Option Constant)) (c : Composition) (xs : Answer Values) (pc n : ℕ)
-      (rest : List Line) (there : Bool) (stack : List ℤ) (values : Values) (left : ℕ) (a : Answer Path)
+      (rest : List Line) (there : Bool) (stack : List ℤ) (values : Values) (left : ℕ) (a : ℕ → Answer Path)
       → (more ≡ false → acc ≡ 0) → length (types_in w.root ts) ≡ length rs → All IsBounded rs → acc + extent rs * count c ≤ 65536 → length stack + 2 ≤ w.room
       → HasAt w.code pc ((terms_code w.root ts ++ (index_code line (count c) (types_in w.root ts) rs ++ added more)) ++ rest)
-      → (HasAt w.code pc (terms_code w.root ts) → TermsRun w (state pc (over more acc stack) values left) (pc + length (terms_code w.root ts)) (types_in w.root ts) (over more acc stack) values left xs)
-      → ((pc' d : ℕ) → acc + d + count c ≤ 65536 → HasAt w.code pc' rest → PlaceRuns w (state pc' (pos (acc + d) ∷ stack) values left) (pc' + length rest) there stack values left (acc + d) c n a)
+      → (HasAt w.code pc (terms_code w.root ts) → TermsRun w (state pc (over more acc stack) values left) (pc + length (terms_code w.root ts)) (types_in w.root ts) (over more acc stack) values xs)
+      → ((pc' d k : ℕ) → acc + d + count c ≤ 65536 → HasAt w.code pc' rest → PlaceRuns w (state pc' (pos (acc + d) ∷ stack) values k) (pc' + length rest) there stack values (acc + d) c n (a k))
       → PlaceRuns w (state pc (over more acc stack) values left)
-      (pc + length ((terms_code w.root ts ++ (index_code line (count c) (types_in w.root ts) rs ++ added more)) ++ rest)) there stack values left acc (array rs firsts c) n
-      (then_with xs (λ ys. when_within line rs (numbers_in ys) (then_with a (λ path. gives (index (numbers_in ys) ∷ path)))))
+      (pc + length ((terms_code w.root ts ++ (index_code line (count c) (types_in w.root ts) rs ++ added more)) ++ rest)) there stack values acc (array rs firsts c) n
+      (then_with xs (λ ys k. when_within line rs (numbers_in ys) (then_with (a k) (λ path m. gives (index (numbers_in ys) ∷ path) m))))
   group_run line ts more acc rs firsts c (stops f) pc n rest there stack values left a z e bounded few room has rt go = rt (has_front w.code pc (terms_code w.root ts) _ (has_front w.code pc _ rest has))
-  group_run line ts more acc rs firsts c (gives ys) pc n rest there stack values left a z e bounded few room has rt go =
+  group_run line ts more acc rs firsts c (gives ys k) pc n rest there stack values left a z e bounded few room has rt go =
       let ct = terms_code w.root ts in
       let ci = index_code line (count c) (types_in w.root ts) rs in
       let tail = ci ++ added more in
@@ -346,17 +347,17 @@ module _ (w : World) where
       let at_rest = subst (λ p. HasAt w.code p rest) head (has_back w.code pc (ct ++ tail) rest has) in
       let len : m + length rest ≡ pc + length ((ct ++ tail) ++ rest) = omega (arith, length-append (ct ++ tail) rest, length-append ct tail, length-append ci (added more)) in
       let space : length (over more acc stack) < w.room = omega (arith, over_length more acc stack) in
-      place_from (state pc (over more acc stack) values left) (state q (onto ys (over more acc stack)) values left) (m + length rest) _ there stack values left acc (array rs firsts c) n _ r.1 len
-      (within_run line (q + length ci) _ acc more there stack values left rs firsts c (numbers_in ys) n _ (are_within rs (numbers_in ys)) a z few
-      (index_run line (count c) (types_in w.root ts) rs ys q (over more acc stack) values left e r.0 bounded (omega (arith, few)) space (has_front w.code q ci (added more) at_tail))
+      place_from (state pc (over more acc stack) values left) (state q (onto ys (over more acc stack)) values k) (m + length rest) _ there stack values acc (array rs firsts c) n _ r.1 len
+      (within_run line (q + length ci) _ acc more there stack values k rs firsts c (numbers_in ys) n _ (are_within rs (numbers_in ys)) (a k) z few
+      (index_run line (count c) (types_in w.root ts) rs ys q (over more acc stack) values k e r.0 bounded (omega (arith, few)) space (has_front w.code q ci (added more) at_tail))
       (has_back w.code q ci (added more) at_tail)
-      (λ d small. go m d small at_rest))
+      (λ d small. go m d k small at_rest))
 
   -- a name, and what follows
-  pub field_run : (c : Composition) (name : List ℕ) (s : State) (pc acc k : ℕ) (there : Bool) (stack : List ℤ) (values : Values) (left : ℕ) (a : Answer Path)
-      → PlaceRuns w s pc there stack values left acc (selected_by c name) k a
-      → PlaceRuns w s pc there stack values left acc c (offset_of c name + k) (then_with a (λ path. gives (field name ∷ path)))
-  field_run c name s pc acc k there stack values left (stops f) r = r
-  field_run c name s pc acc k there stack values left (gives path) r =
+  pub field_run : (c : Composition) (name : List ℕ) (s : State) (pc acc k : ℕ) (there : Bool) (stack : List ℤ) (values : Values) (a : Answer Path)
+      → PlaceRuns w s pc there stack values acc (selected_by c name) k a
+      → PlaceRuns w s pc there stack values acc c (offset_of c name + k) (then_with a (λ path m. gives (field name ∷ path) m))
+  field_run c name s pc acc k there stack values (stops f) r = r
+  field_run c name s pc acc k there stack values (gives path left) r =
       let sum : offset_of c name + (k + r.0) ≡ offset_of c name + k + r.0 = omega arith in
       (r.0, subst (λ m. LeadsTo c (field name ∷ path) m) sum (named_leads c name path (k + r.0) r.1), r.2)

@@ -1,5 +1,5 @@
 -- What an instruction does to a stretch of the values it does among all values, and as many values are left.
-use Rattle.std.proofs.Common.{◌≡◌, ℕ, zero, suc, ◌+◌, ◌*◌, ◌-◌, ◌^◌, ◌<◌, ◌≤◌, Bool, true, false, ◌&&◌, if◌then◌else◌, nat_le, nat_lt, ℤ, pos, negsuc, List, [], ◌∷◌, drop, length, get_or, Some, refl, ap, sym, ◌∙◌, subst, arith, length-drop, length-take}
+use Rattle.std.proofs.Common.{◌≡◌, ℕ, zero, suc, ◌+◌, ◌*◌, ◌-◌, ◌^◌, ◌<◌, ◌≤◌, Bool, true, false, ◌&&◌, if◌then◌else◌, nat_le, nat_lt, ℤ, pos, negsuc, List, [], ◌∷◌, drop, length, get_or, reverse, take, Some, refl, ap, sym, ◌∙◌, subst, arith, length-drop, length-take}
 use Rattle.std.specs.Prelude.{◌+ℤ◌, ◌-ℤ◌}
 use Rattle.std.proofs.lemmas.Bool.{and_from, and_parts, le-leb, leb-true, lt-ltb, ltb-true}
 use Rattle.st_values.specs.Types.{is_same}
@@ -13,14 +13,14 @@ use Rattle.st_leaves.specs.Places.{count}
 use Rattle.st_blocks.specs.Cells.{types_of}
 use Rattle.st_blocks.specs.Steps.{stepped}
 use Rattle.st_meaning.specs.Meaning.{Values, no_value, stored_to}
-use Rattle.st_meaning.specs.Operations.{Answer, gives, stops, binary_value, takes_one, unary_value}
+use Rattle.st_meaning.specs.Operations.{Answer, gives, stops, answered_in, binary_value, takes_one, unary_value}
 use Rattle.st_meaning.specs.Statements.{Setting, Outcome, done, exited, returned, faulted, block_done, ended, goes_on, is_nonzero, left_by, setting_from, stretch, unless_forced, with_stretch}
 use Rattle.st_meaning.proofs.Stretches.{block_count, stretch_at, stretch_length}
 use Rattle.st_code.specs.Code.{cell_of}
-use Rattle.st_code.specs.Machine.{After, goes, stuck, Environment, UnitBody, act, answered, are_cells_of, are_of_types, counted, distance_in, entered, enters, gets, has_leaf, has_leaves, indexed, is_cell_of, number_in, puts, puts_distance, state, takes_operands, tested, turned, value_in}
+use Rattle.st_code.specs.Machine.{After, goes, stuck, Environment, UnitBody, act, answered, are_cells_in, are_cells_of, are_of_types, counted, distance_in, entered, enters, gets, has_leaf, has_leaves, indexed, is_cell_of, number_in, puts, puts_distance, state, takes_operands, tested, turned, value_in, values_in}
 use Rattle.st_code.specs.Relative.{GoesAlike, InstructionsAreRelative, environment_from, from_leaf}
 use Rattle.st_code.specs.declared.instr.Instr.{Instr}
-use Rattle.st_code.specs.declared.instr.Instr.TheVariants.{Push, Get, GetAt, Put, PutAt, Index, IndexBelow, Add, Apply, Combine, Select, Step, GoOn, SkipUnless, SkipIf, GoBack, Within, Drop, Begin, Test, Next, Leave, Invoke, Enter}
+use Rattle.st_code.specs.declared.instr.Instr.TheVariants.{Push, Get, GetAt, Put, PutAt, Index, IndexBelow, Add, Apply, Combine, Select, Step, GoOn, SkipUnless, SkipIf, GoBack, Within, Drop, Begin, Test, Next, Leave, Invoke, Enter, Pick, Call}
 use Rattle.st_code.proofs.Stretches.{setting_twice, stretch_twice, with_itself, with_stored, with_twice}
 
 -- ---- the leaves of standard blocks
@@ -124,9 +124,9 @@ module _ (values : Values) (first size : ℕ) (fits : first + size ≤ length va
       either (nat_le far last) _ _ _ _ (distance_alike (more + far * stride) place stack left) refl
   indexed_alike (negsuc n) last stride more line place stack left = refl
 
-  answered_alike : (a : Answer Value) (place : ℕ) (stack : List ℤ) (left : ℕ) → Alike (answered a place stack part left) (answered a place stack values left)
-  answered_alike (gives v) place stack left = same (place + 1) (cell_of v.bits ∷ stack) left
-  answered_alike (stops f) place stack left = refl
+  answered_alike : (a : Answer Value) (place : ℕ) (stack : List ℤ) → Alike (answered a place stack part) (answered a place stack values)
+  answered_alike (gives v left) place stack = same (place + 1) (cell_of v.bits ∷ stack) left
+  answered_alike (stops f) place stack = refl
 
   counted_alike : (line left : ℕ) (go on : ℕ → After) → ((n : ℕ) → Alike (go n) (on n)) → Alike (counted line left go) (counted line left on)
   counted_alike line zero go on h = refl
@@ -225,7 +225,7 @@ module _ (values : Values) (first size : ℕ) (fits : first + size ≤ length va
         when (takes_one o e && is_cell_of e v) _ _ (same (place + 1) (cell_of (unary_value o (value_in e v)).bits ∷ stack) left)
     act_alike (Combine o e f) line place (w ∷ v ∷ stack) left =
         when (takes_operands o e f && is_cell_of e v && is_cell_of f w) _ _
-        (answered_alike (binary_value o line (value_in e v) (value_in f w)) place stack left)
+        (answered_alike (binary_value o line (value_in e v) (value_in f w) left) place stack)
     act_alike Select line place (w ∷ v ∷ g ∷ stack) left = same (place + 1) ((if is_nonzero g then w else v) ∷ stack) left
     act_alike Step line place stack left = counted_alike line left _ _ (λ n. same (place + 1) stack n)
     act_alike (GoOn distance) line place stack left = same (place + 1 + distance) stack left
@@ -244,6 +244,14 @@ module _ (values : Values) (first size : ℕ) (fits : first + size ≤ length va
     act_alike Leave line place (step ∷ last ∷ counter ∷ stack) left = same (place + 1) stack left
     act_alike (Invoke b leaf) line place stack left = invoke_alike env.setting b leaf (place + 1) stack left
     act_alike (Enter unit leaf) line place stack left = enters_alike env.setting (env.bodies unit) unit leaf place stack left
+    act_alike (Pick distance) line place stack left =
+        when (nat_lt distance (length stack)) _ _ (when (nat_lt (length stack) room) _ _ (same (place + 1) (get_or stack distance (pos 0) ∷ stack) left))
+    act_alike (Call unit inputs below) line place stack left =
+        let f = env.functions unit in
+        let cells = reverse (take inputs stack) in
+        let rest = drop (inputs + below) stack in
+        when (are_cells_in f.inputs cells && nat_lt (length rest) room) _ _
+        (answered_alike (answered_in unit (f.run (values_in f.inputs cells) left)) place rest)
     act_alike i line place stack left = tt
 
 pub instructions_are_relative : InstructionsAreRelative

@@ -19,7 +19,7 @@ use Rattle.st_code.specs.declared.instr.Instr.{Instr}
 use Rattle.st_code.specs.declared.instr.Instr.TheVariants.{Push, Put, PutAt, Step, GoOn, SkipUnless, Within, Drop}
 use Rattle.st_code.proofs.Cells.{number_back, number_of_value}
 use Rattle.st_code.proofs.Parts.{fixed_found, gives_distance, has_distance}
-use Rattle.st_code.proofs.Steps.{Ends, HasAt, Leads, PlaceRuns, TermRuns, World, halt, has_back, has_front, if_below, leads_on, leaf_known, line_of, puts_value, stays, step, store_keeps}
+use Rattle.st_code.proofs.Steps.{Ends, HasAt, Leads, PlaceRuns, TermRuns, World, called, halt, has_back, has_front, if_below, leads_on, leaf_known, line_of, puts_value, stays, step, store_keeps}
 
 or_false : (b : Bool) → b ≡ (b || false)
 or_false true = refl
@@ -65,12 +65,12 @@ module _ (w : World) where
       runs_after (state pc under values (suc n)) (state (pc + 1) under values n) pc' out last stack (suc n) n (go n) (step w Step line pc under values (suc n) _ h refl) (omega arith) (r n refl)
 
   -- what follows a term
-  pub given_run : (s : State) (pc pc' out last : ℕ) (e : Elem) (under stack : List ℤ) (values : Values) (left : ℕ) (a : Answer Value) (go : Value → Outcome)
+  pub given_run : (s : State) (pc pc' out last : ℕ) (e : Elem) (under stack : List ℤ) (values : Values) (left : ℕ) (a : Answer Value) (go : Value → ℕ → Outcome)
       → TermRuns w s pc e under values left a
-      → ((v : Value) → IsOf e v → Runs (state pc (cell_of v.bits ∷ under) values left) pc' out last stack left (go v)) → Runs s pc' out last stack left (given a go)
+      → ((v : Value) (n : ℕ) → IsOf e v → n ≤ left → Runs (state pc (cell_of v.bits ∷ under) values n) pc' out last stack n (go v n)) → Runs s pc' out last stack left (given a go)
   given_run s pc pc' out last e under stack values left (stops f) go g r = g
-  given_run s pc pc' out last e under stack values left (gives v) go g r =
-      runs_after s (state pc (cell_of v.bits ∷ under) values left) pc' out last stack left left (go v) g.1 (omega arith) (r v g.0)
+  given_run s pc pc' out last e under stack values left (gives v n) go g r =
+      runs_after s (state pc (cell_of v.bits ∷ under) values n) pc' out last stack left n (go v n) g.1 g.0.steps (r v n g.0.value g.0.steps)
 
   -- one statement after the other
   pub then_run : (s : State) (pc pc' m out last : ℕ) (stack : List ℤ) (left : ℕ) (o : Outcome) (go : Values → ℕ → Outcome) → pc + m ≡ pc' → Runs s pc (m + out)
@@ -193,66 +193,66 @@ module _ (w : World) where
 
   -- ---- assignments
 
-  put_run : (s : State) (pc out last : ℕ) (i : Instr) (e : Elem) (v : Value) (path : Path) (k : ℕ) (ps : Parts) (top stack : List ℤ) (values : Values) (left : ℕ)
-      → AreValuesOf w.root values → IsOf e v → IsPlaceOf w.root e ps
-      → located w.root values w.root ps ≡ gives path → LeadsTo w.root path k → Leads w s (state pc top values left) → slice_get w.code pc ≡ Some (line_of 0 i)
-      → act w.env w.room i 0 pc top values left ≡ puts w.env.setting.forced e (cell_of v.bits) k (pc + 1) stack values left
-      → Runs s (pc + 1) out last stack left (done (stored_at w.root w.env.setting.forced values path v) left)
-  put_run s pc out last i e v path k ps top stack values left ok of place found l leads h acts =
-      let leaf = leaf_known w e ps path k values place found l in (
-        omega arith,
+  put_run : (s : State) (pc out last : ℕ) (i : Instr) (e : Elem) (v : Value) (path : Path) (k : ℕ) (ps : Parts) (top stack : List ℤ) (values : Values) (left n : ℕ)
+      → AreValuesOf w.root values → IsOf e v → IsPlaceOf w.functions w.root e ps
+      → located (called w) w.root values w.root ps left ≡ gives path n → LeadsTo w.root path k → Leads w s (state pc top values n) → slice_get w.code pc ≡ Some (line_of 0 i)
+      → act w.env w.room i 0 pc top values n ≡ puts w.env.setting.forced e (cell_of v.bits) k (pc + 1) stack values n
+      → Runs s (pc + 1) out last stack left (done (stored_at w.root w.env.setting.forced values path v) n)
+  put_run s pc out last i e v path k ps top stack values left n ok of place found l leads h acts =
+      let leaf = leaf_known w e ps path k values left n place found l in (
+        w.takes w.functions (called w) w.root values e ps left path n w.known w.apart ok place found,
         store_keeps w e v path k values ok of leaf,
-        leads_on w s (state pc top values left) _ leads (step w i 0 pc top values left _ h (acts ∙ puts_value w e v path k (pc + 1) stack values left ok of leaf)),
+        leads_on w s (state pc top values n) _ leads (step w i 0 pc top values n _ h (acts ∙ puts_value w e v path k (pc + 1) stack values n ok of leaf)),
       )
 
   -- at a place that is found without subscripts
   fixed_put_run : (ps : Parts) (e : Elem) (v : Value) (pc out last : ℕ) (stack : List ℤ) (values : Values) (left : ℕ) → AreValuesOf w.root values → IsOf e v
-      → IsPlaceOf w.root e ps → is_fixed ps ≡ true
+      → IsPlaceOf w.functions w.root e ps → is_fixed ps ≡ true
       → slice_get w.code pc ≡ Some (line_of 0 (Put e (base_of w.root ps)))
       → Runs (state pc (cell_of v.bits ∷ stack) values left)
-      (pc + 1) out last stack left (given (located w.root values w.root ps) (λ path. done (stored_at w.root w.env.setting.forced values path v) left))
+      (pc + 1) out last stack left (given (located (called w) w.root values w.root ps left) (λ path n. done (stored_at w.root w.env.setting.forced values path v) n))
   fixed_put_run ps e v pc out last stack values left ok of place fixed h =
-      let f = fixed_found w.root values ps w.root e place.type fixed in
+      let f = fixed_found (called w) w.root values ps left w.root e place.type fixed in
       let s = state pc (cell_of v.bits ∷ stack) values left in
-      subst (λ a. Runs s (pc + 1) out last stack left (given a (λ path. done (stored_at w.root w.env.setting.forced values path v) left))) (sym f.found)
-      (put_run s pc out last (Put e (base_of w.root ps)) e v f.path (base_of w.root ps) ps (cell_of v.bits ∷ stack) stack values left ok of place f.found f.leads (stays w s s refl) h refl)
+      subst (λ a. Runs s (pc + 1) out last stack left (given a (λ path n. done (stored_at w.root w.env.setting.forced values path v) n))) (sym f.found)
+      (put_run s pc out last (Put e (base_of w.root ps)) e v f.path (base_of w.root ps) ps (cell_of v.bits ∷ stack) stack values left left ok of place f.found f.leads (stays w s s refl) h refl)
 
   -- at one that is found with its distance
   found_put_run : (s : State) (ps : Parts) (there : Bool) (e : Elem) (v : Value) (pc n out last : ℕ) (stack : List ℤ) (values : Values) (left : ℕ) (a : Answer Path)
-      → AreValuesOf w.root values → IsOf e v → IsPlaceOf w.root e ps
-      → located w.root values w.root ps ≡ a → there ≡ true → PlaceRuns w s pc there (cell_of v.bits ∷ stack) values left 0 w.root n a
+      → AreValuesOf w.root values → IsOf e v → IsPlaceOf w.functions w.root e ps
+      → located (called w) w.root values w.root ps left ≡ a → there ≡ true → PlaceRuns w s pc there (cell_of v.bits ∷ stack) values 0 w.root n a
       → slice_get w.code pc ≡ Some (line_of 0 (PutAt e n))
-      → Runs s (pc + 1) out last stack left (given a (λ path. done (stored_at w.root w.env.setting.forced values path v) left))
+      → Runs s (pc + 1) out last stack left (given a (λ path m. done (stored_at w.root w.env.setting.forced values path v) m))
   found_put_run s ps there e v pc n out last stack values left (stops f) ok of place found t r h = r
-  found_put_run s ps true e v pc n out last stack values left (gives path) ok of place found t r h =
+  found_put_run s ps true e v pc n out last stack values left (gives path m) ok of place found t r h =
       let sum : n + (0 + r.0) ≡ n + r.0 = omega arith in
-      put_run s pc out last (PutAt e n) e v path (n + r.0) ps (pos (0 + r.0) ∷ cell_of v.bits ∷ stack) stack values left ok of place found r.1 r.2 h
-      (ap (λ k. puts w.env.setting.forced e (cell_of v.bits) k (pc + 1) stack values left) sum)
-  found_put_run s ps false e v pc n out last stack values left (gives path) ok of place found t r h = absurd (cc)
+      put_run s pc out last (PutAt e n) e v path (n + r.0) ps (pos (0 + r.0) ∷ cell_of v.bits ∷ stack) stack values left m ok of place found r.1 r.2 h
+      (ap (λ k. puts w.env.setting.forced e (cell_of v.bits) k (pc + 1) stack values m) sum)
+  found_put_run s ps false e v pc n out last stack values left (gives path m) ok of place found t r h = absurd (cc)
 
   pub assign_run : (ps : Parts) (fixed : Bool) (e : Elem) (v : Value) (pc out last : ℕ) (stack : List ℤ) (values : Values) (left : ℕ) → AreValuesOf w.root values
-      → IsOf e v → IsPlaceOf w.root e ps → is_fixed ps ≡ fixed
+      → IsOf e v → IsPlaceOf w.functions w.root e ps → is_fixed ps ≡ fixed
       → HasAt w.code pc (if fixed then plain (Put e (base_of w.root ps)) else (parts_code w.root false w.root ps ++ plain (PutAt e (base_of w.root ps))))
       → (HasAt w.code pc (parts_code w.root false w.root ps)
       → PlaceRuns w (state pc (cell_of v.bits ∷ stack) values left) (pc + length (parts_code w.root false w.root ps)) (has_distance false ps)
-      (cell_of v.bits ∷ stack) values left 0 w.root (base_of w.root ps) (located w.root values w.root ps))
+      (cell_of v.bits ∷ stack) values 0 w.root (base_of w.root ps) (located (called w) w.root values w.root ps left))
       → Runs (state pc (cell_of v.bits ∷ stack) values left)
       (pc + length (if fixed then plain (Put e (base_of w.root ps)) else (parts_code w.root false w.root ps ++ plain (PutAt e (base_of w.root ps))))) out last stack left
-      (given (located w.root values w.root ps) (λ path. done (stored_at w.root w.env.setting.forced values path v) left))
+      (given (located (called w) w.root values w.root ps left) (λ path n. done (stored_at w.root w.env.setting.forced values path v) n))
   assign_run ps true e v pc out last stack values left ok of place fixed has go = fixed_put_run ps e v pc out last stack values left ok of place fixed has.0
   assign_run ps false e v pc out last stack values left ok of place fixed has go =
       let cp = parts_code w.root false w.root ps in
       let end' = plain (PutAt e (base_of w.root ps)) in
       let len : pc + length cp + 1 ≡ pc + length (cp ++ end') = omega (arith, length-append cp end') in
-      runs_at _ _ _ out last stack left (given (located w.root values w.root ps) (λ path. done (stored_at w.root w.env.setting.forced values path v) left)) len
-      (found_put_run (state pc (cell_of v.bits ∷ stack) values left) ps (has_distance false ps) e v (pc + length cp) (base_of w.root ps) out last stack values left (located w.root values w.root ps) ok of place refl
+      runs_at _ _ _ out last stack left (given (located (called w) w.root values w.root ps left) (λ path n. done (stored_at w.root w.env.setting.forced values path v) n)) len
+      (found_put_run (state pc (cell_of v.bits ∷ stack) values left) ps (has_distance false ps) e v (pc + length cp) (base_of w.root ps) out last stack values left (located (called w) w.root values w.root ps left) ok of place refl
       (gives_distance ps fixed) (go (has_front w.code pc cp end' has)) (has_back w.code pc cp end' has).0)
 
   -- what follows a value that is stored
-  pub store_then : (s : State) (pc pc' out last : ℕ) (stack : List ℤ) (left : ℕ) (a : Answer Path) (store : Path → Values) (go : Values → Outcome)
-      → Runs s pc out last stack left (given a (λ path. done (store path) left))
-      → ((values : Values) → AreValuesOf w.root values → Runs (state pc stack values left) pc' out last stack left (go values))
-      → Runs s pc' out last stack left (given a (λ path. go (store path)))
+  pub store_then : (s : State) (pc pc' out last : ℕ) (stack : List ℤ) (left : ℕ) (a : Answer Path) (store : Path → Values) (go : Values → ℕ → Outcome)
+      → Runs s pc out last stack left (given a (λ path n. done (store path) n))
+      → ((values : Values) (n : ℕ) → AreValuesOf w.root values → Runs (state pc stack values n) pc' out last stack n (go values n))
+      → Runs s pc' out last stack left (given a (λ path n. go (store path) n))
   store_then s pc pc' out last stack left (stops f) store go r further = r
-  store_then s pc pc' out last stack left (gives path) store go r further =
-      runs_after s (state pc stack (store path) left) pc' out last stack left left (go (store path)) r.2 (omega arith) (further (store path) r.1)
+  store_then s pc pc' out last stack left (gives path n) store go r further =
+      runs_after s (state pc stack (store path) n) pc' out last stack left n (go (store path) n) r.2 r.0 (further (store path) n r.1)

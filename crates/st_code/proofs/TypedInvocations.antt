@@ -183,7 +183,7 @@ module _ (w : Whole) (asked : Asked) (are : (name : List ℕ) (unit : Invoked) �
   body_invokes (x ∷ body) = (statement_invokes x, body_invokes body)
 
 pub typing_invokes_bodies : TypingInvokesBodies
-typing_invokes_bodies w bodies are body = body_invokes w (IsInvokedAs w.variables bodies) are body
+typing_invokes_bodies calls w bodies are body = body_invokes w (IsInvokedAs calls w.variables bodies) are body
 
 pub typing_enters_instances : TypingEntersInstances
 typing_enters_instances w test are body = body_invokes w (IsInvokedWhere w.variables test) are body

@@ -1,6 +1,11 @@
 -- How many cells the code of terms and commands puts on the stack at most, beside those that stand there before.
-use Rattle.std.specs.Prelude.{ℕ, ◌+◌, max}
-use Rattle.st_meaning.specs.Terms.{Term, constant, stored, unary, binary, selection, Terms, no_terms, more_terms, Parts, whole, field_part, element_part, Command, nothing, assign, choice, cases, count_loop, while_loop, repeat_loop, invoke, enter, exit, finish, Moves, no_moves, more_moves, Commands, no_commands, more_commands, Branches, no_branches, more_branches, Cases, no_cases, more_cases}
+use Rattle.std.specs.Prelude.{ℕ, ◌+◌, max, List, length, if◌then◌else◌}
+use Rattle.st_meaning.specs.Terms.{Source, Term, constant, stored, unary, binary, selection, call, Terms, no_terms, more_terms, how_many, Parts, whole, field_part, element_part, Command, nothing, assign, choice, cases, count_loop, while_loop, repeat_loop, invoke, enter, exit, finish, Moves, no_moves, more_moves, Commands, no_commands, more_commands, Branches, no_branches, more_branches, Cases, no_cases, more_cases}
+use Rattle.st_code.specs.Code.{are_in_order}
+
+-- the arguments, the inputs above them where they aren't the arguments themselves, and the value
+abbrev pub call_depth : (arguments : ℕ) → List Source → ℕ
+call_depth arguments sources = if are_in_order arguments 0 sources then 1 else (1 + arguments + length sources)
 
 abbrev mutual
   pub term_depth : Term → ℕ
@@ -9,6 +14,7 @@ abbrev mutual
   term_depth (unary o a) = term_depth a
   term_depth (binary o line a b) = max (term_depth a) (1 + term_depth b)
   term_depth (selection g a b) = max (term_depth g) (max (1 + term_depth a) (2 + term_depth b))
+  term_depth (call line unit result ts sources) = max (terms_depth ts) (call_depth (how_many ts) sources)
 
   -- one after the other
   pub terms_depth : Terms → ℕ

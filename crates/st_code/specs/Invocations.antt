@@ -6,7 +6,7 @@ use Rattle.st_tree.specs.declared.tree.statement.Statement.{Statement}
 use Rattle.st_types.specs.Compositions.{Composition}
 use Rattle.st_leaves.specs.Places.{count}
 use Rattle.st_leaves.specs.Selected.{selected_by}
-use Rattle.st_meaning.specs.Meaning.{Values}
+use Rattle.st_meaning.specs.Meaning.{Calls, Values}
 use Rattle.st_meaning.specs.Sound.{AreValuesOf}
 use Rattle.st_meaning.specs.Statements.{Setting, body_meaning, ended}
 use Rattle.st_meaning.specs.Terms.{Command, nothing, assign, choice, cases, count_loop, while_loop, repeat_loop, invoke, enter, exit, finish, Commands, no_commands, more_commands, Branches, no_branches, more_branches, Cases, no_cases, more_cases}
@@ -16,10 +16,10 @@ use Rattle.st_code.specs.Machine.{UnitBody}
 
 -- This is what the body does that these commands are, over these variables: it takes as many leaves as they have, and at any moment
 -- that a TIME can hold, from any values of them, it ends as the commands do.
-pub record IsBodyOf (variables : Composition) (body : Commands) (made : UnitBody) : Type 0 where
+pub record IsBodyOf (calls : Calls) (variables : Composition) (body : Commands) (made : UnitBody) : Type 0 where
   pub size : made.size ≡ count variables
   pub same : (setting : Setting) (values : Values) (left : ℕ) → IsTrue (in_range elems.Time setting.now) → AreValuesOf variables values
-      → ended (made.run setting values left) ≡ body_meaning variables setting body values left
+      → ended (made.run setting values left) ≡ body_meaning calls variables setting body values left
 
 -- what is asked of an invocation: the name of the instance, the number of its unit, and what the body of that unit is
 abbrev pub Asked : Type 1
@@ -55,16 +55,18 @@ abbrev mutual
 -- ---- what the invoked bodies do
 
 -- the body of the unit does what the invocation means
-abbrev pub IsInvokedAs : Composition → (ℕ → UnitBody) → Asked
-IsInvokedAs root bodies name unit body = IsBodyOf (selected_by root name) body (bodies unit)
+abbrev pub IsInvokedAs : Calls → Composition → (ℕ → UnitBody) → Asked
+IsInvokedAs calls root bodies name unit body = IsBodyOf calls (selected_by root name) body (bodies unit)
 
-abbrev pub InvokesAs : Composition → (ℕ → UnitBody) → Commands → Type 0
-InvokesAs root bodies cs = Invoke (IsInvokedAs root bodies) cs
+abbrev pub InvokesAs : Calls → Composition → (ℕ → UnitBody) → Commands → Type 0
+InvokesAs calls root bodies cs = Invoke (IsInvokedAs calls root bodies) cs
 
 -- among these are the bodies of all units whose instances names of the whole are
-abbrev pub HasBodies : Whole → (ℕ → UnitBody) → Type 0
-HasBodies w bodies = (name : List ℕ) (unit : Invoked) → w.invoked name ≡ Some unit → IsBodyOf (selected_by w.variables name) unit.body (bodies unit.number)
+abbrev pub HasBodies : Calls → Whole → (ℕ → UnitBody) → Type 0
+HasBodies calls w bodies =
+    (name : List ℕ) (unit : Invoked) → w.invoked name ≡ Some unit → IsBodyOf calls (selected_by w.variables name) unit.body (bodies unit.number)
 
 -- then what typing makes of statements invokes no others
 abbrev pub TypingInvokesBodies : Type 0
-TypingInvokesBodies = (w : Whole) (bodies : ℕ → UnitBody) → HasBodies w bodies → (body : List Statement) → InvokesAs w.variables bodies (body_of w body)
+TypingInvokesBodies = (calls : Calls) (w : Whole) (bodies : ℕ → UnitBody) → HasBodies calls w bodies → (body : List Statement)
+    → InvokesAs calls w.variables bodies (body_of w body)

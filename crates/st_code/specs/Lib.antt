@@ -1,4 +1,5 @@
 pub mod Beside
+pub mod CalledFunctions
 pub mod Code
 pub mod Correct
 pub mod Depth

@@ -45,7 +45,7 @@ clipped_from first i = with_leaf i (min (first + leaf_in i) 4294967295)
 
 -- what a run on these values is given, seen from a leaf on
 abbrev pub environment_from : ℕ → Environment → Environment
-environment_from first env = record { setting = setting_from first env.setting; bodies = env.bodies }
+environment_from first env = record { setting = setting_from first env.setting; bodies = env.bodies; functions = env.functions }
 
 -- Where the run on a stretch of the values goes on, the other one does with what it leaves of the stretch among all values, and where it
 -- ends, which is at a fault, the other one ends so. Where it is stuck nothing is said.

@@ -1,5 +1,6 @@
 //! Instructions.
 ghost use Rattle.std.specs.Prelude.{◌≡◌};
+ghost use Rattle.st_code.specs.CalledFunctions.{call_of};
 ghost use Rattle.st_code.specs.Entrances.{entrance_of};
 ghost use Rattle.st_code.specs.Relative.{clipped_from};
 
@@ -66,6 +67,11 @@ pub enum Instr {
     Invoke(StandardBlock, u32),
     /// Runs the body of the unit of this number on the values of an instance, the first leaf of which is this one.
     Enter(usize, u32),
+    /// Puts the number on the stack that stands so far below the top.
+    Pick(u32),
+    /// Takes so many numbers as the inputs of the function that the unit of this number is, takes so many further ones away, and
+    /// puts what the function gives.
+    Call(u32, u32, u32),
 }
 
 impl Instr {
@@ -96,6 +102,17 @@ impl Instr {
     {
         match *self {
             Instr::Enter(unit, leaf) => Some((unit, leaf)),
+            _ => None,
+        }
+    }
+
+    /// The function that the instruction calls: the number of its unit, and how many numbers it takes as inputs.
+    #[inline(always)]
+    pub fn call(&self) -> Option<(u32, u32)>
+        ensures { result ≡ call_of self.now }
+    {
+        match *self {
+            Instr::Call(unit, inputs, _) => Some((unit, inputs)),
             _ => None,
         }
     }

@@ -1,4 +1,5 @@
 //! Laws of code.
+ghost use Rattle.st_code.specs.CalledFunctions.{CodeCallsFunctions};
 ghost use Rattle.st_code.specs.Correct.{CodeDoesAsCommandsMean, DepthIsAtMostTheLength};
 ghost use Rattle.st_code.specs.Entrances.{CodeEntersWhatIsInvoked, TypingEntersInstances};
 ghost use Rattle.st_code.specs.Invocations.{TypingInvokesBodies};
@@ -46,4 +47,9 @@ pub fn instructions_keep_lengths()
 /// Each instance that the code of commands enters is one that they invoke: it passes each test that those pass.
 pub fn code_enters_what_is_invoked()
     ensures { CodeEntersWhatIsInvoked }
+{}
+
+/// The code of sound commands calls nothing but functions, each with as many numbers as it has inputs.
+pub fn code_calls_functions()
+    ensures { CodeCallsFunctions }
 {}

@@ -8,7 +8,7 @@ mod laws;
 pub use code::Code;
 pub use instr::Instr;
 pub use laws::{
-    code_does_as_commands_mean, code_enters_what_is_invoked, depth_is_at_most_the_length,
-    instructions_are_relative, instructions_keep_lengths, runs_are_relative,
-    typing_enters_instances, typing_invokes_bodies,
+    code_calls_functions, code_does_as_commands_mean, code_enters_what_is_invoked,
+    depth_is_at_most_the_length, instructions_are_relative, instructions_keep_lengths,
+    runs_are_relative, typing_enters_instances, typing_invokes_bodies,
 };

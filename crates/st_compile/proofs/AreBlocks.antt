@@ -3,7 +3,7 @@ use Rattle.std.proofs.Common.{◌≡◌, ℕ, ◌≤◌, Bool, true, false, ◌&
 use Rattle.std.specs.List.{slice_get}
 use Rattle.std.specs.Prelude.{min}
 use Rattle.std.proofs.lemmas.Bool.{and_from, and_parts, le-leb, leb-true, lt-ltb}
-use Rattle.st_check.specs.Programs.{IsChecked, ProgramView, order_of, text_of}
+use Rattle.st_check.specs.Programs.{IsChecked, ProgramView, level_in, order_of, text_of}
 use Rattle.st_values.specs.Values.{in_range}
 use Rattle.st_values.specs.declared.elem.Elem.TheVariants as elems
 use Rattle.st_types.specs.Names.{Named, unit_at, units_of}
@@ -12,24 +12,31 @@ use Rattle.st_leaves.specs.Selected.{selected_by}
 use Rattle.st_meaning.specs.Laws.{StaysInFrame}
 use Rattle.st_meaning.specs.Meaning.{Values}
 use Rattle.st_meaning.specs.Offsets.{IsSmall, offset_of}
-use Rattle.st_meaning.specs.Sound.{AreValuesOf}
+use Rattle.st_meaning.specs.Sound.{AreSoundCalls, AreValuesOf}
 use Rattle.st_meaning.specs.Statements.{Setting, Outcome, done, exited, returned, faulted, commands_meaning, ended}
 use Rattle.st_meaning.specs.Typing.{body_of}
-use Rattle.st_meaning.specs.Units.{root_of, statements_of, unit_whole}
+use Rattle.st_meaning.specs.Units.{calls_of, function_at, root_of, statements_of, unit_whole}
+use Rattle.st_meaning.specs.Wholes.{Called}
 use Rattle.st_meaning.proofs.Stretches.{part_fits}
+use Rattle.st_code.specs.Correct.{HaveTypes}
 use Rattle.st_code.specs.Entrances.{HasEntrances}
 use Rattle.st_code.specs.Invocations.{HasBodies, InvokesAs, IsBodyOf}
 use Rattle.st_code.specs.Machine.{Reaches, UnitBody, are_of_types, ends_here, state}
 use Rattle.st_code.specs.Relative.{LeavesSoMany}
 use Rattle.st_machine.specs.Blocks.{AreBlocks, BlockView, EntersBelow, IsBlock, is_below, may_enter, stand_at}
+use Rattle.st_machine.specs.Functions.{CallsBelow, may_call}
+use Rattle.st_machine.specs.Levels.{environment_in, no_room}
+use Rattle.st_machine.specs.declared.stacks.Room.{Room}
 use Rattle.st_places.specs.Parts.{is_block, is_small_block}
-use Rattle.st_compile.specs.Depths.{statements_depth}
-use Rattle.st_compile.specs.Programs.{block_code, block_depth, block_view, level_depths, level_in, program_blocks, program_depths, unit_code, unit_meaning}
-use Rattle.st_compile.proofs.BodyDepths.{body_deep}
+use Rattle.st_bodies.specs.Depths.{statements_depth}
+use Rattle.st_compile.specs.Programs.{block_code, block_level, block_room, block_view, function_room, most_taken, program_blocks, program_functions, program_rooms, program_units, unit_code, unit_meaning}
+use Rattle.st_bodies.proofs.BodyDepths.{body_deep}
 use Rattle.st_compile.proofs.Known.{Known}
 use Rattle.st_compile.proofs.OfTypes.{many_elems, test_of_values, values_by_test}
 use Rattle.st_compile.proofs.OneLeaf.{one_leaf_each}
-use Rattle.st_compile.proofs.Ordered.{at_its_level, block_at, given_at, unit_of_block}
+use Rattle.st_compile.proofs.Ordered.{at_its_level, level_below, second_given, unit_of_view, view_at}
+use Rattle.st_compile.proofs.Callable.{AreFunctionsSmall, have_types, sound_calls, unit_calls}
+use Rattle.st_compile.proofs.Taken.{takes_few}
 use Rattle.st_compile.proofs.Said.{body_size, may_run, part_stands, root_types, said_of, unit_body, unit_types}
 
 -- ---- outcomes
@@ -40,7 +47,7 @@ ended_twice (exited values left) = refl
 ended_twice (returned values left) = refl
 ended_twice (faulted f) = refl
 
-module _ (known : Known) (program : ProgramView) (checked : IsChecked program) where
+module _ (known : Known) (program : ProgramView) (checked : IsChecked program) (small_functions : AreFunctionsSmall program) where
   abbrev units : List Named
   units = units_of (text_of program)
 
@@ -53,7 +60,7 @@ module _ (known : Known) (program : ProgramView) (checked : IsChecked program) w
   -- ---- bodies
 
   -- the body of a function block that a program has room for does what an invocation means
-  own_body : (u : Named) → is_small_block units u ≡ true → IsBodyOf (root_of units u) (body_of (unit_whole units u) (statements_of u.declares)) (unit_body units (Some u))
+  own_body : (u : Named) → is_small_block units u ≡ true → IsBodyOf (calls_of units) (root_of units u) (body_of (unit_whole units u) (statements_of u.declares)) (unit_body units (Some u))
   unfolding unit_whole
   own_body u small = record {
     size = many_elems (root_of units u);
@@ -62,11 +69,11 @@ module _ (known : Known) (program : ProgramView) (checked : IsChecked program) w
         and_from (is_small_block units u) (in_range elems.Time setting.now && are_of_types (root_types units u) values) small
         (and_from (in_range elems.Time setting.now) (are_of_types (root_types units u) values) moment (test_of_values (root_of units u) values all)) in
         ap (λ b. ended (if b then unit_meaning units u setting values left else done values left)) test
-        ∙ ended_twice (commands_meaning (root_of units u) setting (body_of (unit_whole units u) (statements_of u.declares)) values left);
+        ∙ ended_twice (commands_meaning (calls_of units) (root_of units u) setting (body_of (unit_whole units u) (statements_of u.declares)) values left);
   }
 
   -- among the blocks of a unit with few leaves there are no others
-  has_bodies : (i : ℕ) (u : Named) → unit_at units i ≡ Some u → count (root_of units u) ≤ 65536 → HasBodies (unit_whole units u) (said_of program).bodies
+  has_bodies : (i : ℕ) (u : Named) → unit_at units i ≡ Some u → count (root_of units u) ≤ 65536 → HasBodies (calls_of units) (unit_whole units u) (said_of program).bodies
   unfolding unit_whole
   has_bodies i u at few name found is =
       let instance = known.instances program checked i u at name found is in
@@ -74,18 +81,18 @@ module _ (known : Known) (program : ProgramView) (checked : IsChecked program) w
       let small : is_small_block units block ≡ true =
       and_from (is_block block.declares) (nat_le (count (root_of units block)) 65536) instance.is_block
       (le-leb (count (root_of units block)) 65536 (omega (arith, few, part_fits (root_of units u) name (root_of units block) instance.same))) in
-      subst (λ o. IsBodyOf (selected_by (root_of units u) name) found.body (unit_body units o)) (sym instance.at)
-      (subst (λ c. IsBodyOf c found.body (unit_body units (Some block))) (sym instance.same)
-      (subst (λ cs. IsBodyOf (root_of units block) cs (unit_body units (Some block))) (sym instance.body) (own_body block small)))
+      subst (λ o. IsBodyOf (calls_of units) (selected_by (root_of units u) name) found.body (unit_body units o)) (sym instance.at)
+      (subst (λ c. IsBodyOf (calls_of units) c found.body (unit_body units (Some block))) (sym instance.same)
+      (subst (λ cs. IsBodyOf (calls_of units) (root_of units block) cs (unit_body units (Some block))) (sym instance.body) (own_body block small)))
 
   pub unit_invokes : (i : ℕ) (u : Named) → unit_at units i ≡ Some u → count (root_of units u) ≤ 65536
-      → InvokesAs (unit_whole units u).variables (said_of program).bodies (body_of (unit_whole units u) (statements_of u.declares))
-  unit_invokes i u at few = known.invokes (unit_whole units u) (said_of program).bodies (has_bodies i u at few) (statements_of u.declares)
+      → InvokesAs (calls_of units) (unit_whole units u).variables (said_of program).bodies (body_of (unit_whole units u) (statements_of u.declares))
+  unit_invokes i u at few = known.invokes (calls_of units) (unit_whole units u) (said_of program).bodies (has_bodies i u at few) (statements_of u.declares)
 
   -- ---- instances
 
   -- above its level a unit has only instances that may be entered
-  has_entrances : (i : ℕ) (u : Named) → unit_at units i ≡ Some u → (level : ℕ) → level_in order i ≤ level
+  has_entrances : (i : ℕ) (u : Named) → unit_at units i ≡ Some u → (level : ℕ) → block_level order i ≤ level
       → HasEntrances (unit_whole units u) (may_enter (program_blocks program) (said_of program) level (root_types units u))
   unfolding unit_whole program_blocks
   has_entrances i u at level above name found is =
@@ -94,12 +101,12 @@ module _ (known : Known) (program : ProgramView) (checked : IsChecked program) w
       let root = root_of units u in
       let before = instance.before (level_in order found.number) (level_in order i) (its_level found.number block instance.at) (its_level i u at) in
       let below : is_below level (slice_get (program_blocks program) found.number) ≡ true =
-      ap (is_below level) (block_at units order found.number block instance.at) ∙ lt-ltb (level_in order found.number) level (omega (arith, before, above)) in
+      ap (is_below level) (view_at (block_view units order) units found.number block instance.at) ∙ lt-ltb (block_level order found.number) level (omega (arith, before, above)) in
       let stands : stand_at (root_types units u) (offset_of root name) ((said_of program).types found.number) ≡ true =
       ap (λ o. stand_at (root_types units u) (offset_of root name) (unit_types units o)) instance.at ∙ part_stands root name (root_of units block) instance.same in
       and_from (is_below level (slice_get (program_blocks program) found.number)) (stand_at (root_types units u) (offset_of root name) ((said_of program).types found.number)) below stands
 
-  pub unit_enters : (i : ℕ) (u : Named) → unit_at units i ≡ Some u → (level : ℕ) → level_in order i ≤ level
+  pub unit_enters : (i : ℕ) (u : Named) → unit_at units i ≡ Some u → (level : ℕ) → block_level order i ≤ level
       → EntersBelow (program_blocks program) (said_of program) level (root_types units u) (unit_code units u)
   unit_enters i u at level above =
       let w = unit_whole units u in
@@ -110,8 +117,8 @@ module _ (known : Known) (program : ProgramView) (checked : IsChecked program) w
 
   -- the code of a unit that a program has room for ends as the unit means
   pub unit_reaches : (i : ℕ) (u : Named) → unit_at units i ≡ Some u → count (root_of units u) ≤ 65536 → (setting : Setting) (values : Values) (left room : ℕ)
-      → IsTrue (in_range elems.Time setting.now) → AreValuesOf (root_of units u) values → min (statements_depth (statements_of u.declares)) (length (unit_code units u)) ≤ room
-      → Reaches (record { setting = setting; bodies = (said_of program).bodies }) room (unit_code units u) (unit_meaning units u setting values left) (state 0 [] values left)
+      → IsTrue (in_range elems.Time setting.now) → AreValuesOf (root_of units u) values → min (statements_depth (most_taken units) (statements_of u.declares)) (length (unit_code units u)) ≤ room
+      → Reaches (environment_in (said_of program) setting) room (unit_code units u) (unit_meaning units u setting values left) (state 0 [] values left)
   unfolding unit_whole
   unit_reaches i u at few setting values left room moment all enough =
       let w = unit_whole units u in
@@ -119,48 +126,56 @@ module _ (known : Known) (program : ProgramView) (checked : IsChecked program) w
       let sound = known.units program checked i u at in
       let small : IsSmall w.variables = record { bounds = sound.bounds; few = few } in
       let deep = known.depth w.variables body in
-      (known.does w.variables body room small (one_leaf_each units u sound) (known.typed units u (statements_of u.declares)) (omega (arith, deep, body_deep w (statements_of u.declares), enough))).same
-      (record { setting = setting; bodies = (said_of program).bodies }) values left moment (unit_invokes i u at few) all
+      (known.does (function_at units) w.variables body room small (one_leaf_each units u sound) (known.typed units u (statements_of u.declares)) (omega (arith, deep, body_deep w (most_taken units) (takes_few units u) (statements_of u.declares), enough))).same
+      (environment_in (said_of program) setting) values left moment (sound_calls known program checked) (have_types program) (unit_invokes i u at few) all
 
   -- ---- blocks
 
   small_few : (u : Named) → is_small_block units u ≡ true → count (root_of units u) ≤ 65536
   small_few u small = leb-true (count (root_of units u)) 65536 (and_parts (is_block u.declares) (nat_le (count (root_of units u)) 65536) small).1
 
-  enters_below : (n : ℕ) (u : Named) → unit_at units n ≡ Some u → EntersBelow (program_blocks program) (said_of program) (level_in order n) (root_types units u) (block_code units u)
+  enters_below : (n : ℕ) (u : Named) → unit_at units n ≡ Some u → EntersBelow (program_blocks program) (said_of program) (block_level order n) (root_types units u) (block_code units u)
   enters_below n u at = by (is_small_block units u) where
-    by : (b : Bool) → EntersBelow (program_blocks program) (said_of program) (level_in order n) (root_types units u) (if b then unit_code units u else [])
-    by true = unit_enters n u at (level_in order n) (omega arith)
+    by : (b : Bool) → EntersBelow (program_blocks program) (said_of program) (block_level order n) (root_types units u) (if b then unit_code units u else [])
+    by true = unit_enters n u at (block_level order n) (omega arith)
+    by false = λ k d below. absurd (omega (arith, below))
+
+  calls_below : (n : ℕ) (u : Named) → unit_at units n ≡ Some u → CallsBelow (program_functions program) (block_level order n) (block_code units u)
+  calls_below n u at = by (is_small_block units u) where
+    by : (b : Bool) → CallsBelow (program_functions program) (block_level order n) (if b then unit_code units u else [])
+    by true = unit_calls known program checked small_functions u (block_level order n) (omega arith)
     by false = λ k d below. absurd (omega (arith, below))
 
   -- by the test whether a program has room for it
   runs_by : (n : ℕ) (u : Named) → unit_at units n ≡ Some u → (setting : Setting) (values : Values) (left room : ℕ) → IsTrue (in_range elems.Time setting.now)
       → IsTrue (are_of_types (root_types units u) values) → (b : Bool) → is_small_block units u ≡ b
-      → min (statements_depth (statements_of u.declares)) (length (if b then unit_code units u else [])) ≤ room
-      → Reaches (record { setting = setting; bodies = (said_of program).bodies }) room (if b then unit_code units u else [])
+      → min (statements_depth (most_taken units) (statements_of u.declares)) (length (if b then unit_code units u else [])) ≤ room
+      → Reaches (environment_in (said_of program) setting) room (if b then unit_code units u else [])
       (ended (if b && (in_range elems.Time setting.now && are_of_types (root_types units u) values) then unit_meaning units u setting values left else done values left)) (state 0 [] values left)
   unfolding unit_whole
   runs_by n u at setting values left room moment typed true small enough =
       let test = and_from (in_range elems.Time setting.now) (are_of_types (root_types units u) values) moment typed in
       let same = ap (λ b. ended (if b then unit_meaning units u setting values left else done values left)) test
-      ∙ ended_twice (commands_meaning (root_of units u) setting (body_of (unit_whole units u) (statements_of u.declares)) values left) in
-      subst (λ o. Reaches (record { setting = setting; bodies = (said_of program).bodies }) room (unit_code units u) o (state 0 [] values left)) (sym same)
+      ∙ ended_twice (commands_meaning (calls_of units) (root_of units u) setting (body_of (unit_whole units u) (statements_of u.declares)) values left) in
+      subst (λ o. Reaches (environment_in (said_of program) setting) room (unit_code units u) o (state 0 [] values left)) (sym same)
       (unit_reaches n u at (small_few u small) setting values left room moment (values_by_test (root_of units u) values typed) enough)
   runs_by n u at setting values left room moment typed false small enough = ends_here (state 0 [] values left) refl
 
-  is_block_of : (n : ℕ) (u : Named) → unit_at units n ≡ Some u → IsBlock (program_blocks program) (said_of program) (get_or (program_depths program) (level_in order n) 0) n (block_view units order n u)
-  unfolding program_depths
+  is_block_of : (n : ℕ) (u : Named) → unit_at units n ≡ Some u → IsBlock (program_units program) (said_of program) (get_or (program_rooms program) (block_level order n) no_room).stack n (block_view units order n u)
+  unfolding program_rooms
   is_block_of n u at =
       let types : (said_of program).types n ≡ root_types units u = ap (unit_types units) at in
       let body : (said_of program).bodies n ≡ unit_body units (Some u) = ap (unit_body units) at in
-      let room : get_or (level_depths units order) (level_in order n) 0 ≡ block_depth units (Some u) =
-      given_at (λ m. block_depth units (unit_at units m)) order (level_in order n) n 0 (its_level n u at) ∙ ap (block_depth units) at in
+      let given : get_or (program_rooms program) (block_level order n) no_room ≡ block_room units (Some u) =
+      second_given (λ m. function_room units (unit_at units m)) (λ m. block_room units (unit_at units m)) order (level_in order n) n no_room (its_level n u at) ∙ ap (block_room units) at in
+      let room : (get_or (program_rooms program) (block_level order n) no_room).stack ≡ min (statements_depth (most_taken units) (statements_of u.declares)) (length (block_code units u)) = ap (λ (r : Room). r.stack) given in
       record {
         size = body_size units (unit_at units n);
-        enters = subst (λ ts. EntersBelow (program_blocks program) (said_of program) (level_in order n) ts (block_code units u)) (sym types) (enters_below n u at);
+        enters = subst (λ ts. EntersBelow (program_blocks program) (said_of program) (block_level order n) ts (block_code units u)) (sym types) (enters_below n u at);
+        calls = calls_below n u at;
         runs = λ setting values left moment typed.
-            subst (λ (m : UnitBody). Reaches (record { setting = setting; bodies = (said_of program).bodies }) (get_or (level_depths units order) (level_in order n) 0) (block_code units u) (ended (m.run setting values left)) (state 0 [] values left)) (sym body)
-            (runs_by n u at setting values left (get_or (level_depths units order) (level_in order n) 0) moment (subst (λ ts. IsTrue (are_of_types ts values)) types typed) (is_small_block units u) refl (omega (arith, room)));
+            subst (λ (m : UnitBody). Reaches (environment_in (said_of program) setting) (get_or (program_rooms program) (block_level order n) no_room).stack (block_code units u) (ended (m.run setting values left)) (state 0 [] values left)) (sym body)
+            (runs_by n u at setting values left (get_or (program_rooms program) (block_level order n) no_room).stack moment (subst (λ ts. IsTrue (are_of_types ts values)) types typed) (is_small_block units u) refl (omega (arith, room)));
       }
 
   -- ---- lengths
@@ -181,8 +196,8 @@ module _ (known : Known) (program : ProgramView) (checked : IsChecked program) w
       let body = body_of w (statements_of u.declares) in
       let first = and_parts (is_small_block units u) (in_range elems.Time setting.now && are_of_types (root_types units u) values) test in
       let second = and_parts (in_range elems.Time setting.now) (are_of_types (root_types units u) values) first.1 in
-      so_many u setting values left (commands_meaning w.variables setting body values left)
-      (known.frame w.variables setting body values left second.0 (one_leaf_each units u (known.units program checked n u at)) (values_by_test (root_of units u) values second.1) (known.typed units u (statements_of u.declares)))
+      so_many u setting values left (commands_meaning (calls_of units) w.variables setting body values left)
+      (known.frame (function_at units) (calls_of units) w.variables setting body values left (sound_calls known program checked) second.0 (one_leaf_each units u (known.units program checked n u at)) (values_by_test (root_of units u) values second.1) (known.typed units u (statements_of u.declares)))
   keeps_by n u at setting values left same false test = same
 
   optional_keeps : (n : ℕ) (u : Option Named) → unit_at units n ≡ u → (setting : Setting) (values : Values) (left : ℕ) → length values ≡ (unit_body units u).size
@@ -190,11 +205,11 @@ module _ (known : Known) (program : ProgramView) (checked : IsChecked program) w
   optional_keeps n None at setting values left same = same
   optional_keeps n (Some u) at setting values left same = keeps_by n u at setting values left same (may_run units u setting values) refl
 
-  pub are_blocks : AreBlocks (program_blocks program) (program_depths program) (said_of program)
+  pub are_blocks : AreBlocks (program_units program) (program_rooms program) (said_of program)
   unfolding program_blocks
   are_blocks = record {
     lengths = λ n setting values left same. optional_keeps n (unit_at units n) refl setting values left same;
     each = λ n b at below.
-        let of = unit_of_block units order n b at in
-        subst (λ (v : BlockView). IsBlock (program_blocks program) (said_of program) (get_or (program_depths program) v.level 0) n v) (sym of.is) (is_block_of n of.unit of.at);
+        let of = unit_of_view (block_view units order) units n b at in
+        subst (λ (v : BlockView). IsBlock (program_units program) (said_of program) (get_or (program_rooms program) v.level no_room).stack n v) (sym of.is) (is_block_of n of.unit of.at);
   }

@@ -1,5 +1,5 @@
 -- Units of a checked program by their numbers in the tables: what their names stand for, that they are small, and what is made of them.
-use Rattle.std.proofs.Common.{◌≡◌, ℕ, zero, suc, ◌<◌, ◌≤◌, true, false, ◌&&◌, ◌||◌, not, nat_le, List, [], ◌∷◌, codes, get_or, length, map, Option, Some, None, refl, ap, sym, ◌∙◌, subst, arith}
+use Rattle.std.proofs.Common.{◌≡◌, ℕ, Bool, zero, suc, ◌<◌, ◌≤◌, true, false, ◌&&◌, ◌||◌, not, nat_le, List, [], ◌∷◌, codes, get_or, length, map, Option, Some, None, refl, ap, sym, ◌∙◌, subst, arith}
 use Rattle.std.specs.Prelude.{if◌then◌else◌, min}
 use Rattle.std.proofs.lemmas.Bool.{and_parts, leb-true}
 use Rattle.std.proofs.lemmas.List.{length-map}
@@ -10,37 +10,29 @@ use Rattle.st_check.specs.Programs.{IsChecked, ProgramView, main_of, text_of}
 use Rattle.st_code.specs.Code.{body_code}
 use Rattle.st_leaves.specs.Bounds.{HasBounds}
 use Rattle.st_leaves.specs.Places.{count}
-use Rattle.st_machine.specs.Blocks.{Rooms}
+use Rattle.st_machine.specs.Levels.{Rooms}
+use Rattle.st_machine.specs.declared.stacks.Room.{Room}
 use Rattle.st_meaning.specs.Offsets.{IsSmall}
 use Rattle.st_meaning.specs.Typing.{body_of}
-use Rattle.st_meaning.specs.Units.{root_name, root_of, statements_of, unit_whole}
+use Rattle.st_meaning.specs.Units.{function_at, root_of, statements_of, unit_whole}
 use Rattle.st_meaning.specs.Wholes.{Whole}
 use Rattle.st_places.specs.Laws.{UnitsAreSound}
-use Rattle.st_places.specs.Parts.{TablesView, is_block, is_small_block, is_small_block_in, optional_small_block, optional_whole, whole_in}
+use Rattle.st_places.specs.Functions.{optional_starts, starts_at, starts_of}
+use Rattle.st_places.specs.Parts.{TablesView, is_block, is_function, is_small_block, is_small_block_in, is_small_function, is_small_function_in, optional_small_block, optional_small_function, optional_whole, whole_in}
 use Rattle.st_types.proofs.Units.{unit_at-map}
-use Rattle.st_types.specs.Compositions.{composition_of, composition_within, unit_composition}
 use Rattle.st_types.specs.Inside.{named_by}
-use Rattle.st_types.specs.Names.{Declares, Named, unit_at, units_of}
-use Rattle.st_types.specs.Names as names
+use Rattle.st_types.specs.Names.{Named, unit_at, units_of}
 use Rattle.st_types.specs.declared.unit.NamedUnit.{NamedUnit}
-use Rattle.st_compile.specs.Depths.{statements_depth}
-use Rattle.st_compile.specs.Plain.{all, instances_at, is_plain, is_plain_block, is_plain_named, is_plain_optional_unit, is_plain_unit, stands_for_instance}
-use Rattle.st_compile.specs.Programs.{HasRoom, block_code, faulty, faulty_name, main_unit, name_in, optional_code, optional_depth, program_code, program_depth, program_depths, program_names, unit_code}
+use Rattle.st_bodies.specs.Depths.{statements_depth}
+use Rattle.st_bodies.specs.Plain.{all, functions_at, instances_at, is_plain_unit, stands_for_function, stands_for_instance}
+use Rattle.st_compile.specs.Plain.{is_plain, is_plain_named, is_plain_optional_unit, is_plain_used}
+use Rattle.st_compile.specs.Programs.{HasRoom, block_code, faulty, faulty_name, main_unit, most_taken, name_in, optional_code, optional_depth, program_code, program_depth, program_names, program_rooms, types_taken, unit_code}
+use Rattle.st_compile.proofs.Renamed.{program_root}
 
 -- the variables of a unit
 pub variables_are : (units : List Named) (u : Named) → (unit_whole units u).variables ≡ root_of units u
 unfolding unit_whole
 variables_are units u = refl
-
--- those of a program bear no other name than they do as leaves
-program_root : (units : List Named) (u : Named) → is_program u.declares ≡ true → root_of units u ≡ composition_of units u.declares
-unfolding composition_of
-program_root units u is = by u.declares is where
-  by : (d : Declares) → is_program d ≡ true → unit_composition units (composition_within units (suc (length units))) (root_name u.name.spelling d) d ≡ unit_composition units (composition_within units (suc (length units))) (codes "PROGRAM") d
-  by (names.type d) e = absurd cc
-  by (names.function f) e = absurd cc
-  by (names.block b) e = absurd cc
-  by (names.program p) e = refl
 
 -- a function block that a program has room for is small, where its arrays have bounds
 pub small_where : (tables : TablesView) (n : ℕ) → HasBounds (whole_in tables n).variables → is_small_block_in tables n ≡ true → IsSmall (whole_in tables n).variables
@@ -53,6 +45,23 @@ small_where tables n bounds small = by (unit_at (units_of tables.text) n) bounds
     bounds = bounds;
     few = leb-true (count (root_of (units_of tables.text) u)) 65536 (and_parts (is_block u.declares) (nat_le (count (root_of (units_of tables.text) u)) 65536) small).1;
   }
+
+-- so is a function
+pub small_function_where : (tables : TablesView) (n : ℕ) → HasBounds (whole_in tables n).variables → is_small_function_in tables n ≡ true → IsSmall (whole_in tables n).variables
+unfolding whole_in is_small_function_in unit_whole
+small_function_where tables n bounds small = by (unit_at (units_of tables.text) n) bounds small where
+  by : (u : Option Named) → HasBounds (optional_whole (units_of tables.text) u).variables → optional_small_function (units_of tables.text) u ≡ true
+      → IsSmall (optional_whole (units_of tables.text) u).variables
+  by None bounds small = absurd cc
+  by (Some u) bounds small = record {
+    bounds = bounds;
+    few = leb-true (count (root_of (units_of tables.text) u)) 65536 (and_parts (is_function u.declares) (nat_le (count (root_of (units_of tables.text) u)) 65536) small).1;
+  }
+
+pub small_used : (tables : TablesView) (n : ℕ) → HasBounds (whole_in tables n).variables → (a b : Bool) → is_small_block_in tables n ≡ a → is_small_function_in tables n ≡ b → (a || b) ≡ true
+    → IsSmall (whole_in tables n).variables
+small_used tables n bounds true b block function used = small_where tables n bounds block
+small_used tables n bounds false b block function used = small_function_where tables n bounds (function ∙ used)
 
 module _ (program : ProgramView) (tables : TablesView) (text : tables.text ≡ text_of program) (n : ℕ) (u : Named) (found : unit_at (units_of (text_of program)) n ≡ Some u) where
   abbrev units : List Named
@@ -78,15 +87,28 @@ module _ (program : ProgramView) (tables : TablesView) (text : tables.text ≡ t
   pub block_code_at : (if is_small_block_in tables n then body_code (whole_in tables n).variables (body_of (whole_in tables n) (statements_of u.declares)) else []) ≡ block_code (units_of (text_of program)) u
   block_code_at = ap (λ b. if b then body_code (whole_in tables n).variables (body_of (whole_in tables n) (statements_of u.declares)) else []) small_block_at ∙ ap (λ ls. if is_small_block units u then ls else []) code_at
 
+  pub small_function_at : is_small_function_in tables n ≡ is_small_function (units_of (text_of program)) u
+  unfolding is_small_function_in
+  small_function_at = ap (λ t. optional_small_function (units_of t) (unit_at (units_of t) n)) text ∙ ap (optional_small_function units) found
+
+  -- with which values its variables begin
+  pub begins_at : starts_at tables n ≡ starts_of (units_of (text_of program)) u
+  unfolding starts_at
+  begins_at = ap (λ t. optional_starts (units_of t) (unit_at (units_of t) n)) text ∙ ap (optional_starts units) found
+
+  pub taken_at : types_taken (function_at (units_of tables.text) n) ≡ types_taken (function_at (units_of (text_of program)) n)
+  taken_at = ap (λ t. types_taken (function_at (units_of t) n)) text
+
   -- whether it runs
-  pub plain_at : is_plain_unit (instances_at (tables, n)) u.declares ≡ is_plain_named (units_of (text_of program)) u
-  plain_at = ap (λ w. is_plain_unit (stands_for_instance w) u.declares) whole_at
+  pub plain_at : is_plain_unit (functions_at (tables, n)) (instances_at (tables, n)) u.declares ≡ is_plain_named (units_of (text_of program)) u
+  plain_at = ap (λ w. is_plain_unit (stands_for_function w) (stands_for_instance w) u.declares) whole_at
 
-  pub block_plain_then : is_small_block_in tables n ≡ true → is_plain_unit (instances_at (tables, n)) u.declares ≡ is_plain_block (units_of (text_of program)) u
-  block_plain_then small = plain_at ∙ sym (ap (λ b. not b || is_plain_named units u) (sym small_block_at ∙ small))
-
-  pub block_plain_else : is_small_block_in tables n ≡ false → is_plain_block (units_of (text_of program)) u ≡ true
-  block_plain_else other = ap (λ b. not b || is_plain_named units u) (sym small_block_at ∙ other)
+  pub used_at : (if is_small_block_in tables n || is_small_function_in tables n then is_plain_unit (functions_at (tables, n)) (instances_at (tables, n)) u.declares else not (is_function u.declares))
+      ≡ is_plain_used (units_of (text_of program)) u
+  used_at =
+      ap (λ b. if b || is_small_function_in tables n then is_plain_unit (functions_at (tables, n)) (instances_at (tables, n)) u.declares else not (is_function u.declares)) small_block_at
+      ∙ ap (λ b. if is_small_block units u || b then is_plain_unit (functions_at (tables, n)) (instances_at (tables, n)) u.declares else not (is_function u.declares)) small_function_at
+      ∙ ap (λ b. if is_small_block units u || is_small_function units u then b else not (is_function u.declares)) plain_at
 
 -- ---- the main unit
 
@@ -107,21 +129,21 @@ module _ (program : ProgramView) (main : ℕ) (is : main ≡ main_of program) (u
   unfolding program_code
   main_code = sym (ap (optional_code (units_of (text_of program))) main_found)
 
-  pub main_depth : min (statements_depth (statements_of u.declares)) (length (unit_code (units_of (text_of program)) u)) ≡ program_depth program
+  pub main_depth : min (statements_depth (most_taken (units_of (text_of program))) (statements_of u.declares)) (length (unit_code (units_of (text_of program)) u)) ≡ program_depth program
   unfolding program_depth
   main_depth = sym (ap (optional_depth (units_of (text_of program))) main_found)
 
   main_plain : is_plain_optional_unit (units_of (text_of program)) (main_unit program) ≡ is_plain_named (units_of (text_of program)) u
   main_plain = ap (is_plain_optional_unit (units_of (text_of program))) main_found
 
-  -- where it runs, the blocks decide
-  pub plain_then : is_plain_named (units_of (text_of program)) u ≡ true → all (map (is_plain_block (units_of (text_of program))) (units_of (text_of program))) ≡ is_plain program
+  -- where it runs, the others decide
+  pub plain_then : is_plain_named (units_of (text_of program)) u ≡ true → all (map (is_plain_used (units_of (text_of program))) (units_of (text_of program))) ≡ is_plain program
   unfolding is_plain
-  plain_then runs = sym (ap (λ b. b && all (map (is_plain_block (units_of (text_of program))) (units_of (text_of program)))) (main_plain ∙ runs))
+  plain_then runs = sym (ap (λ b. b && all (map (is_plain_used (units_of (text_of program))) (units_of (text_of program)))) (main_plain ∙ runs))
 
   pub plain_else : is_plain_named (units_of (text_of program)) u ≡ false → false ≡ is_plain program
   unfolding is_plain
-  plain_else fails = sym (ap (λ b. b && all (map (is_plain_block (units_of (text_of program))) (units_of (text_of program)))) (main_plain ∙ fails))
+  plain_else fails = sym (ap (λ b. b && all (map (is_plain_used (units_of (text_of program))) (units_of (text_of program)))) (main_plain ∙ fails))
 
 -- ---- units as they are read
 
@@ -150,12 +172,12 @@ main_below program read same checked main is =
 
 -- ---- an image's stacks, and its names
 
-abbrev roomy : ℕ → List ℕ → Rooms
-roomy n ns = record { own = n; levels = ns }
+abbrev roomy : ℕ → List Room → Rooms
+roomy n rs = record { own = n; levels = rs }
 
-pub has_room : (program : ProgramView) (rooms : Rooms) (n : ℕ) (ns : List ℕ) → rooms ≡ record { own = n; levels = ns } → n ≡ program_depth program → ns ≡ program_depths program → HasRoom program rooms
+pub has_room : (program : ProgramView) (rooms : Rooms) (n : ℕ) (rs : List Room) → rooms ≡ record { own = n; levels = rs } → n ≡ program_depth program → rs ≡ program_rooms program → HasRoom program rooms
 unfolding HasRoom
-has_room program rooms n ns is own levels = is ∙ ap (λ k. roomy k ns) own ∙ ap (roomy (program_depth program)) levels
+has_room program rooms n rs is own levels = is ∙ ap (λ k. roomy k rs) own ∙ ap (roomy (program_depth program)) levels
 
 names_get : (us : List Named) (n : ℕ) (name : List ℕ) → n < length (map (λ (u : Named). u.name.spelling) us) → name ≡ get_or (map (λ (u : Named). u.name.spelling) us) n name → name ≡ name_in (unit_at us n)
 names_get [] n name below is = absurd (omega (arith, below))

@@ -1,9 +1,12 @@
 -- What is known of units and of code: laws of the crates below.
+use Rattle.st_calls.specs.Checked.{CheckedCallsAreThoseOfTheirBodies, CheckedFunctionsCallBelow, CheckedFunctionsHaveNoInstances}
+use Rattle.st_calls.specs.Passing.{SoundCommandsCallWhatPasses}
 use Rattle.st_check.specs.Laws.{CheckedIsSmall}
+use Rattle.st_code.specs.CalledFunctions.{CodeCallsFunctions}
 use Rattle.st_code.specs.Correct.{CodeDoesAsCommandsMean, DepthIsAtMostTheLength}
 use Rattle.st_code.specs.Entrances.{CodeEntersWhatIsInvoked, TypingEntersInstances}
 use Rattle.st_code.specs.Invocations.{TypingInvokesBodies}
-use Rattle.st_meaning.specs.Laws.{CommandsKeepTheFrame, TypingGivesSoundBodies}
+use Rattle.st_meaning.specs.Laws.{CallsAreSound, CommandsKeepTheFrame, TypingGivesSoundBodies}
 use Rattle.st_places.specs.Laws.{InstancesAreOfBlocks, UnitsAreSound}
 
 pub record Known : Type 0 where
@@ -17,3 +20,9 @@ pub record Known : Type 0 where
   pub invokes : TypingInvokesBodies
   pub entering : TypingEntersInstances
   pub enters : CodeEntersWhatIsInvoked
+  pub calling : CodeCallsFunctions
+  pub passing : SoundCommandsCallWhatPasses
+  pub below : CheckedFunctionsCallBelow
+  pub plain : CheckedFunctionsHaveNoInstances
+  pub gives : CheckedCallsAreThoseOfTheirBodies
+  pub calls : CallsAreSound

@@ -1,9 +1,9 @@
 pub mod AreBlocks
-pub mod BodyDepths
+pub mod AreFunctions
+pub mod Callable
 pub mod Coded
-pub mod DepthFolds
-pub mod ExpressionDepths
 pub mod Frames
+pub mod Functioned
 pub mod Greatest
 pub mod Known
 pub mod Listed
@@ -15,5 +15,6 @@ pub mod Ordered
 pub mod Renamed
 pub mod Runs
 pub mod Said
-pub mod SoundOneLeaf
-pub mod TypedDepths
+pub mod SmallFunctions
+pub mod Starts
+pub mod Taken

@@ -1,23 +1,23 @@
 -- What is made of each unit of a program, in the order of their numbers, and in that of the levels.
-use Rattle.std.proofs.Common.{◌≡◌, ℕ, zero, suc, ◌+◌, ◌≤◌, Bool, true, false, ◌&&◌, List, [], ◌∷◌, ◌++◌, get_or, length, map, take, Some, refl, ap, sym, ◌∙◌, arith, take_all}
+use Rattle.std.proofs.Common.{◌≡◌, ℕ, zero, suc, ◌+◌, ◌≤◌, Bool, true, false, ◌&&◌, List, [], ◌∷◌, ◌++◌, get_or, length, map, take, Option, Some, None, refl, ap, sym, ◌∙◌, arith, take_all}
 use Rattle.std.proofs.lemmas.Bool.{and_from, and_parts}
 use Rattle.st_check.specs.Programs.{ProgramView, order_of, text_of}
-use Rattle.st_code.specs.Code.{Line}
-use Rattle.st_machine.specs.Blocks.{BlockView}
+use Rattle.st_machine.specs.Levels.{no_room}
+use Rattle.st_machine.specs.declared.stacks.Room.{Room}
 use Rattle.st_types.specs.Names.{Named, unit_at, units_of}
-use Rattle.st_compile.specs.Plain.{all}
-use Rattle.st_compile.specs.Programs.{block_code, block_depth, block_view, blocks_from, level_depths, level_in, program_blocks, program_depths, program_names}
+use Rattle.st_bodies.specs.Plain.{all}
+use Rattle.st_compile.specs.Programs.{block_room, function_room, numbered, program_names, program_rooms}
 
 -- one more of them, behind the others
-pub blocks_more : (units : List Named) (order : List ℕ) (first : ℕ) (us : List Named) (n at : ℕ) (u : Named) → unit_at us n ≡ Some u → at ≡ first + n
-    → blocks_from units order first (take (suc n) us) ≡ blocks_from units order first (take n us) ++ block_view units order at u ∷ []
-blocks_more units order first [] n at u found is = absurd cc
-blocks_more units order first (v ∷ us) zero at u found is =
+pub views_more : {V : Type 0} (make : ℕ → Named → V) (first : ℕ) (us : List Named) (n at : ℕ) (u : Named) → unit_at us n ≡ Some u → at ≡ first + n
+    → numbered make first (take (suc n) us) ≡ numbered make first (take n us) ++ make at u ∷ []
+views_more make first [] n at u found is = absurd cc
+views_more make first (v ∷ us) zero at u found is =
     let same : v ≡ u = cc in
     let number : first ≡ at = omega (arith, is) in
-    ap (λ k. block_view units order k v ∷ []) number ∙ ap (λ w. block_view units order at w ∷ []) same
-blocks_more units order first (v ∷ us) (suc n) at u found is =
-    ap (λ bs. block_view units order first v ∷ bs) (blocks_more units order (suc first) us n at u found (omega (arith, is)))
+    ap (λ k. make k v ∷ []) number ∙ ap (λ w. make at w ∷ []) same
+views_more make first (v ∷ us) (suc n) at u found is =
+    ap (λ vs. make first v ∷ vs) (views_more make (suc first) us n at u found (omega (arith, is)))
 
 pub map_more_at : {X : Type 0} (f : Named → X) (us : List Named) (n : ℕ) (u : Named) → unit_at us n ≡ Some u → map f (take (suc n) us) ≡ map f (take n us) ++ f u ∷ []
 map_more_at f [] n u found = absurd cc
@@ -44,19 +44,15 @@ all_fails f (v ∷ us) (suc n) u found here = ap (λ b. f v && b) (all_fails f u
 
 -- ---- what is pushed, and all of it
 
-abbrev viewed : List Line → ℕ → BlockView
-viewed ls k = record { code = ls; level = k }
-
 module _ (units : List Named) (n : ℕ) (u : Named) (found : unit_at units n ≡ Some u) where
   next : {X : Type 0} (make : List Named → X) → make (take (n + 1) units) ≡ make (take (suc n) units)
   next make = let number : n + 1 ≡ suc n = omega arith in ap (λ k. make (take k units)) number
 
-  pub block_pushed : (order : List ℕ) (old new : List BlockView) (b : BlockView) (ls : List Line) (k : ℕ) → new ≡ old ++ b ∷ [] → old ≡ blocks_from units order 0 (take n units)
-      → b ≡ record { code = ls; level = k } → ls ≡ block_code units u → k ≡ level_in order n → new ≡ blocks_from units order 0 (take (n + 1) units)
-  block_pushed order old new b ls k pushed before is code level =
-      let view : b ≡ block_view units order n u = is ∙ ap (λ cs. viewed cs k) code ∙ ap (viewed (block_code units u)) level in
-      pushed ∙ ap (λ bs. bs ++ b ∷ []) before ∙ ap (λ x. blocks_from units order 0 (take n units) ++ x ∷ []) view
-      ∙ sym (next (blocks_from units order 0) ∙ blocks_more units order 0 units n n u found (omega arith))
+  pub view_pushed : {V : Type 0} (make : ℕ → Named → V) (old new : List V) (v : V) → new ≡ old ++ v ∷ [] → old ≡ numbered make 0 (take n units) → v ≡ make n u
+      → new ≡ numbered make 0 (take (n + 1) units)
+  view_pushed make old new v pushed before is =
+      pushed ∙ ap (λ vs. vs ++ v ∷ []) before ∙ ap (λ x. numbered make 0 (take n units) ++ x ∷ []) is
+      ∙ sym (next (numbered make 0) ∙ views_more make 0 units n n u found (omega arith))
 
   pub item_pushed : {X : Type 0} (f : Named → X) (old new : List X) (x : X) → new ≡ old ++ x ∷ [] → old ≡ map f (take n units) → x ≡ f u → new ≡ map f (take (n + 1) units)
   item_pushed f old new x pushed before is =
@@ -65,10 +61,11 @@ module _ (units : List Named) (n : ℕ) (u : Named) (found : unit_at units n ≡
   pub all_pushed : (f : Named → Bool) → all (map f (take n units)) ≡ true → f u ≡ true → all (map f (take (n + 1) units)) ≡ true
   all_pushed f before here = next (λ us. all (map f us)) ∙ all_more f units n u found before here
 
-pub blocks_done : (program : ProgramView) (bs : List BlockView) (n : ℕ) → length (units_of (text_of program)) ≤ n
-    → bs ≡ blocks_from (units_of (text_of program)) (order_of program) 0 (take n (units_of (text_of program))) → bs ≡ program_blocks program
-unfolding program_blocks
-blocks_done program bs n past is = is ∙ ap (blocks_from (units_of (text_of program)) (order_of program) 0) (take_all n (units_of (text_of program)) past)
+pub views_done : {V : Type 0} (make : ℕ → Named → V) (units : List Named) (vs : List V) (n : ℕ) → length units ≤ n → vs ≡ numbered make 0 (take n units) → vs ≡ numbered make 0 units
+views_done make units vs n past is = is ∙ ap (numbered make 0) (take_all n units past)
+
+pub items_done : {X : Type 0} (f : Named → X) (units : List Named) (xs : List X) (n : ℕ) → length units ≤ n → xs ≡ map f (take n units) → xs ≡ map f units
+items_done f units xs n past is = is ∙ ap (map f) (take_all n units past)
 
 pub names_done : (program : ProgramView) (ns : List (List ℕ)) (n : ℕ) → length (units_of (text_of program)) ≤ n
     → ns ≡ map (λ (u : Named). u.name.spelling) (take n (units_of (text_of program))) → ns ≡ program_names program
@@ -77,18 +74,25 @@ names_done program ns n past is = is ∙ ap (map (λ (u : Named). u.name.spellin
 
 -- ---- in the order of the levels
 
-depth_at : (units us : List Named) (n : ℕ) → get_or (map (λ u. block_depth units (Some u)) us) n 0 ≡ block_depth units (unit_at us n)
-depth_at units [] n = refl
-depth_at units (u ∷ us) zero = refl
-depth_at units (u ∷ us) (suc n) = depth_at units us n
+room_at : (make : Option Named → Room) → make None ≡ no_room → (us : List Named) (n : ℕ) → get_or (map (λ u. make (Some u)) us) n no_room ≡ make (unit_at us n)
+room_at make none [] n = sym none
+room_at make none (u ∷ us) zero = refl
+room_at make none (u ∷ us) (suc n) = room_at make none us n
 
-pub depths_in : (units : List Named) (order : List ℕ) → map (λ n. get_or (map (λ u. block_depth units (Some u)) units) n 0) order ≡ level_depths units order
-depths_in units [] = refl
-depths_in units (n ∷ order) = ap (λ d. d ∷ map (λ n. get_or (map (λ u. block_depth units (Some u)) units) n 0) order) (depth_at units units n) ∙ ap (λ ds. block_depth units (unit_at units n) ∷ ds) (depths_in units order)
+rooms_in : (make : Option Named → Room) → make None ≡ no_room → (units : List Named) (order : List ℕ)
+    → map (λ n. get_or (map (λ u. make (Some u)) units) n no_room) order ≡ map (λ n. make (unit_at units n)) order
+rooms_in make none units [] = refl
+rooms_in make none units (n ∷ order) =
+    ap (λ r. r ∷ map (λ k. get_or (map (λ u. make (Some u)) units) k no_room) order) (room_at make none units n) ∙ ap (λ rs. make (unit_at units n) ∷ rs) (rooms_in make none units order)
 
-pub depths_done : (program : ProgramView) (placed given : List ℕ) (n : ℕ) → length (units_of (text_of program)) ≤ n
-    → given ≡ map (λ (u : Named). block_depth (units_of (text_of program)) (Some u)) (take n (units_of (text_of program))) → placed ≡ map (λ k. get_or given k 0) (order_of program) → placed ≡ program_depths program
-unfolding program_depths
-depths_done program placed given n past is put =
-    put ∙ ap (λ ds. map (λ k. get_or ds k 0) (order_of program)) (is ∙ ap (map (λ (u : Named). block_depth (units_of (text_of program)) (Some u))) (take_all n (units_of (text_of program)) past))
-    ∙ depths_in (units_of (text_of program)) (order_of program)
+pub rooms_done : (program : ProgramView) (placed functions blocks : List Room) → functions ≡ map (λ (u : Named). function_room (units_of (text_of program)) (Some u)) (units_of (text_of program))
+    → blocks ≡ map (λ (u : Named). block_room (units_of (text_of program)) (Some u)) (units_of (text_of program))
+    → placed ≡ map (λ k. get_or functions k no_room) (order_of program) ++ map (λ k. get_or blocks k no_room) (order_of program) → placed ≡ program_rooms program
+unfolding program_rooms
+rooms_done program placed functions blocks first second put =
+    let units = units_of (text_of program) in
+    let order = order_of program in
+    put ∙ ap (λ rs. map (λ k. get_or rs k no_room) order ++ map (λ k. get_or blocks k no_room) order) first
+    ∙ ap (λ rs. map (λ k. get_or (map (λ (u : Named). function_room units (Some u)) units) k no_room) order ++ map (λ k. get_or rs k no_room) order) second
+    ∙ ap (λ rs. rs ++ map (λ k. get_or (map (λ (u : Named). block_room units (Some u)) units) k no_room) order) (rooms_in (function_room units) refl units order)
+    ∙ ap (λ rs. map (λ n. function_room units (unit_at units n)) order ++ rs) (rooms_in (block_room units) refl units order)

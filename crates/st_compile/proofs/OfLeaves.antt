@@ -1,6 +1,7 @@
 -- The values of a program's leaves, and their types, are those of what its variables consist of.
-use Rattle.std.proofs.Common.{◌≡◌, ℕ, suc, List, [], ◌∷◌, map, refl, ap, sym, ◌∙◌, subst}
+use Rattle.std.proofs.Common.{◌≡◌, ℕ, suc, true, List, [], ◌∷◌, map, refl, ap, sym, ◌∙◌, subst}
 use Rattle.std.specs.List.{AllZip}
+use Rattle.st_check.specs.Faults.{is_program}
 use Rattle.st_types.specs.Compositions.{composition_of}
 use Rattle.st_types.specs.Names.{Named}
 use Rattle.st_leaves.specs.LeavesIn.{LeafIn, leaves_in, leaves_of_whole}
@@ -8,13 +9,13 @@ use Rattle.st_leaves.specs.Charts.{LeafBelow}
 use Rattle.st_leaves.specs.Compositions.{counted}
 use Rattle.st_leaves.specs.Programs.{leaves_from, program_leaves}
 use Rattle.st_leaves.specs.Sound.{IsValueOf}
-use Rattle.st_leaves.proofs.Counted.{counts_whole}
+use Rattle.st_leaves.proofs.Counted.{counts, counts_whole}
 use Rattle.st_meaning.specs.Meaning.{Values}
 use Rattle.st_meaning.specs.Sound.{AreValuesOf}
 use Rattle.st_meaning.specs.Units.{root_of}
 use Rattle.st_machine.specs.Blocks.{types_in}
 use Rattle.st_compile.proofs.OfTypes.{HaveTypes, elems_of, typed_values, values_typed}
-use Rattle.st_compile.proofs.Renamed.{counts_root}
+use Rattle.st_compile.proofs.Renamed.{program_root}
 
 counted_elems : (ls others : List LeafIn) → map counted ls ≡ map counted others → elems_of ls ≡ elems_of others
 counted_elems [] [] e = refl
@@ -45,12 +46,12 @@ types_from : (main : List ℕ) (n : ℕ) (ls : List LeafIn) → types_in (leaves
 types_from main n [] = refl
 types_from main n (l ∷ ls) = ap (λ es. l.initial.elem ∷ es) (types_from main (suc n) ls)
 
-module _ (units : List Named) (u : Named) where
+module _ (units : List Named) (u : Named) (is : is_program u.declares ≡ true) where
   abbrev declared : List LeafIn
   declared = leaves_of_whole (composition_of units u.declares)
 
   elems_root : elems_of declared ≡ elems_of (leaves_in (root_of units u))
-  elems_root = counted_elems declared (leaves_in (root_of units u)) (sym (counts_root units u) ∙ counts_whole (root_of units u))
+  elems_root = counted_elems declared (leaves_in (root_of units u)) (counts_whole (composition_of units u.declares) ∙ ap (λ c. counts (leaves_in c)) (sym (program_root units u is)))
 
   pub types_of_root : types_in (program_leaves units u) ≡ elems_of (leaves_in (root_of units u))
   unfolding program_leaves

@@ -1,10 +1,11 @@
 -- Values of given types, and of the leaves of what variables consist of.
 use Rattle.std.proofs.Common.{◌≡◌, ℕ, zero, suc, ◌<◌, true, ◌&&◌, IsTrue, List, [], ◌∷◌, map, length, get_or, refl, ap, sym, ◌∙◌, subst, arith}
-use Rattle.std.specs.List.{AllZip}
+use Rattle.std.specs.List.{All, AllByRecursion, AllZip}
+use Rattle.std.proofs.lemmas.List.Elements.{All-from_recursion}
 use Rattle.std.proofs.lemmas.Bool.{and_from, and_parts}
 use Rattle.std.proofs.lemmas.List.{length-map}
 use Rattle.st_values.specs.Types.{is_same}
-use Rattle.st_values.specs.Values.{in_range}
+use Rattle.st_values.specs.Values.{IsValue, in_range}
 use Rattle.st_values.specs.declared.elem.Elem.{Elem}
 use Rattle.st_types.specs.Compositions.{Composition}
 use Rattle.st_leaves.specs.LeavesIn.{LeafIn, leaves_in}
@@ -14,7 +15,8 @@ use Rattle.st_layout.specs.Layout.{no_value}
 use Rattle.st_layout.proofs.Paired.{same_elem}
 use Rattle.st_operators.specs.Laws.{IsOf}
 use Rattle.st_meaning.specs.Meaning.{Values}
-use Rattle.st_meaning.specs.Sound.{AreValuesOf, no_leaf}
+use Rattle.st_meaning.specs.Sound.{AreInputsOf, AreValuesOf, no_leaf}
+use Rattle.st_meaning.specs.Wholes.{Input}
 use Rattle.st_code.specs.Machine.{are_of_types}
 use Rattle.st_code.proofs.Steps.{same_type}
 
@@ -84,3 +86,25 @@ values_by_test c values h = values_typed c values (of_types (elems_of (leaves_in
 
 pub test_of_values : (c : Composition) (values : Values) → AreValuesOf c values → are_of_types (elems_of (leaves_in c)) values ≡ true
 test_of_values c values h = are_typed (elems_of (leaves_in c)) values (typed_values c values h)
+
+-- ---- values of inputs
+
+inputs_typed : (is : List Input) (values : Values) → HaveTypes (map (λ i. i.initial.elem) is) values → AreInputsOf is values
+inputs_typed [] [] h = tt
+inputs_typed [] (v ∷ values) h = absurd h
+inputs_typed (i ∷ is) [] h = absurd h
+inputs_typed (i ∷ is) (v ∷ values) h = (h.0, inputs_typed is values h.1)
+
+pub inputs_by_test : (is : List Input) (values : Values) → are_of_types (map (λ i. i.initial.elem) is) values ≡ true → AreInputsOf is values
+inputs_by_test is values h = inputs_typed is values (of_types (map (λ i. i.initial.elem) is) values h)
+
+-- ---- values of their own types
+
+each_valid : (es : List Elem) (values : Values) → HaveTypes es values → AllByRecursion IsValue values
+each_valid [] [] h = tt
+each_valid [] (v ∷ values) h = absurd h
+each_valid (e ∷ es) [] h = absurd h
+each_valid (e ∷ es) (v ∷ values) h = (h.0.in_range, each_valid es values h.1)
+
+pub values_valid : (c : Composition) (values : Values) → AreValuesOf c values → All IsValue values
+values_valid c values h = All-from_recursion IsValue values (each_valid (elems_of (leaves_in c)) values (typed_values c values h))

@@ -77,33 +77,6 @@ path_between (s ∷ p) (t ∷ q) (u ∷ r) e f =
 abbrev has_path : Path → LeafIn → Bool
 has_path path l = is_same_path path l.path
 
--- ---- paths that are the same are written the same, but for case
-
-raised_behind : (front a b : List ℕ) → raised a ≡ raised b → raised (front ++ a) ≡ raised (front ++ b)
-raised_behind front a b same = map-append to_ascii_uppercase front a ∙ ap (λ t. raised front ++ t) same ∙ sym (map-append to_ascii_uppercase front b)
-
-raised_before : (a b c d : List ℕ) → raised a ≡ raised b → raised c ≡ raised d → raised (a ++ c) ≡ raised (b ++ d)
-raised_before a b c d first second = map-append to_ascii_uppercase a c ∙ ap (λ t. t ++ raised c) first ∙ ap (λ t. raised b ++ t) second ∙ sym (map-append to_ascii_uppercase b d)
-
-selector_written : (s t : Selector) → is_same_selector s t ≡ true → raised (selector_text s) ≡ raised (selector_text t)
-selector_written (field a) (field b) e = raised_behind (codes ".") a b ((Decides-is_word a b).0 e)
-selector_written (kept a) (kept b) e = raised_behind (codes ".$") a b ((Decides-is_word a b).0 e)
-selector_written (index a) (index b) e = ap (λ is. raised (selector_text (index is))) (same_numbers a b e)
-selector_written (field a) (kept b) e = absurd cc
-selector_written (field a) (index b) e = absurd cc
-selector_written (kept a) (field b) e = absurd cc
-selector_written (kept a) (index b) e = absurd cc
-selector_written (index a) (field b) e = absurd cc
-selector_written (index a) (kept b) e = absurd cc
-
-path_written : (p q : Path) → is_same_path p q ≡ true → raised (path_text p) ≡ raised (path_text q)
-path_written [] [] e = refl
-path_written [] (t ∷ q) e = absurd cc
-path_written (s ∷ p) [] e = absurd cc
-path_written (s ∷ p) (t ∷ q) e =
-    let parts = and_parts (is_same_selector s t) (is_same_path p q) e in
-    raised_before (selector_text s) (selector_text t) (path_text p) (path_text q) (selector_written s t parts.0) (path_written p q parts.1)
-
 -- ---- of leaves no two of which have the same path
 
 abbrev pub ArePathsApart : List LeafIn → Type 0
@@ -145,31 +118,6 @@ apart_has_one c apart path n leads =
     let within : n < length (leaves_of_whole c) = subst (λ k. n < k) (sym (leaves_are_counted c).1) place.0 in
     position_by_path path (leaves_in c) ∙ ap (position (is_same_path path)) (sym (whole_paths c)) ∙ sym (position_by_path path (leaves_of_whole c))
     ∙ first_with (leaves_of_whole c) apart path n (position (has_path path) (leaves_of_whole c)) within (place.1.1 no_leaf) refl
-
--- ---- of the leaves of a program
-
-written_as : (main : List ℕ) (k : ℕ) (ls : List LeafIn) (i : ℕ) (d : Leaf) (e : LeafIn) → i < length ls
-    → (slice_index_or (leaves_from main k ls) i d).path ≡ raised (main ++ path_text (slice_index_or ls i e).path)
-written_as main k [] i d e below = absurd (omega (arith, below))
-written_as main k (l ∷ ls) zero d e below = refl
-written_as main k (l ∷ ls) (suc i) d e below = written_as main (suc k) ls i d e (omega (arith, below))
-
-as_many : (main : List ℕ) (k : ℕ) (ls : List LeafIn) → length (leaves_from main k ls) ≡ length ls
-as_many main k [] = refl
-as_many main k (l ∷ ls) = ap suc (as_many main (suc k) ls)
-
--- they are written apart
-pub written_has_one : (main : List ℕ) (c : Composition) → AllPairs (λ (leaf other : Leaf). leaf.path ≢ other.path) (leaves_from main 0 (leaves_of_whole c)) → HasOneLeafEach c
-written_has_one main c apart = apart_has_one c (λ i n d before below. by i n d before below (is_same_path (slice_index_or (leaves_of_whole c) i d).path (slice_index_or (leaves_of_whole c) n d).path) refl) where
-  by : (i n : ℕ) (d : LeafIn) → i < n → n < length (leaves_of_whole c) → (b : Bool)
-      → is_same_path (slice_index_or (leaves_of_whole c) i d).path (slice_index_or (leaves_of_whole c) n d).path ≡ b → b ≡ false
-  by i n d before below false same = refl
-  by i n d before below true same =
-      let ls = leaves_of_whole c in
-      let p = (slice_index_or ls i d).path in
-      let q = (slice_index_or ls n d).path in
-      absurd (apart i n a_leaf before (subst (λ k. n < k) (sym (as_many main 0 ls)) below)
-      (written_as main 0 ls i a_leaf d (omega (arith, before, below)) ∙ raised_behind main (path_text p) (path_text q) (path_written p q same) ∙ sym (written_as main 0 ls n a_leaf d below)))
 
 -- ---- of the leaves of a unit
 

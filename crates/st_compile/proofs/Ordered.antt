@@ -1,14 +1,14 @@
--- Function blocks of a program, by their numbers and by their places in the order.
-use Rattle.std.proofs.Common.{◌≡◌, ℕ, zero, suc, ◌+◌, ◌<◌, Bool, true, false, if◌then◌else◌, nat_eq, List, [], ◌∷◌, map, length, get_or, Some, refl, ap, sym, ◌∙◌, subst, arith}
+-- What is made of the units of a program, by their numbers and by their places in the order.
+use Rattle.std.proofs.Common.{◌≡◌, ℕ, zero, suc, ◌+◌, ◌<◌, Bool, true, false, if◌then◌else◌, nat_eq, List, [], ◌∷◌, ◌++◌, map, length, get_or, Some, refl, ap, sym, ◌∙◌, subst, arith}
 use Rattle.std.specs.List.{Contains, slice_get}
 use Rattle.std.specs.Prelude.{slice_index_or}
 use Rattle.std.proofs.lemmas.Bool.{eqb-true, eqb-false}
-use Rattle.std.proofs.lemmas.List.{length-map}
+use Rattle.std.proofs.lemmas.List.{get_or-append-add, get_or_append_left, length-map}
+use Rattle.st_check.specs.Programs.{level_in}
 use Rattle.st_order.specs.Graphs.{IsOrder}
 use Rattle.st_references.specs.References.{graph_of, references}
 use Rattle.st_types.specs.Names.{Named, unit_at}
-use Rattle.st_machine.specs.Blocks.{BlockView}
-use Rattle.st_compile.specs.Programs.{block_view, blocks_from, level_in}
+use Rattle.st_compile.specs.Programs.{numbered}
 
 -- ---- by their numbers
 
@@ -17,43 +17,43 @@ found_below [] i u found = absurd cc
 found_below (v ∷ vs) zero u found = omega arith
 found_below (v ∷ vs) (suc i) u found = let more = found_below vs i u found in omega (arith, more)
 
-module _ (units : List Named) (order : List ℕ) where
-  behind_at : (k : ℕ) (us : List Named) (i : ℕ) (u : Named) → unit_at us i ≡ Some u → slice_get (blocks_from units order k us) i ≡ Some (block_view units order (k + i) u)
+module _ {V : Type 0} (make : ℕ → Named → V) where
+  behind_at : (k : ℕ) (us : List Named) (i : ℕ) (u : Named) → unit_at us i ≡ Some u → slice_get (numbered make k us) i ≡ Some (make (k + i) u)
   behind_at k [] i u is = absurd cc
   behind_at k (v ∷ us) zero u is =
       let same : k + zero ≡ k = omega arith in
       let found : v ≡ u = cc in
-      ap (λ w. Some (block_view units order k w)) found ∙ ap (λ n. Some (block_view units order n u)) (sym same)
+      ap (λ w. Some (make k w)) found ∙ ap (λ n. Some (make n u)) (sym same)
   behind_at k (v ∷ us) (suc i) u is =
       let same : suc k + i ≡ k + suc i = omega arith in
-      behind_at (suc k) us i u is ∙ ap (λ n. Some (block_view units order n u)) same
+      behind_at (suc k) us i u is ∙ ap (λ n. Some (make n u)) same
 
-  pub block_at : (i : ℕ) (u : Named) → unit_at units i ≡ Some u → slice_get (blocks_from units order 0 units) i ≡ Some (block_view units order i u)
-  block_at i u is =
+  pub view_at : (units : List Named) (i : ℕ) (u : Named) → unit_at units i ≡ Some u → slice_get (numbered make 0 units) i ≡ Some (make i u)
+  view_at units i u is =
       let same : 0 + i ≡ i = omega arith in
-      behind_at 0 units i u is ∙ ap (λ n. Some (block_view units order n u)) same
+      behind_at 0 units i u is ∙ ap (λ n. Some (make n u)) same
 
-  -- the unit that a block is of, which has this number among these
-  pub record IsOf (us : List Named) (i number : ℕ) (b : BlockView) : Type 0 where
+  -- the unit that it is made of, which has this number among these
+  pub record IsOf (us : List Named) (i number : ℕ) (v : V) : Type 0 where
     pub unit : Named
     pub at : unit_at us i ≡ Some unit
-    pub is : b ≡ block_view units order number unit
+    pub is : v ≡ make number unit
 
-  unit_behind : (k : ℕ) (us : List Named) (i : ℕ) (b : BlockView) → slice_get (blocks_from units order k us) i ≡ Some b → IsOf us i (k + i) b
-  unit_behind k [] i b is = absurd cc
-  unit_behind k (v ∷ us) zero b is =
+  unit_behind : (k : ℕ) (us : List Named) (i : ℕ) (v : V) → slice_get (numbered make k us) i ≡ Some v → IsOf us i (k + i) v
+  unit_behind k [] i v is = absurd cc
+  unit_behind k (u ∷ us) zero v is =
       let same : k + zero ≡ k = omega arith in
-      let found : block_view units order k v ≡ b = cc in
-      record { unit = v; at = refl; is = sym found ∙ ap (λ n. block_view units order n v) (sym same) }
-  unit_behind k (v ∷ us) (suc i) b is =
+      let found : make k u ≡ v = cc in
+      record { unit = u; at = refl; is = sym found ∙ ap (λ n. make n u) (sym same) }
+  unit_behind k (u ∷ us) (suc i) v is =
       let same : suc k + i ≡ k + suc i = omega arith in
-      let rest = unit_behind (suc k) us i b is in
-      record { unit = rest.unit; at = rest.at; is = rest.is ∙ ap (λ n. block_view units order n rest.unit) same }
+      let rest = unit_behind (suc k) us i v is in
+      record { unit = rest.unit; at = rest.at; is = rest.is ∙ ap (λ n. make n rest.unit) same }
 
-  pub unit_of_block : (i : ℕ) (b : BlockView) → slice_get (blocks_from units order 0 units) i ≡ Some b → IsOf units i i b
-  unit_of_block i b is =
+  pub unit_of_view : (units : List Named) (i : ℕ) (v : V) → slice_get (numbered make 0 units) i ≡ Some v → IsOf units i i v
+  unit_of_view units i v is =
       let same : 0 + i ≡ i = omega arith in
-      subst (λ n. IsOf units i n b) same (unit_behind 0 units i b is)
+      subst (λ n. IsOf units i n v) same (unit_behind 0 units i v is)
 
 -- ---- by their places
 
@@ -88,3 +88,13 @@ pub given_at : {Y : Type 0} (f : ℕ → Y) (order : List ℕ) (p n : ℕ) (d : 
 given_at f [] p n d is = absurd cc
 given_at f (m ∷ order) zero n d is = let same : m ≡ n = cc in ap f same
 given_at f (m ∷ order) (suc p) n d is = given_at f order p n d is
+
+module _ {Y : Type 0} (f g : ℕ → Y) (order : List ℕ) (p n : ℕ) (d : Y) (is : slice_get order p ≡ Some n) where
+  -- where two things are given, on the first levels
+  pub first_given : get_or (map f order ++ map g order) p d ≡ f n
+  first_given = get_or_append_left (map f order) (map g order) d p (omega (arith, got_below order p n is, length-map order f)) ∙ given_at f order p n d is
+
+  -- and on those above
+  pub second_given : get_or (map f order ++ map g order) (length order + p) d ≡ g n
+  second_given =
+      ap (λ k. get_or (map f order ++ map g order) (k + p) d) (sym (length-map order f)) ∙ get_or-append-add (map f order) (map g order) p d ∙ given_at g order p n d is

@@ -1,4 +1,4 @@
--- What is said of the function blocks of a program: the types of their leaves, and what their bodies do.
+-- What is said of the function blocks and functions of a program: the types of their leaves, what their bodies do, and what they give.
 use Rattle.std.proofs.Common.{◌≡◌, ℕ, suc, ◌+◌, ◌<◌, ◌≤◌, Bool, true, ◌&&◌, if◌then◌else◌, nat_le, List, [], ◌∷◌, drop, length, get_or, Option, Some, None, refl, sym, ◌∙◌, subst, arith, length-drop}
 use Rattle.std.proofs.lemmas.Bool.{and_from, le-leb}
 use Rattle.std.proofs.lemmas.List.{get_or-drop, get_or-map, length-map}
@@ -15,13 +15,14 @@ use Rattle.st_meaning.specs.Meaning.{Values}
 use Rattle.st_meaning.specs.Offsets.{offset_of}
 use Rattle.st_meaning.specs.Sound.{no_leaf, type_at}
 use Rattle.st_meaning.specs.Statements.{Setting, done}
-use Rattle.st_meaning.specs.Units.{root_of}
+use Rattle.st_meaning.specs.Units.{calls_of, function_at, root_of}
 use Rattle.st_meaning.proofs.Stretches.{part_fits, part_type}
-use Rattle.st_code.specs.Machine.{UnitBody, are_of_types}
+use Rattle.st_code.specs.Machine.{FunctionBody, UnitBody, are_of_types}
 use Rattle.st_code.proofs.Steps.{same_type}
-use Rattle.st_machine.specs.Blocks.{Said, begins_with, stand_at}
+use Rattle.st_machine.specs.Blocks.{begins_with, stand_at}
+use Rattle.st_machine.specs.Levels.{Said}
 use Rattle.st_places.specs.Parts.{is_small_block}
-use Rattle.st_compile.specs.Programs.{unit_meaning}
+use Rattle.st_compile.specs.Programs.{types_taken, unit_meaning}
 use Rattle.st_compile.proofs.OfTypes.{elems_of, many_elems}
 
 -- of the leaves of a unit
@@ -43,10 +44,15 @@ unit_body units (Some u) = record {
   run = λ setting values left. if may_run units u setting values then unit_meaning units u setting values left else done values left;
 }
 
+-- the function of this number gives what it gives
+abbrev pub function_body : List Named → ℕ → FunctionBody
+function_body units number = record { inputs = types_taken (function_at units number); run = λ inputs left. calls_of units number inputs left }
+
 abbrev pub said_of : ProgramView → Said
 said_of program = record {
   types = λ n. unit_types (units_of (text_of program)) (unit_at (units_of (text_of program)) n);
   bodies = λ n. unit_body (units_of (text_of program)) (unit_at (units_of (text_of program)) n);
+  functions = function_body (units_of (text_of program));
 }
 
 pub body_size : (units : List Named) (u : Option Named) → (unit_body units u).size ≡ length (unit_types units u)

@@ -1,3 +1,2 @@
-pub mod Depths
 pub mod Plain
 pub mod Programs

@@ -1,21 +1,26 @@
--- Programs as they run: the body of the main unit, and those of the function blocks that it invokes.
-use Rattle.std.specs.Prelude.{ℕ, suc, ◌≡◌, min, max, Bool, true, IsTrue, nat_eq, if◌then◌else◌, List, [], ◌∷◌, length, map, Option, Some, None, Result, Ok, Err}
-use Rattle.st_check.specs.Programs.{ProgramView, leaves_of_program, main_of, order_of, text_of}
-use Rattle.st_leaves.specs.Sound.{IsSound}
+-- Programs as they run: the body of the main unit, those of the function blocks that it invokes, and the functions that it calls.
+use Rattle.std.specs.Prelude.{ℕ, suc, ◌≡◌, ◌+◌, min, max, Bool, true, IsTrue, if◌then◌else◌, List, [], ◌∷◌, ◌++◌, length, map, Option, Some, None, Result, Ok, Err}
+use Rattle.st_check.specs.Programs.{IsChecked, ProgramView, leaves_of_program, level_in, main_of, order_of, text_of}
 use Rattle.st_layout.specs.Memory.{Fits, forced_at, value_at}
 use Rattle.st_values.specs.Values.{in_range}
+use Rattle.st_values.specs.declared.elem.Elem.{Elem}
 use Rattle.st_values.specs.declared.elem.Elem.TheVariants as elems
 use Rattle.st_tree.specs.declared.leaf.Leaf.{Leaf}
 use Rattle.st_types.specs.Names.{Named, unit_at, units_of}
 use Rattle.st_meaning.specs.Meaning.{Values}
 use Rattle.st_meaning.specs.Statements.{Setting, Outcome, done, exited, returned, faulted, body_meaning}
 use Rattle.st_meaning.specs.Typing.{body_of}
-use Rattle.st_meaning.specs.Units.{statements_of, unit_whole}
+use Rattle.st_meaning.specs.Units.{calls_of, function_at, statements_of, unit_whole}
+use Rattle.st_meaning.specs.Wholes.{Called}
 use Rattle.st_meaning.specs.declared.fault.RunFault.{RunFault}
 use Rattle.st_code.specs.Code.{Line, body_code}
-use Rattle.st_machine.specs.Blocks.{BlockView, Rooms}
-use Rattle.st_places.specs.Parts.{is_small_block}
-use Rattle.st_compile.specs.Depths.{most, statements_depth}
+use Rattle.st_machine.specs.Blocks.{BlockView, UnitsView}
+use Rattle.st_machine.specs.Functions.{FunctionView}
+use Rattle.st_machine.specs.Levels.{Rooms, no_room}
+use Rattle.st_machine.specs.declared.stacks.Room.{Room}
+use Rattle.st_places.specs.Parts.{is_small_block, is_small_function}
+use Rattle.st_places.specs.Functions.{starts_of}
+use Rattle.st_bodies.specs.Depths.{most, statements_depth}
 
 -- ---- units
 
@@ -33,12 +38,12 @@ program_names program = map (λ (u : Named). u.name.spelling) (units_of (text_of
 
 -- ---- what a scan gives
 
--- what the body of a unit does to the values of its variables
+-- what the body of a unit does to the values of its variables, where the functions of the text give what they give
 abbrev pub unit_meaning : List Named → Named → Setting → Values → ℕ → Outcome
 unit_meaning units unit setting values left =
-    body_meaning (unit_whole units unit).variables setting (body_of (unit_whole units unit) (statements_of unit.declares)) values left
+    body_meaning (calls_of units) (unit_whole units unit).variables setting (body_of (unit_whole units unit) (statements_of unit.declares)) values left
 
--- the number of the unit that a fault is in: the one that was invoked, or else the main one
+-- the number of the unit that a fault is in: the one that was invoked or called, or else the main one
 abbrev pub faulty : ℕ → Option ℕ → ℕ
 faulty main None = main
 faulty main (Some number) = number
@@ -76,56 +81,106 @@ optional_code units (Some unit) = unit_code units unit
 unfoldable pub program_code : ProgramView → List Line
 program_code program = optional_code (units_of (text_of program)) (main_unit program)
 
--- ---- that of its function blocks
+-- ---- that of its function blocks and functions
+
+-- Functions stand on the first levels, each at the place of its unit in the order, and function blocks on those above, in the same
+-- order: no function holds an instance. So each unit stands above all whose code its own enters or calls.
+abbrev pub block_level : List ℕ → ℕ → ℕ
+block_level order number = length order + level_in order number
+
+-- what stands above all levels doesn't run
+abbrev pub no_level : List ℕ → ℕ
+no_level order = length order + length order
+
+-- of each unit, by its number, from this number on
+abbrev pub numbered : {V : Type 0} → (ℕ → Named → V) → ℕ → List Named → List V
+numbered make number [] = []
+numbered make number (u ∷ us) = make number u ∷ numbered make (suc number) us
 
 -- a unit that is no function block has none, and neither has one that no program has room for
 abbrev pub block_code : List Named → Named → List Line
 block_code units unit = if is_small_block units unit then unit_code units unit else []
 
--- its place in the order, in which each unit stands after those that it contains
-abbrev pub level_in : List ℕ → ℕ → ℕ
-level_in [] number = 0
-level_in (n ∷ order) number = if nat_eq n number then 0 else suc (level_in order number)
-
 abbrev pub block_view : List Named → List ℕ → ℕ → Named → BlockView
-block_view units order number unit = record { code = block_code units unit; level = level_in order number }
-
--- of these units, the first of which has this number
-abbrev pub blocks_from : List Named → List ℕ → ℕ → List Named → List BlockView
-blocks_from units order number [] = []
-blocks_from units order number (u ∷ us) = block_view units order number u ∷ blocks_from units order (suc number) us
+block_view units order number unit = record { code = block_code units unit; level = block_level order number }
 
 -- of all units, by their numbers
 unfoldable pub program_blocks : ProgramView → List BlockView
-program_blocks program = blocks_from (units_of (text_of program)) (order_of program) 0 (units_of (text_of program))
+program_blocks program = numbered (block_view (units_of (text_of program)) (order_of program)) 0 (units_of (text_of program))
 
--- ---- for how many cells the stacks need room: as many as the statements need by their structure, and no more than there are instructions
+-- the types of the inputs of a function
+abbrev pub types_taken : Option Called → List Elem
+types_taken None = []
+types_taken (Some f) = map (λ i. i.initial.elem) f.inputs
+
+abbrev pub small_function : List Named → List ℕ → ℕ → Named → FunctionView
+small_function units order number unit = record {
+  code = unit_code units unit;
+  level = level_in order number;
+  inputs = types_taken (function_at units number);
+  starts = starts_of units unit;
+}
+
+abbrev pub no_function : List ℕ → FunctionView
+no_function order = record { code = []; level = no_level order; inputs = []; starts = [] }
+
+-- a unit that is no function, or one of too many variables, has no code
+abbrev pub function_view : List Named → List ℕ → ℕ → Named → FunctionView
+function_view units order number unit = if is_small_function units unit then small_function units order number unit else no_function order
+
+unfoldable pub program_functions : ProgramView → List FunctionView
+program_functions program = numbered (function_view (units_of (text_of program)) (order_of program)) 0 (units_of (text_of program))
+
+abbrev pub program_units : ProgramView → UnitsView
+program_units program = record { blocks = program_blocks program; functions = program_functions program }
+
+-- ---- for how much there is room: on each stack for as many cells as the statements need by their structure, and no more than there
+-- are instructions
+
+-- how many inputs a function of the text takes at most
+abbrev pub taken : List Named → ℕ → Named → ℕ
+taken units number unit = length (types_taken (function_at units number))
+
+unfoldable pub most_taken : List Named → ℕ
+most_taken units = most (numbered (taken units) 0 units)
+
+abbrev pub code_depth : List Named → Named → List Line → ℕ
+code_depth units unit code = min (statements_depth (most_taken units) (statements_of unit.declares)) (length code)
 
 abbrev pub optional_depth : List Named → Option Named → ℕ
 optional_depth units None = 0
-optional_depth units (Some unit) = min (statements_depth (statements_of unit.declares)) (length (unit_code units unit))
+optional_depth units (Some unit) = code_depth units unit (unit_code units unit)
 
 unfoldable pub program_depth : ProgramView → ℕ
 program_depth program = optional_depth (units_of (text_of program)) (main_unit program)
 
-abbrev pub block_depth : List Named → Option Named → ℕ
-block_depth units None = 0
-block_depth units (Some unit) = min (statements_depth (statements_of unit.declares)) (length (block_code units unit))
+abbrev pub block_room : List Named → Option Named → Room
+block_room units None = no_room
+block_room units (Some unit) = record { stack = code_depth units unit (block_code units unit); variables = 0 }
 
--- that of each level: of the unit at each place in the order
-abbrev pub level_depths : List Named → List ℕ → List ℕ
-level_depths units order = map (λ n. block_depth units (unit_at units n)) order
+-- a function has room for its variables too
+abbrev pub function_room : List Named → Option Named → Room
+function_room units None = no_room
+function_room units (Some unit) =
+    if is_small_function units unit then record { stack = code_depth units unit (unit_code units unit); variables = length (starts_of units unit) } else no_room
 
-unfoldable pub program_depths : ProgramView → List ℕ
-program_depths program = level_depths (units_of (text_of program)) (order_of program)
+-- that of each level: of the functions at each place in the order, and then of the function blocks
+abbrev pub level_rooms : List Named → List ℕ → List Room
+level_rooms units order = map (λ n. function_room units (unit_at units n)) order ++ map (λ n. block_room units (unit_at units n)) order
+
+unfoldable pub program_rooms : ProgramView → List Room
+program_rooms program = level_rooms (units_of (text_of program)) (order_of program)
+
+abbrev pub stacks_in : List Room → List ℕ
+stacks_in rooms = map (λ (r : Room). r.stack) rooms
 
 -- no stack gets deeper than this
 unfoldable pub greatest_depth : ProgramView → ℕ
-greatest_depth program = max (program_depth program) (most (program_depths program))
+greatest_depth program = max (program_depth program) (most (stacks_in (program_rooms program)))
 
--- there is so much room on the stacks
+-- there is so much room
 unfoldable pub HasRoom : ProgramView → Rooms → Type 0
-HasRoom program rooms = rooms ≡ record { own = program_depth program; levels = program_depths program }
+HasRoom program rooms = rooms ≡ record { own = program_depth program; levels = program_rooms program }
 
 -- ---- what follows
 
@@ -134,8 +189,8 @@ pub record KeepsFrame (leaves : List Leaf) (forced : List Bool) (values others :
   pub fits : Fits leaves (record { values = others; forced = forced })
   pub kept : (leaf : ℕ) → forced_at forced leaf ≡ true → value_at others leaf ≡ value_at values leaf
 
--- what a run of a program leaves lies in the frame
+-- what a run of a checked program leaves lies in the frame
 abbrev pub RunsKeepTheFrame : Type 0
 RunsKeepTheFrame = (program : ProgramView) (setting : Setting) (values others : Values) (limit : ℕ) → IsTrue (in_range elems.Time setting.now)
-    → IsSound (leaves_of_program program) → Fits (leaves_of_program program) (record { values = values; forced = setting.forced })
+    → IsChecked program → Fits (leaves_of_program program) (record { values = values; forced = setting.forced })
     → scan_result program setting values limit ≡ Ok others → KeepsFrame (leaves_of_program program) setting.forced values others

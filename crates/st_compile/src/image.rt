@@ -2,7 +2,7 @@
 ghost use Rattle.std.specs.Prelude.{◌≡◌, IfOk};
 ghost use Rattle.st_check.specs.Programs.{leaves_of_program};
 ghost use Rattle.st_compile.specs.Plain.{is_plain};
-ghost use Rattle.st_compile.specs.Programs.{HasRoom, faulty_name, greatest_depth, program_blocks, program_code};
+ghost use Rattle.st_compile.specs.Programs.{HasRoom, faulty_name, greatest_depth, program_code, program_units};
 
 mod apart;
 
@@ -10,23 +10,23 @@ use crate::making::made_of;
 use st_check::Program;
 use st_fused::Fused;
 use st_layout::Layout;
-use st_machine::{Block, Stacks};
+use st_machine::{Room, Stacks, Units};
 use st_tree::Name;
 use std::alloc::{AllocError, Global};
 use std::marker::Model;
 
-/// A program, the layout of its leaves, and the code of its body and of its function blocks.
+/// A program, the layout of its leaves, and the code of its body and of its function blocks and functions.
 #[derive(Drop)]
 pub struct Image {
     program: Program,
     layout: Layout,
     code: Fused,
-    /// The function blocks, by the numbers of their units.
-    blocks: Vec<Block>,
+    /// The function blocks and functions, by the numbers of their units.
+    units: Units,
     /// For how many numbers the stack of its own code needs room.
     depth: usize,
-    /// For how many the stack of each level needs room.
-    depths: Vec<usize>,
+    /// The room of each level.
+    rooms: Vec<Room>,
     /// The names of its units, as they are declared.
     names: Vec<Name>,
     /// Whether its bodies run.
@@ -38,7 +38,7 @@ impl Model for Image {
     ghost use Rattle.std.specs.Prelude.{◌≡◌};
     ghost use Rattle.st_check.specs.Programs.{ProgramView, leaves_of_program};
     ghost use Rattle.st_compile.specs.Plain.{is_plain};
-    ghost use Rattle.st_compile.specs.Programs.{program_blocks, program_code, program_depth, program_depths, program_names};
+    ghost use Rattle.st_compile.specs.Programs.{program_code, program_depth, program_names, program_rooms, program_units};
     ghost use Rattle.st_tree.specs.contracts.tree.expression.Expression as expression;
     ghost use Rattle.st_tree.specs.contracts.tree.statement.Statement as statement;
 
@@ -48,7 +48,7 @@ impl Model for Image {
 
     ghost view = { λ image. image.program };
 
-    ghost invariant = { λ image. (image.layout ≡ leaves_of_program image.program) × (image.code ≡ program_code image.program) × (image.blocks.items ≡ program_blocks image.program) × (image.depth ≡ program_depth image.program) × (image.depths.items ≡ program_depths image.program) × (image.names.items ≡ program_names image.program) × (image.runs ≡ is_plain image.program) };
+    ghost invariant = { λ image. (image.layout ≡ leaves_of_program image.program) × (image.code ≡ program_code image.program) × (image.units ≡ program_units image.program) × (image.depth ≡ program_depth image.program) × (image.rooms.items ≡ program_rooms image.program) × (image.names.items ≡ program_names image.program) × (image.runs ≡ is_plain image.program) };
 }
 
 /// The image of a program. It is refused for want of memory alone.
@@ -61,9 +61,9 @@ pub fn compile(alloc: Global, program: Program) -> Result<Image, AllocError>
         program,
         layout,
         code: made.code,
-        blocks: made.blocks,
+        units: made.units,
         depth: made.depth,
-        depths: made.depths,
+        rooms: made.rooms,
         names: made.names,
         runs: made.runs,
     })
@@ -84,8 +84,8 @@ impl Image {
         &self.layout
     }
 
-    /// Whether the program can be run: its body and those of all function blocks of its text hold statements alone, no invocation but
-    /// of function blocks, and no call but of standard functions and conversions.
+    /// Whether the program can be run: its body and those of all function blocks and functions of its text hold statements alone, no
+    /// invocation but of function blocks, and no call but of functions, and no function has more than 65,536 variables.
     pub fn is_plain(&self) -> bool
         ensures { result ≡ is_plain self.now }
     {
@@ -97,8 +97,8 @@ impl Image {
         ensures { result ≡ greatest_depth self.now }
     {
         let mut depth = self.depth;
-        'levels: for level in &self.depths {
-            depth = depth.max(*level);
+        'levels: for room in &self.rooms {
+            depth = depth.max(room.stack);
         }
         depth
     }
@@ -107,7 +107,7 @@ impl Image {
     pub fn stacks(&self, alloc: Global) -> Result<Stacks, AllocError>
         ensures { IfOk result (λ stacks. HasRoom self.now stacks) }
     {
-        Stacks::with_room(alloc, self.depth, &self.depths)
+        Stacks::with_room(alloc, self.depth, &self.rooms)
     }
 
     /// The code of the program's body.
@@ -117,14 +117,14 @@ impl Image {
         &self.code
     }
 
-    /// The function blocks of its text, by the numbers of their units.
-    pub(crate) fn blocks(&self) -> &[Block]
-        ensures { result.now ≡ program_blocks self.now }
+    /// The function blocks and functions of its text, by the numbers of their units.
+    pub(crate) fn units(&self) -> &Units
+        ensures { result.now ≡ program_units self.now }
     {
-        &self.blocks
+        &self.units
     }
 
-    /// The name of the unit that a fault is in, as it is declared: of the one of this number, which was invoked, or else of the program.
+    /// The name of the unit that a fault is in, as it is declared: of the one of this number, which was invoked or called, or else of the program.
     pub(crate) fn faulty(&self, unit: Option<usize>) -> Name
         ensures { result ≡ faulty_name self.now unit }
     {

@@ -2,14 +2,13 @@
 #![tactic(auto)]
 
 mod bodies;
-mod depth;
+mod functions;
 mod image;
-mod instances;
 mod laws;
 mod levels;
 mod making;
-mod plain;
 mod running;
+mod units;
 
 pub use image::{Image, compile};
 pub use laws::runs_keep_the_frame;

@@ -6,14 +6,18 @@ ghost use Rattle.st_compile.specs.Plain.{is_plain};
 ghost use Rattle.st_compile.specs.Programs.{HasRoom, scan_result};
 
 use crate::image::Image;
+use st_calls::{
+    checked_calls_are_those_of_their_bodies, checked_functions_call_below,
+    checked_functions_have_no_instances, sound_commands_call_what_passes,
+};
 use st_check::checked_program_is_small;
 use st_code::{
-    code_does_as_commands_mean, code_enters_what_is_invoked, depth_is_at_most_the_length,
-    typing_enters_instances, typing_invokes_bodies,
+    code_calls_functions, code_does_as_commands_mean, code_enters_what_is_invoked,
+    depth_is_at_most_the_length, typing_enters_instances, typing_invokes_bodies,
 };
 use st_layout::Memory;
 use st_machine::{Stacks, run_fused};
-use st_meaning::{RunFault, commands_keep_the_frame, typing_gives_sound_bodies};
+use st_meaning::{RunFault, calls_are_sound, commands_keep_the_frame, typing_gives_sound_bodies};
 use st_places::{instances_are_of_blocks, units_are_sound};
 
 /// Runs a program once, over the values of its leaves, at a moment in milliseconds. It takes no memory.
@@ -45,10 +49,16 @@ pub fn run<M: Memory>(
     typing_invokes_bodies();
     typing_enters_instances();
     code_enters_what_is_invoked();
+    code_calls_functions();
+    sound_commands_call_what_passes();
+    checked_functions_call_below();
+    checked_functions_have_no_instances();
+    checked_calls_are_those_of_their_bodies();
+    calls_are_sound();
     let _main = image.program().main();
     match run_fused(
         image.code(),
-        image.blocks(),
+        image.units(),
         memory,
         image.layout(),
         stacks,

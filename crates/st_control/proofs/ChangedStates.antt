@@ -7,7 +7,7 @@ use Rattle.st_control.proofs.ChangeSteps.{ChangeAccepts, change_accepts}
 use Rattle.st_control.proofs.RaisedRenames.{pairable-raised, pairs-raised}
 use Rattle.st_control.specs.Changes.{changed, gives_pairs, pairs_of, raised_renames}
 use Rattle.st_control.specs.Controllers.{change_record, record_of}
-use Rattle.st_control.specs.Laws.{CarriesByPath, Changes}
+use Rattle.st_control.specs.Laws.{CarriesByPath, Changes, IsSoundProgram}
 use Rattle.st_control.specs.Machine.{Machine, step}
 use Rattle.st_control.specs.Machine.Command.{change}
 use Rattle.st_control.specs.States.{FitsRecord, IsWhole, StateView, leaves_of, undone}
@@ -25,7 +25,6 @@ use Rattle.st_layout.specs.Memory.{Content}
 use Rattle.st_layout.specs.Moves.{HoldsValues, moved, saved, unmoved}
 use Rattle.st_layout.specs.Pairs.{IsPairing, Pairs}
 use Rattle.st_layout.specs.declared.renames.Rename.{Rename}
-use Rattle.st_leaves.specs.Sound.{IsSound}
 
 module _ (s : StateView) (renames : List Rename) (program : ProgramView) (pairable : gives_pairs s renames program ≡ true) (whole : IsWhole s) where
   pairing : IsPairing (leaves_of s) (leaves_of_program program) (pairs_of s renames program)
@@ -52,18 +51,19 @@ module _ (s : StateView) (renames : List Rename) (program : ProgramView) (pairab
         opens = subst (λ (pairs : Pairs). All (λ leaf. IsOpenAt (leaves_of s) leaf) (saved pairs s.content).forced) (sym same) (saved_forces_are_open (leaves_of s) given s.content whole.forces);
       }
 
-  module _ (sound : IsSound (leaves_of_program program)) where
+  module _ (sound : IsSoundProgram program) where
     -- the state after is whole
     pub changed_whole : IsWhole (changed s renames program)
     changed_whole = record {
-      sound = sound;
-      fits = moved_content_fits (leaves_of s) (leaves_of_program program) (pairs_of s renames program) s.content pairing sound.initial whole.fits;
+      checked = sound.checked;
+      sound = sound.leaves;
+      fits = moved_content_fits (leaves_of s) (leaves_of_program program) (pairs_of s renames program) s.content pairing sound.leaves.initial whole.fits;
       forces = carried_forces_are_open (leaves_of s) (leaves_of_program program) (pairs_of s renames program) s.content pairing whole.forces;
       moment = whole.moment;
     }
 
     is_change : IsChange (leaves_of s) (leaves_of_program program) (pairs_of s renames program) s.content
-    is_change = record { old_sound = whole.sound; new_sound = sound; pairing = pairing; fits = whole.fits }
+    is_change = record { old_sound = whole.sound; new_sound = sound.leaves; pairing = pairing; fits = whole.fits }
 
     -- values and forces go from path to path
     pub carries : CarriesByPath (pairs_of s renames program) s (changed s renames program)
@@ -89,17 +89,17 @@ gives : (renames : List Rename) (read : Result ProgramView Refusal) (m next : Ma
 gives renames read m next a = not-false (gives_pairs m.state renames a.program) a.allowed.1.0
 
 module _ (renames : List Rename) (read : Result ProgramView Refusal) (m next : Machine) where
-  pub change_carries : IfOk read (λ program. IsSound (leaves_of_program program)) → IsWhole m.state → step (change renames read) m ≡ Ok next → Changes (change renames read) m.state next.state
+  pub change_carries : IfOk read IsSoundProgram → IsWhole m.state → step (change renames read) m ≡ Ok next → Changes (change renames read) m.state next.state
   change_carries sound whole accepted =
       let a = change_accepts renames read m next accepted in
-      let new_sound = of_read read a.program (λ program. IsSound (leaves_of_program program)) a.read_is sound in
+      let new_sound = of_read read a.program IsSoundProgram a.read_is sound in
       subst (Changes (change renames read) m.state) a.next_is
       (a.program, a.read_is, record { program = refl; now = refl; status = refl }, carries m.state renames a.program (gives renames read m next a) whole new_sound)
 
-  pub change_whole : IfOk read (λ program. IsSound (leaves_of_program program)) → IsWhole m.state → step (change renames read) m ≡ Ok next → IsWhole next.state
+  pub change_whole : IfOk read IsSoundProgram → IsWhole m.state → step (change renames read) m ≡ Ok next → IsWhole next.state
   change_whole sound whole accepted =
       let a = change_accepts renames read m next accepted in
-      let new_sound = of_read read a.program (λ program. IsSound (leaves_of_program program)) a.read_is sound in
+      let new_sound = of_read read a.program IsSoundProgram a.read_is sound in
       subst IsWhole a.next_is (changed_whole m.state renames a.program (gives renames read m next a) whole new_sound)
 
   -- the record of the program that was read

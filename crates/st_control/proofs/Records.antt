@@ -98,6 +98,7 @@ pub whole_after : StepsKeepWhole
 whole_after (write path value) m next sound whole accepted =
     let a = write_accepts path value m next accepted in
     subst IsWhole a.next_is (record {
+      checked = whole.checked;
       sound = whole.sound;
       fits = with_value_fits (leaves_of m.state) m.state.content a.leaf value whole.fits
           (takes_value (leaves_of m.state) a.leaf value (not-false (is_value_of (leaf_at (leaves_of m.state) a.leaf) value) a.allowed.1.0));
@@ -110,6 +111,7 @@ whole_after (force path value) m next sound whole accepted =
     let valued = with_value_fits (leaves_of m.state) m.state.content a.leaf value whole.fits
     (takes_value (leaves_of m.state) a.leaf value (not-false (is_value_of (leaf_at (leaves_of m.state) a.leaf) value) a.allowed.1.0)) in
     subst IsWhole a.next_is (record {
+      checked = whole.checked;
       sound = whole.sound;
       fits = record { types = valued.types; values = valued.values; forced = length-set m.state.content.forced a.leaf true ∙ valued.forced };
       forces = mark_keeps_open (leaves_of m.state) m.state.content.forced a.leaf true whole.forces here;
@@ -119,6 +121,7 @@ whole_after (release path) m next sound whole accepted =
     let a = release_accepts path m next accepted in
     let here : IsOpenAt (leaves_of m.state) a.leaf = whole.forces a.leaf (not-false (forced_at m.state.content.forced a.leaf) a.allowed.0) in
     subst IsWhole a.next_is (record {
+      checked = whole.checked;
       sound = whole.sound;
       fits = record { types = whole.fits.types; values = whole.fits.values; forced = length-set m.state.content.forced a.leaf false ∙ whole.fits.forced };
       forces = mark_keeps_open (leaves_of m.state) m.state.content.forced a.leaf false whole.forces here;

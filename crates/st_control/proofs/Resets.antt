@@ -137,6 +137,7 @@ resets_give_initial s whole = record {
 
 pub resets_keep_whole : ResetsKeepWhole
 resets_keep_whole s whole = record {
+  checked = whole.checked;
   sound = whole.sound;
   fits = record {
     types = reset_fits (leaves_of s) s.content.forced s.content.values whole.sound whole.fits.types;

@@ -51,7 +51,7 @@ module _ (now : ℤ) (inputs : List Input) (limit : ℕ) (s : StateView) (whole 
   -- what the run left lies in the frame
   frame : (others : List Value) → run_of now inputs limit s ≡ Ok others → KeepsFrame (leaves_of s) s.content.forced (with_inputs s.content.forced s.content.values inputs) others
   frame others ran =
-      frame_kept s.program (record { now = now; forced = s.content.forced }) (with_inputs s.content.forced s.content.values inputs) others limit (time_of_moment now is_moment) whole.sound
+      frame_kept s.program (record { now = now; forced = s.content.forced }) (with_inputs s.content.forced s.content.values inputs) others limit (time_of_moment now is_moment) whole.checked
       (inputs_fit (leaves_of s) s.content.forced inputs s.content.values allowed.1.0 whole.fits) ran
 
   kept : (others : List Value) → run_of now inputs limit s ≡ Ok others → (leaf : ℕ) → forced_at s.content.forced leaf ≡ true → value_at others leaf ≡ value_at s.content.values leaf
@@ -70,12 +70,13 @@ module _ (now : ℤ) (inputs : List Input) (limit : ℕ) (s : StateView) (whole 
 
   whole_still : (ran : Result (List Value) RunFault) → run_of now inputs limit s ≡ ran → IsWhole (state_after now s ran)
   whole_still (Ok others) ran = record {
+    checked = whole.checked;
     sound = whole.sound;
     fits = (frame others ran).fits;
     forces = whole.forces;
     moment = is_moment;
   }
-  whole_still (Err fault) ran = record { sound = whole.sound; fits = whole.fits; forces = whole.forces; moment = whole.moment }
+  whole_still (Err fault) ran = record { checked = whole.checked; sound = whole.sound; fits = whole.fits; forces = whole.forces; moment = whole.moment }
 
 -- the run of a scan
 abbrev run_in : ℤ → List Input → Machine → Result (List Value) RunFault

@@ -1,7 +1,7 @@
 -- What holds of all lists of commands.
 use Rattle.std.specs.Prelude.{ℕ, ◌≡◌, ◌↔◌, Bool, true, false, List, ◌++◌, length, Option, Some, Ok, IfOk, IsSome, IsTrue, if◌then◌else◌}
 use Rattle.std.specs.Str.{bytes_eq}
-use Rattle.st_check.specs.Programs.{ProgramView, leaves_of_program}
+use Rattle.st_check.specs.Programs.{IsChecked, ProgramView, leaves_of_program}
 use Rattle.st_control.specs.Changes.{pairs_of}
 use Rattle.st_control.specs.Controllers.{record_of}
 use Rattle.st_control.specs.Machine.{Command, Machine, after_all, after_undos, ok_count, passed, step}
@@ -98,15 +98,20 @@ Changes (force path value) old new = GetsValue path value old new × GetsForce p
 Changes (release path) old new = KeepsValues old new × GetsForce path false old new × KeepsProgram old new
 Changes (change renames read) old new = (program : ProgramView) × (read ≡ Ok program) × GoesTo program old new × CarriesByPath (pairs_of old renames program) old new
 
--- an online change goes to a program whose leaves a layout can keep
-abbrev pub HasSoundLeaves : Command → Type 0
-HasSoundLeaves (change renames read) = IfOk read (λ program. IsSound (leaves_of_program program))
-HasSoundLeaves command = Unit {0}
+-- a checked program whose leaves a layout can keep
+pub record IsSoundProgram (program : ProgramView) : Type 0 where
+  pub checked : IsChecked program
+  pub leaves : IsSound (leaves_of_program program)
+
+-- an online change goes to such a program
+abbrev pub GoesToSound : Command → Type 0
+GoesToSound (change renames read) = IfOk read IsSoundProgram
+GoesToSound command = Unit {0}
 
 -- A write, a force or a release that is accepted changes the value or the force at its own path, and at no other. An online
 -- change carries all paths.
 abbrev pub ChangesByPath : Type 0
-ChangesByPath = (command : Command) (m next : Machine) → HasSoundLeaves command → IsWhole m.state → step command m ≡ Ok next → Changes command m.state next.state
+ChangesByPath = (command : Command) (m next : Machine) → GoesToSound command → IsWhole m.state → step command m ≡ Ok next → Changes command m.state next.state
 
 -- ---- what every step keeps
 
@@ -121,7 +126,7 @@ LoadStays = (commands : List Command) (undos : List Bool) (m : Machine) → Keep
 
 -- A command that is accepted makes a whole state of a whole state.
 abbrev pub StepsKeepWhole : Type 0
-StepsKeepWhole = (command : Command) (m next : Machine) → HasSoundLeaves command → IsWhole m.state → step command m ≡ Ok next → IsWhole next.state
+StepsKeepWhole = (command : Command) (m next : Machine) → GoesToSound command → IsWhole m.state → step command m ≡ Ok next → IsWhole next.state
 
 -- ---- one record
 

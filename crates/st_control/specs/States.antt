@@ -1,7 +1,7 @@
 -- The state of a controller, and what commands make of it.
 use Rattle.std.specs.Prelude.{ℕ, ℤ, pos, ◌≡◌, ◌<◌, ◌≤ℤ◌, ◌^◌, true, false, List, Option, length}
 use Rattle.std.specs.List.{All}
-use Rattle.st_check.specs.Programs.{ProgramView, leaves_of_program}
+use Rattle.st_check.specs.Programs.{IsChecked, ProgramView, leaves_of_program}
 use Rattle.st_control.specs.declared.record.Record.{Record}
 use Rattle.st_control.specs.declared.record.Record.TheVariants.{Write, Force, Release, Change}
 use Rattle.st_control.specs.declared.state.Status.{Status}
@@ -32,9 +32,10 @@ pub record IsMoment (now : ℤ) : Type 0 where
   pub early : pos 0 ≤ℤ now
   pub late : now ≤ℤ pos (10 ^ 15)
 
--- What each state of a controller keeps: its leaves are those of a layout, it has one value of the right type for each,
--- only open leaves are forced, and its moment is one.
+-- What each state of a controller keeps: its program is checked, its leaves are those of a layout, it has one value of the right
+-- type for each, only open leaves are forced, and its moment is one.
 pub record IsWhole (s : StateView) : Type 0 where
+  pub checked : IsChecked s.program
   pub sound : IsSound (leaves_of s)
   pub fits : Fits (leaves_of s) s.content
   pub forces : ForcesAreOpen (leaves_of s) s.content.forced

@@ -207,6 +207,7 @@ impl<M: Memory> State<M> {
         ensures count { result ≡ count_by (λ forced. forced) self.entry.now.content.forced }
         ensures whole { IsWhole self.entry.now }
     {
+        let _checked = self.image.program().main();
         let mut count = 0;
         for leaf in 0..self.image.layout().len() {
             if self.memory.forced(self.image.layout(), leaf) {

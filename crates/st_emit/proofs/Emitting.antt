@@ -31,16 +31,16 @@ use Rattle.st_leaves.specs.Places.{count, extent, extent_of}
 use Rattle.st_leaves.specs.Selected.{element_of, selected_by, subscripts_of, takes_subscripts}
 use Rattle.st_operators.specs.Operators.{type_given}
 use Rattle.st_meaning.specs.Operations.{binary_type}
-use Rattle.st_meaning.specs.Sound.{term_type}
+use Rattle.st_meaning.specs.Sound.{term_type, types_in}
 use Rattle.st_meaning.specs.Terms.{Term, Parts, binary, selection, unary, whole, field_part, element_part, how_many}
-use Rattle.st_meaning.specs.Typing.{Typed, alone, call_typed, call_typed_in, combined, combined_all, compared, joined, nil, part_typed, typed}
+use Rattle.st_meaning.specs.Typing.{Typed, alone, call_typed_in, combined, combined_all, compared, joined, nil, part_typed, typed}
 use Rattle.st_meaning.specs.Wholes.{Whole, type_of}
 use Rattle.st_meaning.specs.declared.operation.Binary.{Binary}
 use Rattle.st_meaning.specs.declared.operation.Binary.TheVariants as binaries
 use Rattle.st_meaning.specs.declared.operation.Unary.TheVariants as unaries
-use Rattle.st_code.specs.Code.{Line, added, at, index_code, parts_code, plain, term_code, terms_code, types_in}
+use Rattle.st_code.specs.Code.{Line, added, at, index_code, parts_code, plain, term_code, terms_code}
 use Rattle.st_code.specs.declared.instr.Instr.TheVariants.{Apply, Combine, Index, IndexBelow, Select}
-use Rattle.st_emit.specs.Calls.{AreTyped, arguments_code, gives_type, optional, positionals, takes_number}
+use Rattle.st_emit.specs.Calls.{AreTyped, arguments_code, gives_type, optional, positionals, standard_typed, takes_number}
 use Rattle.st_emit.specs.Emits.{Emits, Leaves, own_types, terms_in}
 use Rattle.st_emit.specs.Places.{behind_part, behind_parts, dimensions_code, element_code, indexed_by, is_indexed}
 use Rattle.st_meaning.proofs.Stretches.{selected_fits}
@@ -204,11 +204,46 @@ pub call_is_nil : (w : Whole) (t : Elem) (c : Call) (seen : List Argument) (o : 
     → n ≡ length (positionals w seen) → takes_number s n ≡ false → Emits w.variables t (nil t) old new → Emits w.variables t ((call_typed_in w c).as_type t) old new
 call_is_nil w t c seen o s n old new e f g h b en =
     subst (λ (x : Typed). Emits w.variables t (x.as_type t) old new)
-    (sym (standard_is_untyped s (positionals w seen) (ap (takes_number s) (sym h) ∙ b)) ∙ ap (λ x. call_typed x (positionals w seen)) (sym g) ∙ call_stands w c seen o e f) en
+    (sym (standard_is_untyped s (positionals w seen) (ap (takes_number s) (sym h) ∙ b)) ∙ call_stands w c seen o s e f g) en
+
+-- a type that it doesn't give
+never_given : (s : Standard) (t : Elem) (xs : List Typed) → gives_type s t ≡ false → (standard_typed s xs).as_type t ≡ nil t
+never_given (standards.Function functions.Abs) t [] h = refl
+never_given (standards.Function functions.Abs) t (x ∷ []) h = ap (λ b. if b then unary unaries.Absolute (x.as_type t) else nil t) h
+never_given (standards.Function functions.Abs) t (x ∷ y ∷ xs) h = refl
+never_given (standards.Function functions.Min) t xs h = absurd (cc)
+never_given (standards.Function functions.Max) t xs h = absurd (cc)
+never_given (standards.Function functions.Limit) t xs h = absurd (cc)
+never_given (standards.Function functions.Sel) t xs h = absurd (cc)
+never_given (standards.Function functions.Shl) t [] h = refl
+never_given (standards.Function functions.Shl) t (x ∷ []) h = refl
+never_given (standards.Function functions.Shl) t (x ∷ n ∷ []) h = ap (λ b. if b then binary binaries.ShiftLeft 0 (x.as_type t) (alone n) else nil t) h
+never_given (standards.Function functions.Shl) t (x ∷ n ∷ y ∷ xs) h = refl
+never_given (standards.Function functions.Shr) t [] h = refl
+never_given (standards.Function functions.Shr) t (x ∷ []) h = refl
+never_given (standards.Function functions.Shr) t (x ∷ n ∷ []) h = ap (λ b. if b then binary binaries.ShiftRight 0 (x.as_type t) (alone n) else nil t) h
+never_given (standards.Function functions.Shr) t (x ∷ n ∷ y ∷ xs) h = refl
+never_given (standards.Function functions.Rol) t [] h = refl
+never_given (standards.Function functions.Rol) t (x ∷ []) h = refl
+never_given (standards.Function functions.Rol) t (x ∷ n ∷ []) h = ap (λ b. if b then binary binaries.RotateLeft 0 (x.as_type t) (alone n) else nil t) h
+never_given (standards.Function functions.Rol) t (x ∷ n ∷ y ∷ xs) h = refl
+never_given (standards.Function functions.Ror) t [] h = refl
+never_given (standards.Function functions.Ror) t (x ∷ []) h = refl
+never_given (standards.Function functions.Ror) t (x ∷ n ∷ []) h = ap (λ b. if b then binary binaries.RotateRight 0 (x.as_type t) (alone n) else nil t) h
+never_given (standards.Function functions.Ror) t (x ∷ n ∷ y ∷ xs) h = refl
+never_given (standards.Conversion from to) t [] h = refl
+never_given (standards.Conversion from to) t (x ∷ []) h = ap (λ b. if b then unary (unaries.Convert to) (x.as_type from) else nil t) h
+never_given (standards.Conversion from to) t (x ∷ y ∷ xs) h = refl
+never_given (standards.Block b) t xs h = refl
+
+pub call_gives_nil : (w : Whole) (t : Elem) (c : Call) (seen : List Argument) (o : Option Standard) (s : Standard) (old new : List Line) → o ≡ standard_of (out-Call c).name.spelling → seen ≡ (out-Call c).arguments → o ≡ Some s
+    → gives_type s t ≡ false → Emits w.variables t (nil t) old new → Emits w.variables t ((call_typed_in w c).as_type t) old new
+call_gives_nil w t c seen o s old new e f g h en =
+    subst (λ x. Emits w.variables t x old new) (sym (never_given s t (positionals w seen) h) ∙ ap (λ (x : Typed). x.as_type t) (call_stands w c seen o s e f g)) en
 
 pub record IsCall (root : Composition) (s : Standard) (t : Elem) (xs : List Typed) : Type 0 where
-  pub code : term_code root ((call_typed (Some s) xs).as_type t) ≡ arguments_code root s t 0 xs
-  pub type : term_type root ((call_typed (Some s) xs).as_type t) ≡ t
+  pub code : term_code root ((standard_typed s xs).as_type t) ≡ arguments_code root s t 0 xs
+  pub type : term_type root ((standard_typed s xs).as_type t) ≡ t
 
 not_equal : (n m : ℕ) → (n ≡ m → ⊥) → (n == m) ≡ false
 not_equal n m f = by (n == m) refl where
@@ -304,10 +339,10 @@ select_code root t g x y =
     ∙ ap (λ l. (cg ++ []) ++ ((cx ++ []) ++ l)) (sym (append-nil (cy ++ plain Select)))
 
 shift_is : (root : Composition) (s : Standard) (t : Elem) (o : Binary) (xs : List Typed) (x n : Typed) (b : Bool) → binary_type o t ≡ t → b ≡ true → term_type root (x.as_type t) ≡ t → term_type root (alone n) ≡ or_lint n.own
-    → (call_typed (Some s) xs).as_type t ≡ (if b then binary o 0 (x.as_type t) (alone n) else nil t)
+    → (standard_typed s xs).as_type t ≡ (if b then binary o 0 (x.as_type t) (alone n) else nil t)
     → arguments_code root s t 0 xs ≡ (term_code root (x.as_type t) ++ []) ++ ((term_code root (alone n) ++ plain (Combine o t (or_lint n.own))) ++ []) → IsCall root s t xs
 shift_is root s t o xs x n b k g h i e f =
-    let all : (call_typed (Some s) xs).as_type t ≡ binary o 0 (x.as_type t) (alone n) = e ∙ taken b _ _ g in
+    let all : (standard_typed s xs).as_type t ≡ binary o 0 (x.as_type t) (alone n) = e ∙ taken b _ _ g in
     record {
       code = ap (term_code root) all ∙ shift_code root t o x n h i ∙ sym f;
       type = ap (term_type root) all ∙ ap (binary_type o) h ∙ k;
@@ -316,7 +351,7 @@ shift_is root s t o xs x n b k g h i e f =
 pub call_made : (root : Composition) (s : Standard) (t : Elem) (xs : List Typed) → takes_number s (length xs) ≡ true → gives_type s t ≡ true → AreTyped root s t 0 xs → IsCall root s t xs
 call_made root (standards.Function functions.Abs) t [] h g a = absurd (wrong_number 0 1 h (λ e. omega arith))
 call_made root (standards.Function functions.Abs) t (x ∷ []) h g a =
-    let all : (call_typed (Some (standards.Function functions.Abs)) (x ∷ [])).as_type t ≡ unary unaries.Absolute (x.as_type t) = taken (is_integer t) _ _ g in
+    let all : (standard_typed (standards.Function functions.Abs) (x ∷ [])).as_type t ≡ unary unaries.Absolute (x.as_type t) = taken (is_integer t) _ _ g in
     record {
       code = ap (term_code root) all ∙ ap (λ u. term_code root (x.as_type t) ++ plain (Apply unaries.Absolute u)) a.0 ∙ sym (append-nil (term_code root (x.as_type t) ++ plain (Apply unaries.Absolute t)));
       type = ap (term_type root) all ∙ a.0;
@@ -358,7 +393,7 @@ call_made root (standards.Function functions.Ror) t (x ∷ n ∷ []) h g a = shi
 call_made root (standards.Function functions.Ror) t (x ∷ y ∷ z ∷ xs) h g a = absurd (wrong_number (length (x ∷ y ∷ z ∷ xs)) 2 h (λ e. omega arith))
 call_made root (standards.Conversion from to) t [] h g a = absurd (wrong_number 0 1 h (λ e. omega arith))
 call_made root (standards.Conversion from to) t (x ∷ []) h g a =
-    let all : (call_typed (Some (standards.Conversion from to)) (x ∷ [])).as_type t ≡ unary (unaries.Convert to) (x.as_type from) = taken (is_same to t) _ _ g in
+    let all : (standard_typed (standards.Conversion from to) (x ∷ [])).as_type t ≡ unary (unaries.Convert to) (x.as_type from) = taken (is_same to t) _ _ g in
     record {
       code = ap (term_code root) all ∙ ap (λ u. term_code root (x.as_type from) ++ plain (Apply (unaries.Convert to) u)) a.0 ∙ sym (append-nil (term_code root (x.as_type from) ++ plain (Apply (unaries.Convert to) from)));
       type = ap (term_type root) all ∙ same_elem to t g;
@@ -371,7 +406,7 @@ pub call_emits : (w : Whole) (t : Elem) (c : Call) (seen : List Argument) (o : O
     → Emits w.variables t ((call_typed_in w c).as_type t) old new
 call_emits w t c seen o s n old new e f g h b k m a =
     let is = call_made w.variables s t (positionals w seen) (ap (takes_number s) (sym h) ∙ b) k a in
-    subst (λ (x : Typed). Emits w.variables t (x.as_type t) old new) (ap (λ x. call_typed x (positionals w seen)) (sym g) ∙ call_stands w c seen o e f)
+    subst (λ (x : Typed). Emits w.variables t (x.as_type t) old new) (call_stands w c seen o s e f g)
     (record { code = m ∙ ap (λ l. old ++ reverse l) (sym is.code); due = is.type })
 
 -- ---- places

@@ -1,4 +1,6 @@
+pub mod Calling
 pub mod Commands
+pub mod Destinations
 pub mod Emitting
 pub mod Invoking
 pub mod Owns

@@ -18,12 +18,12 @@ use Rattle.st_types.specs.declared.standard.Standard.{Standard}
 use Rattle.st_types.specs.declared.standard.Standard.TheVariants as standards
 use Rattle.st_types.specs.declared.standard.StandardFunction.{StandardFunction}
 use Rattle.st_types.specs.declared.standard.StandardFunction.TheVariants as functions
-use Rattle.st_meaning.specs.Typing.{Typed, argument_typed, call_typed, call_typed_in, chained, combined_all, constant_or, function_typed, joined, operation_typed, place_typed, typed, untyped, variable_typed}
+use Rattle.st_meaning.specs.Typing.{Passed, Typed, argument_typed, call_typed, call_typed_in, chained, combined_all, constant_or, function_typed, joined, operation_typed, place_typed, typed, unnamed, unnamed_before, untyped, variable_typed}
 use Rattle.st_meaning.specs.Terms.{Parts, whole, field_part, element_part}
 use Rattle.st_values.specs.declared.value.Value.{Value}
 use Rattle.st_meaning.specs.Wholes.{Whole, type_of}
 use Rattle.st_meaning.specs.declared.operation.Binary.TheVariants as binaries
-use Rattle.st_emit.specs.Calls.{counts, own_from, positionals, takes_number}
+use Rattle.st_emit.specs.Calls.{counts, own_from, passed_in, positionals, standard_typed, takes_number}
 use Rattle.st_emit.specs.Trees.{chain_of, constant_in, ends_in_comparison, own_behind, own_joined}
 use Rattle.st_emit.proofs.Trees.{call_in_is, chain_is, operation_is, positional_is, input_is, output_is}
 use Rattle.st_tree.specs.declared.tree.expression.Argument.TheVariants as arguments
@@ -206,43 +206,61 @@ function_is_untyped functions.Ror (x ∷ []) h = refl
 function_is_untyped functions.Ror (x ∷ y ∷ []) h = absurd (cc)
 function_is_untyped functions.Ror (x ∷ y ∷ z ∷ xs) h = refl
 
-pub standard_is_untyped : (s : Standard) (xs : List Typed) → takes_number s (length xs) ≡ false → call_typed (Some s) xs ≡ untyped
+pub standard_is_untyped : (s : Standard) (xs : List Typed) → takes_number s (length xs) ≡ false → standard_typed s xs ≡ untyped
 standard_is_untyped (standards.Function f) xs h = function_is_untyped f xs h
 standard_is_untyped (standards.Conversion from to) [] h = refl
 standard_is_untyped (standards.Conversion from to) (x ∷ []) h = absurd (cc)
 standard_is_untyped (standards.Conversion from to) (x ∷ y ∷ xs) h = refl
 standard_is_untyped (standards.Block b) xs h = refl
 
--- a call of what the name stands for
-pub call_stands : (w : Whole) (c : Call) (seen : List Argument) (o : Option Standard) → o ≡ standard_of (out-Call c).name.spelling → seen ≡ (out-Call c).arguments → call_typed o (positionals w seen) ≡ call_typed_in w c
-call_stands w c seen o e f = ap (λ x. call_typed x (positionals w seen)) e ∙ ap (λ l. call_typed (standard_of (out-Call c).name.spelling) (positionals w l)) f ∙ sym (call_in_is w c)
+-- arguments without names
+unnamed_append : (xs ys : List Passed) → unnamed (xs ++ ys) ≡ unnamed xs ++ unnamed ys
+unnamed_append [] ys = refl
+unnamed_append (x ∷ xs) ys = ap (unnamed_before x.name x.value) (unnamed_append xs ys) ∙ by x.name where
+  by : (name : Option (List ℕ)) → unnamed_before name x.value (unnamed xs ++ unnamed ys) ≡ unnamed_before name x.value (unnamed xs) ++ unnamed ys
+  by None = refl
+  by (Some n) = refl
 
-pub conversion_own : (from to : Elem) (xs : List Typed) → takes_number (standards.Conversion from to) (length xs) ≡ true → Some to ≡ (call_typed (Some (standards.Conversion from to)) xs).own
+positionals_are : (w : Whole) (all : List Argument) → unnamed (passed_in w all) ≡ positionals w all
+positionals_are w [] = refl
+positionals_are w (a ∷ all) = unnamed_append (argument_typed w a) (passed_in w all) ∙ ap (λ l. unnamed (argument_typed w a) ++ l) (positionals_are w all)
+
+standard_is : (w : Whole) (line : ℕ) (name : List ℕ) (s : Standard) (xs : List Passed) → call_typed w line name (Some s) xs ≡ standard_typed s (unnamed xs)
+standard_is w line name (standards.Function f) xs = refl
+standard_is w line name (standards.Conversion from to) xs = refl
+standard_is w line name (standards.Block b) xs = refl
+
+-- a call of what the name stands for
+pub call_stands : (w : Whole) (c : Call) (seen : List Argument) (o : Option Standard) (s : Standard) → o ≡ standard_of (out-Call c).name.spelling → seen ≡ (out-Call c).arguments → o ≡ Some s
+    → standard_typed s (positionals w seen) ≡ call_typed_in w c
+call_stands w c seen o s e f g =
+    let name = (out-Call c).name in
+    ap (standard_typed s) (sym (positionals_are w seen)) ∙ sym (standard_is w name.position.line name.spelling s (passed_in w seen))
+    ∙ ap (λ y. call_typed w name.position.line name.spelling y (passed_in w seen)) (sym g ∙ e)
+    ∙ ap (λ l. call_typed w name.position.line name.spelling (standard_of name.spelling) (passed_in w l)) f ∙ sym (call_in_is w c)
+
+pub conversion_own : (from to : Elem) (xs : List Typed) → takes_number (standards.Conversion from to) (length xs) ≡ true → Some to ≡ (standard_typed (standards.Conversion from to) xs).own
 conversion_own from to [] h = absurd (wrong 0 1 h (λ e. omega arith))
 conversion_own from to (x ∷ []) h = refl
 conversion_own from to (x ∷ y ∷ xs) h = absurd (wrong (length (x ∷ y ∷ xs)) 1 h (λ e. omega arith))
 
-typed_own : (w : Whole) (c : Call) (seen : List Argument) (o : Option Standard) (s : Standard) → o ≡ standard_of (out-Call c).name.spelling → seen ≡ (out-Call c).arguments → o ≡ Some s
-    → call_typed (Some s) (positionals w seen) ≡ call_typed_in w c
-typed_own w c seen o s e f g = ap (λ x. call_typed x (positionals w seen)) (sym g) ∙ call_stands w c seen o e f
-
 pub call_none : (w : Whole) (c : Call) (seen : List Argument) (o : Option Standard) (s : Standard) (n : ℕ) → o ≡ standard_of (out-Call c).name.spelling → seen ≡ (out-Call c).arguments → o ≡ Some s
     → n ≡ length (positionals w seen) → takes_number s n ≡ false → None ≡ (call_typed_in w c).own
 call_none w c seen o s n e f g h t =
-    ap (λ (x : Typed). x.own) (sym (standard_is_untyped s (positionals w seen) (ap (takes_number s) (sym h) ∙ t)) ∙ typed_own w c seen o s e f g)
+    ap (λ (x : Typed). x.own) (sym (standard_is_untyped s (positionals w seen) (ap (takes_number s) (sym h) ∙ t)) ∙ call_stands w c seen o s e f g)
 
 pub call_conversion : (w : Whole) (c : Call) (seen : List Argument) (o : Option Standard) (s : Standard) (from to : Elem) (n : ℕ) → o ≡ standard_of (out-Call c).name.spelling → seen ≡ (out-Call c).arguments → o ≡ Some s
     → n ≡ length (positionals w seen) → takes_number s n ≡ true → s ≡ standards.Conversion from to → Some to ≡ (call_typed_in w c).own
 call_conversion w c seen o s from to n e f g h t i =
     conversion_own from to (positionals w seen) (ap (λ x. takes_number x (length (positionals w seen))) (sym i) ∙ ap (takes_number s) (sym h) ∙ t)
-    ∙ ap (λ (x : Typed). x.own) (typed_own w c seen o (standards.Conversion from to) e f (g ∙ ap Some i))
+    ∙ ap (λ (x : Typed). x.own) (call_stands w c seen o (standards.Conversion from to) e f (g ∙ ap Some i))
 
 pub call_function : (w : Whole) (c : Call) (seen : List Argument) (o : Option Standard) (s : Standard) (k : StandardFunction) (n : ℕ) → o ≡ standard_of (out-Call c).name.spelling → seen ≡ (out-Call c).arguments → o ≡ Some s
     → n ≡ length (positionals w seen) → takes_number s n ≡ true → s ≡ standards.Function k → own_from s 0 (positionals w seen) ≡ (call_typed_in w c).own
 call_function w c seen o s k n e f g h t i =
     ap (λ x. own_from x 0 (positionals w seen)) i
     ∙ sym (function_own k (positionals w seen) (ap (λ x. takes_number x (length (positionals w seen))) (sym i) ∙ ap (takes_number s) (sym h) ∙ t))
-    ∙ ap (λ (x : Typed). x.own) (typed_own w c seen o (standards.Function k) e f (g ∙ ap Some i))
+    ∙ ap (λ (x : Typed). x.own) (call_stands w c seen o (standards.Function k) e f (g ∙ ap Some i))
 
 pub call_block : (w : Whole) (s : Standard) (n : ℕ) (b : _) → takes_number s n ≡ true → s ≡ standards.Block b → ⊥
 call_block w s n b t i = by (sym t ∙ ap (λ x. takes_number x n) i) where
@@ -251,20 +269,23 @@ call_block w s n b t i = by (sym t ∙ ap (λ x. takes_number x n) i) where
 
 -- ---- arguments
 
-pub arguments_left : (w : Whole) (all : List Argument) (i : ℕ) (a : Argument) → i < length all → a ≡ get_or all i a → positionals w (drop i all) ≡ argument_typed w a ++ positionals w (drop (i + 1) all)
+pub arguments_left : (w : Whole) (all : List Argument) (i : ℕ) (a : Argument) → i < length all → a ≡ get_or all i a → positionals w (drop i all) ≡ unnamed (argument_typed w a) ++ positionals w (drop (i + 1) all)
 arguments_left w all i a h e = rw add-one (ap (positionals w) (drop-cons all i a h ∙ ap (λ x. x ∷ drop (suc i) all) (sym e)))
 
 pub positional_left : (w : Whole) (all : List Argument) (i : ℕ) (a : Argument) (x : Expression) → i < length all → a ≡ get_or all i a → a ≡ arguments.Positional x
     → positionals w (drop i all) ≡ typed w x ∷ positionals w (drop (i + 1) all)
-positional_left w all i a x h e f = arguments_left w all i a h e ∙ ap (λ y. argument_typed w y ++ positionals w (drop (i + 1) all)) f ∙ ap (λ l. l ++ positionals w (drop (i + 1) all)) (positional_is w x)
+positional_left w all i a x h e f =
+    arguments_left w all i a h e ∙ ap (λ y. unnamed (argument_typed w y) ++ positionals w (drop (i + 1) all)) f ∙ ap (λ l. unnamed l ++ positionals w (drop (i + 1) all)) (positional_is w x)
 
 pub input_left : (w : Whole) (all : List Argument) (i : ℕ) (a : Argument) (n : Identifier) (x : Expression) → i < length all → a ≡ get_or all i a → a ≡ arguments.Input n x
     → positionals w (drop i all) ≡ positionals w (drop (i + 1) all)
-input_left w all i a n x h e f = arguments_left w all i a h e ∙ ap (λ y. argument_typed w y ++ positionals w (drop (i + 1) all)) f ∙ ap (λ l. l ++ positionals w (drop (i + 1) all)) (input_is w n x)
+input_left w all i a n x h e f =
+    arguments_left w all i a h e ∙ ap (λ y. unnamed (argument_typed w y) ++ positionals w (drop (i + 1) all)) f ∙ ap (λ l. unnamed l ++ positionals w (drop (i + 1) all)) (input_is w n x)
 
 pub output_left : (w : Whole) (all : List Argument) (i : ℕ) (a : Argument) (n : Identifier) (v : Variable) → i < length all → a ≡ get_or all i a → a ≡ arguments.Output n v
     → positionals w (drop i all) ≡ positionals w (drop (i + 1) all)
-output_left w all i a n v h e f = arguments_left w all i a h e ∙ ap (λ y. argument_typed w y ++ positionals w (drop (i + 1) all)) f ∙ ap (λ l. l ++ positionals w (drop (i + 1) all)) (output_is w n v)
+output_left w all i a n v h e f =
+    arguments_left w all i a h e ∙ ap (λ y. unnamed (argument_typed w y) ++ positionals w (drop (i + 1) all)) f ∙ ap (λ l. unnamed l ++ positionals w (drop (i + 1) all)) (output_is w n v)
 
 pub own_skip : (s : Standard) (n : ℕ) (x : Typed) (xs : List Typed) (c : Bool) (found : Option Elem) → c ≡ counts s n → found ≡ (if c then x.own else None) → is_some found ≡ false
     → own_from s n (x ∷ xs) ≡ own_from s (n + 1) xs

@@ -1,5 +1,6 @@
 -- What the folds over expressions are at each variant.
 use Rattle.std.proofs.Common.{◌≡◌, ℕ, suc, ◌+◌, ◌<◌, List, [], ◌∷◌, ◌++◌, map, length, take, drop, get_or, refl, sym, ap, ◌∙◌, rules, add-one, drop-cons}
+use Rattle.std.specs.Prelude.{Some, None}
 use Rattle.std.proofs.Math.Seq.{take-suc}
 use Rattle.std.proofs.lemmas.List.{map-append}
 use Rattle.st_tree.specs.declared.tree.constant.Constant.{Constant}
@@ -16,10 +17,10 @@ use Rattle.st_tree.specs.declared.tree.position.Identifier.{Identifier}
 use Rattle.st_tree.specs.declared.tree.position.Position.{Position}
 use Rattle.st_types.specs.Standard.{standard_of}
 use Rattle.st_meaning.specs.Terms.{Parts, field_part, element_part}
-use Rattle.st_meaning.specs.Typing.{Typed, argument_typed, call_typed, call_typed_in, chained, joined, literal, operation_typed, part_typed, place_of, prefixed, typed, variable_typed}
+use Rattle.st_meaning.specs.Typing.{Typed, argument_typed, call_typed, call_typed_in, chained, joined, literal, operation_typed, part_typed, passed, place_of, prefixed, typed, variable_typed}
 use Rattle.st_meaning.specs.Wholes.{Whole}
 use Rattle.st_meaning.specs.declared.operation.Unary.TheVariants as unaries
-use Rattle.st_emit.specs.Calls.{positionals}
+use Rattle.st_emit.specs.Calls.{passed_in}
 use Rattle.st_emit.specs.Emits.{terms_in}
 use Rattle.st_emit.specs.Trees.{chain_of, parts_in}
 
@@ -47,13 +48,14 @@ chain_is w p x os = search (rules, the_lemmas)
 pub operation_is : (w : Whole) (o : Operation) (y : Typed) → operation_typed w o y ≡ joined (out-Operation o).operator (out-Operation o).position.line y (typed w (out-Operation o).operand)
 operation_is w o y = search (rules, the_lemmas)
 
-pub call_in_is : (w : Whole) (c : Call) → call_typed_in w c ≡ call_typed (standard_of (out-Call c).name.spelling) (positionals w (out-Call c).arguments)
+pub call_in_is : (w : Whole) (c : Call)
+    → call_typed_in w c ≡ call_typed w (out-Call c).name.position.line (out-Call c).name.spelling (standard_of (out-Call c).name.spelling) (passed_in w (out-Call c).arguments)
 call_in_is w c = search (rules, the_lemmas)
 
-pub positional_is : (w : Whole) (x : Expression) → argument_typed w (arguments.Positional x) ≡ typed w x ∷ []
+pub positional_is : (w : Whole) (x : Expression) → argument_typed w (arguments.Positional x) ≡ passed None (typed w x)
 positional_is w x = search (rules, the_lemmas)
 
-pub input_is : (w : Whole) (n : Identifier) (x : Expression) → argument_typed w (arguments.Input n x) ≡ []
+pub input_is : (w : Whole) (n : Identifier) (x : Expression) → argument_typed w (arguments.Input n x) ≡ passed (Some n.spelling) (typed w x)
 input_is w n x = search (rules, the_lemmas)
 
 pub output_is : (w : Whole) (n : Identifier) (v : Variable) → argument_typed w (arguments.Output n v) ≡ []

@@ -12,7 +12,7 @@ use Rattle.st_types.specs.declared.standard.Standard.{Standard}
 use Rattle.st_types.specs.declared.standard.Standard.TheVariants as standards
 use Rattle.st_types.specs.declared.standard.StandardFunction.TheVariants as functions
 use Rattle.st_meaning.specs.Sound.{term_type}
-use Rattle.st_meaning.specs.Typing.{Typed, argument_typed}
+use Rattle.st_meaning.specs.Typing.{Passed, Typed, argument_typed, converted, function_typed, unnamed, untyped}
 use Rattle.st_meaning.specs.Wholes.{Whole}
 use Rattle.st_meaning.specs.declared.operation.Binary.TheVariants as binaries
 use Rattle.st_meaning.specs.declared.operation.Unary.TheVariants as unaries
@@ -20,9 +20,19 @@ use Rattle.st_code.specs.Code.{Line, plain, term_code}
 use Rattle.st_code.specs.declared.instr.Instr.{Instr}
 use Rattle.st_code.specs.declared.instr.Instr.TheVariants.{Apply, Combine, Select}
 
--- the arguments by position
+-- the arguments that have values, in written order
+abbrev pub passed_in : Whole → List Argument → List Passed
+passed_in w arguments = flat_map (λ a. a) (map (argument_typed w) arguments)
+
+-- those by position
 abbrev pub positionals : Whole → List Argument → List Typed
-positionals w arguments = flat_map (λ a. a) (map (argument_typed w) arguments)
+positionals w arguments = flat_map unnamed (map (argument_typed w) arguments)
+
+-- a call with these arguments by position
+abbrev pub standard_typed : Standard → List Typed → Typed
+standard_typed (standards.Function f) xs = function_typed f xs
+standard_typed (standards.Conversion from to) xs = converted from to xs
+standard_typed (standards.Block b) xs = untyped
 
 -- it takes so many arguments
 abbrev pub takes_number : Standard → ℕ → Bool

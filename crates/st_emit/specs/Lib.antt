@@ -1,5 +1,6 @@
 pub mod Calls
 pub mod Emits
+pub mod Functions
 pub mod Instances
 pub mod Places
 pub mod Statements

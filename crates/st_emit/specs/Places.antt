@@ -6,11 +6,11 @@ use Rattle.st_types.specs.Compositions.{Composition}
 use Rattle.st_leaves.specs.Places.{count}
 use Rattle.st_leaves.specs.Selected.{element_of, selected_by, subscripts_of}
 use Rattle.st_meaning.specs.Offsets.{IsSmall}
-use Rattle.st_meaning.specs.Sound.{is_fixed}
+use Rattle.st_meaning.specs.Sound.{is_fixed, types_in}
 use Rattle.st_meaning.specs.Terms.{Parts, whole, field_part, element_part}
 use Rattle.st_meaning.specs.Typing.{part_typed}
 use Rattle.st_meaning.specs.Wholes.{Whole, type_of}
-use Rattle.st_code.specs.Code.{Line, added, at, base_of, index_code, plain, terms_code, types_in}
+use Rattle.st_code.specs.Code.{Line, added, at, base_of, index_code, plain, terms_code}
 use Rattle.st_code.specs.declared.instr.Instr.{Instr}
 use Rattle.st_emit.specs.Emits.{terms_in}
 use Rattle.st_emit.specs.Trees.{parts_in}

@@ -12,7 +12,8 @@ use st_places::Tables;
 use st_tree::tree::Statement;
 use std::alloc::{AllocError, Global};
 
-/// The code of a body of statements of the unit of this number. It is refused for want of memory alone.
+/// The code of a body of statements of the unit of this number. It is refused for want of memory alone, as which a number in a call
+/// counts that an instruction has no room for.
 pub fn emit_body(
     alloc: Global,
     tables: &Tables<'_>,

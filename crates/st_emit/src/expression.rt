@@ -1,15 +1,17 @@
 //! The code of expressions and places, from its last instruction to the first.
 ghost use Rattle.std.specs.Option.{is_some};
-ghost use Rattle.std.specs.Prelude.{◌≡◌, ◌++◌, IsTrue, OnOk, Some, false, length, reverse};
-ghost use Rattle.st_meaning.specs.Sound.{term_type};
+ghost use Rattle.std.specs.Prelude.{◌≡◌, ◌++◌, IsTrue, OnOk, None, Some, false, length, reverse};
+ghost use Rattle.st_meaning.specs.Sound.{term_type, types_in};
 ghost use Rattle.st_meaning.specs.Operations.{unary_type};
-ghost use Rattle.st_meaning.specs.Typing.{call_typed_in, place_of, prefixed, typed, variable_typed};
+ghost use Rattle.st_meaning.specs.Typing.{arguments_from, as_input, call_typed_in, input_at, place_of, prefixed, typed, variable_typed};
 ghost use Rattle.st_meaning.specs.Wholes.{type_of};
-ghost use Rattle.st_code.specs.Code.{parts_code, store_code, terms_code, types_in};
-ghost use Rattle.st_emit.specs.Calls.{AreTyped, argument_code, argument_type, arguments_code, behind_argument, positionals};
+ghost use Rattle.st_code.specs.Code.{parts_code, store_code, term_code, terms_code};
+ghost use Rattle.st_emit.specs.Calls.{AreTyped, argument_code, argument_type, arguments_code, behind_argument, passed_in, positionals};
 ghost use Rattle.st_emit.specs.Emits.{Emits, own_types, terms_in};
+ghost use Rattle.st_types.specs.Standard.{standard_of};
 ghost use Rattle.st_emit.specs.Trees.{chain_of, operand_type, whole_of};
 
+use crate::functions::{emit_behind, input_type, passed_count};
 use crate::index::{emit_added, emit_dimensions, emit_nil, emit_value};
 use crate::literal::{is_comparison, or_lint};
 use crate::own::{own, own_of_front, own_or_lint, positional_count, takes_number};
@@ -19,6 +21,7 @@ use crate::takes::{gives_type, takes, takes_one};
 use st_code::{Code, Instr};
 use st_initials::value_written;
 use st_meaning::{Binary, Unary};
+use st_places::Function;
 use st_tree::tree::{Argument, Call, Expression, Operation, Part, Variable};
 use st_types::{Standard, StandardFunction, standard_of};
 use st_values::Elem;
@@ -260,14 +263,14 @@ fn emit_alone(
     Ok(())
 }
 
-/// A call of a standard function or a conversion.
+/// A call of a function.
 #[cycle(emit)]
 fn emit_call(code: &mut Code, scope: &Scope<'_>, call: &Call, due: Elem) -> Result<(), AllocError>
     ensures { OnOk result (Emits (whole_of scope.now).variables due ((call_typed_in (whole_of scope.now) call.now).as_type due) code.old code.new) }
 {
     let arguments = call.arguments.as_slice();
     let Some(standard) = standard_of(call.name.spelling.as_slice()) else {
-        emit_nil(code, scope, due)?;
+        emit_function(code, scope, call, due)?;
         return Ok(());
     };
     let number = positional_count(scope, arguments);
@@ -331,6 +334,78 @@ fn emit_argument(
         code.push(instr, 0)?;
     }
     emit_expression(code, scope, expression, elem)?;
+    Ok(())
+}
+
+/// A call of a function of the text.
+#[cycle(emit)]
+fn emit_function(
+    code: &mut Code,
+    scope: &Scope<'_>,
+    call: &Call,
+    due: Elem,
+) -> Result<(), AllocError>
+    requires { standard_of call.now.name.spelling ≡ None }
+    ensures { OnOk result (Emits (whole_of scope.now).variables due ((call_typed_in (whole_of scope.now) call.now).as_type due) code.old code.new) }
+{
+    let Some(function) = scope.function(call.name.spelling.as_slice()) else {
+        emit_nil(code, scope, due)?;
+        return Ok(());
+    };
+    if !function.result().is(due) {
+        emit_nil(code, scope, due)?;
+        return Ok(());
+    }
+    let arguments = call.arguments.as_slice();
+    emit_behind(code, scope, function, arguments)?;
+    emit_passed(code, scope, function, arguments)?;
+    code.push(Instr::Step, call.name.position.line)?;
+    Ok(())
+}
+
+/// The values of arguments.
+#[cycle(emit)]
+fn emit_passed(
+    code: &mut Code,
+    scope: &Scope<'_>,
+    function: &Function<'_>,
+    arguments: &[Argument],
+) -> Result<(), AllocError>
+    ensures { OnOk result (code.new ≡ code.old ++ reverse (terms_code (whole_of scope.now).variables (arguments_from function.now.inputs 0 (passed_in (whole_of scope.now) arguments.now)))) }
+{
+    let mut place = passed_count(scope, arguments);
+    let mut number = arguments.len();
+    while number > 0 {
+        number -= 1;
+        match &arguments[number] {
+            Argument::Positional(expression) => {
+                place -= 1;
+                emit_value_of_input(code, scope, function, Some(place), expression)?;
+            }
+            Argument::Input(name, value) => {
+                place -= 1;
+                let input = function.input(name.spelling.as_slice());
+                emit_value_of_input(code, scope, function, input, value.get())?;
+            }
+            Argument::Output(_, _) => {}
+        }
+    }
+    Ok(())
+}
+
+/// The value of an argument that goes to the input of this number.
+#[cycle(emit)]
+fn emit_value_of_input(
+    code: &mut Code,
+    scope: &Scope<'_>,
+    function: &Function<'_>,
+    input: Option<usize>,
+    expression: &Expression,
+) -> Result<(), AllocError>
+    ensures { OnOk result (code.new ≡ code.old ++ reverse (term_code (whole_of scope.now).variables (as_input (typed (whole_of scope.now) expression.now) (input_at function.now.inputs input)))) }
+{
+    let due = input_type(scope, function, input, expression);
+    emit_expression(code, scope, expression, due)?;
     Ok(())
 }
 

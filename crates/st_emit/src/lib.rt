@@ -4,6 +4,7 @@
 mod body;
 mod cases;
 mod expression;
+mod functions;
 mod index;
 mod invocations;
 mod literal;

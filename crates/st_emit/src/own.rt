@@ -6,6 +6,7 @@ ghost use Rattle.st_emit.specs.Calls.{counts, own_from, positionals, takes_numbe
 ghost use Rattle.st_emit.specs.Trees.{chain_of, ends_in_comparison, own_behind, own_joined, whole_of};
 ghost use Rattle.std.specs.Prelude.{length};
 
+use crate::functions::result_named;
 use crate::literal::{is_comparison, literal_own, or_lint};
 use crate::places::{constant_named, place_type};
 use crate::scope::Scope;
@@ -134,7 +135,10 @@ fn own_of_call(scope: &Scope<'_>, call: &Call) -> Option<Elem>
     ensures { result ≡ (call_typed_in (whole_of scope.now) call.now).own }
 {
     let arguments = call.arguments.as_slice();
-    let standard = standard_of(call.name.spelling.as_slice())?;
+    let name = call.name.spelling.as_slice();
+    let Some(standard) = standard_of(name) else {
+        return result_named(scope, name);
+    };
     if !takes_number(standard, positional_count(scope, arguments)) {
         return None;
     }

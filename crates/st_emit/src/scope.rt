@@ -5,12 +5,13 @@ ghost use Rattle.st_types.specs.Compositions.{unknown};
 ghost use Rattle.st_leaves.specs.Places.{count};
 ghost use Rattle.st_leaves.specs.Selected.{element_of, selected_by, subscripts_of, value_type};
 ghost use Rattle.st_meaning.specs.Offsets.{IsSmall, offset_of};
-ghost use Rattle.st_meaning.specs.Wholes.{block_of};
+ghost use Rattle.st_meaning.specs.Wholes.{Input, block_of};
+ghost use Rattle.std.specs.List.{All};
 ghost use Rattle.st_places.specs.Parts.{IsNodeOf, is_array, part_in, whole_in};
 ghost use Rattle.st_places.specs.Dimensions.{dimensions_in};
 ghost use Rattle.st_emit.specs.Trees.{whole_of};
 
-use st_places::{Dimension, Node, Tables};
+use st_places::{Dimension, Function, Node, Tables};
 use st_types::StandardBlock;
 use st_values::{Elem, Value};
 use std::alloc::Global;
@@ -126,5 +127,14 @@ impl<'a> Scope<'a> {
         ensures { result ≡ option_map (λ unit. unit.number) ((whole_of self.now).invoked name.now) }
     {
         self.tables.instance(self.unit, name)
+    }
+
+    /// The function of the text of this name.
+    pub fn function(&self, name: &[u8]) -> Option<&'a Function<'a>>
+        ensures some { IfSome result (λ function. (whole_of self.now).functions name.now ≡ Some function.now) }
+        ensures none { result ≡ None → (whole_of self.now).functions name.now ≡ None }
+        ensures in_range { IfSome result (λ function. All (λ (input : Input). IsValue input.initial) function.now.inputs) }
+    {
+        self.tables.function(name)
     }
 }

@@ -1,5 +1,7 @@
 pub mod Blocks
 pub mod Chains
+pub mod Functions
+pub mod Levels
 pub mod Quick
 pub mod Ready
 pub mod Running

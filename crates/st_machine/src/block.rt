@@ -8,7 +8,8 @@ use std::marker::Model;
 #[derive(Drop)]
 pub struct Block {
     code: Code,
-    /// How deep its instances can lie: its level is above those of all blocks whose instances it enters.
+    /// How deep its instances can lie: its level is above those of all blocks whose instances it enters, and of all functions that it
+    /// calls.
     level: usize,
 }
 

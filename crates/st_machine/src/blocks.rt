@@ -8,18 +8,13 @@ ghost use Rattle.st_machine.specs.Ready.{FitFrom};
 ghost use Rattle.st_machine.specs.Running.{environment_at, moved, setting_at};
 ghost use Rattle.st_meaning.specs.Statements.{block_done, stretch, unless_forced, with_stretch};
 
+use crate::cells::NO_VALUE;
 use crate::leaves::store_value;
 use crate::moves::Move;
 use st_blocks::{MOST_LEAVES, block_step, leaf_count};
 use st_layout::{Layout, Memory};
 use st_types::StandardBlock;
-use st_values::{Elem, Value};
-
-/// What stands in a cell before a leaf is read into it.
-const EMPTY: Value = Value {
-    elem: Elem::Bool,
-    bits: 0,
-};
+use st_values::Value;
 
 /// Does `Invoke`.
 pub fn invoke<M: Memory>(
@@ -36,7 +31,7 @@ pub fn invoke<M: Memory>(
     ensures forced { (M.content layout.now memory.new).forced ≡ (M.content layout.now memory.old).forced }
     ensures does { (room line place left : ℕ) (stack : List ℤ) → act (environment_at now (M.content layout.now memory.old).forced) room (Instr.Invoke block leaf) line place stack (M.content layout.now memory.old).values left ≡ moved result line place stack (M.content layout.now memory.new).values left }
 {
-    let mut cells = [EMPTY; MOST_LEAVES];
+    let mut cells = [NO_VALUE; MOST_LEAVES];
     do_block(
         memory,
         layout,

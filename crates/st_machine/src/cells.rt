@@ -6,6 +6,12 @@ ghost use Rattle.st_values.specs.Values.{IsValue};
 
 use st_values::{Elem, Value, is_value};
 
+/// What stands where no value has been put yet.
+pub const NO_VALUE: Value = Value {
+    elem: Elem::Bool,
+    bits: 0,
+};
+
 /// The number of a type that a cell is.
 #[inline]
 pub fn number_in(elem: Elem, cell: i64) -> i128

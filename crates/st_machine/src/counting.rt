@@ -40,15 +40,15 @@ pub fn go_back(left: &mut u32, distance: usize) -> Move
 
 /// The step, the last value and the counter of a FOR, as cells.
 #[derive(Clone, Copy)]
-struct Count {
-    step: i64,
-    last: i64,
-    counter: i64,
+pub(crate) struct Count {
+    pub(crate) step: i64,
+    pub(crate) last: i64,
+    pub(crate) counter: i64,
 }
 
 /// The three cells on top of the stack.
 #[inline]
-fn count_on(stack: &mut Stack) -> Count
+pub(crate) fn count_on(stack: &mut Stack) -> Count
     requires { IsTrue (has_three stack.old.0) }
     ensures stack { stack.new.0 ≡ stack.old.0 }
     ensures cells { (rest : List ℤ) × (stack.old.0 ≡ result.step ∷ result.last ∷ result.counter ∷ rest) }
@@ -69,7 +69,7 @@ fn count_on(stack: &mut Stack) -> Count
 
 /// Puts another counter in the place of the one on the stack.
 #[inline]
-fn set_counter(stack: &mut Stack, cell: i64)
+pub(crate) fn set_counter(stack: &mut Stack, cell: i64)
     requires { IsTrue (has_three stack.old.0) }
     ensures cells { (step last counter : ℤ) (rest : List ℤ) → stack.old.0 ≡ step ∷ last ∷ counter ∷ rest → stack.new.0 ≡ step ∷ last ∷ cell ∷ rest }
     ensures room { stack.new.1 ≡ stack.old.1 }
@@ -96,7 +96,7 @@ fn goes_on(counter: i128, last: i128, step: i128) -> bool
 
 /// Whether the counter of a FOR hasn't passed its last value.
 #[inline]
-fn count_goes_on(elem: Elem, count: Count) -> bool
+pub(crate) fn count_goes_on(elem: Elem, count: Count) -> bool
     ensures { result ≡ goes_on (number_in elem count.counter) (number_in elem count.last) (number_in elem count.step) }
 {
     let step = number_in(elem, count.step);
@@ -137,7 +137,7 @@ fn next_of(counter: i128, last: i128, step: i128) -> Option<i64>
 }
 
 /// The next counter of a FOR, where it hasn't passed the last value.
-fn next_counter(elem: Elem, count: Count) -> Option<i64>
+pub(crate) fn next_counter(elem: Elem, count: Count) -> Option<i64>
     ensures { result ≡ next_cell elem count.step count.last count.counter }
 {
     let step = number_in(elem, count.step);

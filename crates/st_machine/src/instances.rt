@@ -1,53 +1,64 @@
 //! Running the bodies of function blocks on their instances.
-ghost use Rattle.std.specs.Prelude.{◌≡◌, ◌≤◌, OnOk};
+ghost use Rattle.std.specs.Prelude.{◌≡◌, ◌≤◌, IfOk};
 ghost use Rattle.st_layout.specs.Memory.{Content};
-ghost use Rattle.st_machine.specs.Blocks.{Entrance, LeavesAs, made_by, rooms_of};
+ghost use Rattle.st_machine.specs.Blocks.{Entrance, LeavesAs, made_by};
+ghost use Rattle.st_machine.specs.Levels.{rooms_of};
 
-use crate::block::Block;
+use crate::calls::call;
 use crate::moves::Move;
 use crate::perform::perform;
 use crate::run::Halt;
-use crate::stack::Stack;
+use crate::stacks::Level;
+use crate::units::Units;
+use st_code::Instr;
 use st_layout::{Layout, Memory};
 
-/// Runs the body of the block of this number on the instance whose first leaf has the other one. There is a stack for each level up
-/// to that of the block.
+/// Runs the body of the block of this number on the instance whose first leaf has the other one. There is a level for each one up to
+/// that of the block. It gives how many steps are left.
 ///
 /// # Errors
-/// At a fault, with the unit that it is in: this one, or one that its body invoked.
+/// At a fault, with the unit that it is in: this one, or one that its body invoked or called.
 pub(crate) fn enter<M: Memory>(
     number: usize,
     first: u32,
-    blocks: &[Block],
+    units: &Units,
     memory: &mut M,
     layout: &Layout,
-    levels: &mut [Stack],
+    levels: &mut [Level],
     now: i64,
-    left: &mut u32,
-) -> Result<(), Halt>
+    limit: u32,
+) -> Result<u32, Halt>
     requires over { M.IsOver layout.now memory.old }
-    requires may { Entrance number first blocks.now (rooms_of levels.old) layout.now }
+    requires may { Entrance number first units.now (rooms_of levels.old) layout.now }
     ensures over { M.IsOver layout.now memory.new }
     ensures forced { (M.content layout.now memory.new).forced ≡ (M.content layout.now memory.old).forced }
-    ensures leaves { (entrance : Entrance number first blocks.now (rooms_of levels.old) layout.now) → LeavesAs (made_by entrance.said number first now (M.content layout.now memory.old) left.old) (M.content layout.now memory.new).values left.new result }
-    ensures steps { OnOk result (left.new ≤ left.old) }
+    ensures leaves { (entrance : Entrance number first units.now (rooms_of levels.old) layout.now) → LeavesAs (made_by entrance.said number first now (M.content layout.now memory.old) limit) (M.content layout.now memory.new).values result }
+    ensures steps { IfOk result (λ left. left ≤ limit) }
     ensures rooms { rooms_of levels.new ≡ rooms_of levels.old }
 {
+    let blocks = units.blocks();
     let block = &blocks[number];
     let instrs = block.code().instrs();
     let _leaves = layout.len();
     let (lower, upper) = levels.split_at_mut(block.level());
-    let stack = &mut upper[0];
+    let level = &mut upper[0];
+    let stack = &mut level.stack;
     stack.clear();
+    let mut left = limit;
     let mut place = 0;
     while place < instrs.len() {
         let instr = instrs[place].from_leaf(first);
-        if let Some((unit, leaf)) = instr.entrance() {
-            enter(unit, leaf, blocks, memory, layout, lower, now, left)?;
+        if let Instr::Enter(unit, leaf) = instr {
+            left = enter(unit, leaf, units, memory, layout, lower, now, left)?;
             place += 1;
             continue;
         }
-        match perform(&instr, memory, layout, stack, now, left) {
+        if let Instr::Call(unit, inputs, below) = instr {
+            left = call(unit, inputs, below, units.functions(), stack, lower, left)?;
+            place += 1;
+            continue;
+        }
+        match perform(&instr, memory, layout, stack, now, &mut left) {
             Move::On => place += 1,
             Move::Skip(distance) => place = (place + 1).saturating_add(distance),
             Move::Back(distance) => place = place.saturating_sub(distance),
@@ -61,5 +72,5 @@ pub(crate) fn enter<M: Memory>(
             }
         }
     }
-    Ok(())
+    Ok(left)
 }

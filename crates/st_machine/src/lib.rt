@@ -1,13 +1,15 @@
-//! The stack machine: it runs the code of a program and its function blocks over a memory, without allocating.
+//! The stack machine: it runs the code of a program, its function blocks and its functions over a memory, without allocating.
 #![tactic(auto)]
 
 mod block;
 mod blocks;
+mod calls;
 mod cells;
 mod chains;
 mod counting;
 mod distances;
 mod entries;
+mod function;
 mod instances;
 mod leaves;
 mod looping;
@@ -20,9 +22,13 @@ mod run;
 mod stack;
 mod stacks;
 mod transfers;
+mod units;
+mod variables;
 
 pub use block::Block;
+pub use function::Function;
 pub use looping::run_fused;
 pub use run::Halt;
 pub use stack::Stack;
-pub use stacks::Stacks;
+pub use stacks::{Room, Stacks};
+pub use units::Units;

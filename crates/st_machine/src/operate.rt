@@ -31,7 +31,7 @@ pub fn binary(operation: Binary, a: Value, b: Value) -> Result<Value, ZeroDiviso
     requires taken { IsTrue (takes_operands operation a.elem b.elem) }
     requires left { IsValue a }
     requires right { IsValue b }
-    ensures value { (line : ℕ) → binary_value operation line a b ≡ unless_refused line result }
+    ensures value { (line left : ℕ) → binary_value operation line a b left ≡ unless_refused line result left }
     ensures in_range { IfOk result (λ value. IsValue value) }
 {
     match operation {

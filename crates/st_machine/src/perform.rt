@@ -10,14 +10,14 @@ use crate::counting::{begin, go_back, go_next, step, test};
 use crate::distances::{add, index, index_below};
 use crate::moves::Move;
 use crate::operations::{
-    apply, combine, drop_one, leave, push, select, skip_if, skip_unless, within,
+    apply, combine, drop_one, leave, pick, push, select, skip_if, skip_unless, within,
 };
 use crate::stack::Stack;
 use crate::transfers::{get, get_at, put, put_at};
 use st_code::Instr;
 use st_layout::{Layout, Memory};
 
-/// Does an instruction, which enters no instance of a block.
+/// Does an instruction, which enters no instance and calls no function.
 #[inline(always)]
 pub fn perform<M: Memory>(
     instr: &Instr,
@@ -61,7 +61,8 @@ pub fn perform<M: Memory>(
         }
         Instr::Leave => leave(stack),
         Instr::Invoke(block, leaf) => invoke(memory, layout, block, leaf, now),
-        // it is for the caller, who has the blocks
-        Instr::Enter(_unit, _leaf) => unreachable!(),
+        Instr::Pick(distance) => pick(stack, distance),
+        // they are for the caller, who has the units
+        Instr::Enter(..) | Instr::Call(..) => unreachable!(),
     }
 }

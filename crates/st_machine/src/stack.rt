@@ -1,5 +1,5 @@
 //! The operand stack, whose room is made before a run.
-ghost use Rattle.std.specs.Prelude.{◌≡◌, ◌<◌, [], ◌∷◌, length, IfOk};
+ghost use Rattle.std.specs.Prelude.{◌≡◌, ◌<◌, ◌≤◌, [], ◌∷◌, drop, get_or, length, pos, reverse, take, IfOk};
 
 use std::alloc::{AllocError, Global};
 use std::marker::Model;
@@ -77,5 +77,29 @@ impl Stack {
     {
         self.top -= 1;
         self.cells[self.top]
+    }
+
+    /// The newest numbers, so many. The newest of all is the last.
+    pub fn newest(&self, count: usize) -> &[i64]
+        requires { count ≤ length self.now.0 }
+        ensures { result.now ≡ reverse (take count self.now.0) }
+    {
+        &self.cells[self.top - count..self.top]
+    }
+
+    /// The number that stands so far below the newest.
+    pub fn pick(&self, distance: usize) -> i64
+        requires { distance < length self.now.0 }
+        ensures { result ≡ get_or self.now.0 distance (pos 0) }
+    {
+        self.cells[self.top - 1 - distance]
+    }
+
+    /// Takes so many numbers away, or all where there are fewer.
+    pub fn lower(&mut self, count: usize)
+        ensures cells { self.new.0 ≡ drop count self.old.0 }
+        ensures room { self.new.1 ≡ self.old.1 }
+    {
+        self.top = self.top.saturating_sub(count);
     }
 }

@@ -1,20 +1,47 @@
-//! The operand stacks of a program, whose room is made before a run.
-ghost use Rattle.std.specs.Prelude.{◌≡◌, IfOk};
-ghost use Rattle.st_machine.specs.Blocks.{rooms_of};
+//! The operand stacks of a program and the variables of its functions, whose room is made before a run.
+ghost use Rattle.std.specs.Prelude.{◌≡◌, [], ◌∷◌, IfOk};
+ghost use Rattle.st_machine.specs.Levels.{rooms_of};
 
+use crate::cells::NO_VALUE;
 use crate::stack::Stack;
+use st_values::Value;
 use std::alloc::{AllocError, Global};
 use std::marker::Model;
 
-/// A stack for the program's own code, and one for the blocks of each level.
+/// The room of a level.
+#[derive(Clone, Copy)]
+pub struct Room {
+    /// For how many numbers there is room on its stack.
+    pub stack: usize,
+    /// How many variables the function of the level has.
+    pub variables: usize,
+}
+
+/// What the code of a block or a function runs on.
+#[derive(Drop)]
+pub(crate) struct Level {
+    pub(crate) stack: Stack,
+    /// The variables of a function.
+    pub(crate) variables: Vec<Value>,
+}
+
+impl Model for Level {
+    ghost use Rattle.st_machine.specs.Levels.{LevelView};
+
+    ghost Value = { LevelView };
+
+    ghost view = { λ level. record { stack = level.stack; variables = level.variables.items } };
+}
+
+/// A stack for the program's own code, and a level for each of its blocks and functions.
 #[derive(Drop)]
 pub struct Stacks {
     pub(crate) own: Stack,
-    pub(crate) levels: Vec<Stack>,
+    pub(crate) levels: Vec<Level>,
 }
 
 impl Model for Stacks {
-    ghost use Rattle.st_machine.specs.Blocks.{Rooms, rooms_of};
+    ghost use Rattle.st_machine.specs.Levels.{Rooms, rooms_of};
 
     ghost Value = { Rooms };
 
@@ -22,23 +49,33 @@ impl Model for Stacks {
 }
 
 impl Stacks {
-    /// Stacks with room for so many numbers each.
-    pub fn with_room(alloc: Global, own: usize, levels: &[usize]) -> Result<Stacks, AllocError>
+    /// Stacks and levels with so much room each.
+    pub fn with_room(alloc: Global, own: usize, levels: &[Room]) -> Result<Stacks, AllocError>
         ensures { IfOk result (λ stacks. stacks ≡ record { own = own; levels = levels.now }) }
     {
         let own = Stack::with_room(alloc, own)?;
-        let levels = stacks_of(alloc, levels)?;
+        let levels = levels_of(alloc, levels)?;
         Ok(Stacks { own, levels })
     }
 }
 
-/// A stack for each of these rooms.
-fn stacks_of(alloc: Global, rooms: &[usize]) -> Result<Vec<Stack>, AllocError>
-    ensures { IfOk result (λ stacks. rooms_of stacks.items ≡ rooms.now) }
+/// A level for each of these rooms.
+fn levels_of(alloc: Global, rooms: &[Room]) -> Result<Vec<Level>, AllocError>
+    ensures { IfOk result (λ levels. rooms_of levels.items ≡ rooms.now) }
 {
-    let mut stacks = Vec::with_capacity(alloc, rooms.len())?;
+    let mut levels = Vec::with_capacity(alloc, rooms.len())?;
     'rooms: for room in rooms {
-        stacks.push(Stack::with_room(alloc, *room)?)?;
+        levels.push(level_of(alloc, *room)?)?;
     }
-    Ok(stacks)
+    Ok(levels)
+}
+
+/// A level with this room.
+fn level_of(alloc: Global, room: Room) -> Result<Level, AllocError>
+    ensures { IfOk result (λ level. rooms_of (level ∷ []) ≡ room ∷ []) }
+{
+    let stack = Stack::with_room(alloc, room.stack)?;
+    let mut variables = Vec::new(alloc);
+    variables.resize(room.variables, NO_VALUE)?;
+    Ok(Level { stack, variables })
 }

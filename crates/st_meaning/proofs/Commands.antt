@@ -1,5 +1,5 @@
 -- Statements keep the frame (3.3.2).
-use Rattle.std.proofs.Common.{◌≡◌, ℕ, suc, ℤ, Bool, true, List, IsTrue, sym, ◌∙◌, subst, if◌then◌else◌}
+use Rattle.std.proofs.Common.{◌≡◌, ℕ, suc, ◌≤◌, ℤ, Bool, true, List, IsTrue, sym, ◌∙◌, subst, if◌then◌else◌}
 use Rattle.st_values.specs.Values.{in_range}
 use Rattle.st_values.specs.declared.elem.Elem.{Elem}
 use Rattle.st_values.specs.declared.elem.Elem.TheVariants as elems
@@ -9,17 +9,19 @@ use Rattle.st_leaves.specs.Paths.{Path}
 use Rattle.st_leaves.specs.Selected.{selected_by}
 use Rattle.st_operators.specs.Laws.{IsOf}
 use Rattle.st_meaning.specs.Laws.{CommandsKeepTheFrame, HasLeaf, StaysInFrame}
-use Rattle.st_meaning.specs.Meaning.{Values, located, stored_at, value_of}
+use Rattle.st_meaning.specs.Meaning.{Calls, Values, located, stored_at, value_of}
 use Rattle.st_meaning.specs.Offsets.{offset_of}
-use Rattle.st_meaning.specs.Sound.{AreSoundBranches, AreSoundCases, AreSoundCommands, AreValuesOf, HasOneLeafEach, IsCount, IsSoundCommand, term_type}
+use Rattle.st_meaning.specs.Operations.{Answer, gives}
+use Rattle.st_meaning.specs.Sound.{AreSoundCalls, AreSoundBranches, AreSoundCases, AreSoundCommands, AreValuesOf, HasOneLeafEach, IsCount, IsSoundCommand, IsSoundTerm, term_type}
 use Rattle.st_meaning.specs.Statements.{Outcome, Setting, done, exited, returned, alike, branches_meaning, cases_meaning, command_meaning, commands_meaning, count_turns, given, goes_on, has_label, is_true, repeat_turns, setting_from, while_turns}
 use Rattle.st_meaning.specs.Terms.{Term, Parts, Command, nothing, assign, choice, cases, count_loop, while_loop, repeat_loop, invoke, enter, exit, finish, Commands, no_commands, more_commands, Branches, no_branches, more_branches, Cases, no_cases, more_cases}
+use Rattle.st_meaning.specs.Wholes.{Functions}
 use Rattle.st_meaning.proofs.Frames.{AlwaysStays, either_stays, given_stays, nothing_done, stays_after, step_stays, store_keeps, then_stays}
 use Rattle.st_meaning.proofs.Instances.{part_has_one}
 use Rattle.st_meaning.proofs.Invocations.{enter_stays, invoke_stays}
 use Rattle.st_meaning.proofs.Places.{places_have_leaves}
 use Rattle.st_meaning.proofs.Ranges.{IsBehind, begins_behind, counter_in_range}
-use Rattle.st_meaning.proofs.TermValues.{term_value}
+use Rattle.st_meaning.proofs.TermValues.{places_take_steps, term_value}
 use Rattle.st_meaning.proofs.Turns.{count_stays, repeat_stays, while_stays}
 
 -- the counter is stored as a value of the type of the first value
@@ -28,19 +30,29 @@ counter_is e a b counter step is is' behind on =
     let last : IsTrue (in_range a.elem b.bits) = subst (λ t. IsTrue (in_range t b.bits)) (is'.of_type ∙ sym is.of_type) is'.in_range in
     record { in_range = counter_in_range a.elem a.bits b.bits counter step is.in_range last behind on; of_type = is.of_type }
 
-module _ (root : Composition) (setting : Setting) (now : IsTrue (in_range elems.Time setting.now)) (one : HasOneLeafEach root) where
+module _ (functions : Functions) (calls : Calls) (known : AreSoundCalls functions calls) (root : Composition) (setting : Setting)
+    (now : IsTrue (in_range elems.Time setting.now)) (one : HasOneLeafEach root) where
   abbrev forced : List Bool
   forced = setting.forced
 
+  term_takes : (values : Values) → AreValuesOf root values → (t : Term) (left : ℕ) → IsSoundTerm functions root t → (v : Value) (n : ℕ)
+      → value_of calls root values t left ≡ gives v n → n ≤ left
+  term_takes values all t left sound v n h = (term_value functions calls known root values one all t left v n sound h).steps
+
   -- ---- assignments
 
-  assign_stays : (line : ℕ) (ps : Parts) (t : Term) → IsSoundCommand root (assign line ps t) → AlwaysStays root forced (command_meaning root setting (assign line ps t))
+  assign_stays : (line : ℕ) (ps : Parts) (t : Term) → IsSoundCommand functions root (assign line ps t)
+      → AlwaysStays root forced (command_meaning calls root setting (assign line ps t))
   assign_stays line ps t sound values left all =
-      step_stays root forced values line left (λ n. given (value_of root values t) (λ v. given (located root values root ps) (λ path. done (stored_at root forced values path v) n))) all
-      (λ n. given_stays root forced values n (value_of root values t) (λ v. given (located root values root ps) (λ path. done (stored_at root forced values path v) n))
-      (λ v h. given_stays root forced values n (located root values root ps) (λ path. done (stored_at root forced values path v) n)
-      (λ path k. store_keeps root forced values (term_type root t) path v n one all (places_have_leaves root values (term_type root t) ps path sound.0 k)
-      (term_value root values one all t v sound.1 h))))
+      let e = term_type root t in
+      let found : Value → Path → ℕ → Outcome = (λ v path k. done (stored_at root forced values path v) k) in
+      let valued : Value → ℕ → Outcome = (λ v m. given (located calls root values root ps m) (found v)) in
+      step_stays root forced values line left (λ n. given (value_of calls root values t n) valued) all
+      (λ n. given_stays root forced values n (value_of calls root values t n) valued all (term_takes values all t n sound.1)
+      (λ v m h. given_stays root forced values m (located calls root values root ps m) (found v) all
+      (λ path k g. places_take_steps functions calls root values e ps m path k known one all sound.0 g)
+      (λ path k g. store_keeps root forced values e path v k one all (places_have_leaves functions calls root values e ps m path k sound.0 g)
+      (term_value functions calls known root values one all t n v m sound.1 h).value)))
 
   -- ---- FOR
 
@@ -56,88 +68,99 @@ module _ (root : Composition) (setting : Setting) (now : IsTrue (in_range elems.
       (λ counter behind on others left whole. store_keeps root forced others e path (alike a counter) left one whole leaf (counter_is e a b counter c.bits is is' behind on))
       a.bits (begins_behind a.bits c.bits) (stored_at root forced values path a) n start.all)
 
-  count_loop_stays : (line : ℕ) (ps : Parts) (first last step : Term) (cs : Commands) → IsCount root ps first last step → AlwaysStays root forced (commands_meaning root setting cs)
-      → AlwaysStays root forced (command_meaning root setting (count_loop line ps first last step cs))
+  count_loop_stays : (line : ℕ) (ps : Parts) (first last step : Term) (cs : Commands) → IsCount functions root ps first last step
+      → AlwaysStays root forced (commands_meaning calls root setting cs)
+      → AlwaysStays root forced (command_meaning calls root setting (count_loop line ps first last step cs))
   count_loop_stays line ps first last step cs sound stays values left all =
-      let body = commands_meaning root setting cs in
+      let body = commands_meaning calls root setting cs in
       let e = term_type root first in
-      let turns : ℕ → Value → Value → Value → Path → Outcome = (λ n a b c path.
-      count_turns (suc n) line (λ others i. stored_at root forced others path (alike a i)) b.bits c.bits body a.bits (stored_at root forced values path a) n) in
-      let from_step : ℕ → Value → Value → Value → Outcome = (λ n a b c. given (located root values root ps) (λ path. turns n a b c path)) in
-      let from_last : ℕ → Value → Value → Outcome = (λ n a b. given (value_of root values step) (λ c. from_step n a b c)) in
-      let from_first : ℕ → Value → Outcome = (λ n a. given (value_of root values last) (λ b. from_last n a b)) in
-      step_stays root forced values line left (λ n. given (value_of root values first) (λ a. from_first n a)) all
-      (λ n. given_stays root forced values n (value_of root values first) (λ a. from_first n a)
-      (λ a h. given_stays root forced values n (value_of root values last) (λ b. from_last n a b)
-      (λ b k. given_stays root forced values n (value_of root values step) (λ c. from_step n a b c)
-      (λ c l. given_stays root forced values n (located root values root ps) (λ path. turns n a b c path)
-      (λ path m. turns_stay line body stays e path (places_have_leaves root values e ps path sound.variable m) a b c
-      (term_value root values one all first a sound.first h)
-      (subst (λ t. IsOf t b) sound.last.type (term_value root values one all last b sound.last.sound k))
-      values n all)))))
+      let turns : Value → Value → Value → Path → ℕ → Outcome = (λ a b c path i.
+      count_turns (suc i) line (λ others counter. stored_at root forced others path (alike a counter)) b.bits c.bits body a.bits (stored_at root forced values path a) i) in
+      let from_step : Value → Value → Value → ℕ → Outcome = (λ a b c j. given (located calls root values root ps j) (turns a b c)) in
+      let from_last : Value → Value → ℕ → Outcome = (λ a b k. given (value_of calls root values step k) (from_step a b)) in
+      let from_first : Value → ℕ → Outcome = (λ a m. given (value_of calls root values last m) (from_last a)) in
+      step_stays root forced values line left (λ n. given (value_of calls root values first n) from_first) all
+      (λ n. given_stays root forced values n (value_of calls root values first n) from_first all (term_takes values all first n sound.first)
+      (λ a m h. given_stays root forced values m (value_of calls root values last m) (from_last a) all (term_takes values all last m sound.last.sound)
+      (λ b k g. given_stays root forced values k (value_of calls root values step k) (from_step a b) all (term_takes values all step k sound.step.sound)
+      (λ c j l. given_stays root forced values j (located calls root values root ps j) (turns a b c) all
+      (λ path i q. places_take_steps functions calls root values e ps j path i known one all sound.variable q)
+      (λ path i q. turns_stay line body stays e path (places_have_leaves functions calls root values e ps j path i sound.variable q) a b c
+      (term_value functions calls known root values one all first n a m sound.first h).value
+      (subst (λ t. IsOf t b) sound.last.type (term_value functions calls known root values one all last m b k sound.last.sound g).value)
+      values i all)))))
 
 -- ---- all statements
 
 abbrev InTime : Setting → Type 0
 InTime setting = IsTrue (in_range elems.Time setting.now)
 
-mutual
-  command_stays : (root : Composition) (setting : Setting) → InTime setting → HasOneLeafEach root → (c : Command) → IsSoundCommand root c
-      → AlwaysStays root setting.forced (command_meaning root setting c)
-  command_stays root setting now one (nothing line) sound values left all =
-      step_stays root setting.forced values line left (λ n. done values n) all (λ n. nothing_done root setting.forced values n all)
-  command_stays root setting now one (assign line ps t) sound values left all = assign_stays root setting now one line ps t sound values left all
-  command_stays root setting now one (choice line bs others) sound values left all =
-      step_stays root setting.forced values line left (branches_meaning root setting bs (commands_meaning root setting others) values) all
-      (λ n. branches_stay root setting now one bs sound.0 (commands_meaning root setting others) (commands_stay root setting now one others sound.1) values n all)
-  command_stays root setting now one (cases line t cs others) sound values left all =
-      let to : ℤ → Values → ℕ → Outcome = cases_meaning root setting cs (commands_meaning root setting others) in
-      step_stays root setting.forced values line left (λ n. given (value_of root values t) (λ v. to v.bits values n)) all
-      (λ n. given_stays root setting.forced values n (value_of root values t) (λ v. to v.bits values n)
-      (λ v h. cases_stay root setting now one cs (term_type root t) sound.1 (commands_meaning root setting others) (commands_stay root setting now one others sound.2) v.bits values n all))
-  command_stays root setting now one (count_loop line ps first last step cs) sound values left all =
-      count_loop_stays root setting now one line ps first last step cs sound.0 (commands_stay root setting now one cs sound.1) values left all
-  command_stays root setting now one (while_loop line t cs) sound values left all =
-      let body = commands_meaning root setting cs in
-      step_stays root setting.forced values line left (λ n. while_turns (suc n) line (λ others. value_of root others t) body values n) all
-      (λ n. while_stays root setting.forced line body (commands_stay root setting now one cs sound.1) (suc n) (λ others. value_of root others t) values n all)
-  command_stays root setting now one (repeat_loop line cs t) sound values left all =
-      let body = commands_meaning root setting cs in
-      step_stays root setting.forced values line left (λ n. repeat_turns (suc n) line (λ others. value_of root others t) body values n) all
-      (λ n. repeat_stays root setting.forced line body (commands_stay root setting now one cs sound.0) (suc n) (λ others. value_of root others t) values n all)
-  command_stays root setting now one (invoke line name b inputs outputs) sound values left all =
-      invoke_stays root setting one now line name b inputs outputs sound values left all
-  command_stays root setting now one (enter line name unit body inputs outputs) sound values left all =
-      enter_stays root setting one line name unit body inputs outputs sound.0 sound.2
-      (commands_stay (selected_by root name) (setting_from (offset_of root name) setting) now (part_has_one root name one) body sound.1) values left all
-  command_stays root setting now one (exit line) sound values left all =
-      step_stays root setting.forced values line left (λ n. exited values n) all (λ n. nothing_done root setting.forced values n all)
-  command_stays root setting now one (finish line) sound values left all =
-      step_stays root setting.forced values line left (λ n. returned values n) all (λ n. nothing_done root setting.forced values n all)
+module _ (functions : Functions) (calls : Calls) (known : AreSoundCalls functions calls) where
+  -- the test of a loop
+  test_takes : (root : Composition) → HasOneLeafEach root → (t : Term) → IsSoundTerm functions root t → (values : Values) (left : ℕ) → AreValuesOf root values
+      → (v : Value) (n : ℕ) → value_of calls root values t left ≡ gives v n → n ≤ left
+  test_takes root one t sound values left all v n h = (term_value functions calls known root values one all t left v n sound h).steps
 
-  commands_stay : (root : Composition) (setting : Setting) → InTime setting → HasOneLeafEach root → (cs : Commands) → AreSoundCommands root cs
-      → AlwaysStays root setting.forced (commands_meaning root setting cs)
-  commands_stay root setting now one no_commands sound values left all = nothing_done root setting.forced values left all
-  commands_stay root setting now one (more_commands c cs) sound values left all =
-      then_stays root setting.forced values left (command_meaning root setting c values left) (commands_meaning root setting cs)
-      (command_stays root setting now one c sound.0 values left all) (commands_stay root setting now one cs sound.1)
+  mutual
+    command_stays : (root : Composition) (setting : Setting) → InTime setting → HasOneLeafEach root → (c : Command) → IsSoundCommand functions root c
+        → AlwaysStays root setting.forced (command_meaning calls root setting c)
+    command_stays root setting now one (nothing line) sound values left all =
+        step_stays root setting.forced values line left (λ n. done values n) all (λ n. nothing_done root setting.forced values n all)
+    command_stays root setting now one (assign line ps t) sound values left all = assign_stays functions calls known root setting now one line ps t sound values left all
+    command_stays root setting now one (choice line bs others) sound values left all =
+        step_stays root setting.forced values line left (branches_meaning calls root setting bs (commands_meaning calls root setting others) values) all
+        (λ n. branches_stay root setting now one bs sound.0 (commands_meaning calls root setting others) (commands_stay root setting now one others sound.1) values n all)
+    command_stays root setting now one (cases line t cs others) sound values left all =
+        let to : ℤ → Values → ℕ → Outcome = cases_meaning calls root setting cs (commands_meaning calls root setting others) in
+        step_stays root setting.forced values line left (λ n. given (value_of calls root values t n) (λ v m. to v.bits values m)) all
+        (λ n. given_stays root setting.forced values n (value_of calls root values t n) (λ v m. to v.bits values m) all (test_takes root one t sound.0 values n all)
+        (λ v m h. cases_stay root setting now one cs (term_type root t) sound.1 (commands_meaning calls root setting others) (commands_stay root setting now one others sound.2) v.bits values m all))
+    command_stays root setting now one (count_loop line ps first last step cs) sound values left all =
+        count_loop_stays functions calls known root setting now one line ps first last step cs sound.0 (commands_stay root setting now one cs sound.1) values left all
+    command_stays root setting now one (while_loop line t cs) sound values left all =
+        let body = commands_meaning calls root setting cs in
+        let test : Values → ℕ → Answer Value = (λ others m. value_of calls root others t m) in
+        step_stays root setting.forced values line left (λ n. while_turns (suc n) line test body values n) all
+        (λ n. while_stays root setting.forced line body (commands_stay root setting now one cs sound.1) (suc n) test (test_takes root one t sound.0) values n all)
+    command_stays root setting now one (repeat_loop line cs t) sound values left all =
+        let body = commands_meaning calls root setting cs in
+        let test : Values → ℕ → Answer Value = (λ others m. value_of calls root others t m) in
+        step_stays root setting.forced values line left (λ n. repeat_turns (suc n) line test body values n) all
+        (λ n. repeat_stays root setting.forced line body (commands_stay root setting now one cs sound.0) (suc n) test (test_takes root one t sound.1) values n all)
+    command_stays root setting now one (invoke line name b inputs outputs) sound values left all =
+        invoke_stays functions calls known root setting one now line name b inputs outputs sound values left all
+    command_stays root setting now one (enter line name unit body inputs outputs) sound values left all =
+        enter_stays functions calls known root setting one line name unit body inputs outputs sound.0 sound.2
+        (commands_stay (selected_by root name) (setting_from (offset_of root name) setting) now (part_has_one root name one) body sound.1) values left all
+    command_stays root setting now one (exit line) sound values left all =
+        step_stays root setting.forced values line left (λ n. exited values n) all (λ n. nothing_done root setting.forced values n all)
+    command_stays root setting now one (finish line) sound values left all =
+        step_stays root setting.forced values line left (λ n. returned values n) all (λ n. nothing_done root setting.forced values n all)
 
-  branches_stay : (root : Composition) (setting : Setting) → InTime setting → HasOneLeafEach root → (bs : Branches) → AreSoundBranches root bs → (others : Values → ℕ → Outcome)
-      → AlwaysStays root setting.forced others → AlwaysStays root setting.forced (branches_meaning root setting bs others)
-  branches_stay root setting now one no_branches sound others stays values left all = stays values left all
-  branches_stay root setting now one (more_branches t cs bs) sound others stays values left all =
-      let run = commands_meaning root setting cs in
-      let more = branches_meaning root setting bs others in
-      given_stays root setting.forced values left (value_of root values t) (λ v. if is_true v then run values left else more values left)
-      (λ v h. either_stays root setting.forced values left (is_true v) (run values left) (more values left)
-      (λ e. commands_stay root setting now one cs sound.1 values left all) (branches_stay root setting now one bs sound.2 others stays values left all))
+    pub commands_stay : (root : Composition) (setting : Setting) → InTime setting → HasOneLeafEach root → (cs : Commands) → AreSoundCommands functions root cs
+        → AlwaysStays root setting.forced (commands_meaning calls root setting cs)
+    commands_stay root setting now one no_commands sound values left all = nothing_done root setting.forced values left all
+    commands_stay root setting now one (more_commands c cs) sound values left all =
+        then_stays root setting.forced values left (command_meaning calls root setting c values left) (commands_meaning calls root setting cs)
+        (command_stays root setting now one c sound.0 values left all) (commands_stay root setting now one cs sound.1)
 
-  cases_stay : (root : Composition) (setting : Setting) → InTime setting → HasOneLeafEach root → (cs : Cases) (e : Elem) → AreSoundCases root e cs → (others : Values → ℕ → Outcome)
-      → AlwaysStays root setting.forced others → (i : ℤ) → AlwaysStays root setting.forced (cases_meaning root setting cs others i)
-  cases_stay root setting now one no_cases e sound others stays i values left all = stays values left all
-  cases_stay root setting now one (more_cases labels cs more) e sound others stays i values left all =
-      either_stays root setting.forced values left (has_label labels i) (commands_meaning root setting cs values left) (cases_meaning root setting more others i values left)
-      (λ h. commands_stay root setting now one cs sound.1 values left all) (cases_stay root setting now one more e sound.2 others stays i values left all)
+    branches_stay : (root : Composition) (setting : Setting) → InTime setting → HasOneLeafEach root → (bs : Branches) → AreSoundBranches functions root bs
+        → (others : Values → ℕ → Outcome) → AlwaysStays root setting.forced others → AlwaysStays root setting.forced (branches_meaning calls root setting bs others)
+    branches_stay root setting now one no_branches sound others stays values left all = stays values left all
+    branches_stay root setting now one (more_branches t cs bs) sound others stays values left all =
+        let run = commands_meaning calls root setting cs in
+        let more = branches_meaning calls root setting bs others in
+        given_stays root setting.forced values left (value_of calls root values t left) (λ v n. if is_true v then run values n else more values n) all
+        (test_takes root one t sound.0 values left all)
+        (λ v n h. either_stays root setting.forced values n (is_true v) (run values n) (more values n)
+        (λ e. commands_stay root setting now one cs sound.1 values n all) (branches_stay root setting now one bs sound.2 others stays values n all))
+
+    cases_stay : (root : Composition) (setting : Setting) → InTime setting → HasOneLeafEach root → (cs : Cases) (e : Elem) → AreSoundCases functions root e cs
+        → (others : Values → ℕ → Outcome) → AlwaysStays root setting.forced others → (i : ℤ) → AlwaysStays root setting.forced (cases_meaning calls root setting cs others i)
+    cases_stay root setting now one no_cases e sound others stays i values left all = stays values left all
+    cases_stay root setting now one (more_cases labels cs more) e sound others stays i values left all =
+        either_stays root setting.forced values left (has_label labels i) (commands_meaning calls root setting cs values left) (cases_meaning calls root setting more others i values left)
+        (λ h. commands_stay root setting now one cs sound.1 values left all) (cases_stay root setting now one more e sound.2 others stays i values left all)
 
 pub commands_keep_the_frame : CommandsKeepTheFrame
-commands_keep_the_frame root setting cs values left now one all sound = commands_stay root setting now one cs sound values left all
+commands_keep_the_frame functions calls root setting cs values left known now one all sound = commands_stay functions calls known root setting now one cs sound values left all

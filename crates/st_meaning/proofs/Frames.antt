@@ -1,5 +1,5 @@
 -- What lies in the frame: values for all leaves, the forced ones as they were, and no more steps.
-use Rattle.std.proofs.Common.{◌≡◌, ◌≢◌, ℕ, zero, suc, ◌<◌, ◌==◌, Bool, true, false, List, length, get_or, set, Some, if◌then◌else◌, refl, ap, sym, ◌∙◌, subst, arith, length-set, get_or-set_same, get_or-set_other}
+use Rattle.std.proofs.Common.{◌≡◌, ◌≢◌, ℕ, zero, suc, ◌<◌, ◌≤◌, ◌==◌, Bool, true, false, List, length, get_or, set, Some, if◌then◌else◌, refl, ap, sym, ◌∙◌, subst, arith, length-set, get_or-set_same, get_or-set_other}
 use Rattle.std.proofs.lemmas.Bool.Decides.{Decides-eqb}
 use Rattle.st_values.specs.declared.elem.Elem.{Elem}
 use Rattle.st_values.specs.declared.value.Value.{Value}
@@ -97,10 +97,12 @@ module _ (root : Composition) (forced : List Bool) where
   step_stays values line zero go all h = tt
   step_stays values line (suc n) go all h = stays_after values values (suc n) n (go n) (record { all = all; kept = λ i t. refl; steps = omega arith }) (h n)
 
-  pub given_stays : {A : Type 0} (values : Values) (left : ℕ) (answer : Answer A) (go : A → Outcome) → ((x : A) → answer ≡ gives x → StaysInFrame root forced values left (go x))
+  pub given_stays : {A : Type 0} (values : Values) (left : ℕ) (answer : Answer A) (go : A → ℕ → Outcome) → AreValuesOf root values
+      → ((x : A) (n : ℕ) → answer ≡ gives x n → n ≤ left) → ((x : A) (n : ℕ) → answer ≡ gives x n → StaysInFrame root forced values n (go x n))
       → StaysInFrame root forced values left (given answer go)
-  given_stays values left (gives x) go h = h x refl
-  given_stays values left (stops f) go h = tt
+  given_stays values left (gives x n) go all less h =
+      stays_after values values left n (go x n) (record { all = all; kept = λ i t. refl; steps = less x n refl }) (h x n refl)
+  given_stays values left (stops f) go all less h = tt
 
   pub either_stays : (values : Values) (left : ℕ) (b : Bool) (o p : Outcome) → (b ≡ true → StaysInFrame root forced values left o) → StaysInFrame root forced values left p
       → StaysInFrame root forced values left (if b then o else p)

@@ -3,8 +3,10 @@ use Rattle.std.proofs.Common.{◌≡◌, ℕ, ◌<◌, ℤ, Bool, true, false, L
 use Rattle.std.proofs.lemmas.Slice.Zip.{AllZip-long}
 use Rattle.st_values.specs.Values.{in_range}
 use Rattle.st_values.specs.declared.elem.Elem.TheVariants as elems
+use Rattle.st_values.specs.declared.value.Value.{Value}
 use Rattle.st_types.specs.Compositions.{Composition, standard}
 use Rattle.st_types.specs.declared.standard.StandardBlock.{StandardBlock}
+use Rattle.st_leaves.specs.Paths.{Path}
 use Rattle.st_leaves.specs.Places.{count}
 use Rattle.st_leaves.specs.Selected.{selected_by}
 use Rattle.st_blocks.specs.Cells.{AreLeavesOf, IsOfType, types_of}
@@ -12,16 +14,17 @@ use Rattle.st_blocks.specs.Steps.{stepped}
 use Rattle.st_blocks.proofs.TypeLemmas.{blocks_keep_their_types, cell_typed}
 use Rattle.st_operators.specs.Laws.{IsOf}
 use Rattle.st_meaning.specs.Laws.{KeepsFrame, StaysInFrame}
-use Rattle.st_meaning.specs.Meaning.{Values, located, no_value, stored_at, value_of}
+use Rattle.st_meaning.specs.Meaning.{Calls, Values, located, no_value, stored_at, value_of}
 use Rattle.st_meaning.specs.Offsets.{offset_of}
-use Rattle.st_meaning.specs.Sound.{AreSoundMoves, AreValuesOf, HasOneLeafEach, IsInvocation, term_type, type_at}
+use Rattle.st_meaning.specs.Sound.{AreSoundCalls, AreSoundMoves, AreValuesOf, HasOneLeafEach, IsInvocation, term_type, type_at}
 use Rattle.st_meaning.specs.Statements.{Outcome, Setting, done, exited, returned, faulted, after_step, block_done, command_meaning, commands_meaning, ended, given, instance_meaning, left_by, moves_meaning, setting_from, stretch, then_do, unless_forced}
 use Rattle.st_meaning.specs.Terms.{Commands, Moves, no_moves, more_moves, invoke, enter}
+use Rattle.st_meaning.specs.Wholes.{Functions}
 use Rattle.st_meaning.proofs.Frames.{AlwaysStays, given_stays, nothing_done, stays_after, step_stays, store_keeps, then_stays}
 use Rattle.st_meaning.proofs.Instances.{part_keeps}
 use Rattle.st_meaning.proofs.Places.{places_have_leaves}
 use Rattle.st_meaning.proofs.Stretches.{block_count, block_type, cells_typed, part_values, unless_at, unless_length}
-use Rattle.st_meaning.proofs.TermValues.{term_value}
+use Rattle.st_meaning.proofs.TermValues.{places_take_steps, term_value}
 
 -- ---- what a block does to the values of an instance
 
@@ -65,34 +68,36 @@ block_keeps root setting now name b is values all left =
 
 -- ---- inputs and outputs
 
-module _ (root : Composition) (setting : Setting) (one : HasOneLeafEach root) where
-  pub moves_stay : (ms : Moves) → AreSoundMoves root ms → AlwaysStays root setting.forced (moves_meaning root setting ms)
+module _ (functions : Functions) (calls : Calls) (known : AreSoundCalls functions calls) (root : Composition) (setting : Setting) (one : HasOneLeafEach root) where
+  pub moves_stay : (ms : Moves) → AreSoundMoves functions root ms → AlwaysStays root setting.forced (moves_meaning calls root setting ms)
   moves_stay no_moves sound values left all = nothing_done root setting.forced values left all
   moves_stay (more_moves ps t more) sound values left all =
       let forced = setting.forced in
-      given_stays root forced values left (value_of root values t)
-      (λ v. given (located root values root ps) (λ path. moves_meaning root setting more (stored_at root forced values path v) left))
-      (λ v h. given_stays root forced values left (located root values root ps)
-      (λ path. moves_meaning root setting more (stored_at root forced values path v) left)
-      (λ path k.
+      let e = term_type root t in
+      let found : Value → Path → ℕ → Outcome = (λ v path m. moves_meaning calls root setting more (stored_at root forced values path v) m) in
+      given_stays root forced values left (value_of calls root values t left) (λ v n. given (located calls root values root ps n) (found v)) all
+      (λ v n h. (term_value functions calls known root values one all t left v n sound.1 h).steps)
+      (λ v n h. given_stays root forced values n (located calls root values root ps n) (found v) all
+      (λ path m k. places_take_steps functions calls root values e ps n path m known one all sound.0 k)
+      (λ path m k.
       let others = stored_at root forced values path v in
-      let kept = store_keeps root forced values (term_type root t) path v left one all (places_have_leaves root values (term_type root t) ps path sound.0 k)
-      (term_value root values one all t v sound.1 h) in
-      stays_after root forced values others left left (moves_meaning root setting more others left) kept (moves_stay more sound.2 others left kept.all)))
+      let kept = store_keeps root forced values e path v m one all (places_have_leaves functions calls root values e ps n path m sound.0 k)
+      (term_value functions calls known root values one all t left v n sound.1 h).value in
+      stays_after root forced values others m m (moves_meaning calls root setting more others m) kept (moves_stay more sound.2 others m kept.all)))
 
   pub invoke_stays : IsTrue (in_range elems.Time setting.now) → (line : ℕ) (name : List ℕ) (b : StandardBlock) (inputs outputs : Moves)
-      → IsInvocation root name b inputs outputs → AlwaysStays root setting.forced (command_meaning root setting (invoke line name b inputs outputs))
+      → IsInvocation functions root name b inputs outputs → AlwaysStays root setting.forced (command_meaning calls root setting (invoke line name b inputs outputs))
   invoke_stays now line name b inputs outputs sound values left all =
       let forced = setting.forced in
-      let behind : Values → ℕ → Outcome = (λ others k. moves_meaning root setting outputs (block_done setting b (offset_of root name) others) k) in
-      let run : ℕ → Outcome = (λ n. then_do (moves_meaning root setting inputs values n) behind) in
+      let behind : Values → ℕ → Outcome = (λ others k. moves_meaning calls root setting outputs (block_done setting b (offset_of root name) others) k) in
+      let run : ℕ → Outcome = (λ n. then_do (moves_meaning calls root setting inputs values n) behind) in
       step_stays root forced values line left (λ m. after_step line m run) all
       (λ m. step_stays root forced values line m run all
-      (λ n. then_stays root forced values n (moves_meaning root setting inputs values n) behind (moves_stay inputs sound.inputs values n all)
+      (λ n. then_stays root forced values n (moves_meaning calls root setting inputs values n) behind (moves_stay inputs sound.inputs values n all)
       (λ others k whole.
       let kept = block_keeps root setting now name b sound.block others whole k in
       let made = block_done setting b (offset_of root name) others in
-      stays_after root forced others made k k (moves_meaning root setting outputs made k) kept (moves_stay outputs sound.outputs made k kept.all))))
+      stays_after root forced others made k k (moves_meaning calls root setting outputs made k) kept (moves_stay outputs sound.outputs made k kept.all))))
 
   -- ---- function blocks of the text
 
@@ -118,18 +123,18 @@ module _ (root : Composition) (setting : Setting) (one : HasOneLeafEach root) wh
       let old = stretch values offset (count part) in
       left_stays name unit values left all (body (setting_from offset setting) old left) (stays old left (part_values root name part refl values all))
 
-  pub enter_stays : (line : ℕ) (name : List ℕ) (unit : ℕ) (body : Commands) (inputs outputs : Moves) → AreSoundMoves root inputs → AreSoundMoves root outputs
-      → BodyStays name (λ within part i. commands_meaning (selected_by root name) within body part i)
-      → AlwaysStays root setting.forced (command_meaning root setting (enter line name unit body inputs outputs))
+  pub enter_stays : (line : ℕ) (name : List ℕ) (unit : ℕ) (body : Commands) (inputs outputs : Moves) → AreSoundMoves functions root inputs → AreSoundMoves functions root outputs
+      → BodyStays name (λ within part i. commands_meaning calls (selected_by root name) within body part i)
+      → AlwaysStays root setting.forced (command_meaning calls root setting (enter line name unit body inputs outputs))
   enter_stays line name unit body inputs outputs entering leaving stays values left all =
       let forced = setting.forced in
-      let run : Values → ℕ → Outcome = instance_meaning root setting name unit (λ within part i. commands_meaning (selected_by root name) within body part i) in
-      let after : Values → ℕ → Outcome = (λ them j. moves_meaning root setting outputs them j) in
+      let run : Values → ℕ → Outcome = instance_meaning root setting name unit (λ within part i. commands_meaning calls (selected_by root name) within body part i) in
+      let after : Values → ℕ → Outcome = (λ them j. moves_meaning calls root setting outputs them j) in
       let behind : Values → ℕ → Outcome = (λ others k. then_do (run others k) after) in
-      let go : ℕ → Outcome = (λ n. then_do (moves_meaning root setting inputs values n) behind) in
+      let go : ℕ → Outcome = (λ n. then_do (moves_meaning calls root setting inputs values n) behind) in
       step_stays root forced values line left (λ m. after_step line m go) all
       (λ m. step_stays root forced values line m go all
-      (λ n. then_stays root forced values n (moves_meaning root setting inputs values n) behind (moves_stay inputs entering values n all)
+      (λ n. then_stays root forced values n (moves_meaning calls root setting inputs values n) behind (moves_stay inputs entering values n all)
       (λ others k whole. then_stays root forced others k (run others k) after
-      (instance_stays name unit (λ within part i. commands_meaning (selected_by root name) within body part i) stays others k whole)
+      (instance_stays name unit (λ within part i. commands_meaning calls (selected_by root name) within body part i) stays others k whole)
       (λ them j full. moves_stay outputs leaving them j full))))

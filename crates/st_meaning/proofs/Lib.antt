@@ -1,7 +1,10 @@
+pub mod BegunFunctions
+pub mod CalledAlone
 pub mod Commands
 pub mod Constants
 pub mod Elements
 pub mod Frames
+pub mod FunctionCalls
 pub mod Giving
 pub mod Instances
 pub mod Invocations
@@ -14,6 +17,7 @@ pub mod TermValues
 pub mod Turns
 pub mod TypedCalls
 pub mod TypedExpressions
+pub mod TypedFunctions
 pub mod TypedStatements
 pub mod TypedTerms
 pub mod Typing

@@ -15,7 +15,7 @@ use Rattle.st_leaves.proofs.Numbers.{length_is_count, length_is_counts, length_w
 use Rattle.st_leaves.proofs.Places.{places_are_numbers}
 use Rattle.std.specs.List.{flat_map}
 use Rattle.st_meaning.specs.Laws.{HasLeaf, PlacesHaveLeaves}
-use Rattle.st_meaning.specs.Meaning.{Values, are_within, located, numbers_in, values_of, when_within}
+use Rattle.st_meaning.specs.Meaning.{Calls, Values, are_within, located, numbers_in, values_of, when_within}
 use Rattle.st_meaning.specs.Offsets.{member_offset}
 use Rattle.st_meaning.specs.Operations.{gives, then_with}
 use Rattle.st_meaning.specs.Sound.{no_leaf, type_at}
@@ -192,20 +192,23 @@ element_type : (b : Bool) (a : Option Elem) (e : Elem) → (if b then a else Non
 element_type true a e h = (refl, h)
 element_type false a e h = cc
 
-place_leaf : (root : Composition) (values : Values) (c : Composition) (e : Elem) (ps : Parts) (path : Path) → type_of c ps ≡ Some e → located root values c ps ≡ gives path → HasLeaf c e path
-place_leaf root values c e whole path t h = subst (λ p. HasLeaf c e p) (same_given [] path h) (end_leaf c e t)
-place_leaf root values c e (field_part name ps) path t h =
-    let inner = given_in (located root values (selected_by c name) ps) (λ p. gives (field name ∷ p)) path h in
-    subst (λ p. HasLeaf c e p) (same_given (field name ∷ inner.value) path inner.then')
-    (field_leaf c name e inner.value (place_leaf root values (selected_by c name) e ps inner.value t inner.first))
-place_leaf root values c e (element_part line ts ps) path t h =
+place_leaf : (calls : Calls) (root : Composition) (values : Values) (c : Composition) (e : Elem) (ps : Parts) (left : ℕ) (path : Path) (rest : ℕ) → type_of c ps ≡ Some e
+    → located calls root values c ps left ≡ gives path rest → HasLeaf c e path
+place_leaf calls root values c e whole left path rest t h = subst (λ p. HasLeaf c e p) (same_given [] path left rest h) (end_leaf c e t)
+place_leaf calls root values c e (field_part name ps) left path rest t h =
+    let inner = given_in (located calls root values (selected_by c name) ps left) (λ p n. gives (field name ∷ p) n) path rest h in
+    subst (λ p. HasLeaf c e p) (same_given (field name ∷ inner.value) path inner.left rest inner.then')
+    (field_leaf c name e inner.value (place_leaf calls root values (selected_by c name) e ps left inner.value inner.left t inner.first))
+place_leaf calls root values c e (element_part line ts ps) left path rest t h =
     let type = element_type (takes_subscripts c (how_many ts)) (type_of (element_of c) ps) e t in
-    let subscripts = given_in (values_of root values ts) (λ xs. when_within line (subscripts_of c) (numbers_in xs) (then_with (located root values (element_of c) ps) (λ p. gives (index (numbers_in xs) ∷ p)))) path h in
+    let subscripts = given_in (values_of calls root values ts left)
+    (λ xs n. when_within line (subscripts_of c) (numbers_in xs) (then_with (located calls root values (element_of c) ps n) (λ p m. gives (index (numbers_in xs) ∷ p) m))) path rest h in
     let is = numbers_in subscripts.value in
-    let inside = within_given line (subscripts_of c) is (then_with (located root values (element_of c) ps) (λ p. gives (index is ∷ p))) path subscripts.then' in
-    let inner = given_in (located root values (element_of c) ps) (λ p. gives (index is ∷ p)) path inside.1 in
-    subst (λ p. HasLeaf c e p) (same_given (index is ∷ inner.value) path inner.then')
-    (element_leaf c is e inner.value (how_many ts) type.0 inside.0 (place_leaf root values (element_of c) e ps inner.value type.1 inner.first))
+    let n = subscripts.left in
+    let inside = within_given line (subscripts_of c) is (then_with (located calls root values (element_of c) ps n) (λ p m. gives (index is ∷ p) m)) path rest subscripts.then' in
+    let inner = given_in (located calls root values (element_of c) ps n) (λ p m. gives (index is ∷ p) m) path rest inside.1 in
+    subst (λ p. HasLeaf c e p) (same_given (index is ∷ inner.value) path inner.left rest inner.then')
+    (element_leaf c is e inner.value (how_many ts) type.0 inside.0 (place_leaf calls root values (element_of c) e ps n inner.value inner.left type.1 inner.first))
 
 pub places_have_leaves : PlacesHaveLeaves
-places_have_leaves root values e ps path is h = place_leaf root values root e ps path is.type h
+places_have_leaves functions calls root values e ps left path rest is h = place_leaf calls root values root e ps left path rest is.type h

@@ -1,34 +1,40 @@
 -- Loops keep the frame (3.3.2.4).
-use Rattle.std.proofs.Common.{◌≡◌, ℕ, zero, suc, ℤ, ◌+ℤ◌, Bool, true, List, if◌then◌else◌}
+use Rattle.std.proofs.Common.{◌≡◌, ℕ, zero, suc, ◌≤◌, ℤ, ◌+ℤ◌, Bool, true, List, if◌then◌else◌}
 use Rattle.st_values.specs.declared.value.Value.{Value}
 use Rattle.st_types.specs.Compositions.{Composition}
 use Rattle.st_meaning.specs.Laws.{KeepsFrame}
 use Rattle.st_meaning.specs.Meaning.{Values}
-use Rattle.st_meaning.specs.Operations.{Answer}
+use Rattle.st_meaning.specs.Operations.{Answer, gives}
 use Rattle.st_meaning.specs.Sound.{AreValuesOf}
 use Rattle.st_meaning.specs.Statements.{Outcome, done, after_step, after_turn, count_turns, given, goes_on, is_true, repeat_turns, while_turns}
 use Rattle.st_meaning.proofs.Frames.{AlwaysStays, either_stays, given_stays, nothing_done, stays_after, step_stays, turn_stays}
 use Rattle.st_meaning.proofs.Ranges.{IsBehind, stays_behind}
 
 module _ (root : Composition) (forced : List Bool) (line : ℕ) (body : Values → ℕ → Outcome) (stays : AlwaysStays root forced body) where
-  pub while_stays : (k : ℕ) (test : Values → Answer Value) → AlwaysStays root forced (while_turns k line test body)
-  while_stays zero test values left all = tt
-  while_stays (suc k) test values left all =
-      step_stays root forced values line left (λ n. given (test values) (λ v. if is_true v then after_turn (body values n) (while_turns k line test body) else done values n)) all
-      (λ n. given_stays root forced values n (test values) (λ v. if is_true v then after_turn (body values n) (while_turns k line test body) else done values n)
-      (λ v e. either_stays root forced values n (is_true v) (after_turn (body values n) (while_turns k line test body)) (done values n)
-      (λ t. turn_stays root forced values n (body values n) (while_turns k line test body) (stays values n all) (while_stays k test))
-      (nothing_done root forced values n all)))
+  -- a test leaves no more steps
+  abbrev pub TestTakesSteps : (Values → ℕ → Answer Value) → Type 0
+  TestTakesSteps test = (values : Values) (left : ℕ) → AreValuesOf root values → (v : Value) (n : ℕ) → test values left ≡ gives v n → n ≤ left
 
-  pub repeat_stays : (k : ℕ) (test : Values → Answer Value) → AlwaysStays root forced (repeat_turns k line test body)
-  repeat_stays zero test values left all = tt
-  repeat_stays (suc k) test values left all =
-      turn_stays root forced values left (body values left) (λ others m. after_step line m (λ n. given (test others) (λ v. if is_true v then done others n else repeat_turns k line test body others n)))
+  pub while_stays : (k : ℕ) (test : Values → ℕ → Answer Value) → TestTakesSteps test → AlwaysStays root forced (while_turns k line test body)
+  while_stays zero test takes values left all = tt
+  while_stays (suc k) test takes values left all =
+      let go : Value → ℕ → Outcome = (λ v m. if is_true v then after_turn (body values m) (while_turns k line test body) else done values m) in
+      step_stays root forced values line left (λ n. given (test values n) go) all
+      (λ n. given_stays root forced values n (test values n) go all (takes values n all)
+      (λ v m e. either_stays root forced values m (is_true v) (after_turn (body values m) (while_turns k line test body)) (done values m)
+      (λ t. turn_stays root forced values m (body values m) (while_turns k line test body) (stays values m all) (while_stays k test takes))
+      (nothing_done root forced values m all)))
+
+  pub repeat_stays : (k : ℕ) (test : Values → ℕ → Answer Value) → TestTakesSteps test → AlwaysStays root forced (repeat_turns k line test body)
+  repeat_stays zero test takes values left all = tt
+  repeat_stays (suc k) test takes values left all =
+      let go : Values → Value → ℕ → Outcome = (λ others v i. if is_true v then done others i else repeat_turns k line test body others i) in
+      turn_stays root forced values left (body values left) (λ others m. after_step line m (λ n. given (test others n) (go others)))
       (stays values left all)
-      (λ others m whole. step_stays root forced others line m (λ n. given (test others) (λ v. if is_true v then done others n else repeat_turns k line test body others n)) whole
-      (λ n. given_stays root forced others n (test others) (λ v. if is_true v then done others n else repeat_turns k line test body others n)
-      (λ v e. either_stays root forced others n (is_true v) (done others n) (repeat_turns k line test body others n) (λ t. nothing_done root forced others n whole)
-      (repeat_stays k test others n whole))))
+      (λ others m whole. step_stays root forced others line m (λ n. given (test others n) (go others)) whole
+      (λ n. given_stays root forced others n (test others n) (go others) whole (takes others n whole)
+      (λ v i e. either_stays root forced others i (is_true v) (done others i) (repeat_turns k line test body others i) (λ t. nothing_done root forced others i whole)
+      (repeat_stays k test takes others i whole))))
 
   pub count_stays : (k : ℕ) (store : Values → ℤ → Values) (first last step : ℤ)
       → ((counter : ℤ) → IsBehind first counter step → goes_on counter last step ≡ true → (values : Values) (left : ℕ) → AreValuesOf root values

@@ -25,10 +25,11 @@ use Rattle.st_operators.proofs.Results.{wrapped_is}
 use Rattle.st_meaning.specs.Sound.{AreSoundBranches, AreSoundCases, AreSoundCommands, AreSoundParts, IsCount, IsLabelOf, IsPlaceOf, IsSoundCommand, IsTermOf, is_fixed, term_type}
 use Rattle.st_meaning.specs.Terms.{Parts, whole, field_part, Command, choice, while_loop, repeat_loop, Commands, Branches, more_branches, Cases, more_cases}
 use Rattle.st_meaning.specs.Typing.{Typed, alone, assignment, branch_of, branches_of, case_command, case_of, cases_of, command_of, commands_of, condition, for_command, label_range, place_of, step_typed, typed, typed_statement}
-use Rattle.st_meaning.specs.Wholes.{Whole, type_of}
+use Rattle.st_meaning.specs.Wholes.{Functions, Whole, type_of}
 use Rattle.st_meaning.proofs.TypedCalls.{AreSoundBodies, call_command_sound}
 use Rattle.st_meaning.proofs.TypedExpressions.{expression_sound, place_parts}
-use Rattle.st_meaning.proofs.TypedTerms.{HasValues, IsSound, alone_sound}
+use Rattle.st_meaning.proofs.TypedFunctions.{KnowsNames}
+use Rattle.st_meaning.proofs.TypedTerms.{IsSound, alone_sound}
 
 -- ---- labels and numbers
 
@@ -78,46 +79,46 @@ while_of w x = fold-WhileStatement Command (Elem → Cases → Cases) Command (B
 
 -- ---- lists
 
-each_command : (w : Whole) (xs : List ((z : Statement) × IsSoundCommand w.variables (command_of w z))) → AreSoundCommands w.variables (commands_of (map (command_of w) (map (λ e. e.0) xs)))
-each_command w [] = tt
-each_command w (x ∷ xs) = (x.1, each_command w xs)
+each_command : (functions : Functions) (w : Whole) (xs : List ((z : Statement) × IsSoundCommand functions w.variables (command_of w z))) → AreSoundCommands functions w.variables (commands_of (map (command_of w) (map (λ e. e.0) xs)))
+each_command functions w [] = tt
+each_command functions w (x ∷ xs) = (x.1, each_command functions w xs)
 
-abbrev KeepsBranches : Whole → ConditionalPart → Type 0
-KeepsBranches w z = (bs : Branches) → AreSoundBranches w.variables bs → AreSoundBranches w.variables (branch_of w z bs)
+abbrev KeepsBranches : Functions → Whole → ConditionalPart → Type 0
+KeepsBranches functions w z = (bs : Branches) → AreSoundBranches functions w.variables bs → AreSoundBranches functions w.variables (branch_of w z bs)
 
-each_branch : (w : Whole) (xs : List ((z : ConditionalPart) × KeepsBranches w z)) → AreSoundBranches w.variables (branches_of (map (branch_of w) (map (λ e. e.0) xs)))
-each_branch w [] = tt
-each_branch w (x ∷ xs) = x.1 (branches_of (map (branch_of w) (map (λ e. e.0) xs))) (each_branch w xs)
+each_branch : (functions : Functions) (w : Whole) (xs : List ((z : ConditionalPart) × KeepsBranches functions w z)) → AreSoundBranches functions w.variables (branches_of (map (branch_of w) (map (λ e. e.0) xs)))
+each_branch functions w [] = tt
+each_branch functions w (x ∷ xs) = x.1 (branches_of (map (branch_of w) (map (λ e. e.0) xs))) (each_branch functions w xs)
 
-abbrev KeepsCases : Whole → CaseElement → Type 0
-KeepsCases w z = (e : Elem) (cs : Cases) → AreSoundCases w.variables e cs → AreSoundCases w.variables e (case_of w z e cs)
+abbrev KeepsCases : Functions → Whole → CaseElement → Type 0
+KeepsCases functions w z = (e : Elem) (cs : Cases) → AreSoundCases functions w.variables e cs → AreSoundCases functions w.variables e (case_of w z e cs)
 
-each_case : (w : Whole) (e : Elem) (xs : List ((z : CaseElement) × KeepsCases w z)) → AreSoundCases w.variables e (cases_of e (map (case_of w) (map (λ e. e.0) xs)))
-each_case w e [] = tt
-each_case w e (x ∷ xs) = x.1 e (cases_of e (map (case_of w) (map (λ e. e.0) xs))) (each_case w e xs)
+each_case : (functions : Functions) (w : Whole) (e : Elem) (xs : List ((z : CaseElement) × KeepsCases functions w z)) → AreSoundCases functions w.variables e (cases_of e (map (case_of w) (map (λ e. e.0) xs)))
+each_case functions w e [] = tt
+each_case functions w e (x ∷ xs) = x.1 e (cases_of e (map (case_of w) (map (λ e. e.0) xs))) (each_case functions w e xs)
 
 -- ---- one statement
 
-assignment_sound : (root : Composition) (line : ℕ) (ps : Parts) (e : Option Elem) (x : Typed) → type_of root ps ≡ e → AreSoundParts root ps → IsSound root x → IsSoundCommand root (assignment line ps e x)
-assignment_sound root line ps None x h parts k = tt
-assignment_sound root line ps (Some e) x h parts k =
-    let place : IsPlaceOf root (term_type root (x.as_type e)) ps = record { type = h ∙ ap (λ d. Some d) (sym (k e).type); parts = parts } in
+assignment_sound : (functions : Functions) (root : Composition) (line : ℕ) (ps : Parts) (e : Option Elem) (x : Typed) → type_of root ps ≡ e → AreSoundParts functions root ps → IsSound functions root x → IsSoundCommand functions root (assignment line ps e x)
+assignment_sound functions root line ps None x h parts k = tt
+assignment_sound functions root line ps (Some e) x h parts k =
+    let place : IsPlaceOf functions root (term_type root (x.as_type e)) ps = record { type = h ∙ ap (λ d. Some d) (sym (k e).type); parts = parts } in
     (place, (k e).sound)
 
-module _ (w : Whole) (values : HasValues w) (bodies : AreSoundBodies w) where
-  step_sound : (step : Option Expression) (e : Elem) → IsTermOf w.variables e (step_typed w step e)
+module _ (functions : Functions) (w : Whole) (known : KnowsNames functions w) (bodies : AreSoundBodies functions w) where
+  step_sound : (step : Option Expression) (e : Elem) → IsTermOf functions w.variables e (step_typed w step e)
   step_sound None e = record { type = refl; sound = one_is_value e }
-  step_sound (Some x) e = expression_sound w values x e
+  step_sound (Some x) e = expression_sound functions w known x e
 
-  for_sound : (line : ℕ) (ps : Parts) (e : Option Elem) (first last : Expression) (step : Option Expression) (cs : Commands) → type_of w.variables ps ≡ e → AreSoundParts w.variables ps
-      → IsTrue (is_fixed ps) → AreSoundCommands w.variables cs → IsSoundCommand w.variables (for_command w line ps e first last step cs)
+  for_sound : (line : ℕ) (ps : Parts) (e : Option Elem) (first last : Expression) (step : Option Expression) (cs : Commands) → type_of w.variables ps ≡ e → AreSoundParts functions w.variables ps
+      → IsTrue (is_fixed ps) → AreSoundCommands functions w.variables cs → IsSoundCommand functions w.variables (for_command w line ps e first last step cs)
   for_sound line ps None first last step cs h parts fixed sound = tt
   for_sound line ps (Some e) first last step cs h parts fixed sound =
       let root = w.variables in
-      let a = expression_sound w values first e in
-      let b = expression_sound w values last e in
+      let a = expression_sound functions w known first e in
+      let b = expression_sound functions w known last e in
       let c = step_sound step e in
-      let is : IsCount root ps ((typed w first).as_type e) ((typed w last).as_type e) (step_typed w step e) = record {
+      let is : IsCount functions root ps ((typed w first).as_type e) ((typed w last).as_type e) (step_typed w step e) = record {
         variable = record { type = h ∙ ap (λ d. Some d) (sym a.type); parts = parts };
         fixed = fixed;
         first = a.sound;
@@ -129,89 +130,89 @@ module _ (w : Whole) (values : HasValues w) (bodies : AreSoundBodies w) where
   -- ---- one layer of a tree, where each part is sound
 
   abbrev SoundStatement : Type 0
-  SoundStatement = (z : Statement) × IsSoundCommand w.variables (command_of w z)
+  SoundStatement = (z : Statement) × IsSoundCommand functions w.variables (command_of w z)
 
   abbrev SoundElement : Type 0
-  SoundElement = (z : CaseElement) × KeepsCases w z
+  SoundElement = (z : CaseElement) × KeepsCases functions w z
 
   abbrev SoundCase : Type 0
-  SoundCase = (z : CaseStatement) × IsSoundCommand w.variables (case_statement_of w z)
+  SoundCase = (z : CaseStatement) × IsSoundCommand functions w.variables (case_statement_of w z)
 
   abbrev SoundPart : Type 0
-  SoundPart = (z : ConditionalPart) × KeepsBranches w z
+  SoundPart = (z : ConditionalPart) × KeepsBranches functions w z
 
   abbrev SoundFor : Type 0
-  SoundFor = (z : ForStatement) × IsSoundCommand w.variables (for_of w z)
+  SoundFor = (z : ForStatement) × IsSoundCommand functions w.variables (for_of w z)
 
   abbrev SoundIf : Type 0
-  SoundIf = (z : IfStatement) × IsSoundCommand w.variables (if_of w z)
+  SoundIf = (z : IfStatement) × IsSoundCommand functions w.variables (if_of w z)
 
   abbrev SoundRepeat : Type 0
-  SoundRepeat = (z : RepeatStatement) × IsSoundCommand w.variables (repeat_of w z)
+  SoundRepeat = (z : RepeatStatement) × IsSoundCommand functions w.variables (repeat_of w z)
 
   abbrev SoundWhile : Type 0
-  SoundWhile = (z : WhileStatement) × IsSoundCommand w.variables (while_of w z)
+  SoundWhile = (z : WhileStatement) × IsSoundCommand functions w.variables (while_of w z)
 
-  statement_made : (y : Statement-F SoundStatement SoundElement SoundCase SoundPart SoundFor SoundIf SoundRepeat SoundWhile) → IsSoundCommand w.variables (command_of w (roll-Statement (map-Statement _ _ _ _ _ _ _ _ Statement CaseElement CaseStatement ConditionalPart ForStatement IfStatement RepeatStatement WhileStatement (λ e. e.0) (λ e. e.0) (λ e. e.0) (λ e. e.0) (λ e. e.0) (λ e. e.0) (λ e. e.0) (λ e. e.0) y)))
-  statement_made (Statement-F.Empty p) = subst (IsSoundCommand w.variables) (sym (fold-roll-Statement _ _ _ _ _ _ _ _ _ _ _ _ _ _ _ _ _)) tt
+  statement_made : (y : Statement-F SoundStatement SoundElement SoundCase SoundPart SoundFor SoundIf SoundRepeat SoundWhile) → IsSoundCommand functions w.variables (command_of w (roll-Statement (map-Statement _ _ _ _ _ _ _ _ Statement CaseElement CaseStatement ConditionalPart ForStatement IfStatement RepeatStatement WhileStatement (λ e. e.0) (λ e. e.0) (λ e. e.0) (λ e. e.0) (λ e. e.0) (λ e. e.0) (λ e. e.0) (λ e. e.0) y)))
+  statement_made (Statement-F.Empty p) = subst (IsSoundCommand functions w.variables) (sym (fold-roll-Statement _ _ _ _ _ _ _ _ _ _ _ _ _ _ _ _ _)) tt
   statement_made (Statement-F.Assignment v x) =
-      subst (IsSoundCommand w.variables) (sym (fold-roll-Statement _ _ _ _ _ _ _ _ _ _ _ _ _ _ _ _ _))
-      (assignment_sound w.variables v.name.position.line (place_of w v) (type_of w.variables (place_of w v)) (typed w x) refl (place_parts w values v) (expression_sound w values x))
-  statement_made (Statement-F.Call c) = subst (IsSoundCommand w.variables) (sym (fold-roll-Statement _ _ _ _ _ _ _ _ _ _ _ _ _ _ _ _ _)) (call_command_sound w values bodies c)
-  statement_made (Statement-F.Return p) = subst (IsSoundCommand w.variables) (sym (fold-roll-Statement _ _ _ _ _ _ _ _ _ _ _ _ _ _ _ _ _)) tt
-  statement_made (Statement-F.Exit p) = subst (IsSoundCommand w.variables) (sym (fold-roll-Statement _ _ _ _ _ _ _ _ _ _ _ _ _ _ _ _ _)) tt
-  statement_made (Statement-F.If c) = subst (IsSoundCommand w.variables) (sym (fold-roll-Statement _ _ _ _ _ _ _ _ _ _ _ _ _ _ _ _ _)) c.1
-  statement_made (Statement-F.Case c) = subst (IsSoundCommand w.variables) (sym (fold-roll-Statement _ _ _ _ _ _ _ _ _ _ _ _ _ _ _ _ _)) c.1
-  statement_made (Statement-F.For c) = subst (IsSoundCommand w.variables) (sym (fold-roll-Statement _ _ _ _ _ _ _ _ _ _ _ _ _ _ _ _ _)) c.1
-  statement_made (Statement-F.While c) = subst (IsSoundCommand w.variables) (sym (fold-roll-Statement _ _ _ _ _ _ _ _ _ _ _ _ _ _ _ _ _)) c.1
-  statement_made (Statement-F.Repeat c) = subst (IsSoundCommand w.variables) (sym (fold-roll-Statement _ _ _ _ _ _ _ _ _ _ _ _ _ _ _ _ _)) c.1
+      subst (IsSoundCommand functions w.variables) (sym (fold-roll-Statement _ _ _ _ _ _ _ _ _ _ _ _ _ _ _ _ _))
+      (assignment_sound functions w.variables v.name.position.line (place_of w v) (type_of w.variables (place_of w v)) (typed w x) refl (place_parts functions w known v) (expression_sound functions w known x))
+  statement_made (Statement-F.Call c) = subst (IsSoundCommand functions w.variables) (sym (fold-roll-Statement _ _ _ _ _ _ _ _ _ _ _ _ _ _ _ _ _)) (call_command_sound functions w known bodies c)
+  statement_made (Statement-F.Return p) = subst (IsSoundCommand functions w.variables) (sym (fold-roll-Statement _ _ _ _ _ _ _ _ _ _ _ _ _ _ _ _ _)) tt
+  statement_made (Statement-F.Exit p) = subst (IsSoundCommand functions w.variables) (sym (fold-roll-Statement _ _ _ _ _ _ _ _ _ _ _ _ _ _ _ _ _)) tt
+  statement_made (Statement-F.If c) = subst (IsSoundCommand functions w.variables) (sym (fold-roll-Statement _ _ _ _ _ _ _ _ _ _ _ _ _ _ _ _ _)) c.1
+  statement_made (Statement-F.Case c) = subst (IsSoundCommand functions w.variables) (sym (fold-roll-Statement _ _ _ _ _ _ _ _ _ _ _ _ _ _ _ _ _)) c.1
+  statement_made (Statement-F.For c) = subst (IsSoundCommand functions w.variables) (sym (fold-roll-Statement _ _ _ _ _ _ _ _ _ _ _ _ _ _ _ _ _)) c.1
+  statement_made (Statement-F.While c) = subst (IsSoundCommand functions w.variables) (sym (fold-roll-Statement _ _ _ _ _ _ _ _ _ _ _ _ _ _ _ _ _)) c.1
+  statement_made (Statement-F.Repeat c) = subst (IsSoundCommand functions w.variables) (sym (fold-roll-Statement _ _ _ _ _ _ _ _ _ _ _ _ _ _ _ _ _)) c.1
 
-  element_made : (y : CaseElement-F SoundStatement SoundElement SoundCase SoundPart SoundFor SoundIf SoundRepeat SoundWhile) → KeepsCases w (roll-CaseElement (map-CaseElement _ _ _ _ _ _ _ _ Statement CaseElement CaseStatement ConditionalPart ForStatement IfStatement RepeatStatement WhileStatement (λ e. e.0) (λ e. e.0) (λ e. e.0) (λ e. e.0) (λ e. e.0) (λ e. e.0) (λ e. e.0) (λ e. e.0) y))
+  element_made : (y : CaseElement-F SoundStatement SoundElement SoundCase SoundPart SoundFor SoundIf SoundRepeat SoundWhile) → KeepsCases functions w (roll-CaseElement (map-CaseElement _ _ _ _ _ _ _ _ Statement CaseElement CaseStatement ConditionalPart ForStatement IfStatement RepeatStatement WhileStatement (λ e. e.0) (λ e. e.0) (λ e. e.0) (λ e. e.0) (λ e. e.0) (λ e. e.0) (λ e. e.0) (λ e. e.0) y))
   element_made y e cs h =
-      subst (λ (f : Elem → Cases → Cases). AreSoundCases w.variables e (f e cs)) (sym (fold-roll-CaseElement _ _ _ _ _ _ _ _ _ _ _ _ _ _ _ _ _)) (labels_sound e y.labels, each_command w y.statements, h)
+      subst (λ (f : Elem → Cases → Cases). AreSoundCases functions w.variables e (f e cs)) (sym (fold-roll-CaseElement _ _ _ _ _ _ _ _ _ _ _ _ _ _ _ _ _)) (labels_sound e y.labels, each_command functions w y.statements, h)
 
-  case_made : (y : CaseStatement-F SoundStatement SoundElement SoundCase SoundPart SoundFor SoundIf SoundRepeat SoundWhile) → IsSoundCommand w.variables (case_statement_of w (roll-CaseStatement (map-CaseStatement _ _ _ _ _ _ _ _ Statement CaseElement CaseStatement ConditionalPart ForStatement IfStatement RepeatStatement WhileStatement (λ e. e.0) (λ e. e.0) (λ e. e.0) (λ e. e.0) (λ e. e.0) (λ e. e.0) (λ e. e.0) (λ e. e.0) y)))
+  case_made : (y : CaseStatement-F SoundStatement SoundElement SoundCase SoundPart SoundFor SoundIf SoundRepeat SoundWhile) → IsSoundCommand functions w.variables (case_statement_of w (roll-CaseStatement (map-CaseStatement _ _ _ _ _ _ _ _ Statement CaseElement CaseStatement ConditionalPart ForStatement IfStatement RepeatStatement WhileStatement (λ e. e.0) (λ e. e.0) (λ e. e.0) (λ e. e.0) (λ e. e.0) (λ e. e.0) (λ e. e.0) (λ e. e.0) y)))
   case_made y =
       let x = typed w y.selector in
-      let is = alone_sound w.variables x (expression_sound w values y.selector) in
-      let all : AreSoundCases w.variables (term_type w.variables (alone x)) (cases_of (or_lint x.own) (map (case_of w) (map (λ e. e.0) y.cases))) =
-      subst (λ e. AreSoundCases w.variables e (cases_of (or_lint x.own) (map (case_of w) (map (λ z. z.0) y.cases)))) (sym is.type) (each_case w (or_lint x.own) y.cases) in
-      subst (IsSoundCommand w.variables) (sym (fold-roll-CaseStatement _ _ _ _ _ _ _ _ _ _ _ _ _ _ _ _ _)) (is.sound, all, each_command w y.otherwise)
+      let is = alone_sound functions w.variables x (expression_sound functions w known y.selector) in
+      let all : AreSoundCases functions w.variables (term_type w.variables (alone x)) (cases_of (or_lint x.own) (map (case_of w) (map (λ e. e.0) y.cases))) =
+      subst (λ e. AreSoundCases functions w.variables e (cases_of (or_lint x.own) (map (case_of w) (map (λ z. z.0) y.cases)))) (sym is.type) (each_case functions w (or_lint x.own) y.cases) in
+      subst (IsSoundCommand functions w.variables) (sym (fold-roll-CaseStatement _ _ _ _ _ _ _ _ _ _ _ _ _ _ _ _ _)) (is.sound, all, each_command functions w y.otherwise)
 
-  part_made : (y : ConditionalPart-F SoundStatement SoundElement SoundCase SoundPart SoundFor SoundIf SoundRepeat SoundWhile) → KeepsBranches w (roll-ConditionalPart (map-ConditionalPart _ _ _ _ _ _ _ _ Statement CaseElement CaseStatement ConditionalPart ForStatement IfStatement RepeatStatement WhileStatement (λ e. e.0) (λ e. e.0) (λ e. e.0) (λ e. e.0) (λ e. e.0) (λ e. e.0) (λ e. e.0) (λ e. e.0) y))
+  part_made : (y : ConditionalPart-F SoundStatement SoundElement SoundCase SoundPart SoundFor SoundIf SoundRepeat SoundWhile) → KeepsBranches functions w (roll-ConditionalPart (map-ConditionalPart _ _ _ _ _ _ _ _ Statement CaseElement CaseStatement ConditionalPart ForStatement IfStatement RepeatStatement WhileStatement (λ e. e.0) (λ e. e.0) (λ e. e.0) (λ e. e.0) (λ e. e.0) (λ e. e.0) (λ e. e.0) (λ e. e.0) y))
   part_made y bs h =
-      subst (λ (f : Branches → Branches). AreSoundBranches w.variables (f bs)) (sym (fold-roll-ConditionalPart _ _ _ _ _ _ _ _ _ _ _ _ _ _ _ _ _)) ((expression_sound w values y.condition elems.Bool).sound, each_command w y.statements, h)
+      subst (λ (f : Branches → Branches). AreSoundBranches functions w.variables (f bs)) (sym (fold-roll-ConditionalPart _ _ _ _ _ _ _ _ _ _ _ _ _ _ _ _ _)) ((expression_sound functions w known y.condition elems.Bool).sound, each_command functions w y.statements, h)
 
-  for_made : (y : ForStatement-F SoundStatement SoundElement SoundCase SoundPart SoundFor SoundIf SoundRepeat SoundWhile) → IsSoundCommand w.variables (for_of w (roll-ForStatement (map-ForStatement _ _ _ _ _ _ _ _ Statement CaseElement CaseStatement ConditionalPart ForStatement IfStatement RepeatStatement WhileStatement (λ e. e.0) (λ e. e.0) (λ e. e.0) (λ e. e.0) (λ e. e.0) (λ e. e.0) (λ e. e.0) (λ e. e.0) y)))
+  for_made : (y : ForStatement-F SoundStatement SoundElement SoundCase SoundPart SoundFor SoundIf SoundRepeat SoundWhile) → IsSoundCommand functions w.variables (for_of w (roll-ForStatement (map-ForStatement _ _ _ _ _ _ _ _ Statement CaseElement CaseStatement ConditionalPart ForStatement IfStatement RepeatStatement WhileStatement (λ e. e.0) (λ e. e.0) (λ e. e.0) (λ e. e.0) (λ e. e.0) (λ e. e.0) (λ e. e.0) (λ e. e.0) y)))
   for_made y =
       let ps = field_part y.variable.spelling whole in
-      subst (IsSoundCommand w.variables) (sym (fold-roll-ForStatement _ _ _ _ _ _ _ _ _ _ _ _ _ _ _ _ _))
-      (for_sound y.position.line ps (type_of w.variables ps) y.first y.last y.step (commands_of (map (command_of w) (map (λ e. e.0) y.statements))) refl tt refl (each_command w y.statements))
+      subst (IsSoundCommand functions w.variables) (sym (fold-roll-ForStatement _ _ _ _ _ _ _ _ _ _ _ _ _ _ _ _ _))
+      (for_sound y.position.line ps (type_of w.variables ps) y.first y.last y.step (commands_of (map (command_of w) (map (λ e. e.0) y.statements))) refl tt refl (each_command functions w y.statements))
 
-  if_made : (y : IfStatement-F SoundStatement SoundElement SoundCase SoundPart SoundFor SoundIf SoundRepeat SoundWhile) → IsSoundCommand w.variables (if_of w (roll-IfStatement (map-IfStatement _ _ _ _ _ _ _ _ Statement CaseElement CaseStatement ConditionalPart ForStatement IfStatement RepeatStatement WhileStatement (λ e. e.0) (λ e. e.0) (λ e. e.0) (λ e. e.0) (λ e. e.0) (λ e. e.0) (λ e. e.0) (λ e. e.0) y)))
-  if_made y = subst (IsSoundCommand w.variables) (sym (fold-roll-IfStatement _ _ _ _ _ _ _ _ _ _ _ _ _ _ _ _ _)) (each_branch w y.parts, each_command w y.otherwise)
+  if_made : (y : IfStatement-F SoundStatement SoundElement SoundCase SoundPart SoundFor SoundIf SoundRepeat SoundWhile) → IsSoundCommand functions w.variables (if_of w (roll-IfStatement (map-IfStatement _ _ _ _ _ _ _ _ Statement CaseElement CaseStatement ConditionalPart ForStatement IfStatement RepeatStatement WhileStatement (λ e. e.0) (λ e. e.0) (λ e. e.0) (λ e. e.0) (λ e. e.0) (λ e. e.0) (λ e. e.0) (λ e. e.0) y)))
+  if_made y = subst (IsSoundCommand functions w.variables) (sym (fold-roll-IfStatement _ _ _ _ _ _ _ _ _ _ _ _ _ _ _ _ _)) (each_branch functions w y.parts, each_command functions w y.otherwise)
 
-  repeat_made : (y : RepeatStatement-F SoundStatement SoundElement SoundCase SoundPart SoundFor SoundIf SoundRepeat SoundWhile) → IsSoundCommand w.variables (repeat_of w (roll-RepeatStatement (map-RepeatStatement _ _ _ _ _ _ _ _ Statement CaseElement CaseStatement ConditionalPart ForStatement IfStatement RepeatStatement WhileStatement (λ e. e.0) (λ e. e.0) (λ e. e.0) (λ e. e.0) (λ e. e.0) (λ e. e.0) (λ e. e.0) (λ e. e.0) y)))
-  repeat_made y = subst (IsSoundCommand w.variables) (sym (fold-roll-RepeatStatement _ _ _ _ _ _ _ _ _ _ _ _ _ _ _ _ _)) (each_command w y.statements, (expression_sound w values y.condition elems.Bool).sound)
+  repeat_made : (y : RepeatStatement-F SoundStatement SoundElement SoundCase SoundPart SoundFor SoundIf SoundRepeat SoundWhile) → IsSoundCommand functions w.variables (repeat_of w (roll-RepeatStatement (map-RepeatStatement _ _ _ _ _ _ _ _ Statement CaseElement CaseStatement ConditionalPart ForStatement IfStatement RepeatStatement WhileStatement (λ e. e.0) (λ e. e.0) (λ e. e.0) (λ e. e.0) (λ e. e.0) (λ e. e.0) (λ e. e.0) (λ e. e.0) y)))
+  repeat_made y = subst (IsSoundCommand functions w.variables) (sym (fold-roll-RepeatStatement _ _ _ _ _ _ _ _ _ _ _ _ _ _ _ _ _)) (each_command functions w y.statements, (expression_sound functions w known y.condition elems.Bool).sound)
 
-  while_made : (y : WhileStatement-F SoundStatement SoundElement SoundCase SoundPart SoundFor SoundIf SoundRepeat SoundWhile) → IsSoundCommand w.variables (while_of w (roll-WhileStatement (map-WhileStatement _ _ _ _ _ _ _ _ Statement CaseElement CaseStatement ConditionalPart ForStatement IfStatement RepeatStatement WhileStatement (λ e. e.0) (λ e. e.0) (λ e. e.0) (λ e. e.0) (λ e. e.0) (λ e. e.0) (λ e. e.0) (λ e. e.0) y)))
-  while_made y = subst (IsSoundCommand w.variables) (sym (fold-roll-WhileStatement _ _ _ _ _ _ _ _ _ _ _ _ _ _ _ _ _)) ((expression_sound w values y.condition elems.Bool).sound, each_command w y.statements)
+  while_made : (y : WhileStatement-F SoundStatement SoundElement SoundCase SoundPart SoundFor SoundIf SoundRepeat SoundWhile) → IsSoundCommand functions w.variables (while_of w (roll-WhileStatement (map-WhileStatement _ _ _ _ _ _ _ _ Statement CaseElement CaseStatement ConditionalPart ForStatement IfStatement RepeatStatement WhileStatement (λ e. e.0) (λ e. e.0) (λ e. e.0) (λ e. e.0) (λ e. e.0) (λ e. e.0) (λ e. e.0) (λ e. e.0) y)))
+  while_made y = subst (IsSoundCommand functions w.variables) (sym (fold-roll-WhileStatement _ _ _ _ _ _ _ _ _ _ _ _ _ _ _ _ _)) ((expression_sound functions w known y.condition elems.Bool).sound, each_command functions w y.statements)
 
   -- ---- whole trees
 
-  command_sound : (x : Statement) → IsSoundCommand w.variables (command_of w x)
+  command_sound : (x : Statement) → IsSoundCommand functions w.variables (command_of w x)
   command_sound =
-      ind-Statement (λ z. IsSoundCommand w.variables (command_of w z)) (KeepsCases w) (λ z. IsSoundCommand w.variables (case_statement_of w z)) (KeepsBranches w)
-      (λ z. IsSoundCommand w.variables (for_of w z)) (λ z. IsSoundCommand w.variables (if_of w z)) (λ z. IsSoundCommand w.variables (repeat_of w z)) (λ z. IsSoundCommand w.variables (while_of w z))
-      (λ x y is. subst (λ z. IsSoundCommand w.variables (command_of w (roll-Statement z))) is (statement_made y))
-      (λ x y is. subst (λ z. KeepsCases w (roll-CaseElement z)) is (element_made y))
-      (λ x y is. subst (λ z. IsSoundCommand w.variables (case_statement_of w (roll-CaseStatement z))) is (case_made y))
-      (λ x y is. subst (λ z. KeepsBranches w (roll-ConditionalPart z)) is (part_made y))
-      (λ x y is. subst (λ z. IsSoundCommand w.variables (for_of w (roll-ForStatement z))) is (for_made y))
-      (λ x y is. subst (λ z. IsSoundCommand w.variables (if_of w (roll-IfStatement z))) is (if_made y))
-      (λ x y is. subst (λ z. IsSoundCommand w.variables (repeat_of w (roll-RepeatStatement z))) is (repeat_made y))
-      (λ x y is. subst (λ z. IsSoundCommand w.variables (while_of w (roll-WhileStatement z))) is (while_made y))
+      ind-Statement (λ z. IsSoundCommand functions w.variables (command_of w z)) (KeepsCases functions w) (λ z. IsSoundCommand functions w.variables (case_statement_of w z)) (KeepsBranches functions w)
+      (λ z. IsSoundCommand functions w.variables (for_of w z)) (λ z. IsSoundCommand functions w.variables (if_of w z)) (λ z. IsSoundCommand functions w.variables (repeat_of w z)) (λ z. IsSoundCommand functions w.variables (while_of w z))
+      (λ x y is. subst (λ z. IsSoundCommand functions w.variables (command_of w (roll-Statement z))) is (statement_made y))
+      (λ x y is. subst (λ z. KeepsCases functions w (roll-CaseElement z)) is (element_made y))
+      (λ x y is. subst (λ z. IsSoundCommand functions w.variables (case_statement_of w (roll-CaseStatement z))) is (case_made y))
+      (λ x y is. subst (λ z. KeepsBranches functions w (roll-ConditionalPart z)) is (part_made y))
+      (λ x y is. subst (λ z. IsSoundCommand functions w.variables (for_of w (roll-ForStatement z))) is (for_made y))
+      (λ x y is. subst (λ z. IsSoundCommand functions w.variables (if_of w (roll-IfStatement z))) is (if_made y))
+      (λ x y is. subst (λ z. IsSoundCommand functions w.variables (repeat_of w (roll-RepeatStatement z))) is (repeat_made y))
+      (λ x y is. subst (λ z. IsSoundCommand functions w.variables (while_of w (roll-WhileStatement z))) is (while_made y))
 
-  pub body_sound : (body : List Statement) → AreSoundCommands w.variables (commands_of (map (command_of w) body))
+  pub body_sound : (body : List Statement) → AreSoundCommands functions w.variables (commands_of (map (command_of w) body))
   body_sound [] = tt
   body_sound (x ∷ body) = (command_sound x, body_sound body)

@@ -1,3 +1,4 @@
+pub mod CalledBy
 pub mod Laws
 pub mod Meaning
 pub mod Offsets

@@ -11,8 +11,8 @@ use Rattle.st_leaves.specs.LeavesIn.{leaves_in}
 use Rattle.st_leaves.specs.Paths.{Path, field, index, is_same_path}
 use Rattle.st_leaves.specs.Selected.{element_of, selected_by, subscripts_of}
 use Rattle.st_operators.specs.Functions.{selected_of}
-use Rattle.st_meaning.specs.Operations.{Answer, gives, stops, stop, then_with, binary_value, unary_value}
-use Rattle.st_meaning.specs.Terms.{Term, constant, stored, unary, binary, selection, Terms, no_terms, more_terms, Parts, whole, field_part, element_part}
+use Rattle.st_meaning.specs.Operations.{Answer, gives, stops, stop, then_with, answered_in, binary_value, unary_value, with_step}
+use Rattle.st_meaning.specs.Terms.{Source, written, left_out, Term, constant, stored, unary, binary, selection, call, Terms, no_terms, more_terms, Parts, whole, field_part, element_part}
 use Rattle.st_meaning.specs.declared.fault.RunFaultKind.TheVariants as faults
 
 -- ---- the values of variables: a map from paths to values, as one value for each leaf, in their order
@@ -62,27 +62,48 @@ when_within line ranges is go = if are_within ranges is then go else stops (stop
 abbrev pub numbers_in : Values → List ℤ
 numbers_in values = map (λ v. v.bits) values
 
+-- ---- calls of functions of the text (2.5.1)
+
+-- what the function of this number gives of the values of its inputs, in the order of their declaration, with so many steps left
+abbrev pub Calls : Type 0
+Calls = ℕ → Values → ℕ → Answer Value
+
+-- the value of an input, where the arguments have these
+abbrev pub value_from : Values → Source → Value
+value_from arguments (written place) = get_or arguments place no_value
+value_from arguments (left_out v) = v
+
+abbrev pub inputs_from : Values → List Source → Values
+inputs_from arguments sources = map (value_from arguments) sources
+
 -- ---- expressions and places
 
 abbrev mutual
   -- the value of an expression: its operands and arguments from left to right, and both of AND and OR always
-  pub value_of : Composition → Values → Term → Answer Value
-  value_of root values (constant v) = gives v
-  value_of root values (stored ps) = then_with (located root values root ps) (λ path. gives (value_at root values path))
-  value_of root values (unary o a) = then_with (value_of root values a) (λ x. gives (unary_value o x))
-  value_of root values (binary o line a b) = then_with (value_of root values a) (λ x. then_with (value_of root values b) (λ y. binary_value o line x y))
-  value_of root values (selection g a b) =
-      then_with (value_of root values g) (λ x. then_with (value_of root values a) (λ y. then_with (value_of root values b) (λ z. gives (selected_of x y z))))
+  pub value_of : Calls → Composition → Values → Term → ℕ → Answer Value
+  value_of calls root values (constant v) left = gives v left
+  value_of calls root values (stored ps) left = then_with (located calls root values root ps left) (λ path n. gives (value_at root values path) n)
+  value_of calls root values (unary o a) left = then_with (value_of calls root values a left) (λ x n. gives (unary_value o x) n)
+  value_of calls root values (binary o line a b) left =
+      then_with (value_of calls root values a left) (λ x n. then_with (value_of calls root values b n) (λ y m. binary_value o line x y m))
+  value_of calls root values (selection g a b) left =
+      then_with (value_of calls root values g left) (λ x n. then_with (value_of calls root values a n) (λ y m.
+      then_with (value_of calls root values b m) (λ z k. gives (selected_of x y z) k)))
+  -- A call takes a step before its arguments are evaluated.
+  value_of calls root values (call line unit result ts sources) left =
+      with_step line left (λ n. then_with (values_of calls root values ts n) (λ xs m. answered_in unit (calls unit (inputs_from xs sources) m)))
 
-  pub values_of : Composition → Values → Terms → Answer Values
-  values_of root values no_terms = gives []
-  values_of root values (more_terms t ts) = then_with (value_of root values t) (λ x. then_with (values_of root values ts) (λ xs. gives (x ∷ xs)))
+  pub values_of : Calls → Composition → Values → Terms → ℕ → Answer Values
+  values_of calls root values no_terms left = gives [] left
+  values_of calls root values (more_terms t ts) left =
+      then_with (value_of calls root values t left) (λ x n. then_with (values_of calls root values ts n) (λ xs m. gives (x ∷ xs) m))
 
   -- the path of a place in a part of the root: each list of subscripts is evaluated from left to right, and then tested
-  pub located : Composition → Values → Composition → Parts → Answer Path
-  located root values c whole = gives []
-  located root values c (field_part name ps) = then_with (located root values (selected_by c name) ps) (λ path. gives (field name ∷ path))
-  located root values c (element_part line ts ps) =
-      then_with (values_of root values ts) (λ xs.
+  pub located : Calls → Composition → Values → Composition → Parts → ℕ → Answer Path
+  located calls root values c whole left = gives [] left
+  located calls root values c (field_part name ps) left =
+      then_with (located calls root values (selected_by c name) ps left) (λ path n. gives (field name ∷ path) n)
+  located calls root values c (element_part line ts ps) left =
+      then_with (values_of calls root values ts left) (λ xs n.
       when_within line (subscripts_of c) (numbers_in xs)
-      (then_with (located root values (element_of c) ps) (λ path. gives (index (numbers_in xs) ∷ path))))
+      (then_with (located calls root values (element_of c) ps n) (λ path m. gives (index (numbers_in xs) ∷ path) m)))

@@ -1,5 +1,5 @@
 -- What an expression does with the values of its operands.
-use Rattle.std.specs.Prelude.{ℕ, Bool, true, false, Option, None, Result, Ok, Err}
+use Rattle.std.specs.Prelude.{ℕ, zero, suc, Bool, true, false, Option, Some, None, Result, Ok, Err}
 use Rattle.st_values.specs.declared.elem.Elem.{Elem}
 use Rattle.st_values.specs.declared.value.Value.{Value}
 use Rattle.st_operators.specs.Functions.{absolute_of, converted_to, greatest_of, least_of, places_of, rotated_left_by, rotated_right_by, shifted_left_by, shifted_right_by}
@@ -21,14 +21,32 @@ pub record Stop : Type 0 where
 abbrev pub stop : RunFaultKind → ℕ → Stop
 stop kind line = record { kind = kind; line = line; unit = None }
 
--- something, or what stopped the run
+-- a fault is in the unit of this number, or in one that its body invoked or called
+abbrev pub unit_or : ℕ → Option ℕ → ℕ
+unit_or unit None = unit
+unit_or unit (Some other) = other
+
+abbrev pub in_unit : ℕ → Stop → Stop
+in_unit unit f = record { kind = f.kind; line = f.line; unit = Some (unit_or unit f.unit) }
+
+-- something, and the steps that are left then, or what stopped the run
 pub data Answer (A : Type 0) : Type 0 where
-  gives : A → Answer A
+  gives : A → ℕ → Answer A
   stops : Stop → Answer A
 
-abbrev pub then_with : {A B : Type 0} → Answer A → (A → Answer B) → Answer B
-then_with (gives x) go = go x
+abbrev pub then_with : {A B : Type 0} → Answer A → (A → ℕ → Answer B) → Answer B
+then_with (gives x left) go = go x left
 then_with (stops f) go = stops f
+
+-- counts a step
+abbrev pub with_step : {A : Type 0} → ℕ → ℕ → (ℕ → Answer A) → Answer A
+with_step line zero go = stops (stop faults.StepLimit line)
+with_step line (suc n) go = go n
+
+-- what the unit of this number answers
+abbrev pub answered_in : {A : Type 0} → ℕ → Answer A → Answer A
+answered_in unit (gives x left) = gives x left
+answered_in unit (stops f) = stops (in_unit unit f)
 
 -- ---- one operand
 
@@ -53,18 +71,18 @@ unary_type _ e = e
 -- ---- two operands
 
 -- a zero divisor of `/` and MOD stops the run
-abbrev pub unless_refused : ℕ → Result Value ZeroDivisor → Answer Value
-unless_refused line (Ok v) = gives v
-unless_refused line (Err refused) = stops (stop faults.ZeroDivisor line)
+abbrev pub unless_refused : ℕ → Result Value ZeroDivisor → ℕ → Answer Value
+unless_refused line (Ok v) left = gives v left
+unless_refused line (Err refused) left = stops (stop faults.ZeroDivisor line)
 
-abbrev pub binary_value : Binary → ℕ → Value → Value → Answer Value
-binary_value (binaries.Operator o) line a b = unless_refused line (applied o a b)
-binary_value binaries.Least line a b = gives (least_of a b)
-binary_value binaries.Greatest line a b = gives (greatest_of a b)
-binary_value binaries.ShiftLeft line a b = gives (shifted_left_by a (places_of b.bits))
-binary_value binaries.ShiftRight line a b = gives (shifted_right_by a (places_of b.bits))
-binary_value binaries.RotateLeft line a b = gives (rotated_left_by a (places_of b.bits))
-binary_value binaries.RotateRight line a b = gives (rotated_right_by a (places_of b.bits))
+abbrev pub binary_value : Binary → ℕ → Value → Value → ℕ → Answer Value
+binary_value (binaries.Operator o) line a b left = unless_refused line (applied o a b) left
+binary_value binaries.Least line a b left = gives (least_of a b) left
+binary_value binaries.Greatest line a b left = gives (greatest_of a b) left
+binary_value binaries.ShiftLeft line a b left = gives (shifted_left_by a (places_of b.bits)) left
+binary_value binaries.ShiftRight line a b left = gives (shifted_right_by a (places_of b.bits)) left
+binary_value binaries.RotateLeft line a b left = gives (rotated_left_by a (places_of b.bits)) left
+binary_value binaries.RotateRight line a b left = gives (rotated_right_by a (places_of b.bits)) left
 
 -- it takes a first operand of the type
 abbrev pub takes_two : Binary → Elem → Bool

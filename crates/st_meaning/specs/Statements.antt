@@ -1,15 +1,15 @@
 -- What statements do (3.3.2): from the values of variables, the forced leaves and the steps left, to new values and the steps that
 -- are left then, or to what stops the run.
-use Rattle.std.specs.Prelude.{ℕ, zero, suc, ◌+◌, Bool, true, false, ◌&&◌, ◌||◌, if◌then◌else◌, ℤ, pos, negsuc, ◌+ℤ◌, int_le, List, [], ◌∷◌, ◌++◌, drop, length, take, Option, Some, None}
+use Rattle.std.specs.Prelude.{ℕ, zero, suc, ◌+◌, Bool, true, false, ◌&&◌, ◌||◌, if◌then◌else◌, ℤ, pos, negsuc, ◌+ℤ◌, int_le, List, [], ◌∷◌, ◌++◌, drop, length, take}
 use Rattle.st_values.specs.declared.value.Value.{Value}
 use Rattle.st_types.specs.Compositions.{Composition, standard}
 use Rattle.st_types.specs.declared.standard.StandardBlock.{StandardBlock}
 use Rattle.st_leaves.specs.Places.{count}
 use Rattle.st_leaves.specs.Selected.{selected_by}
 use Rattle.st_blocks.specs.Steps.{stepped}
-use Rattle.st_meaning.specs.Meaning.{Values, located, stored_at, value_of}
+use Rattle.st_meaning.specs.Meaning.{Calls, Values, located, stored_at, value_of}
 use Rattle.st_meaning.specs.Offsets.{offset_of}
-use Rattle.st_meaning.specs.Operations.{Answer, gives, stops, Stop, stop}
+use Rattle.st_meaning.specs.Operations.{Answer, gives, stops, Stop, stop, in_unit}
 use Rattle.st_meaning.specs.Terms.{LabelRange, Command, nothing, assign, choice, cases, count_loop, while_loop, repeat_loop, invoke, enter, exit, finish, Moves, no_moves, more_moves, Commands, no_commands, more_commands, Branches, no_branches, more_branches, Cases, no_cases, more_cases}
 use Rattle.st_meaning.specs.declared.fault.RunFaultKind.TheVariants as faults
 
@@ -44,8 +44,8 @@ abbrev pub after_step : ℕ → ℕ → (ℕ → Outcome) → Outcome
 after_step line zero go = faulted (stop faults.StepLimit line)
 after_step line (suc n) go = go n
 
-abbrev pub given : {A : Type 0} → Answer A → (A → Outcome) → Outcome
-given (gives x) go = go x
+abbrev pub given : {A : Type 0} → Answer A → (A → ℕ → Outcome) → Outcome
+given (gives x left) go = go x left
 given (stops f) go = faulted f
 
 -- FALSE is 0
@@ -58,15 +58,16 @@ is_true v = is_nonzero v.bits
 
 -- ---- loops: at most so many turns. Each takes a step, so that one more than there are steps is enough.
 
-abbrev pub while_turns : ℕ → ℕ → (Values → Answer Value) → (Values → ℕ → Outcome) → Values → ℕ → Outcome
+abbrev pub while_turns : ℕ → ℕ → (Values → ℕ → Answer Value) → (Values → ℕ → Outcome) → Values → ℕ → Outcome
 while_turns zero line test body values left = faulted (stop faults.StepLimit line)
 while_turns (suc k) line test body values left =
-    after_step line left (λ n. given (test values) (λ v. if is_true v then after_turn (body values n) (while_turns k line test body) else done values n))
+    after_step line left (λ n. given (test values n) (λ v m. if is_true v then after_turn (body values m) (while_turns k line test body) else done values m))
 
-abbrev pub repeat_turns : ℕ → ℕ → (Values → Answer Value) → (Values → ℕ → Outcome) → Values → ℕ → Outcome
+abbrev pub repeat_turns : ℕ → ℕ → (Values → ℕ → Answer Value) → (Values → ℕ → Outcome) → Values → ℕ → Outcome
 repeat_turns zero line test body values left = faulted (stop faults.StepLimit line)
 repeat_turns (suc k) line test body values left =
-    after_turn (body values left) (λ others m. after_step line m (λ n. given (test others) (λ v. if is_true v then done others n else repeat_turns k line test body others n)))
+    after_turn (body values left) (λ others m. after_step line m (λ n.
+    given (test others n) (λ v i. if is_true v then done others i else repeat_turns k line test body others i)))
 
 -- whether the counter hasn't passed the last value
 abbrev pub goes_on : ℤ → ℤ → ℤ → Bool
@@ -125,14 +126,6 @@ ended (exited values left) = done values left
 ended (returned values left) = done values left
 ended (faulted f) = faulted f
 
--- a fault is in the unit of this number, or in one that its body invoked
-abbrev pub unit_or : ℕ → Option ℕ → ℕ
-unit_or unit None = unit
-unit_or unit (Some other) = other
-
-abbrev pub in_unit : ℕ → Stop → Stop
-in_unit unit f = record { kind = f.kind; line = f.line; unit = Some (unit_or unit f.unit) }
-
 -- what the body of this unit leaves of an instance stands among the values from its first leaf on
 abbrev pub left_by : ℕ → ℕ → Values → Outcome → Outcome
 left_by unit offset values (done part left) = done (with_stretch values offset part) left
@@ -153,58 +146,65 @@ abbrev pub alike : Value → ℤ → Value
 alike v i = record { elem = v.elem; bits = i }
 
 -- one value after the other, each stored before the next is evaluated
-abbrev pub moves_meaning : Composition → Setting → Moves → Values → ℕ → Outcome
-moves_meaning root setting no_moves values left = done values left
-moves_meaning root setting (more_moves ps t more) values left =
-    given (value_of root values t) (λ v. given (located root values root ps) (λ path. moves_meaning root setting more (stored_at root setting.forced values path v) left))
+abbrev pub moves_meaning : Calls → Composition → Setting → Moves → Values → ℕ → Outcome
+moves_meaning calls root setting no_moves values left = done values left
+moves_meaning calls root setting (more_moves ps t more) values left =
+    given (value_of calls root values t left) (λ v n.
+    given (located calls root values root ps n) (λ path m. moves_meaning calls root setting more (stored_at root setting.forced values path v) m))
 
 abbrev mutual
-  pub command_meaning : Composition → Setting → Command → Values → ℕ → Outcome
-  command_meaning root setting (nothing line) values left = after_step line left (λ n. done values n)
-  command_meaning root setting (assign line ps t) values left =
-      after_step line left (λ n. given (value_of root values t) (λ v. given (located root values root ps) (λ path. done (stored_at root setting.forced values path v) n)))
-  command_meaning root setting (choice line bs others) values left = after_step line left (branches_meaning root setting bs (commands_meaning root setting others) values)
-  command_meaning root setting (cases line t cs others) values left =
-      after_step line left (λ n. given (value_of root values t) (λ v. cases_meaning root setting cs (commands_meaning root setting others) v.bits values n))
+  pub command_meaning : Calls → Composition → Setting → Command → Values → ℕ → Outcome
+  command_meaning calls root setting (nothing line) values left = after_step line left (λ n. done values n)
+  command_meaning calls root setting (assign line ps t) values left =
+      after_step line left (λ n. given (value_of calls root values t n) (λ v m.
+      given (located calls root values root ps m) (λ path k. done (stored_at root setting.forced values path v) k)))
+  command_meaning calls root setting (choice line bs others) values left =
+      after_step line left (branches_meaning calls root setting bs (commands_meaning calls root setting others) values)
+  command_meaning calls root setting (cases line t cs others) values left =
+      after_step line left (λ n. given (value_of calls root values t n) (λ v m.
+      cases_meaning calls root setting cs (commands_meaning calls root setting others) v.bits values m))
   -- the first value, the last one and the step are evaluated in this order, and the first is stored before the first test
-  command_meaning root setting (count_loop line ps first last step cs) values left =
-      after_step line left (λ n. given (value_of root values first) (λ a. given (value_of root values last) (λ b. given (value_of root values step) (λ c.
-      given (located root values root ps) (λ path.
-      count_turns (suc n) line (λ others i. stored_at root setting.forced others path (alike a i)) b.bits c.bits (commands_meaning root setting cs) a.bits
-      (stored_at root setting.forced values path a) n)))))
-  command_meaning root setting (while_loop line t cs) values left =
-      after_step line left (λ n. while_turns (suc n) line (λ others. value_of root others t) (commands_meaning root setting cs) values n)
-  command_meaning root setting (repeat_loop line cs t) values left =
-      after_step line left (λ n. repeat_turns (suc n) line (λ others. value_of root others t) (commands_meaning root setting cs) values n)
+  command_meaning calls root setting (count_loop line ps first last step cs) values left =
+      after_step line left (λ n. given (value_of calls root values first n) (λ a m. given (value_of calls root values last m) (λ b k.
+      given (value_of calls root values step k) (λ c j. given (located calls root values root ps j) (λ path i.
+      count_turns (suc i) line (λ others counter. stored_at root setting.forced others path (alike a counter)) b.bits c.bits (commands_meaning calls root setting cs) a.bits
+      (stored_at root setting.forced values path a) i)))))
+  command_meaning calls root setting (while_loop line t cs) values left =
+      after_step line left (λ n. while_turns (suc n) line (λ others m. value_of calls root others t m) (commands_meaning calls root setting cs) values n)
+  command_meaning calls root setting (repeat_loop line cs t) values left =
+      after_step line left (λ n. repeat_turns (suc n) line (λ others m. value_of calls root others t m) (commands_meaning calls root setting cs) values n)
   -- Its inputs are stored one after the other, the block does what it does, and its outputs are assigned. The invocation takes a step
   -- beside its statement.
-  command_meaning root setting (invoke line name b inputs outputs) values left =
+  command_meaning calls root setting (invoke line name b inputs outputs) values left =
       after_step line left (λ m. after_step line m (λ n.
-      then_do (moves_meaning root setting inputs values n) (λ others k. moves_meaning root setting outputs (block_done setting b (offset_of root name) others) k)))
+      then_do (moves_meaning calls root setting inputs values n) (λ others k. moves_meaning calls root setting outputs (block_done setting b (offset_of root name) others) k)))
   -- Its inputs are stored one after the other, its body runs, and its outputs are assigned. It takes the same steps.
-  command_meaning root setting (enter line name unit body inputs outputs) values left =
+  command_meaning calls root setting (enter line name unit body inputs outputs) values left =
       after_step line left (λ m. after_step line m (λ n.
-      then_do (moves_meaning root setting inputs values n) (λ others k.
-      then_do (instance_meaning root setting name unit (λ within part i. commands_meaning (selected_by root name) within body part i) others k) (λ them j. moves_meaning root setting outputs them j))))
-  command_meaning root setting (exit line) values left = after_step line left (λ n. exited values n)
-  command_meaning root setting (finish line) values left = after_step line left (λ n. returned values n)
+      then_do (moves_meaning calls root setting inputs values n) (λ others k.
+      then_do (instance_meaning root setting name unit (λ within part i. commands_meaning calls (selected_by root name) within body part i) others k)
+      (λ them j. moves_meaning calls root setting outputs them j))))
+  command_meaning calls root setting (exit line) values left = after_step line left (λ n. exited values n)
+  command_meaning calls root setting (finish line) values left = after_step line left (λ n. returned values n)
 
-  pub commands_meaning : Composition → Setting → Commands → Values → ℕ → Outcome
-  commands_meaning root setting no_commands values left = done values left
-  commands_meaning root setting (more_commands c cs) values left = then_do (command_meaning root setting c values left) (commands_meaning root setting cs)
+  pub commands_meaning : Calls → Composition → Setting → Commands → Values → ℕ → Outcome
+  commands_meaning calls root setting no_commands values left = done values left
+  commands_meaning calls root setting (more_commands c cs) values left =
+      then_do (command_meaning calls root setting c values left) (commands_meaning calls root setting cs)
 
   -- the first branch whose condition is TRUE
-  pub branches_meaning : Composition → Setting → Branches → (Values → ℕ → Outcome) → Values → ℕ → Outcome
-  branches_meaning root setting no_branches others values left = others values left
-  branches_meaning root setting (more_branches t cs bs) others values left =
-      given (value_of root values t) (λ v. if is_true v then commands_meaning root setting cs values left else branches_meaning root setting bs others values left)
+  pub branches_meaning : Calls → Composition → Setting → Branches → (Values → ℕ → Outcome) → Values → ℕ → Outcome
+  branches_meaning calls root setting no_branches others values left = others values left
+  branches_meaning calls root setting (more_branches t cs bs) others values left =
+      given (value_of calls root values t left) (λ v n.
+      if is_true v then commands_meaning calls root setting cs values n else branches_meaning calls root setting bs others values n)
 
   -- the first case with a label that the number is among
-  pub cases_meaning : Composition → Setting → Cases → (Values → ℕ → Outcome) → ℤ → Values → ℕ → Outcome
-  cases_meaning root setting no_cases others i values left = others values left
-  cases_meaning root setting (more_cases labels cs more) others i values left =
-      if has_label labels i then commands_meaning root setting cs values left else cases_meaning root setting more others i values left
+  pub cases_meaning : Calls → Composition → Setting → Cases → (Values → ℕ → Outcome) → ℤ → Values → ℕ → Outcome
+  cases_meaning calls root setting no_cases others i values left = others values left
+  cases_meaning calls root setting (more_cases labels cs more) others i values left =
+      if has_label labels i then commands_meaning calls root setting cs values left else cases_meaning calls root setting more others i values left
 
 -- a body
-abbrev pub body_meaning : Composition → Setting → Commands → Values → ℕ → Outcome
-body_meaning root setting cs values left = ended (commands_meaning root setting cs values left)
+abbrev pub body_meaning : Calls → Composition → Setting → Commands → Values → ℕ → Outcome
+body_meaning calls root setting cs values left = ended (commands_meaning calls root setting cs values left)

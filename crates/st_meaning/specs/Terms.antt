@@ -1,9 +1,17 @@
 -- Programs with the type of each literal: what typing makes of a tree, and what meaning and code are about.
 use Rattle.std.specs.Prelude.{ℕ, ◌+◌, ℤ, List}
+use Rattle.st_values.specs.declared.elem.Elem.{Elem}
 use Rattle.st_values.specs.declared.value.Value.{Value}
 use Rattle.st_types.specs.declared.standard.StandardBlock.{StandardBlock}
 use Rattle.st_meaning.specs.declared.operation.Binary.{Binary}
 use Rattle.st_meaning.specs.declared.operation.Unary.{Unary}
+
+-- where the value of an input is from, in a call of a function
+pub data Source : Type 0 where
+  -- the written argument of this place, from 0
+  written : ℕ → Source
+  -- the input is left out, and begins with this
+  left_out : Value → Source
 
 mutual
   -- an expression (3.3.1); the number beside an operator is its line
@@ -16,6 +24,9 @@ mutual
     binary : Binary → ℕ → Term → Term → Term
     -- SEL: the first of the last two where the one before is FALSE, else the second
     selection : Term → Term → Term → Term
+    -- a call of a function of the text (2.5.1): the line of its name, the number of its unit, the type of its result, the arguments
+    -- in written order, and for each input, in the order of their declaration, where its value is from
+    call : ℕ → ℕ → Elem → Terms → List Source → Term
 
   pub data Terms : Type 0 where
     no_terms : Terms

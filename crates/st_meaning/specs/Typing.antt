@@ -1,8 +1,9 @@
 -- Which type each literal has, and what each name stands for (2.2, 2.4, 3.3.1): from trees to programs without names. An expression
 -- is a term where a type is due of it. In a program that keeps the rules it fits that type; elsewhere it is 0.
-use Rattle.std.specs.Prelude.{ℕ, if◌then◌else◌, pos, List, [], ◌∷◌, map, Option, Some, None}
-use Rattle.std.specs.List.{flat_map}
+use Rattle.std.specs.Prelude.{ℕ, suc, ◌==◌, Bool, false, if◌then◌else◌, pos, List, [], ◌∷◌, map, slice_get, Option, Some, None}
+use Rattle.std.specs.List.{flat_map, position}
 use Rattle.st_values.specs.Types.{is_same}
+use Rattle.st_values.specs.Words.{is_word}
 use Rattle.st_values.specs.declared.elem.Elem.{Elem}
 use Rattle.st_values.specs.declared.elem.Elem.TheVariants as elems
 use Rattle.st_values.specs.declared.value.Value.{Value}
@@ -31,8 +32,8 @@ use Rattle.st_types.specs.declared.standard.StandardFunction.{StandardFunction}
 use Rattle.st_types.specs.declared.standard.StandardFunction.TheVariants as functions
 use Rattle.st_leaves.specs.Selected.{selected_by}
 use Rattle.st_meaning.specs.Operations.{takes_one, takes_two}
-use Rattle.st_meaning.specs.Terms.{Term, constant, stored, unary, binary, selection, Terms, no_terms, more_terms, Parts, whole, field_part, element_part, LabelRange, Command, nothing, assign, choice, cases, count_loop, while_loop, repeat_loop, invoke, enter, exit, finish, Moves, no_moves, more_moves, Commands, no_commands, more_commands, Branches, no_branches, more_branches, Cases, no_cases, more_cases}
-use Rattle.st_meaning.specs.Wholes.{Invoked, Whole, block_of, type_of}
+use Rattle.st_meaning.specs.Terms.{Source, written, left_out, Term, constant, stored, unary, binary, selection, call, Terms, no_terms, more_terms, Parts, whole, field_part, element_part, LabelRange, Command, nothing, assign, choice, cases, count_loop, while_loop, repeat_loop, invoke, enter, exit, finish, Moves, no_moves, more_moves, Commands, no_commands, more_commands, Branches, no_branches, more_branches, Cases, no_cases, more_cases}
+use Rattle.st_meaning.specs.Wholes.{Called, Input, Invoked, Whole, block_of, type_of}
 use Rattle.st_meaning.specs.declared.operation.Binary.{Binary}
 use Rattle.st_meaning.specs.declared.operation.Binary.TheVariants as binaries
 use Rattle.st_meaning.specs.declared.operation.Unary.{Unary}
@@ -139,13 +140,80 @@ abbrev pub converted : Elem → Elem → List Typed → Typed
 converted from to (x ∷ []) = record { own = Some to; as_type = fitted to (unary (unaries.Convert to) (x.as_type from)) }
 converted from to _ = untyped
 
-abbrev pub call_typed : Option Standard → List Typed → Typed
-call_typed (Some (standards.Function f)) xs = function_typed f xs
-call_typed (Some (standards.Conversion from to)) xs = converted from to xs
-call_typed _ xs = untyped
+-- ---- functions of the text (2.5.1)
+
+-- an argument of a call: the name of the input that it is for, where that is written, and its value
+pub record Passed : Type 0 where
+  pub name : Option (List ℕ)
+  pub value : Typed
+
+abbrev pub passed : Option (List ℕ) → Typed → List Passed
+passed name x = record { name = name; value = x } ∷ []
+
+abbrev pub unnamed_before : Option (List ℕ) → Typed → List Typed → List Typed
+unnamed_before None x xs = x ∷ xs
+unnamed_before (Some name) x xs = xs
+
+-- the arguments that are written without names
+abbrev pub unnamed : List Passed → List Typed
+unnamed [] = []
+unnamed (x ∷ xs) = unnamed_before x.name x.value (unnamed xs)
+
+-- the number of the input that an argument goes to: the one of its name, or else the one of its place
+abbrev pub goes_to : List Input → ℕ → Option (List ℕ) → Option ℕ
+goes_to inputs place None = Some place
+goes_to inputs place (Some name) = position (λ i. is_word i.name name) inputs
+
+-- of the arguments from this place on
+abbrev pub go_to : List Input → ℕ → List Passed → List (Option ℕ)
+go_to inputs place [] = []
+go_to inputs place (x ∷ xs) = goes_to inputs place x.name ∷ go_to inputs (suc place) xs
+
+-- the input of this number
+abbrev pub input_at : List Input → Option ℕ → Option Input
+input_at inputs None = None
+input_at inputs (Some n) = slice_get inputs n
+
+-- An argument has the type of its input. In a program that keeps the rules there is one.
+abbrev pub as_input : Typed → Option Input → Term
+as_input x None = alone x
+as_input x (Some i) = x.as_type i.initial.elem
+
+-- the arguments from this place on
+abbrev pub arguments_from : List Input → ℕ → List Passed → Terms
+arguments_from inputs place [] = no_terms
+arguments_from inputs place (x ∷ xs) = more_terms (as_input x.value (input_at inputs (goes_to inputs place x.name))) (arguments_from inputs (suc place) xs)
+
+abbrev pub is_number : ℕ → Option ℕ → Bool
+is_number n None = false
+is_number n (Some m) = m == n
+
+-- the argument of this place, or else what the input begins with
+abbrev pub source_of : Value → Option ℕ → Source
+source_of initial None = left_out initial
+source_of initial (Some place) = written place
+
+-- of the inputs from this number on, where the arguments go to these: the first argument that goes to an input
+abbrev pub sources_from : List (Option ℕ) → ℕ → List Input → List Source
+sources_from places n [] = []
+sources_from places n (i ∷ is) = source_of i.initial (position (is_number n) places) ∷ sources_from places (suc n) is
+
+abbrev pub function_called : ℕ → Option Called → List Passed → Typed
+function_called line None xs = untyped
+function_called line (Some f) xs = record {
+  own = Some f.result;
+  as_type = fitted f.result (call line f.number f.result (arguments_from f.inputs 0 xs) (sources_from (go_to f.inputs 0 xs) 0 f.inputs));
+}
+
+-- a call on this line: a standard name has its meaning everywhere
+abbrev pub call_typed : Whole → ℕ → List ℕ → Option Standard → List Passed → Typed
+call_typed w line name (Some (standards.Function f)) xs = function_typed f (unnamed xs)
+call_typed w line name (Some (standards.Conversion from to)) xs = converted from to (unnamed xs)
+call_typed w line name (Some (standards.Block b)) xs = untyped
+call_typed w line name None xs = function_called line (w.functions name) xs
 
 -- ---- expressions: of an operation the fold gives what it makes of its left operand, of a part what it puts before the further
--- parts, of an argument its value where it is written without a name
+-- parts, of an argument its value with the name that is written before it
 
 abbrev pub terms_of : List Typed → Terms
 terms_of [] = no_terms
@@ -155,7 +223,7 @@ abbrev pub through : List (Parts → Parts) → Parts
 through [] = whole
 through (f ∷ fs) = f (through fs)
 
-abbrev pub typed_expression : Whole → Expression-F (List Typed) Typed (Parts → Parts) Typed (Typed → Typed) Parts → Typed
+abbrev pub typed_expression : Whole → Expression-F (List Passed) Typed (Parts → Parts) Typed (Typed → Typed) Parts → Typed
 typed_expression w (Expression-F.Constant c) = literal c
 typed_expression w (Expression-F.Variable ps) = variable_typed w ps
 typed_expression w (Expression-F.Call x) = x
@@ -164,33 +232,33 @@ typed_expression w (Expression-F.Negate p x) = prefixed unaries.Negate x
 typed_expression w (Expression-F.Not p x) = prefixed unaries.Complement x
 typed_expression w (Expression-F.Chain p x fs) = chained x fs
 
-abbrev pub typed_argument : Argument-F (List Typed) Typed (Parts → Parts) Typed (Typed → Typed) Parts → List Typed
-typed_argument (Argument-F.Positional x) = x ∷ []
-typed_argument (Argument-F.Input n x) = []
+abbrev pub typed_argument : Argument-F (List Passed) Typed (Parts → Parts) Typed (Typed → Typed) Parts → List Passed
+typed_argument (Argument-F.Positional x) = passed None x
+typed_argument (Argument-F.Input n x) = passed (Some n.spelling) x
 typed_argument (Argument-F.Output n ps) = []
 
-abbrev pub typed_part : Part-F (List Typed) Typed (Parts → Parts) Typed (Typed → Typed) Parts → Parts → Parts
+abbrev pub typed_part : Part-F (List Passed) Typed (Parts → Parts) Typed (Typed → Typed) Parts → Parts → Parts
 typed_part (Part-F.Field n) ps = field_part n.spelling ps
 typed_part (Part-F.Subscripts p xs) ps = element_part p.line (terms_of xs) ps
 
 abbrev pub typed : Whole → Expression → Typed
-typed w x = fold-Expression (List Typed) Typed (Parts → Parts) Typed (Typed → Typed) Parts typed_argument (typed_expression w) typed_part (λ c. call_typed (standard_of c.name.spelling) (flat_map (λ a. a) c.arguments)) (λ o x. joined o.operator o.position.line x o.operand) (λ v. field_part v.name.spelling (through v.parts)) x
+typed w x = fold-Expression (List Passed) Typed (Parts → Parts) Typed (Typed → Typed) Parts typed_argument (typed_expression w) typed_part (λ c. call_typed w c.name.position.line c.name.spelling (standard_of c.name.spelling) (flat_map (λ a. a) c.arguments)) (λ o x. joined o.operator o.position.line x o.operand) (λ v. field_part v.name.spelling (through v.parts)) x
 
-abbrev pub argument_typed : Whole → Argument → List Typed
-argument_typed w x = fold-Argument (List Typed) Typed (Parts → Parts) Typed (Typed → Typed) Parts typed_argument (typed_expression w) typed_part (λ c. call_typed (standard_of c.name.spelling) (flat_map (λ a. a) c.arguments)) (λ o x. joined o.operator o.position.line x o.operand) (λ v. field_part v.name.spelling (through v.parts)) x
+abbrev pub argument_typed : Whole → Argument → List Passed
+argument_typed w x = fold-Argument (List Passed) Typed (Parts → Parts) Typed (Typed → Typed) Parts typed_argument (typed_expression w) typed_part (λ c. call_typed w c.name.position.line c.name.spelling (standard_of c.name.spelling) (flat_map (λ a. a) c.arguments)) (λ o x. joined o.operator o.position.line x o.operand) (λ v. field_part v.name.spelling (through v.parts)) x
 
 abbrev pub operation_typed : Whole → Operation → Typed → Typed
-operation_typed w x = fold-Operation (List Typed) Typed (Parts → Parts) Typed (Typed → Typed) Parts typed_argument (typed_expression w) typed_part (λ c. call_typed (standard_of c.name.spelling) (flat_map (λ a. a) c.arguments)) (λ o x. joined o.operator o.position.line x o.operand) (λ v. field_part v.name.spelling (through v.parts)) x
+operation_typed w x = fold-Operation (List Passed) Typed (Parts → Parts) Typed (Typed → Typed) Parts typed_argument (typed_expression w) typed_part (λ c. call_typed w c.name.position.line c.name.spelling (standard_of c.name.spelling) (flat_map (λ a. a) c.arguments)) (λ o x. joined o.operator o.position.line x o.operand) (λ v. field_part v.name.spelling (through v.parts)) x
 
 abbrev pub part_typed : Whole → Part → Parts → Parts
-part_typed w x = fold-Part (List Typed) Typed (Parts → Parts) Typed (Typed → Typed) Parts typed_argument (typed_expression w) typed_part (λ c. call_typed (standard_of c.name.spelling) (flat_map (λ a. a) c.arguments)) (λ o x. joined o.operator o.position.line x o.operand) (λ v. field_part v.name.spelling (through v.parts)) x
+part_typed w x = fold-Part (List Passed) Typed (Parts → Parts) Typed (Typed → Typed) Parts typed_argument (typed_expression w) typed_part (λ c. call_typed w c.name.position.line c.name.spelling (standard_of c.name.spelling) (flat_map (λ a. a) c.arguments)) (λ o x. joined o.operator o.position.line x o.operand) (λ v. field_part v.name.spelling (through v.parts)) x
 
 abbrev pub call_typed_in : Whole → Call → Typed
-call_typed_in w x = fold-Call (List Typed) Typed (Parts → Parts) Typed (Typed → Typed) Parts typed_argument (typed_expression w) typed_part (λ c. call_typed (standard_of c.name.spelling) (flat_map (λ a. a) c.arguments)) (λ o x. joined o.operator o.position.line x o.operand) (λ v. field_part v.name.spelling (through v.parts)) x
+call_typed_in w x = fold-Call (List Passed) Typed (Parts → Parts) Typed (Typed → Typed) Parts typed_argument (typed_expression w) typed_part (λ c. call_typed w c.name.position.line c.name.spelling (standard_of c.name.spelling) (flat_map (λ a. a) c.arguments)) (λ o x. joined o.operator o.position.line x o.operand) (λ v. field_part v.name.spelling (through v.parts)) x
 
 -- the place of a variable
 abbrev pub place_of : Whole → Variable → Parts
-place_of w x = fold-Variable (List Typed) Typed (Parts → Parts) Typed (Typed → Typed) Parts typed_argument (typed_expression w) typed_part (λ c. call_typed (standard_of c.name.spelling) (flat_map (λ a. a) c.arguments)) (λ o x. joined o.operator o.position.line x o.operand) (λ v. field_part v.name.spelling (through v.parts)) x
+place_of w x = fold-Variable (List Passed) Typed (Parts → Parts) Typed (Typed → Typed) Parts typed_argument (typed_expression w) typed_part (λ c. call_typed w c.name.position.line c.name.spelling (standard_of c.name.spelling) (flat_map (λ a. a) c.arguments)) (λ o x. joined o.operator o.position.line x o.operand) (λ v. field_part v.name.spelling (through v.parts)) x
 
 -- ---- statements: of a branch the fold gives what it puts before the further ones, of a case too, once the selector's type is known
 

@@ -14,12 +14,28 @@ pub record Invoked : Type 0 where
   pub number : ℕ
   pub body : Commands
 
--- the variables of a unit, as what they consist of, the values of its constants, and which of its names are instances of function
--- blocks of the text
+-- an input of a function, with its name, and the value that it begins with, which is of its type
+pub record Input : Type 0 where
+  pub name : List ℕ
+  pub initial : Value
+
+-- a function of the text: the number of its unit, the type of its result, and its inputs in the order of their declaration
+pub record Called : Type 0 where
+  pub number : ℕ
+  pub result : Elem
+  pub inputs : List Input
+
+-- the functions of a text by the numbers of their units
+abbrev pub Functions : Type 0
+Functions = ℕ → Option Called
+
+-- the variables of a unit, as what they consist of, the values of its constants, which of its names are instances of function blocks
+-- of the text, and the functions of the text by their names
 pub record Whole : Type 0 where
   pub variables : Composition
   pub constants : List ℕ → Option Value
   pub invoked : List ℕ → Option Invoked
+  pub functions : List ℕ → Option Called
 
 abbrev pub constant_value : Composition → Option Value
 constant_value (elementary v) = Some v

@@ -1,5 +1,6 @@
 //! Laws of what programs mean.
-ghost use Rattle.st_meaning.specs.Laws.{CommandsKeepTheFrame, PlacesHaveLeaves, TermsGiveValues, TypingGivesSoundBodies};
+ghost use Rattle.st_meaning.specs.CalledBy.{CalledFunctionsMatterAlone, CallsAreThoseOfTheirBodies};
+ghost use Rattle.st_meaning.specs.Laws.{CallsAreSound, CommandsKeepTheFrame, FunctionsDeclareTheirResults, PlacesHaveLeaves, PlacesTakeSteps, TermsGiveValues, TypingGivesSoundBodies};
 
 /// The commands that the statements of a unit are, are sound, whatever stands in them, and so are the bodies of the instances of
 /// function blocks that they invoke, however deep those lie.
@@ -12,13 +13,39 @@ pub fn places_have_leaves()
     ensures { PlacesHaveLeaves }
 {}
 
-/// The value of an expression is one of its type.
+/// The value of an expression is one of its type, and no more steps are left behind it than before, where the functions that it
+/// calls keep to this.
 pub fn terms_give_values()
     ensures { TermsGiveValues }
+{}
+
+/// No more steps are left than before where the subscripts of a place are evaluated.
+pub fn places_take_steps()
+    ensures { PlacesTakeSteps }
 {}
 
 /// Whatever statements do, and at whichever moment, they leave one value of the right type for each leaf, where each forced leaf
 /// has the value that it had, and no more steps than there were.
 pub fn commands_keep_the_frame()
     ensures { CommandsKeepTheFrame }
+{}
+
+/// The functions of a text give values of the types of their results, and leave no more steps than there were.
+pub fn calls_are_sound()
+    ensures { CallsAreSound }
+{}
+
+/// What statements mean depends on nothing but what the functions give that they call.
+pub fn called_functions_matter_alone()
+    ensures { CalledFunctionsMatterAlone }
+{}
+
+/// Where each function calls none but those of a lower rank, each gives what its body gives that calls the functions of the text.
+pub fn calls_are_those_of_their_bodies()
+    ensures { CallsAreThoseOfTheirBodies }
+{}
+
+/// The result of a function is a variable of it that stands before what is declared.
+pub fn functions_declare_their_results()
+    ensures { FunctionsDeclareTheirResults }
 {}

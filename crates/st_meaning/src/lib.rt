@@ -5,9 +5,13 @@
 mod fault;
 mod laws;
 mod operation;
+mod start;
 
 pub use fault::{RunFault, RunFaultKind};
 pub use laws::{
-    commands_keep_the_frame, places_have_leaves, terms_give_values, typing_gives_sound_bodies,
+    called_functions_matter_alone, calls_are_sound, calls_are_those_of_their_bodies,
+    commands_keep_the_frame, functions_declare_their_results, places_have_leaves,
+    places_take_steps, terms_give_values, typing_gives_sound_bodies,
 };
 pub use operation::{Binary, Unary};
+pub use start::Start;

@@ -26,18 +26,19 @@ use Rattle.st_types.specs.declared.base.Base.{Base}
 use Rattle.st_types.specs.declared.base.Base.TheVariants as bases
 use Rattle.st_types.specs.declared.standard.Standard.{Standard}
 use Rattle.st_types.specs.declared.standard.Standard.TheVariants as standards
-use Rattle.st_places.specs.Contents.{AreNamed}
-use Rattle.st_places.specs.Parts.{is_block}
+use Rattle.st_places.specs.Contents.{AreNamed, IsNoFunction, is_function_in}
+use Rattle.st_places.specs.Parts.{is_block, is_function}
 use Rattle.st_places.proofs.Entries.{of_specified}
 use Rattle.st_places.proofs.Lookups.{position-here, position-next}
 
 -- ---- structures and function blocks are units
 
--- the unit of this number, and whether it is a function block
+-- the unit of this number, which is no function, and whether it is a function block
 pub record IsDeclared (units : List Named) (i : ℕ) (b : Bool) : Type 0 where
   pub unit : Named
   pub at : unit_at units i ≡ Some unit
   pub is : is_block unit.declares ≡ b
+  pub no_function : is_function unit.declares ≡ false
 
 abbrev pub IsKnown : List Named → Base → Type 0
 IsKnown units (bases.Structure i) = IsDeclared units i false
@@ -72,9 +73,9 @@ module _ (units : List Named) where
     known_unit : (i : ℕ) (name : Identifier) (unit : Declares) → unit_at units i ≡ Some (named name unit) → IsKnown units (unit_stands_for f i unit)
     known_unit i name (names.type (declared_types.Derived (specifications.Simple t) initial)) at = known_without (name_stands_for f t) (known_name t)
     known_unit i name (names.type (declared_types.Derived (specifications.Array position ranges t) initial)) at = known_array i (is_unknown (without_instance (name_stands_for f t)))
-    known_unit i name (names.type (declared_types.Structure position members)) at = record { unit = named name (names.type (declared_types.Structure position members)); at = at; is = refl }
+    known_unit i name (names.type (declared_types.Structure position members)) at = record { unit = named name (names.type (declared_types.Structure position members)); at = at; is = refl; no_function = refl }
     known_unit i name (names.function g) at = tt
-    known_unit i name (names.block b) at = record { unit = named name (names.block b); at = at; is = refl }
+    known_unit i name (names.block b) at = record { unit = named name (names.block b); at = at; is = refl; no_function = refl }
     known_unit i name (names.program p) at = tt
 
     known_optional : (i : ℕ) (u : Option Named) → unit_at units i ≡ u → IsKnown units (optional_stands_for f i u)
@@ -88,12 +89,23 @@ module _ (units : List Named) where
       known_optional (λ name. stands_for (type_within units n) (standard_of name) (number_of units name))
       (λ name. known_stands (type_within units n) (known_within n) (standard_of name) (number_of units name)) i (unit_at units i) refl
 
-  known_type : (i : ℕ) → IsKnown units (type_at units i)
+  pub known_type : (i : ℕ) → IsKnown units (type_at units i)
   unfolding type_at
   known_type i = known_within (suc (length units)) i
 
   pub known_shape : (s : Specification) → IsKnown units (shape_of units s).base
   known_shape s = of_specified units (IsKnown units) tt (λ e. tt) (λ b. tt) known_type s
+
+  declared_no_function : (i : ℕ) (b : Bool) → IsDeclared units i b → is_function_in (unit_at units i) ≡ false
+  declared_no_function i b is = ap is_function_in is.at ∙ is.no_function
+
+  pub no_function : (base : Base) → IsKnown units base → IsNoFunction units base
+  no_function bases.Unknown is = tt
+  no_function (bases.Elementary e) is = tt
+  no_function (bases.Array i) is = tt
+  no_function (bases.Structure i) is = declared_no_function i false is
+  no_function (bases.Block i) is = declared_no_function i true is
+  no_function (bases.Standard b) is = tt
 
   -- ---- which type a unit is
 

@@ -4,7 +4,7 @@ use Rattle.std.specs.List.{slice_get}
 use Rattle.std.specs.Option.{option_map}
 use Rattle.std.proofs.lemmas.Option.{same_Some}
 use Rattle.st_names.specs.Tables.{first_of}
-use Rattle.st_scopes.specs.Declarations.{names_at, names_in, spellings_of}
+use Rattle.st_scopes.specs.Declarations.{spellings_of}
 use Rattle.st_tree.specs.declared.tree.declaration.Declaration.{Declaration}
 use Rattle.st_tree.specs.declared.tree.declaration.DeclaredType.TheVariants as declared_types
 use Rattle.st_tree.specs.declared.tree.declaration.Initial.{Initial}
@@ -27,7 +27,7 @@ use Rattle.st_meaning.specs.Units.{unit_whole}
 use Rattle.st_meaning.specs.Wholes.{constant_among, constant_value}
 use Rattle.st_places.specs.Contents.{AreOf}
 use Rattle.st_places.specs.Members.{value_declared}
-use Rattle.st_places.specs.Parts.{TablesView, constants_among, inside, optional_whole, whole_in}
+use Rattle.st_places.specs.Parts.{TablesView, constants_among, inside, optional_whole, own_names, own_names_at, whole_in}
 use Rattle.st_places.specs.declared.unit.UnitParts.{UnitParts}
 use Rattle.st_places.proofs.Entries.{no_value, value_at}
 use Rattle.st_places.proofs.Lookups.{position-here, position-next}
@@ -45,7 +45,7 @@ no_constants : (ds : List Declaration) → constants_among (members_of ds) ≡ [
 no_constants [] = refl
 no_constants (d ∷ ds) = no_constant d d.names (members_of ds) ∙ no_constants ds
 
-same_constants : (unit : Declares) → constants_among (names_in unit) ≡ constants_among (variables_in unit)
+same_constants : (unit : Declares) → constants_among (own_names unit) ≡ constants_among (variables_in unit)
 same_constants (names.type (declared_types.Derived specification initial)) = refl
 same_constants (names.type (declared_types.Structure position members)) = no_constants members
 same_constants (names.function f) = refl
@@ -101,22 +101,22 @@ module _ (units : List Named) where
     no_unit i name is = sym (ap (λ u. (optional_whole units u).constants name) (missing units all are i is))
 
     found : (i : ℕ) (parts : UnitParts) (name : List ℕ) → slice_get all i ≡ Some parts
-        → IsValueAt (constants_among (names_at units i)) (value_among (constants_among (names_at units i)) name) (first_of parts.constants.names name)
+        → IsValueAt (constants_among (own_names_at units i)) (value_among (constants_among (own_names_at units i)) name) (first_of parts.constants.names name)
     found i parts name is =
-        subst (λ ns. IsValueAt (constants_among (names_at units i)) (value_among (constants_among (names_at units i)) name) (first_of ns name)) (sym (are.each i parts is).names.constants.names)
-        (at_number (constants_among (names_at units i)) name)
+        subst (λ ns. IsValueAt (constants_among (own_names_at units i)) (value_among (constants_among (own_names_at units i)) name) (first_of ns name)) (sym (are.each i parts is).names.constants.names)
+        (at_number (constants_among (own_names_at units i)) name)
 
     pub no_name : (i : ℕ) (parts : UnitParts) (name : List ℕ) → slice_get all i ≡ Some parts → first_of parts.constants.names name ≡ None
         → None ≡ (optional_whole units (unit_at units i)).constants name
     no_name i parts name is none =
         sym (constants_of (unit_at units i) name
-        ∙ subst (IsValueAt (constants_among (names_at units i)) (value_among (constants_among (names_at units i)) name)) none (found i parts name is))
+        ∙ subst (IsValueAt (constants_among (own_names_at units i)) (value_among (constants_among (own_names_at units i)) name)) none (found i parts name is))
 
     read : (i : ℕ) (parts : UnitParts) (name : List ℕ) (k : ℕ) → slice_get all i ≡ Some parts → first_of parts.constants.names name ≡ Some k
         → slice_get parts.constants.values k ≡ Some ((optional_whole units (unit_at units i)).constants name)
     read i parts name k is at =
         ap (λ values. slice_get values k) (are.each i parts is).names.constants.values
-        ∙ subst (IsValueAt (constants_among (names_at units i)) (value_among (constants_among (names_at units i)) name)) at (found i parts name is)
+        ∙ subst (IsValueAt (constants_among (own_names_at units i)) (value_among (constants_among (own_names_at units i)) name)) at (found i parts name is)
         ∙ ap (λ v. Some v) (sym (constants_of (unit_at units i) name))
 
     pub one_value : (i : ℕ) (parts : UnitParts) (name : List ℕ) (k : ℕ) (v : Option Value) → slice_get all i ≡ Some parts → first_of parts.constants.names name ≡ Some k
@@ -153,6 +153,9 @@ module _ (units : List Named) where
   by_elem : (v : Declared) (o : Option Elem) (x : Value) → elem_of (shape_of units v.specification) ≡ o → value_declared units v ≡ Some x → IsValue x
   by_elem v None x at is = let none : value_declared units v ≡ None = no_value units v at in absurd (cc)
   by_elem v (Some e) x at is = started_is_value (initial_of units v) e x (sym (value_at units v e at) ∙ is)
+
+  pub value_is_value : (v : Declared) (x : Value) → value_declared units v ≡ Some x → IsValue x
+  value_is_value v x is = by_elem v (elem_of (shape_of units v.specification)) x refl is
 
   among_is_value : (vs : List Declared) (name : List ℕ) (x : Value) → value_among vs name ≡ Some x → IsValue x
   among_is_value [] name x is = absurd (cc)

@@ -1,5 +1,5 @@
 -- What names and subscripts select of parts, by the tables.
-use Rattle.std.proofs.Common.{◌≡◌, ℕ, zero, suc, ◌≤◌, ◌<◌, List, [], ◌∷◌, length, Option, Some, None, refl, ap, sym, ◌∙◌, subst, arith, ◌⊎◌, inl, inr}
+use Rattle.std.proofs.Common.{◌≡◌, ℕ, zero, suc, ◌≤◌, ◌<◌, List, [], ◌∷◌, length, Option, Some, None, refl, ap, sym, ◌∙◌, subst, arith, ◌⊎◌, inl, inr, false}
 use Rattle.std.specs.List.{slice_get}
 use Rattle.std.specs.Option.{option_and_then}
 use Rattle.std.proofs.lemmas.Option.{same_Some, slice_get_within}
@@ -7,7 +7,6 @@ use Rattle.st_references.specs.References.{contained, type_names_in}
 use Rattle.st_references.proofs.Lists.{all_of}
 use Rattle.std.specs.List.{flat_map}
 use Rattle.st_program_sizes.proofs.Names.{of_name}
-use Rattle.st_scopes.specs.Declarations.{names_in}
 use Rattle.st_tree.specs.declared.tree.constant.Constant.{Constant}
 use Rattle.st_tree.specs.declared.tree.declaration.DeclaredType.TheVariants as declared_types
 use Rattle.st_tree.specs.declared.tree.declaration.Initial.{Initial}
@@ -30,17 +29,20 @@ use Rattle.st_leaves.specs.Places.{count}
 use Rattle.st_leaves.specs.Selected.{element_of, selected_by, value_type}
 use Rattle.st_leaves.proofs.Counted.{written_elem}
 use Rattle.st_meaning.specs.Offsets.{offset_of}
+use Rattle.st_meaning.specs.Units.{unit_root}
+use Rattle.st_meaning.proofs.BegunFunctions.{functions_declare_their_results}
 use Rattle.st_meaning.specs.Wholes.{block_of}
-use Rattle.st_places.specs.Contents.{AreOf, HasSameParts, IsArrayOf, IsContent, IsSelected, IsUnfolded, contents_of, elements_of}
+use Rattle.st_places.specs.Contents.{AreOf, HasSameParts, IsArrayOf, IsContent, IsNoFunction, IsSelected, IsType, IsUnfolded, contents_of, elements_of, is_function_in}
 use Rattle.st_places.specs.Dimensions.{AreLimited}
 use Rattle.st_places.specs.Members.{AreElements}
-use Rattle.st_places.specs.Parts.{array_part, inside, is_array, node_part, whole_part}
+use Rattle.st_places.specs.Parts.{array_part, inside, is_array, is_function, node_part, own_names, whole_part}
 use Rattle.st_places.specs.declared.content.Content.{Content}
 use Rattle.st_places.specs.declared.content.Content.TheVariants as contents
 use Rattle.st_places.specs.declared.node.Dimension.{Dimension}
 use Rattle.st_places.specs.declared.node.Node.{Node}
 use Rattle.st_places.specs.declared.unit.ArrayParts.{ArrayParts}
 use Rattle.st_places.specs.declared.unit.UnitParts.{UnitParts}
+use Rattle.st_places.proofs.Blocks.{known_shape, known_type, no_function}
 use Rattle.st_places.proofs.Counts.{started_count}
 use Rattle.st_places.proofs.Entries.{of_specified}
 
@@ -90,7 +92,7 @@ started_array (Some (initials.Constant k)) ranges firsts element ds limited = re
 started_array (Some (initials.Array position items)) ranges firsts element ds limited = record { ranges = ranges; firsts = first_values items; is = refl; limited = limited }
 
 -- what isn't there is past the end
-past : (xs : List UnitParts) (k : ℕ) → slice_get xs k ≡ None → length xs ≤ k
+pub past : {X : Type 0} (xs : List X) (k : ℕ) → slice_get xs k ≡ None → length xs ≤ k
 past [] k e = omega arith
 past (x ∷ xs) zero e = absurd (cc)
 past (x ∷ xs) (suc k) e = omega (arith, past xs k e)
@@ -106,20 +108,30 @@ module _ (units : List Named) where
 
   -- ---- wholes
 
-  unit_parts : (name : List ℕ) (unit : Declares) → HasSameParts (unit_composition units (inside units) name unit) (composed [] (members_by units (inside units) (names_in unit)) (chart_in unit))
-  unit_parts name (names.type (declared_types.Derived specification initial)) = composed_parts name [] (members_by units (inside units) []) []
-  unit_parts name (names.type (declared_types.Structure position members)) = composed_parts name [] (members_by units (inside units) (names.members_of members)) []
-  unit_parts name (names.function h) = composed_parts name [] (members_by units (inside units) (names.variables_in (names.function h))) []
-  unit_parts name (names.block b) = composed_parts name [] (members_by units (inside units) (names.variables_in (names.block b))) (chart_in (names.block b))
-  unit_parts name (names.program p) = composed_parts name [] (members_by units (inside units) (names.variables_in (names.program p))) (chart_in (names.program p))
+  unit_parts : (name : List ℕ) (unit : Declares) → is_function unit ≡ false
+      → HasSameParts (unit_composition units (inside units) name unit) (composed [] (members_by units (inside units) (own_names unit)) (chart_in unit))
+  unit_parts name (names.type (declared_types.Derived specification initial)) is = composed_parts name [] (members_by units (inside units) []) []
+  unit_parts name (names.type (declared_types.Structure position members)) is = composed_parts name [] (members_by units (inside units) (names.members_of members)) []
+  unit_parts name (names.function h) is = absurd (cc)
+  unit_parts name (names.block b) is = composed_parts name [] (members_by units (inside units) (names.variables_in (names.block b))) (chart_in (names.block b))
+  unit_parts name (names.program p) is = composed_parts name [] (members_by units (inside units) (names.variables_in (names.program p))) (chart_in (names.program p))
+
+  root_parts : (name : List ℕ) (unit : Declares) → HasSameParts (unit_root units name unit) (composed [] (members_by units (inside units) (own_names unit)) (chart_in unit))
+  root_parts name (names.type (declared_types.Derived specification initial)) = composed_parts name [] (members_by units (inside units) []) []
+  root_parts name (names.type (declared_types.Structure position members)) = composed_parts name [] (members_by units (inside units) (names.members_of members)) []
+  root_parts name (names.function h) =
+      subst (λ ms. HasSameParts (composed name ms []) (composed [] (members_by units (inside units) (own_names (names.function h))) [])) (sym (functions_declare_their_results units h))
+      (composed_parts name [] (members_by units (inside units) (own_names (names.function h))) [])
+  root_parts name (names.block b) = composed_parts name [] (members_by units (inside units) (names.variables_in (names.block b))) (chart_in (names.block b))
+  root_parts name (names.program p) = composed_parts name [] (members_by units (inside units) (names.variables_in (names.program p))) (chart_in (names.program p))
 
   pub whole_content : (u : Option Named) → HasSameParts (whole_part units u) (contents_of units u)
   whole_content None = same_parts unknown unknown refl
-  whole_content (Some u) = unit_parts _ u.declares
+  whole_content (Some u) = root_parts _ u.declares
 
-  optional_content : (u : Option Named) → HasSameParts (optional_composition units (inside units) u) (contents_of units u)
-  optional_content None = same_parts unknown unknown refl
-  optional_content (Some u) = unit_parts _ u.declares
+  optional_content : (u : Option Named) → is_function_in u ≡ false → HasSameParts (optional_composition units (inside units) u) (contents_of units u)
+  optional_content None is = same_parts unknown unknown refl
+  optional_content (Some u) is = unit_parts _ u.declares is
 
   -- ---- types
 
@@ -135,19 +147,19 @@ module _ (units : List Named) where
   unfolding composition_within
   block_content base b is = subst (λ x. HasSameParts (inside units x) (standard b)) (sym is) (same_parts (standard b) (standard b) refl)
 
-  of_structure : (i : ℕ) → IsUnfolded units (bases.Structure i) → HasSameParts (inside units (bases.Structure i)) (contents_of units (unit_at units i))
+  of_structure : (i : ℕ) → IsType units (bases.Structure i) → HasSameParts (inside units (bases.Structure i)) (contents_of units (unit_at units i))
   unfolding composition_within
-  of_structure i unfolds = subst (λ c. HasSameParts c (contents_of units (unit_at units i))) (sym unfolds) (optional_content (unit_at units i))
+  of_structure i is = subst (λ c. HasSameParts c (contents_of units (unit_at units i))) (sym is.unfolded) (optional_content (unit_at units i) is.no_function)
 
-  of_block : (i : ℕ) → IsUnfolded units (bases.Block i) → HasSameParts (inside units (bases.Block i)) (contents_of units (unit_at units i))
+  of_block : (i : ℕ) → IsType units (bases.Block i) → HasSameParts (inside units (bases.Block i)) (contents_of units (unit_at units i))
   unfolding composition_within
-  of_block i unfolds = subst (λ c. HasSameParts c (contents_of units (unit_at units i))) (sym unfolds) (optional_content (unit_at units i))
+  of_block i is = subst (λ c. HasSameParts c (contents_of units (unit_at units i))) (sym is.unfolded) (optional_content (unit_at units i) is.no_function)
 
-  pub unit_content : (base : Base) (i : ℕ) → (base ≡ bases.Structure i) ⊎ (base ≡ bases.Block i) → IsUnfolded units base → HasSameParts (inside units base) (contents_of units (unit_at units i))
-  unit_content base i (inl is) unfolds =
-      subst (λ b. HasSameParts (inside units b) (contents_of units (unit_at units i))) (sym is) (of_structure i (subst (IsUnfolded units) is unfolds))
-  unit_content base i (inr is) unfolds =
-      subst (λ b. HasSameParts (inside units b) (contents_of units (unit_at units i))) (sym is) (of_block i (subst (IsUnfolded units) is unfolds))
+  pub unit_content : (base : Base) (i : ℕ) → (base ≡ bases.Structure i) ⊎ (base ≡ bases.Block i) → IsType units base → HasSameParts (inside units base) (contents_of units (unit_at units i))
+  unit_content base i (inl is) typed =
+      subst (λ b. HasSameParts (inside units b) (contents_of units (unit_at units i))) (sym is) (of_structure i (subst (IsType units) is typed))
+  unit_content base i (inr is) typed =
+      subst (λ b. HasSameParts (inside units b) (contents_of units (unit_at units i))) (sym is) (of_block i (subst (IsType units) is typed))
 
   array_unfolded : (i : ℕ) → IsUnfolded units (bases.Array i) → inside units (bases.Array i) ≡ array_part units i
   unfolding composition_within
@@ -231,28 +243,38 @@ module _ (units : List Named) where
     pub shape_unfolded : (s : Specification) → IsUnfolded units (shape_of units s).base
     shape_unfolded s = of_specified units (IsUnfolded units) unknown_unfolded value_unfolded block_unfolded are.unfolded s
 
-    specified_unfolded : (s : Specification) (e : Elements) → specified_elements units s ≡ Some e → IsUnfolded units e.element
-    specified_unfolded (specifications.Simple t) e is = absurd (cc)
-    specified_unfolded (specifications.Array position ranges t) e is =
-        subst (IsUnfolded units) (ap Elements.element (same_Some _ e is))
-        (of_name units (IsUnfolded units) unknown_unfolded value_unfolded block_unfolded t
-        (all_of (λ i. IsUnfolded units (type_at units i)) (flat_map (contained units) (type_names_in t)) (λ i has. are.unfolded i)))
+    -- what is specified is a type
+    pub shape_type : (s : Specification) → IsType units (shape_of units s).base
+    shape_type s = record { unfolded = shape_unfolded s; no_function = no_function units (shape_of units s).base (known_shape units s) }
 
-    declared_unfolded : (unit : Declares) (e : Elements) → declared_elements units unit ≡ Some e → IsUnfolded units e.element
-    declared_unfolded (names.type (declared_types.Derived specification initial)) e is = specified_unfolded specification e is
-    declared_unfolded (names.type (declared_types.Structure position members)) e is = absurd (cc)
-    declared_unfolded (names.function f) e is = absurd (cc)
-    declared_unfolded (names.block b) e is = absurd (cc)
-    declared_unfolded (names.program p) e is = absurd (cc)
+    specified_type : (s : Specification) (e : Elements) → specified_elements units s ≡ Some e → IsType units e.element
+    specified_type (specifications.Simple t) e is = absurd (cc)
+    specified_type (specifications.Array position ranges t) e is =
+        subst (IsType units) (ap Elements.element (same_Some _ e is))
+        (record {
+          unfolded =
+              of_name units (IsUnfolded units) unknown_unfolded value_unfolded block_unfolded t
+              (all_of (λ i. IsUnfolded units (type_at units i)) (flat_map (contained units) (type_names_in t)) (λ i has. are.unfolded i));
+          no_function =
+              of_name units (IsNoFunction units) tt (λ e. tt) (λ b. tt) t
+              (all_of (λ i. IsNoFunction units (type_at units i)) (flat_map (contained units) (type_names_in t)) (λ i has. no_function units (type_at units i) (known_type units i)));
+        })
 
-    optional_unfolded : (u : Option Named) (e : Elements) → optional_elements units u ≡ Some e → IsUnfolded units e.element
-    optional_unfolded None e is = absurd (cc)
-    optional_unfolded (Some u) e is = declared_unfolded u.declares e is
+    declared_type : (unit : Declares) (e : Elements) → declared_elements units unit ≡ Some e → IsType units e.element
+    declared_type (names.type (declared_types.Derived specification initial)) e is = specified_type specification e is
+    declared_type (names.type (declared_types.Structure position members)) e is = absurd (cc)
+    declared_type (names.function f) e is = absurd (cc)
+    declared_type (names.block b) e is = absurd (cc)
+    declared_type (names.program p) e is = absurd (cc)
+
+    optional_type : (u : Option Named) (e : Elements) → optional_elements units u ≡ Some e → IsType units e.element
+    optional_type None e is = absurd (cc)
+    optional_type (Some u) e is = declared_type u.declares e is
 
     -- ---- each element of an array type
 
     of_element : (i : ℕ) (es : Option Elements) (ps : Option ArrayParts) (a : ArrayParts) (content : Content) → AreElements units es ps → elements_in units (bases.Array i) ≡ es → ps ≡ Some a
-        → (IsUnfolded units a.base → IsContent units (inside units a.base) content)
+        → (IsType units a.base → IsContent units (inside units a.base) content)
         → IsContent units (element_of (elements_composition (inside units) (unit_element_initial units (unit_at units i)) es)) content
     of_element i None None a content is es at made = absurd (cc)
     of_element i None (Some b) a content is es at made = absurd is
@@ -260,9 +282,9 @@ module _ (units : List Named) where
     of_element i (Some e) (Some b) a content is es at made =
         let same : a.base ≡ e.element = ap ArrayParts.base (sym (same_Some b a at)) ∙ is.0 in
         started_content (unit_element_initial units (unit_at units i)) (inside units e.element) content
-        (subst (λ x. IsContent units (inside units x) content) same (made (subst (IsUnfolded units) (sym same) (optional_unfolded (unit_at units i) e es))))
+        (subst (λ x. IsContent units (inside units x) content) same (made (subst (IsType units) (sym same) (optional_type (unit_at units i) e es))))
 
-    pub element_content : (i : ℕ) (a : ArrayParts) (content : Content) → elements_of all i ≡ Some a → (IsUnfolded units a.base → IsContent units (inside units a.base) content)
+    pub element_content : (i : ℕ) (a : ArrayParts) (content : Content) → elements_of all i ≡ Some a → (IsType units a.base → IsContent units (inside units a.base) content)
         → IsContent units (element_of (array_part units i)) content
     element_content i a content at made = of_element i (elements_in units (bases.Array i)) (elements_of all i) a content (elements_known i) refl at made
 

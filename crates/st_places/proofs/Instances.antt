@@ -7,11 +7,11 @@ use Rattle.std.proofs.lemmas.List.Elements.{Contains-append_left, Contains-appen
 use Rattle.st_leaves.specs.Places.{count}
 use Rattle.st_leaves.specs.Selected.{member_selected, selected_by}
 use Rattle.st_meaning.specs.Typing.{body_of}
-use Rattle.st_meaning.specs.Units.{block_invoked, instance_of, instances_in, member_instance, number_invoked, root_of, statements_of, unit_invoked, unit_whole}
+use Rattle.st_meaning.specs.Units.{block_invoked, instance_of, instances_in, member_instance, number_invoked, root_of, statements_of, unit_invoked, unit_root, unit_whole}
 use Rattle.st_meaning.specs.Wholes.{Invoked}
+use Rattle.st_meaning.proofs.BegunFunctions.{functions_declare_their_results}
 use Rattle.st_order.proofs.Lists.{Contains-nil}
 use Rattle.st_references.specs.References.{contained, declared_names, unit_types}
-use Rattle.st_scopes.specs.Declarations.{names_in}
 use Rattle.st_tree.specs.declared.tree.declaration.DeclaredType.TheVariants as declared_types
 use Rattle.st_tree.specs.declared.tree.declaration.Initial.{Initial}
 use Rattle.st_tree.specs.declared.tree.declaration.Initial.TheVariants as initials
@@ -32,7 +32,7 @@ use Rattle.st_values.specs.Words.{is_word}
 use Rattle.st_values.specs.declared.elem.Elem.{Elem}
 use Rattle.st_places.specs.Contents.{AreNamed, IsUnfolded}
 use Rattle.st_places.specs.Members.{is_small_type}
-use Rattle.st_places.specs.Parts.{inside, is_block}
+use Rattle.st_places.specs.Parts.{inside, is_block, own_names}
 use Rattle.st_places.proofs.Blocks.{IsDeclared, IsKnown, known_shape}
 use Rattle.st_places.proofs.Entries.{of_specified}
 
@@ -262,21 +262,21 @@ module _ (units : List Named) where
 
   -- ---- of a unit
 
-  pub of_unit : (whole : List ℕ) (d : Declares) (name : List ℕ) → instances_in units (unit_composition units (inside units) whole d) name ≡ member_instance units (members_by units (inside units) (names_in d)) name
+  pub of_unit : (whole : List ℕ) (d : Declares) (name : List ℕ) → instances_in units (unit_root units whole d) name ≡ member_instance units (members_by units (inside units) (own_names d)) name
   of_unit whole (names.type (declared_types.Derived specification initial)) name = refl
   of_unit whole (names.type (declared_types.Structure position members)) name = refl
-  of_unit whole (names.function f) name = refl
+  of_unit whole (names.function f) name = ap (λ ms. member_instance units ms name) (functions_declare_their_results units f)
   of_unit whole (names.block b) name = refl
   of_unit whole (names.program p) name = refl
 
-  pub selected_of_unit : (whole : List ℕ) (d : Declares) (name : List ℕ) → selected_by (unit_composition units (inside units) whole d) name ≡ member_selected (members_by units (inside units) (names_in d)) name
+  pub selected_of_unit : (whole : List ℕ) (d : Declares) (name : List ℕ) → selected_by (unit_root units whole d) name ≡ member_selected (members_by units (inside units) (own_names d)) name
   selected_of_unit whole (names.type (declared_types.Derived specification initial)) name = refl
   selected_of_unit whole (names.type (declared_types.Structure position members)) name = refl
-  selected_of_unit whole (names.function f) name = refl
+  selected_of_unit whole (names.function f) name = ap (λ ms. member_selected ms name) (functions_declare_their_results units f)
   selected_of_unit whole (names.block b) name = refl
   selected_of_unit whole (names.program p) name = refl
 
-  pub contained_in : (d : Declares) (j : ℕ) → Contains (flat_map (contained units) (flat_map declared_names (names_in d))) j → Contains (flat_map (contained units) (unit_types d)) j
+  pub contained_in : (d : Declares) (j : ℕ) → Contains (flat_map (contained units) (flat_map declared_names (own_names d))) j → Contains (flat_map (contained units) (unit_types d)) j
   contained_in (names.type (declared_types.Derived specification initial)) j has = absurd (Contains-nil j has)
   contained_in (names.type (declared_types.Structure position members)) j has = has
   contained_in (names.function f) j has = has

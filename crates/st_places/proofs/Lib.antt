@@ -1,4 +1,5 @@
 pub mod Blocks
+pub mod Callables
 pub mod Constants
 pub mod Contents
 pub mod Counts
@@ -11,7 +12,9 @@ pub mod MemberContents
 pub mod Members
 pub mod NamedInstances
 pub mod PinNumbers
+pub mod Results
 pub mod Selections
 pub mod Settled
 pub mod SoundUnits
 pub mod UnitLaws
+pub mod Variables

@@ -4,7 +4,6 @@ use Rattle.std.specs.List.{slice_get}
 use Rattle.std.specs.Option.{option_and_then, option_map, option_map_or}
 use Rattle.std.proofs.lemmas.Option.{same_Some, slice_get_within}
 use Rattle.st_names.specs.Tables.{first_of}
-use Rattle.st_scopes.specs.Declarations.{names_in}
 use Rattle.st_tree.specs.declared.tree.declaration.Initial.{Initial}
 use Rattle.st_tree.specs.declared.tree.declaration.Subrange.{Subrange}
 use Rattle.st_types.specs.Compositions.{Composition, unknown, started, subscripted}
@@ -14,16 +13,16 @@ use Rattle.st_types.specs.Types.{shape_of}
 use Rattle.st_leaves.specs.Places.{count, counts}
 use Rattle.st_leaves.specs.Selected.{member_selected, selected_by}
 use Rattle.st_meaning.specs.Offsets.{member_offset, offset_of}
-use Rattle.st_places.specs.Contents.{AreOf, HasSameParts, IsArrayOf, IsContent, IsSelected, IsUnfolded, contents_of, member_in}
+use Rattle.st_places.specs.Contents.{AreOf, HasSameParts, IsArrayOf, IsContent, IsSelected, IsType, contents_of, member_in}
 use Rattle.st_places.specs.Dimensions.{AreLimited}
 use Rattle.st_places.specs.Members.{AreMembers, AreOwn, member_count}
-use Rattle.st_places.specs.Parts.{element_part, inside, member_part, variables_among, variables_at}
+use Rattle.st_places.specs.Parts.{element_part, inside, member_part, own_names, variables_among, variables_at}
 use Rattle.st_places.specs.declared.content.Content.{Content}
 use Rattle.st_places.specs.declared.member.Member.{Member}
 use Rattle.st_places.specs.declared.node.Dimension.{Dimension}
 use Rattle.st_places.specs.declared.node.Node.TheVariants as nodes
 use Rattle.st_places.specs.declared.unit.UnitParts.{UnitParts}
-use Rattle.st_places.proofs.Contents.{missing, same_parts, shape_unfolded, started_array, started_content}
+use Rattle.st_places.proofs.Contents.{missing, same_parts, shape_type, started_array, started_content}
 use Rattle.st_places.proofs.Counts.{started_count}
 use Rattle.st_places.proofs.Lookups.{IsAt, IsFoundAt, found_at, members_of, without_constants}
 
@@ -46,7 +45,7 @@ module _ (units : List Named) where
   member_of_number before (v ∷ vs) (m ∷ ms) (suc k) are = member_of_number (before + member_count units v) vs ms k are.1
 
   abbrev pub names_by : Option Named → List Declared
-  names_by u = option_map_or names_in (option_map (λ (x : Named). x.declares) u) []
+  names_by u = option_map_or own_names (option_map (λ (x : Named). x.declares) u) []
 
   module _ (all : List UnitParts) (are : AreOf units all) where
     member_by : (i k : ℕ) (parts : Option UnitParts) → slice_get all i ≡ parts
@@ -108,7 +107,7 @@ module _ (units : List Named) where
     plain (Some ranges) size (Some d) own is = absurd (cc)
 
     of_plain_member : (v : Option Declared) (m : Option Member) (n : Member) (content : Content) → AreMember v m → m ≡ Some n → n.dimensions ≡ None
-        → (IsUnfolded units n.base → IsContent units (inside units n.base) content) → IsContent units (member_part units v) content
+        → (IsType units n.base → IsContent units (inside units n.base) content) → IsContent units (member_part units v) content
     of_plain_member None None n content is at none made = absurd (cc)
     of_plain_member None (Some m) n content is at none made = absurd is
     of_plain_member (Some v) None n content is at none made = absurd is
@@ -117,42 +116,42 @@ module _ (units : List Named) where
         let own : (shape_of units v.specification).subscripts ≡ None =
         plain (shape_of units v.specification).subscripts (count (inside units (shape_of units v.specification).base)) m.dimensions is.dimensions (ap Member.dimensions (same_Some m n at) ∙ none) in
         let known : IsContent units (inside units (shape_of units v.specification).base) content =
-        subst (λ b. IsContent units (inside units b) content) base (made (subst (IsUnfolded units) (sym base) (shape_unfolded units all are v.specification))) in
+        subst (λ b. IsContent units (inside units b) content) base (made (subst (IsType units) (sym base) (shape_type units all are v.specification))) in
         started_content units (initial_of units v) (subscripted (shape_of units v.specification).subscripts (started (element_initial units v.specification) (inside units (shape_of units v.specification).base))) content
         (subst (λ (r : Option (List Subrange)). IsContent units (subscripted r (started (element_initial units v.specification) (inside units (shape_of units v.specification).base))) content) (sym own)
         (started_content units (element_initial units v.specification) (inside units (shape_of units v.specification).base) content known))
 
     pub plain_member_content : (i k : ℕ) (n : Member) (content : Content) → member_in all i k ≡ Some n → n.dimensions ≡ None
-        → (IsUnfolded units n.base → IsContent units (inside units n.base) content) → IsContent units (member_part units (slice_get (variables_at units i) k)) content
+        → (IsType units n.base → IsContent units (inside units n.base) content) → IsContent units (member_part units (slice_get (variables_at units i) k)) content
     plain_member_content i k n content at none made = of_plain_member (slice_get (variables_at units i) k) (member_in all i k) n content (member_known i k) at none made
 
     of_element : (v : Option Declared) (m : Option Member) (n : Member) (content : Content) → AreMember v m → m ≡ Some n
-        → (IsUnfolded units n.base → IsContent units (inside units n.base) content) → IsContent units (element_part units v) content
+        → (IsType units n.base → IsContent units (inside units n.base) content) → IsContent units (element_part units v) content
     of_element None None n content is at made = absurd (cc)
     of_element None (Some m) n content is at made = absurd is
     of_element (Some v) None n content is at made = absurd is
     of_element (Some v) (Some m) n content is at made =
         let base : n.base ≡ (shape_of units v.specification).base = ap Member.base (sym (same_Some m n at)) ∙ is.base in
         started_content units (element_initial units v.specification) (inside units (shape_of units v.specification).base) content
-        (subst (λ b. IsContent units (inside units b) content) base (made (subst (IsUnfolded units) (sym base) (shape_unfolded units all are v.specification))))
+        (subst (λ b. IsContent units (inside units b) content) base (made (subst (IsType units) (sym base) (shape_type units all are v.specification))))
 
     pub member_element_content : (i k : ℕ) (n : Member) (content : Content) → member_in all i k ≡ Some n
-        → (IsUnfolded units n.base → IsContent units (inside units n.base) content) → IsContent units (element_part units (slice_get (variables_at units i) k)) content
+        → (IsType units n.base → IsContent units (inside units n.base) content) → IsContent units (element_part units (slice_get (variables_at units i) k)) content
     member_element_content i k n content at made = of_element (slice_get (variables_at units i) k) (member_in all i k) n content (member_known i k) at made
 
     -- ---- members by name
 
     selected_of : (u : Option Named) (name : List ℕ) → selected_by (contents_of units u) name ≡ member_selected (members_of units (variables_among (names_by u))) name
     selected_of None name = refl
-    selected_of (Some u) name = ap (λ ms. member_selected ms name) (without_constants units (names_in u.declares))
+    selected_of (Some u) name = ap (λ ms. member_selected ms name) (without_constants units (own_names u.declares))
 
     offset_by : (u : Option Named) (name : List ℕ) → offset_of (contents_of units u) name ≡ member_offset (members_of units (variables_among (names_by u))) name
     offset_by None name = refl
-    offset_by (Some u) name = ap (λ ms. member_offset ms name) (without_constants units (names_in u.declares))
+    offset_by (Some u) name = ap (λ ms. member_offset ms name) (without_constants units (own_names u.declares))
 
     count_by : (u : Option Named) → counts (members_of units (variables_among (names_by u))) ≤ count (contents_of units u)
     count_by None = omega arith
-    count_by (Some u) = omega (arith, ap counts (without_constants units (names_in u.declares)))
+    count_by (Some u) = omega (arith, ap counts (without_constants units (own_names u.declares)))
 
     pub no_unit_named : (i : ℕ) (name : List ℕ) → slice_get all i ≡ None → selected_by (contents_of units (unit_at units i)) name ≡ unknown
     no_unit_named i name is = ap (λ u. selected_by (contents_of units u) name) (missing units all are i is)

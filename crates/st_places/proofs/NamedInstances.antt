@@ -4,7 +4,7 @@ use Rattle.std.specs.List.{slice_get}
 use Rattle.std.specs.Option.{option_map}
 use Rattle.std.proofs.lemmas.Option.{same_Some}
 use Rattle.st_names.specs.Tables.{first_of}
-use Rattle.st_scopes.specs.Declarations.{names_in, spellings_of}
+use Rattle.st_scopes.specs.Declarations.{spellings_of}
 use Rattle.st_tree.specs.declared.tree.declaration.Subrange.{Subrange}
 use Rattle.st_types.proofs.Cases.{by_test}
 use Rattle.st_types.specs.Compositions.{Members as Parts, declared_composition, optional_composition}
@@ -19,7 +19,7 @@ use Rattle.st_meaning.specs.Units.{instance_of, member_instance, root_name, root
 use Rattle.st_meaning.specs.Wholes.{Invoked}
 use Rattle.st_places.specs.Contents.{AreOf, IsUnfolded, block_by, member_block, member_in}
 use Rattle.st_places.specs.Members.{AreOwn, is_small_type}
-use Rattle.st_places.specs.Parts.{TablesView, inside, is_block, is_small_block_in, optional_small_block, optional_whole, variables_among, variables_at, whole_in}
+use Rattle.st_places.specs.Parts.{TablesView, inside, is_block, is_small_block_in, optional_small_block, optional_whole, own_names, variables_among, variables_at, whole_in}
 use Rattle.st_places.specs.declared.member.Member.{Member}
 use Rattle.st_places.specs.declared.node.Dimension.{Dimension}
 use Rattle.st_places.specs.declared.unit.UnitParts.{UnitParts}
@@ -75,7 +75,7 @@ module _ (units : List Named) where
   unfolding unit_whole
   invoked_by None name = refl
   invoked_by (Some u) name =
-      of_unit units (root_name u.name.spelling u.declares) u.declares name ∙ ap (λ (ms : Parts). member_instance units ms name) (without_constants units (names_in u.declares))
+      of_unit units (root_name u.name.spelling u.declares) u.declares name ∙ ap (λ (ms : Parts). member_instance units ms name) (without_constants units (own_names u.declares))
 
   -- ---- which block it is
 

@@ -181,7 +181,7 @@ root_node t unit = tt
 
 -- ---- all units
 
-pushed : (all : List UnitParts) (p q : UnitParts) (i : ℕ) → slice_get (all ++ p ∷ []) i ≡ Some q → (slice_get all i ≡ Some q) ⊎ ((i ≡ length all) × (p ≡ q))
+pub pushed : {X : Type 0} (all : List X) (p q : X) (i : ℕ) → slice_get (all ++ p ∷ []) i ≡ Some q → (slice_get all i ≡ Some q) ⊎ ((i ≡ length all) × (p ≡ q))
 pushed [] p q zero is = inr (refl, same_Some p q is)
 pushed [] p q (suc i) is = absurd (cc)
 pushed (x ∷ all) p q zero is = inl is

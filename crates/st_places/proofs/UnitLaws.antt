@@ -6,7 +6,7 @@ use Rattle.std.proofs.lemmas.List.{length-take-le}
 use Rattle.std.proofs.lemmas.List.Elements.{Contains-append_left}
 use Rattle.std.proofs.lemmas.Option.{get_or_from_slice_get, same_Some, slice_get_within}
 use Rattle.st_check.specs.Programs.{IsChecked, ProgramView, order_of, text_of}
-use Rattle.st_meaning.specs.Units.{root_name, root_of, unit_whole}
+use Rattle.st_meaning.specs.Units.{root_name, root_of, unit_root, unit_whole}
 use Rattle.st_meaning.specs.Wholes.{Invoked}
 use Rattle.st_order.specs.Graphs.{Graph, IsOrder, Refers}
 use Rattle.st_order.proofs.Orders.{references_are_before}
@@ -15,14 +15,13 @@ use Rattle.st_references.specs.Calls.{unit_calls}
 use Rattle.st_references.specs.References.{called, contained, graph_of, references, specified_names, unit_types}
 use Rattle.st_references.proofs.Lists.{all_of}
 use Rattle.st_references.proofs.Units.{made_of_unit}
-use Rattle.st_scopes.specs.Declarations.{names_in}
 use Rattle.st_tree.specs.declared.tree.declaration.DeclaredType.TheVariants as declared_types
 use Rattle.st_tree.specs.declared.tree.declaration.Initial.{Initial}
 use Rattle.st_tree.specs.declared.tree.declaration.Initial.TheVariants as initials
 use Rattle.st_tree.specs.declared.tree.declaration.Specification.{Specification}
 use Rattle.st_tree.specs.declared.tree.declaration.Subrange.{Subrange}
 use Rattle.st_tree.specs.declared.tree.unit.ChartElement.{ChartElement}
-use Rattle.st_types.specs.Compositions.{Composition, composed, Members, declared_composition, optional_composition, started, subscripted, unit_composition}
+use Rattle.st_types.specs.Compositions.{Composition, composed, Members, declared_composition, optional_composition, started, subscripted}
 use Rattle.st_types.specs.Initials.{element_initial, initial_of}
 use Rattle.st_types.specs.Names.{Declared, Declares, Named, unit_at, units_of}
 use Rattle.st_types.specs.Names as names
@@ -31,7 +30,7 @@ use Rattle.st_types.specs.declared.base.Base.{Base}
 use Rattle.st_types.specs.declared.base.Base.TheVariants as bases
 use Rattle.st_places.specs.Contents.{IsUnfolded}
 use Rattle.st_places.specs.Laws.{InstancesAreOfBlocks, IsInstance}
-use Rattle.st_places.specs.Parts.{inside, is_block}
+use Rattle.st_places.specs.Parts.{inside, is_block, own_names}
 use Rattle.st_places.proofs.Blocks.{IsDeclared, IsKnown, all_named, known_shape, own_number}
 use Rattle.st_places.proofs.Instances.{AreFound, IsOfDeclared, among, block_root, contained_in, declared_instance, invocation, of_block, of_unit, optional_invocation, selected_of_unit, shape_invocation, shape_unfolded}
 use Rattle.st_places.proofs.Selections.{all_unfolded}
@@ -104,7 +103,7 @@ module _ (units : List Named) where
   started_composed (Some (initials.Constant k)) name ms chart = refl
   started_composed (Some (initials.Array position items)) name ms chart = refl
 
-  started_unit : (initial : Option Initial) (name : List ℕ) (d : Declares) → started initial (unit_composition units (inside units) name d) ≡ unit_composition units (inside units) name d
+  started_unit : (initial : Option Initial) (name : List ℕ) (d : Declares) → started initial (unit_root units name d) ≡ unit_root units name d
   started_unit initial name (names.type (declared_types.Derived specification first)) = started_composed initial name _ _
   started_unit initial name (names.type (declared_types.Structure position members)) = started_composed initial name _ _
   started_unit initial name (names.function f) = started_composed initial name _ _
@@ -131,7 +130,7 @@ module _ (units : List Named) where
     unfolding unit_whole
     one_instance order ordered i u at name f is =
         let whole : List ℕ = root_name u.name.spelling u.declares in
-        let own : IsOfDeclared units (names_in u.declares) name f = among units (names_in u.declares) name f (sym (of_unit units whole u.declares name) ∙ is) in
+        let own : IsOfDeclared units (own_names u.declares) name f = among units (own_names u.declares) name f (sym (of_unit units whole u.declares name) ∙ is) in
         let of : IsBlockOf (shape_of units own.v.specification).subscripts (shape_of units own.v.specification).base f =
         block_of (shape_of units own.v.specification).subscripts (shape_of units own.v.specification).base f (known_shape units own.v.specification)
         (sym (declared_instance units found own.v) ∙ own.instance) in

@@ -1,12 +1,11 @@
 -- What names and subscripts select of parts.
 use Rattle.std.specs.Borrow.{Bor}
 use Rattle.std.specs.Char.{to_ascii_uppercase}
-use Rattle.std.specs.Prelude.{◌≡◌, ℕ, suc, false, ◌≤◌, List, [], map, length, Option, Some, None}
+use Rattle.std.specs.Prelude.{◌≡◌, ℕ, suc, Bool, false, ◌≤◌, List, [], map, length, Option, Some, None}
 use Rattle.std.specs.List.{slice_get}
 use Rattle.std.specs.Option.{option_and_then}
 use Rattle.st_tree.specs.declared.tree.constant.Constant.{Constant}
 use Rattle.st_tree.specs.declared.tree.declaration.Subrange.{Subrange}
-use Rattle.st_scopes.specs.Declarations.{names_in}
 use Rattle.st_types.specs.Compositions.{Composition, array, composed, elementary, standard, unknown, composition_within, members_by}
 use Rattle.st_types.specs.Initials.{zero_of}
 use Rattle.st_types.specs.Names.{Named, chart_in, number_of, unit_at}
@@ -19,7 +18,7 @@ use Rattle.st_meaning.specs.Offsets.{offset_of}
 use Rattle.st_meaning.specs.Wholes.{block_of}
 use Rattle.st_places.specs.Dimensions.{AreLimited}
 use Rattle.st_places.specs.Members.{AreUnits}
-use Rattle.st_places.specs.Parts.{IsNodeIn, inside, is_array, node_part}
+use Rattle.st_places.specs.Parts.{IsNodeIn, inside, is_array, is_function, node_part, own_names}
 use Rattle.st_places.specs.declared.content.Content.{Content}
 use Rattle.st_places.specs.declared.content.Content.TheVariants as contents
 use Rattle.st_places.specs.declared.member.Member.{Member}
@@ -31,6 +30,21 @@ use Rattle.st_places.specs.declared.unit.UnitParts.{UnitParts}
 -- one unit more finds the same
 abbrev pub IsUnfolded : List Named → Base → Type 0
 IsUnfolded units base = inside units base ≡ composition_within units (suc (suc (length units))) base
+
+-- a unit that is a function is no type
+abbrev pub is_function_in : Option Named → Bool
+is_function_in None = false
+is_function_in (Some u) = is_function u.declares
+
+abbrev pub IsNoFunction : List Named → Base → Type 0
+IsNoFunction units (bases.Structure i) = is_function_in (unit_at units i) ≡ false
+IsNoFunction units (bases.Block i) = is_function_in (unit_at units i) ≡ false
+IsNoFunction units _ = Unit {0}
+
+-- what variables are declared as
+pub record IsType (units : List Named) (base : Base) : Type 0 where
+  pub unfolded : IsUnfolded units base
+  pub no_function : IsNoFunction units base
 
 -- each unit is found by its name in upper case
 abbrev pub AreNamed : List Named → Type 0
@@ -61,7 +75,7 @@ member_block m = block_by m.dimensions m.base
 -- the unit's names and its chart, whatever its name
 abbrev pub contents_of : List Named → Option Named → Composition
 contents_of units None = unknown
-contents_of units (Some u) = composed [] (members_by units (inside units) (names_in u.declares)) (chart_in u.declares)
+contents_of units (Some u) = composed [] (members_by units (inside units) (own_names u.declares)) (chart_in u.declares)
 
 -- names select the same, whatever the two begin with
 pub record HasSameParts (c d : Composition) : Type 0 where

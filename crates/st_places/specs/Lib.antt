@@ -1,5 +1,8 @@
+pub mod Callables
 pub mod Contents
 pub mod Dimensions
+pub mod Functions
+pub mod Inputs
 pub mod Laws
 pub mod Members
 pub mod Parts

@@ -3,7 +3,7 @@ use Rattle.std.specs.Prelude.{◌≡◌, ℕ, ◌+◌, ◌*◌, nat_le, Bool, fa
 use Rattle.std.specs.List.{slice_get}
 use Rattle.st_values.specs.declared.value.Value.{Value}
 use Rattle.st_tree.specs.declared.tree.declaration.Subrange.{Subrange}
-use Rattle.st_scopes.specs.Declarations.{names_at, spellings_of}
+use Rattle.st_scopes.specs.Declarations.{spellings_of}
 use Rattle.st_types.specs.Compositions.{declared_composition}
 use Rattle.st_types.specs.Names.{Declared, Named}
 use Rattle.st_types.specs.Types.{Elements, elements_in, shape_of, type_at}
@@ -12,10 +12,11 @@ use Rattle.st_types.specs.declared.base.Base.TheVariants as bases
 use Rattle.st_leaves.specs.Places.{count, extent}
 use Rattle.st_meaning.specs.Wholes.{constant_value}
 use Rattle.st_places.specs.Dimensions.{AreLimited}
-use Rattle.st_places.specs.Parts.{constants_among, inside, variables_among}
+use Rattle.st_places.specs.Parts.{constants_among, inside, own_names_at, variables_among}
 use Rattle.st_places.specs.declared.constant.Constants.{Constants}
 use Rattle.st_places.specs.declared.member.Member.{Member}
 use Rattle.st_places.specs.declared.member.Members.{Members}
+use Rattle.st_places.specs.declared.member.Parts.{Parts}
 use Rattle.st_places.specs.declared.node.Dimension.{Dimension}
 use Rattle.st_places.specs.declared.unit.ArrayParts.{ArrayParts}
 use Rattle.st_places.specs.declared.unit.UnitParts.{UnitParts}
@@ -49,6 +50,12 @@ abbrev pub AreMembers : List Named → ℕ → List Declared → List Member →
 AreMembers units before [] [] = Unit {0}
 AreMembers units before (v ∷ vs) (m ∷ ms) = IsMember units before v m × AreMembers units (before + member_count units v) vs ms
 AreMembers units before _ _ = ⊥
+
+-- what a declared name is made of
+pub record AreParts (units : List Named) (v : Declared) (parts : Parts) : Type 0 where
+  pub base : parts.base ≡ (shape_of units v.specification).base
+  pub dimensions : AreOwn (count (inside units (shape_of units v.specification).base)) (shape_of units v.specification).subscripts parts.dimensions
+  pub count : parts.count ≡ min (shape_count (shape_of units v.specification).subscripts (count (inside units (shape_of units v.specification).base))) 1000000
 
 -- of these declared names
 pub record HasMembers (units : List Named) (vs : List Declared) (members : Members) : Type 0 where
@@ -86,7 +93,7 @@ is_small_type units _ = false
 
 -- of the unit of this number
 pub record IsUnit (units : List Named) (i : ℕ) (parts : UnitParts) : Type 0 where
-  pub names : HasNames units (names_at units i) parts
+  pub names : HasNames units (own_names_at units i) parts
   pub elements : AreElements units (elements_in units (bases.Array i)) parts.elements
   pub small : parts.is_small_block ≡ is_small_type units (type_at units i)
 

@@ -1,9 +1,11 @@
 -- What the parts of variables consist of, by what they are parts of.
-use Rattle.std.specs.Prelude.{ℕ, suc, ◌<◌, ◌&&◌, nat_le, Bool, true, false, List, [], ◌∷◌, length, Option, Some, None, if◌then◌else◌}
+use Rattle.std.specs.Prelude.{ℕ, suc, ◌<◌, ◌&&◌, nat_le, Bool, true, false, List, [], ◌∷◌, ◌++◌, length, Option, Some, None, if◌then◌else◌}
 use Rattle.std.specs.List.{slice_get}
+use Rattle.std.specs.Option.{option_map_or}
 use Rattle.st_tree.specs.declared.tree.unit.Unit.{Unit as Section}
 use Rattle.st_types.specs.Compositions.{Composition, array, elementary, unknown, composition_within, declared_composition, elements_composition, is_constant, started}
 use Rattle.st_types.specs.Initials.{element_initial, unit_element_initial, zero_of}
+use Rattle.st_types.specs.Inside.{declares_at}
 use Rattle.st_types.specs.Names.{Declared, Declares, Named, unit_at, units_of}
 use Rattle.st_types.specs.Names as names
 use Rattle.st_types.specs.Types.{elements_in, shape_of}
@@ -11,8 +13,8 @@ use Rattle.st_types.specs.declared.base.Base.{Base}
 use Rattle.st_types.specs.declared.base.Base.TheVariants as bases
 use Rattle.st_leaves.specs.Places.{count}
 use Rattle.st_leaves.specs.Selected.{element_of}
-use Rattle.st_scopes.specs.Declarations.{names_at}
-use Rattle.st_meaning.specs.Units.{root_of, unit_whole}
+use Rattle.st_scopes.specs.Declarations.{names_in}
+use Rattle.st_meaning.specs.Units.{functions_in, result_declared, root_of, unit_whole}
 use Rattle.st_meaning.specs.Wholes.{Whole}
 use Rattle.st_places.specs.declared.node.Node.{Node}
 use Rattle.st_places.specs.declared.node.Node.TheVariants as nodes
@@ -24,6 +26,21 @@ pub record TablesView : Type 0 where
 -- what has this type, through all units
 abbrev pub inside : List Named → Base → Composition
 inside units = composition_within units (suc (length units))
+
+-- ---- what is declared in a unit
+
+-- the result of a function, which has the function's name (2.5.1)
+abbrev pub result_names : Declares → List Declared
+result_names (names.function f) = result_declared f ∷ []
+result_names unit = []
+
+-- it stands before the variables
+abbrev pub own_names : Declares → List Declared
+own_names unit = result_names unit ++ names_in unit
+
+-- of the unit of this number
+abbrev pub own_names_at : List Named → ℕ → List Declared
+own_names_at units i = option_map_or own_names (declares_at units i) []
 
 -- ---- the names of a whole that are no constants, in order, and those that are
 
@@ -37,7 +54,7 @@ constants_among (v ∷ vs) = if is_constant v.kind then v ∷ constants_among vs
 
 -- of the unit of this number
 abbrev pub variables_at : List Named → ℕ → List Declared
-variables_at units unit = variables_among (names_at units unit)
+variables_at units unit = variables_among (own_names_at units unit)
 
 -- ---- parts
 
@@ -90,6 +107,10 @@ abbrev pub is_block : Declares → Bool
 is_block (names.block b) = true
 is_block _ = false
 
+abbrev pub is_function : Declares → Bool
+is_function (names.function f) = true
+is_function _ = false
+
 -- a function block whose instances have at most 65536 leaves
 abbrev pub is_small_block : List Named → Named → Bool
 is_small_block units unit = is_block unit.declares && nat_le (count (root_of units unit)) 65536
@@ -102,8 +123,20 @@ optional_small_block units (Some u) = is_small_block units u
 unfoldable pub is_small_block_in : TablesView → ℕ → Bool
 is_small_block_in tables unit = optional_small_block (units_of tables.text) (unit_at (units_of tables.text) unit)
 
+-- a function that has at most 65536 variables, its result among them
+abbrev pub is_small_function : List Named → Named → Bool
+is_small_function units unit = is_function unit.declares && nat_le (count (root_of units unit)) 65536
+
+abbrev pub optional_small_function : List Named → Option Named → Bool
+optional_small_function units None = false
+optional_small_function units (Some u) = is_small_function units u
+
+-- whether the unit of this number is such a function
+unfoldable pub is_small_function_in : TablesView → ℕ → Bool
+is_small_function_in tables unit = optional_small_function (units_of tables.text) (unit_at (units_of tables.text) unit)
+
 abbrev pub optional_whole : List Named → Option Named → Whole
-optional_whole units None = record { variables = unknown; constants = λ name. None; invoked = λ name. None }
+optional_whole units None = record { variables = unknown; constants = λ name. None; invoked = λ name. None; functions = functions_in units }
 optional_whole units (Some u) = unit_whole units u
 
 -- what the names in the statements of the unit of this number stand for

@@ -51,8 +51,12 @@ impl<'a> Constants<'a> {
     }
 }
 
-/// The value of a constant, where it is of an elementary type.
-fn value_of(tables: &Tables<'_>, initials: &Initials<'_>, declared: &Declared<'_>) -> Option<Value>
+/// The value that a declared name begins with, where it is of an elementary type.
+pub(crate) fn value_of(
+    tables: &Tables<'_>,
+    initials: &Initials<'_>,
+    declared: &Declared<'_>,
+) -> Option<Value>
     requires { AreInitials (units_of tables.now) initials.now }
     ensures { result ≡ value_declared (units_of tables.now) (seen declared.now) }
 {

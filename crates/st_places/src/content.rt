@@ -4,7 +4,7 @@ ghost use Rattle.std.specs.List.{position, slice_get};
 ghost use Rattle.std.specs.Option.{option_copied, option_map};
 ghost use Rattle.st_leaves.specs.Selected.{value_type};
 ghost use Rattle.st_meaning.specs.Wholes.{Invoked, block_of};
-ghost use Rattle.st_places.specs.Contents.{AreElementsOf, AreOf, IsContent, IsSelected, IsUnfolded, contents_of, elements_of, member_block, member_in};
+ghost use Rattle.st_places.specs.Contents.{AreElementsOf, AreOf, IsContent, IsSelected, IsType, contents_of, elements_of, member_block, member_in};
 ghost use Rattle.st_places.specs.Parts.{inside, node_part, optional_small_block, optional_whole};
 ghost use Rattle.st_places.specs.declared.node.Node.TheVariants as nodes;
 ghost use Rattle.st_types.specs.Compositions.{standard};
@@ -109,7 +109,7 @@ fn member_content<'t>(units: &'t [UnitParts<'_>], unit: usize, number: usize) ->
 
 /// What has this base consists of.
 fn base_content<'t>(units: &'t [UnitParts<'_>], base: Base) -> Content<'t>
-    ensures { (text : Items Named) → AreOf text units.now → IsUnfolded text base → IsContent text (inside text base) result }
+    ensures { (text : Items Named) → AreOf text units.now → IsType text base → IsContent text (inside text base) result }
 {
     match base {
         Base::Unknown => Content::Unknown,

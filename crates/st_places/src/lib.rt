@@ -6,12 +6,15 @@ mod constant;
 mod content;
 mod count;
 mod dimension;
+mod function;
+mod functions;
 mod laws;
 mod member;
 mod node;
 mod tables;
 mod unit;
 
+pub use function::Function;
 pub use laws::{instances_are_of_blocks, units_are_sound};
 pub use node::{Dimension, Node};
 pub use tables::Tables;

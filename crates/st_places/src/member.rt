@@ -1,7 +1,8 @@
 //! The variables of a unit, or the members of a structure, with where their leaves stand (2.4.1).
 ghost use Rattle.std.specs.Prelude.{◌≡◌, ◌++◌, ◌∷◌, [], IfOk, List as Items, OnOk, min};
 ghost use Rattle.st_leaves.specs.Places.{count};
-ghost use Rattle.st_places.specs.Members.{AreOwn, HasMembers, shape_count};
+ghost use Rattle.st_meaning.specs.Units.{result_declared};
+ghost use Rattle.st_places.specs.Members.{AreOwn, AreParts, HasMembers, shape_count};
 ghost use Rattle.st_places.specs.Parts.{inside};
 ghost use Rattle.st_program_sizes.specs.Sized.{IsSized};
 ghost use Rattle.st_scopes.specs.Declarations.{seen};
@@ -15,7 +16,7 @@ use st_names::NameTable;
 use st_scopes::{Declared, Tables};
 use st_sizes::{MOST, Size};
 use st_tree::List;
-use st_tree::tree::Specification;
+use st_tree::tree::{Function, Specification};
 use st_types::Base;
 use std::alloc::{AllocError, Global};
 
@@ -63,7 +64,26 @@ impl<'a> Members<'a> {
         ensures { OnOk result ((vs : Items Name) → HasMembers (units_of tables.now) vs self.old → HasMembers (units_of tables.now) (vs ++ seen declared.now ∷ []) self.new) }
     {
         let parts = Parts::of(alloc, tables, sizes, &declared.declaration.specification)?;
-        self.names.push(declared.name.spelling.as_slice())?;
+        self.put(declared.name.spelling.as_slice(), parts)
+    }
+
+    /// Adds the result of a function, which has the function's name.
+    pub fn add_result(&mut self, function: &'a Function) -> Result<(), AllocError>
+        ensures { OnOk result ((units : Items Named) (vs : Items Name) → HasMembers units vs self.old → HasMembers units (vs ++ result_declared function.now ∷ []) self.new) }
+    {
+        let parts = Parts {
+            base: Base::Elementary(function.result),
+            dimensions: None,
+            count: 1,
+        };
+        self.put(function.name.spelling.as_slice(), parts)
+    }
+
+    /// Puts what has this name and is made of this behind the others.
+    fn put(&mut self, name: &'a [u8], parts: Parts) -> Result<(), AllocError>
+        ensures { OnOk result ((units : Items Named) (vs : Items Name) (v : Name) → v.name.spelling ≡ name.now → AreParts units v parts → HasMembers units vs self.old → HasMembers units (vs ++ v ∷ []) self.new) }
+    {
+        self.names.push(name)?;
         self.items.push(Member {
             offset: self.count.min(MOST) as u32,
             base: parts.base,

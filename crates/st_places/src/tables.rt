@@ -1,15 +1,18 @@
 //! Tables of what names stand for in the statements of a text.
 ghost use Rattle.std.specs.Prelude.{◌≡◌, ◌<◌, IfOk, IfSome, None, false, length, true, ℕ};
-ghost use Rattle.std.specs.Option.{option_map};
+ghost use Rattle.std.specs.List.{All};
+ghost use Rattle.std.specs.Option.{option_copied, option_map};
 ghost use Rattle.st_initials.specs.Tables.{AreInitials};
 ghost use Rattle.st_check.specs.Programs.{text_of};
 ghost use Rattle.st_leaves.specs.Places.{count};
 ghost use Rattle.st_leaves.specs.Selected.{element_of, selected_by, subscripts_of, value_type};
 ghost use Rattle.st_meaning.specs.Offsets.{IsSmall, offset_of};
-ghost use Rattle.st_meaning.specs.Wholes.{Invoked, block_of};
+ghost use Rattle.st_meaning.specs.Units.{function_at};
+ghost use Rattle.st_meaning.specs.Wholes.{Input, Invoked, block_of};
 ghost use Rattle.st_places.specs.Dimensions.{dimensions_in};
+ghost use Rattle.st_places.specs.Functions.{starts_at};
 ghost use Rattle.st_places.specs.Members.{AreUnits};
-ghost use Rattle.st_places.specs.Parts.{IsNodeOf, is_array, is_small_block_in, part_in, whole_in};
+ghost use Rattle.st_places.specs.Parts.{IsNodeOf, is_array, is_small_block_in, is_small_function_in, part_in, whole_in};
 ghost use Rattle.st_program_sizes.specs.Sized.{IsSized};
 ghost use Rattle.st_types.specs.Compositions.{unknown};
 ghost use Rattle.st_types.specs.Names.{units_of};
@@ -19,10 +22,13 @@ ghost use Rattle.st_values.specs.Values.{IsValue};
 use crate::content::{
     block_of, constant_named, elements, instance_named, is_small_block, selected, value_type,
 };
+use crate::function::Function;
+use crate::functions::Functions;
 use crate::node::{Dimension, Node};
 use crate::unit::UnitParts;
 use st_check::Program;
 use st_initials::{Initials, types_written};
+use st_meaning::Start;
 use st_program_sizes::type_sizes;
 use st_scopes::Tables as Scopes;
 use st_sizes::Size;
@@ -38,6 +44,7 @@ use std::marker::Model;
 pub struct Tables<'a> {
     text: &'a [Unit],
     units: Vec<UnitParts<'a>>,
+    functions: Functions<'a>,
 }
 
 impl<'a> Model for Tables<'a> {
@@ -69,7 +76,12 @@ impl<'a> Tables<'a> {
         let initials = Initials::new(alloc, &scopes, &written, order)?;
         let sizes = type_sizes(alloc, &scopes, order)?;
         let units = all_units(alloc, &scopes, &initials, &sizes)?;
-        Ok(Tables { text, units })
+        let functions = Functions::of(alloc, &scopes, &initials)?;
+        Ok(Tables {
+            text,
+            units,
+            functions,
+        })
     }
 
     /// The variables of the unit of this number.
@@ -100,6 +112,36 @@ impl<'a> Tables<'a> {
         ensures { result ≡ is_small_block_in self.now unit }
     {
         is_small_block(&self.units, unit)
+    }
+
+    /// The function of this name, in whichever unit it is called.
+    pub fn function(&self, name: &[u8]) -> Option<&Function<'a>>
+        ensures function { (unit : ℕ) → option_copied result ≡ (whole_in self.now unit).functions name.now }
+        ensures in_range { IfSome result (λ function. All (λ (i : Input). IsValue i.initial) function.now.inputs) }
+    {
+        self.functions.named(name)
+    }
+
+    /// The function that the unit of this number is.
+    pub fn function_at(&self, number: usize) -> Option<&Function<'a>>
+        ensures { option_copied result ≡ function_at (units_of self.now.text) number }
+    {
+        self.functions.at(number)
+    }
+
+    /// With which values the variables of the function begin that the unit of this number is, its result first. What is no function
+    /// has none.
+    pub fn starts(&self, unit: usize) -> &[Start]
+        ensures { result.now ≡ starts_at self.now unit }
+    {
+        self.functions.starts(unit)
+    }
+
+    /// Whether the unit of this number is a function that has at most 65,536 variables.
+    pub fn is_small_function(&self, unit: usize) -> bool
+        ensures { result ≡ is_small_function_in self.now unit }
+    {
+        self.functions.is_small(unit)
     }
 
     /// What a name selects, and how many leaves stand before it.

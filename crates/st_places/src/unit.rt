@@ -1,10 +1,12 @@
 //! What is declared in a unit: its variables, its constants, and of an array type its elements.
 ghost use Rattle.std.specs.Prelude.{◌≡◌, ◌<◌, ◌++◌, ◌∷◌, [], ℕ, IfOk, List as Items, OnOk, length};
 ghost use Rattle.st_initials.specs.Tables.{AreInitials};
-ghost use Rattle.st_places.specs.Members.{AreElements, HasNames, IsUnit, is_small_type};
+ghost use Rattle.st_places.specs.Members.{AreElements, HasMembers, HasNames, IsUnit, is_small_type};
+ghost use Rattle.st_places.specs.Parts.{result_names};
 ghost use Rattle.st_program_sizes.specs.Sized.{IsSized};
 ghost use Rattle.st_scopes.specs.Declarations.{seen};
 ghost use Rattle.st_types.specs.Compositions.{is_constant};
+ghost use Rattle.st_types.specs.Inside.{named_by};
 ghost use Rattle.st_types.specs.Names.{Declared as Name, Named, units_of};
 ghost use Rattle.st_types.specs.Types.{elements_in, type_at};
 ghost use Rattle.st_types.specs.declared.base.Base.TheVariants as bases;
@@ -19,7 +21,7 @@ use st_scopes::{Declared, Tables};
 use st_sizes::Size;
 use st_tree::List;
 use st_tree::tree::VarKind;
-use st_types::Base;
+use st_types::{Base, NamedUnit, UnitKind};
 use std::alloc::{AllocError, Global};
 
 /// The elements of an array type.
@@ -56,7 +58,7 @@ impl<'a> UnitParts<'a> {
         ensures { IfOk result (λ parts. IsUnit (units_of tables.now) unit parts) }
     {
         let mut parts = UnitParts {
-            members: Members::new(alloc),
+            members: results_of(alloc, &tables.unit(unit))?,
             constants: Constants::new(alloc),
             elements: elements_of(alloc, tables, sizes, unit)?,
             is_small_block: is_small(sizes, tables.type_at(unit)),
@@ -90,6 +92,20 @@ impl<'a> UnitParts<'a> {
     }
 }
 
+/// The result of a unit that is a function, which stands before its variables.
+fn results_of<'a>(alloc: Global, unit: &NamedUnit<'a>) -> Result<Members<'a>, AllocError>
+    ensures { IfOk result (λ members. (units : Items Named) → HasMembers units (result_names (named_by unit.now).declares) members) }
+{
+    let mut members = Members::new(alloc);
+    match unit.kind {
+        UnitKind::Function(function) => {
+            members.add_result(function)?;
+            Ok(members)
+        }
+        UnitKind::Type(_) | UnitKind::Block(_) | UnitKind::Program(_) => Ok(members),
+    }
+}
+
 /// Whether what has this type is an instance of a function block of the text, and has at most 65,536 leaves.
 fn is_small(sizes: &[Size], base: Base) -> bool
     ensures { (units : Items Named) → IsSized units sizes.now base → result ≡ is_small_type units base }
@@ -105,7 +121,7 @@ fn is_small(sizes: &[Size], base: Base) -> bool
 }
 
 /// Whether a declared name is a constant.
-fn is_constant(kind: VarKind) -> bool
+pub(crate) fn is_constant(kind: VarKind) -> bool
     ensures { result ≡ is_constant kind }
 {
     matches!(kind, VarKind::Constant)

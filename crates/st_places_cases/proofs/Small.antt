@@ -6,7 +6,7 @@ use Rattle.st_check.specs.Programs.{IsChecked, ProgramView, main_of, text_of}
 use Rattle.st_leaves.specs.Bounds.{HasBounds}
 use Rattle.st_leaves.specs.Places.{count}
 use Rattle.st_meaning.specs.Offsets.{IsSmall}
-use Rattle.st_meaning.specs.Units.{root_name, root_of, unit_whole}
+use Rattle.st_meaning.specs.Units.{root_name, root_of, unit_root, unit_whole}
 use Rattle.st_places.specs.Parts.{TablesView, inside, optional_whole, whole_in}
 use Rattle.st_types.specs.Compositions.{composition_of, unit_composition}
 use Rattle.st_types.specs.Names.{Declares, Named, unit_at, units_of}
@@ -20,11 +20,11 @@ main_whole program checked tables main text is =
     ∙ ap (λ i. optional_whole (units_of (text_of program)) (unit_at (units_of (text_of program)) i)) is
     ∙ ap (optional_whole (units_of (text_of program))) checked.found
 
--- what is no function block is named as a program is
+-- the variables of a program, as those of a unit
 root_named : (units : List Named) (name : List ℕ) (d : Declares) → is_program d ≡ true
-    → unit_composition units (inside units) (root_name name d) d ≡ unit_composition units (inside units) (codes "PROGRAM") d
+    → unit_root units (root_name name d) d ≡ unit_composition units (inside units) (codes "PROGRAM") d
 root_named units name (names.type t) h = refl
-root_named units name (names.function f) h = refl
+root_named units name (names.function f) h = absurd cc
 root_named units name (names.block b) h = absurd cc
 root_named units name (names.program p) h = refl
 

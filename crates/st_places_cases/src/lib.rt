@@ -1,5 +1,5 @@
-//! What no clause says of the tables of names: that constants have the values, and instances the blocks, that a reader of the text
-//! expects.
+//! What no clause says of the tables of names: that constants have the values, instances the blocks, and functions the inputs,
+//! that a reader of the text expects.
 //!
 //! This crate has tests alone.
 #![tactic(auto)]
@@ -8,5 +8,7 @@
 mod checked;
 #[cfg(test)]
 mod constants;
+#[cfg(test)]
+mod functions;
 #[cfg(test)]
 mod instances;

@@ -135,7 +135,7 @@ static COMMANDS: [Row; 13] = [
     ),
     (
         10,
-        "The program was halted by a fault; or it can't be scanned yet, since its body calls a function or invokes a function block that the text declares, or is a chart.",
+        "The program was halted by a fault; or it can't be scanned yet, since its body, or that of a function block that the text declares, is a chart.",
         "See with `status` whether it is halted; then correct the program with `change` or its values with `write`, and give `reset`.",
     ),
     (

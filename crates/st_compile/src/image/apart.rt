@@ -2,13 +2,13 @@
 ghost use Rattle.std.specs.Prelude.{◌≡◌};
 ghost use Rattle.st_check.specs.Programs.{leaves_of_program};
 ghost use Rattle.st_compile.specs.Plain.{is_plain};
-ghost use Rattle.st_compile.specs.Programs.{program_blocks, program_code, program_depth, program_depths, program_names};
+ghost use Rattle.st_compile.specs.Programs.{program_code, program_depth, program_names, program_rooms, program_units};
 
 use crate::image::Image;
 use st_check::Program;
 use st_fused::Fused;
 use st_layout::Layout;
-use st_machine::Block;
+use st_machine::{Room, Units};
 use st_tree::Name;
 
 /// Takes an image apart. The pattern names all its fields. What stands beside the program is what its functions give.
@@ -17,17 +17,17 @@ fn image_apart(
 ) -> (
     &Program,
     &Layout,
-    (&Fused, &[Block]),
-    (usize, &[usize]),
+    (&Fused, &Units),
+    (usize, &[Room]),
     &[Name],
     bool,
 )
     ensures program { result.0.now ≡ image.now }
     ensures layout { result.1.now ≡ leaves_of_program image.now }
     ensures code { result.2.0.now ≡ program_code image.now }
-    ensures blocks { result.2.1.now ≡ program_blocks image.now }
+    ensures units { result.2.1.now ≡ program_units image.now }
     ensures depth { result.3.0 ≡ program_depth image.now }
-    ensures depths { result.3.1.now ≡ program_depths image.now }
+    ensures rooms { result.3.1.now ≡ program_rooms image.now }
     ensures names { result.4.now ≡ program_names image.now }
     ensures runs { result.5 ≡ is_plain image.now }
 {
@@ -35,17 +35,17 @@ fn image_apart(
         program,
         layout,
         code,
-        blocks,
+        units,
         depth,
-        depths,
+        rooms,
         names,
         runs,
     } = image;
     (
         program,
         layout,
-        (code, blocks.as_slice()),
-        (*depth, depths.as_slice()),
+        (code, units),
+        (*depth, rooms.as_slice()),
         names.as_slice(),
         *runs,
     )

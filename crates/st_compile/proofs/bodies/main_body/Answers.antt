@@ -6,8 +6,10 @@ use Rattle.st_meaning.specs.Typing.{body_of}
 use Rattle.st_meaning.specs.Units.{statements_of}
 use Rattle.st_places.specs.Parts.{whole_in}
 use Rattle.st_types.specs.Inside.{named_by}
-use Rattle.st_compile.specs.Depths.{statements_depth}
-use Rattle.st_compile.specs.Programs.{program_code, program_depth}
+use Rattle.st_bodies.specs.Depths.{statements_depth}
+use Rattle.st_check.specs.Programs.{text_of}
+use Rattle.st_types.specs.Names.{units_of}
+use Rattle.st_compile.specs.Programs.{program_code, program_depth, unit_code}
 use Rattle.st_compile.specs.declared.bodies.Body.{Body}
 use Rattle.st_compile.proofs.Coded.{code_at, main_below, main_code, main_depth, main_small, read_at}
 use Rattle.st_compile.proofs.bodies.main_body.Goals as goal
@@ -43,8 +45,9 @@ returns-clause-depth c =
     let found = read_at c.args.program.now c.args.units.now c.requires.units c.main-main.result c.index-units-main.result below c.index-units-main.is in
     let u = named_by c.index-units-main.result in
     let w = whole_in c.args.tables.now c.main-main.result in
-    both_ok c.body_of.result (λ (body : Body). body.code ≡ body_code w.variables (body_of w (statements_of u.declares))) (λ (body : Body). body.depth ≡ min (statements_depth (statements_of u.declares)) (length body.code))
+    both_ok c.body_of.result (λ (body : Body). body.code ≡ body_code w.variables (body_of w (statements_of u.declares))) (λ (body : Body). body.depth ≡ min (statements_depth c.args.inputs (statements_of u.declares)) (length body.code))
     (λ (body : Body). body.depth ≡ program_depth c.args.program.now)
-    (λ body code depth. depth ∙ ap (λ ls. min (statements_depth (statements_of u.declares)) (length ls)) (code ∙ code_at c.args.program.now c.args.tables.now c.requires.tables c.main-main.result u found)
+    (λ body code depth. depth ∙ ap (λ ls. min (statements_depth c.args.inputs (statements_of u.declares)) (length ls)) (code ∙ code_at c.args.program.now c.args.tables.now c.requires.tables c.main-main.result u found)
+    ∙ ap (λ k. min (statements_depth k (statements_of u.declares)) (length (unit_code (units_of (text_of c.args.program.now)) u))) c.requires.inputs
     ∙ main_depth c.args.program.now c.main-main.result c.main-main.ensures.main u found)
     c.body_of.ensures.code c.body_of.ensures.depth

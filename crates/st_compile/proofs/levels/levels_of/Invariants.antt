@@ -1,5 +1,5 @@
 use Rattle.std.proofs.Common.{◌≡◌, ◌<◌, ◌≤◌, ℕ, ◌+◌, drop, get_or, length}
-use Rattle.st_compile.specs.Programs.{level_in}
+use Rattle.st_check.specs.Programs.{level_in}
 use Rattle.st_compile.proofs.levels.levels_of.Given as goal
 
 -- the places from this one on are known

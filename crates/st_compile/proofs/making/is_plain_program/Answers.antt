@@ -19,7 +19,7 @@ pub returns-then-is_plain_unit : goal.returns-then-is_plain_unit
 returns-then-is_plain_unit c =
     let below = main_below c.args.program.now c.args.units.now c.requires.units c.main-main.ensures.checked c.main-main.result c.main-main.ensures.main in
     let found = read_at c.args.program.now c.args.units.now c.requires.units c.main-main.result c.index-units-main.result below c.index-units-main.is in
-    c.are_plain_blocks.ensures
+    c.are_plain_units.ensures
     ∙ plain_then c.args.program.now c.main-main.result c.main-main.ensures.main (named_by c.index-units-main.result) found
     (sym (plain_at c.args.program.now c.args.tables.now c.requires.tables c.main-main.result (named_by c.index-units-main.result) found) ∙ sym c.is_plain_unit.ensures ∙ c.if-is_plain_unit.true)
 

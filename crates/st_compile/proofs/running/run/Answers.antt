@@ -4,6 +4,7 @@ use Rattle.st_check.specs.Programs.{IsChecked, leaves_of_program}
 use Rattle.st_compile.proofs.Known.{Known}
 use Rattle.st_compile.proofs.Moments.{is_time}
 use Rattle.st_compile.proofs.Runs.{its_run, result_done, result_faulted, room_kept}
+use Rattle.st_compile.proofs.SmallFunctions.{functions_small}
 use Rattle.st_compile.proofs.running.run.Goals as goal
 
 pub run_fused-requires-clause-runs : goal.run_fused-requires-clause-runs
@@ -21,10 +22,16 @@ run_fused-requires-clause-runs g c =
       invokes = c.typing_invokes_bodies.ensures;
       entering = c.typing_enters_instances.ensures;
       enters = c.code_enters_what_is_invoked.ensures;
+      calling = c.code_calls_functions.ensures;
+      passing = c.sound_commands_call_what_passes.ensures;
+      below = c.checked_functions_call_below.ensures;
+      plain = c.checked_functions_have_no_instances.ensures.own;
+      gives = c.checked_calls_are_those_of_their_bodies.ensures;
+      calls = c.calls_are_sound.ensures;
     } in
-    its_run known program checked c.args.stacks.now c.requires.room c.args.now (is_time c.args.now c.ranges.now) (λ ls. g.M.Memory.content ls c.args.memory.now)
-    (g.met.M.Memory.fits (leaves_of_program program) c.args.memory.now c.requires.over) c.args.limit _ c.code.result.now c.blocks-2.result.now c.layout.result.now
-    (to_z-of_z w64 c.args.now c.ranges.now) c.code.ensures c.blocks-2.ensures c.layout.ensures
+    its_run known program checked (functions_small program c.requires.plain) c.args.stacks.now c.requires.room c.args.now (is_time c.args.now c.ranges.now) (λ ls. g.M.Memory.content ls c.args.memory.now)
+    (g.met.M.Memory.fits (leaves_of_program program) c.args.memory.now c.requires.over) c.args.limit _ c.code.result.now c.units.result.now c.layout.result.now
+    (to_z-of_z w64 c.args.now c.ranges.now) c.code.ensures c.units.ensures c.layout.ensures
 
 pub returns-in-Ok-clause-room : goal.returns-in-Ok-clause-room
 returns-in-Ok-clause-room g c = room_kept c.args.image.now c.args.stacks.now c.run_fused.new.stacks c.in-Ok.ensures.rooms c.requires.room
@@ -44,10 +51,16 @@ returns-in-Ok-clause-result g c =
       invokes = c.typing_invokes_bodies.ensures;
       entering = c.typing_enters_instances.ensures;
       enters = c.code_enters_what_is_invoked.ensures;
+      calling = c.code_calls_functions.ensures;
+      passing = c.sound_commands_call_what_passes.ensures;
+      below = c.checked_functions_call_below.ensures;
+      plain = c.checked_functions_have_no_instances.ensures.own;
+      gives = c.checked_calls_are_those_of_their_bodies.ensures;
+      calls = c.calls_are_sound.ensures;
     } in
-    result_done known program checked c.args.stacks.now c.requires.room c.args.now (is_time c.args.now c.ranges.now) (λ ls. g.M.Memory.content ls c.args.memory.now)
-    (g.met.M.Memory.fits (leaves_of_program program) c.args.memory.now c.requires.over) c.args.limit _ c.code.result.now c.blocks-2.result.now c.layout.result.now
-    (to_z-of_z w64 c.args.now c.ranges.now) c.code.ensures c.blocks-2.ensures c.layout.ensures (λ ls. (g.M.Memory.content ls c.run_fused.new.memory).values) c.in-Ok.ensures.ends
+    result_done known program checked (functions_small program c.requires.plain) c.args.stacks.now c.requires.room c.args.now (is_time c.args.now c.ranges.now) (λ ls. g.M.Memory.content ls c.args.memory.now)
+    (g.met.M.Memory.fits (leaves_of_program program) c.args.memory.now c.requires.over) c.args.limit _ c.code.result.now c.units.result.now c.layout.result.now
+    (to_z-of_z w64 c.args.now c.ranges.now) c.code.ensures c.units.ensures c.layout.ensures (λ ls. (g.M.Memory.content ls c.run_fused.new.memory).values) c.in-Ok.ensures.ends
 
 pub returns-in-Err-clause-room : goal.returns-in-Err-clause-room
 returns-in-Err-clause-room g c = room_kept c.args.image.now c.args.stacks.now c.run_fused.new.stacks c.in-Err.ensures.rooms c.requires.room
@@ -67,8 +80,14 @@ returns-in-Err-clause-result g c =
       invokes = c.typing_invokes_bodies.ensures;
       entering = c.typing_enters_instances.ensures;
       enters = c.code_enters_what_is_invoked.ensures;
+      calling = c.code_calls_functions.ensures;
+      passing = c.sound_commands_call_what_passes.ensures;
+      below = c.checked_functions_call_below.ensures;
+      plain = c.checked_functions_have_no_instances.ensures.own;
+      gives = c.checked_calls_are_those_of_their_bodies.ensures;
+      calls = c.calls_are_sound.ensures;
     } in
-    result_faulted known program checked c.args.stacks.now c.requires.room c.args.now (is_time c.args.now c.ranges.now) (λ ls. g.M.Memory.content ls c.args.memory.now)
-    (g.met.M.Memory.fits (leaves_of_program program) c.args.memory.now c.requires.over) c.args.limit _ c.code.result.now c.blocks-2.result.now c.layout.result.now
-    (to_z-of_z w64 c.args.now c.ranges.now) c.code.ensures c.blocks-2.ensures c.layout.ensures c.in-Err.halt c.in-Err.ensures.ends
+    result_faulted known program checked (functions_small program c.requires.plain) c.args.stacks.now c.requires.room c.args.now (is_time c.args.now c.ranges.now) (λ ls. g.M.Memory.content ls c.args.memory.now)
+    (g.met.M.Memory.fits (leaves_of_program program) c.args.memory.now c.requires.over) c.args.limit _ c.code.result.now c.units.result.now c.layout.result.now
+    (to_z-of_z w64 c.args.now c.ranges.now) c.code.ensures c.units.ensures c.layout.ensures c.in-Err.halt c.in-Err.ensures.ends
     ∙ ap (λ n. Err (record { kind = c.in-Err.halt.kind; unit = n; line = c.in-Err.halt.line })) (sym c.faulty.ensures)

@@ -1,23 +1,30 @@
 use Rattle.std.proofs.Common.{refl, ◌≡◌, ◌∙◌, ◌-◌, ◌+◌, ◌<◌, ◌++◌, take, drop, length, reverse, sym, ap, subst, arith, false}
-use Rattle.std.specs.Prelude.{Some, None}
+use Rattle.std.specs.Prelude.{Some, None, []}
+use Rattle.std.specs.List.{position}
+use Rattle.st_values.specs.Types.{is_same}
+use Rattle.st_values.specs.Words.{is_word}
+use Rattle.st_meaning.specs.Wholes.{Input}
+use Rattle.st_emit.proofs.Calling.{function_emits, none_before, one_before, passed_over, passed_step}
+use Rattle.st_emit.proofs.Trees.{input_is, output_is}
 use Rattle.std.proofs.lemmas.List.{length-map}
 use Rattle.st_types.specs.Standard.{standard_of}
 use Rattle.st_types.specs.OwnTypes.{or_lint}
 use Rattle.st_leaves.specs.Selected.{selected_by}
-use Rattle.st_meaning.specs.Typing.{place_of, typed}
+use Rattle.st_meaning.specs.Typing.{argument_typed, as_input, input_at, passed, place_of, typed}
 use Rattle.st_meaning.specs.Wholes.{type_of}
-use Rattle.st_code.specs.Code.{parts_code, terms_code, types_in}
+use Rattle.st_code.specs.Code.{parts_code, term_code, terms_code}
+use Rattle.st_meaning.specs.Sound.{types_in}
 use Rattle.st_emit.specs.Emits.{own_types, terms_in}
 use Rattle.st_emit.specs.Places.{behind_parts, dimensions_code, is_indexed}
 use Rattle.st_places.specs.Parts.{part_in}
 use Rattle.st_emit.specs.Trees.{chain_of, operand_type, parts_in, whole_of}
-use Rattle.st_emit.proofs.Emitting.{call_emits, call_is_nil, chain_ends, chain_step, chain_stops, element_emits, field_code, subscripted, subscripts_put, takes_length}
+use Rattle.st_emit.proofs.Emitting.{call_emits, call_gives_nil, call_is_nil, chain_ends, chain_step, chain_stops, element_emits, field_code, subscripted, subscripts_put, takes_length}
 use Rattle.st_emit.proofs.expression.+emit.Goals as goal
 
 pub emit_call-returns-then-not-takes_number : goal.emit_call-returns-then-not-takes_number
 emit_call-returns-then-not-takes_number t c =
     call_is_nil (whole_of c.args.scope.now) c.args.due c.args.call.now c.as_slice-arguments.result.now c.standard_of.result c.in-Some.standard c.positional_count-number.result _ _ (c.standard_of.ensures ∙ ap standard_of c.as_slice.ensures) c.as_slice-arguments.ensures c.in-Some.is
-    c.positional_count-number.ensures (sym c.takes_number.ensures ∙ c.if-not-takes_number.true) c.in_ok-emit_nil-2.ensures
+    c.positional_count-number.ensures (sym c.takes_number.ensures ∙ c.if-not-takes_number.true) c.in_ok-emit_nil.ensures
 
 pub emit_call-returns : goal.emit_call-returns
 emit_call-returns t c =
@@ -101,3 +108,55 @@ emit_parts-loop-i-preserved t c =
       subscripts_put w e ps c.loop-i.i j c.index-parts-i.result c.in-Subscripts.position xs xs c.index-stop.result.now.is_indexed d c.args.code.now c.loop-i.code c.emit_alone.new.code
           (omega (arith, c.loop-i-test.true)) lt c.index-parts-i.is c.in-Subscripts.is refl (stop.indexed ∙ ap (is_indexed w false) front) (stop.part ∙ ap (behind_parts w e) front) c.loop-i.invariant.1 put,
     )
+
+pub emit_call-returns-then-not-gives_type : goal.emit_call-returns-then-not-gives_type
+emit_call-returns-then-not-gives_type t c =
+    call_gives_nil (whole_of c.args.scope.now) c.args.due c.args.call.now c.as_slice-arguments.result.now c.standard_of.result c.in-Some.standard _ _ (c.standard_of.ensures ∙ ap standard_of c.as_slice.ensures) c.as_slice-arguments.ensures c.in-Some.is
+    (sym c.gives_type.ensures ∙ c.if-not-gives_type.true) c.in_ok-emit_nil-2.ensures
+
+pub emit_function-returns : goal.emit_function-returns
+emit_function-returns t c =
+    let f = c.in-Some.function.now in
+    function_emits (whole_of c.args.scope.now) c.args.due c.args.call.now c.as_slice.result.now f c.as_slice-arguments.result.now c.args.code.now c.emit_behind.new.code c.emit_passed.new.code c.push.new.self c.as_slice.ensures c.requires c.in-Some.ensures.some
+    (ap (λ e. is_same e c.args.due) (sym c.result.ensures) ∙ sym c.is.ensures.value ∙ c.if-not-is.false) c.as_slice-arguments.ensures c.in_ok-emit_behind.ensures c.in_ok-emit_passed.ensures c.in_ok-push.ensures.ok
+
+pub emit_passed-loop-number-preserved-in-Continue-branch-2 : goal.emit_passed-loop-number-preserved-in-Continue-branch-2
+emit_passed-loop-number-preserved-in-Continue-branch-2 t c =
+    let w = whole_of c.args.scope.now in
+    let inputs = c.args.function.now.inputs in
+    let all = c.args.arguments.now in
+    let i = c.loop-number.number in
+    let j = i - 1 in
+    let old = c.loop-number.invariant in
+    let back : j + 1 ≡ i = omega (arith, c.loop-number-test.true) in
+    let x = typed w c.in-Input.value in
+    let name = c.in-Input.name.spelling in
+    let a = c.index-arguments-number.result in
+    let is : argument_typed w a ≡ passed (Some name) x = ap (argument_typed w) c.in-Input.is ∙ input_is w c.in-Input.name c.in-Input.value in
+    let one = one_before w all i j a (Some name) x back old.inside c.index-arguments-number.is is in
+    let next : c.loop-number.place - 1 + 1 ≡ c.loop-number.place = omega (arith, old.place, one) in
+    let new = c.emit_value_of_input-in-Input.new.code in
+    let here : new ≡ c.loop-number.code ++ reverse (term_code w.variables (as_input x (input_at inputs (position (λ (input : Input). is_word input.name name) inputs))))
+    = c.in_ok-emit_value_of_input-in-Input.ensures ∙ ap (λ y. c.loop-number.code ++ reverse (term_code w.variables (as_input (typed w y) (input_at inputs c.input-input.result)))) c.get.ensures
+    ∙ ap (λ o. c.loop-number.code ++ reverse (term_code w.variables (as_input x (input_at inputs o)))) (c.input-input.ensures.number ∙ ap (λ n. position (λ (input : Input). is_word input.name n) inputs) c.as_slice.ensures) in
+    record {
+      inside = omega (arith, old.inside);
+      place = omega (arith, old.place, one);
+      code = passed_step w inputs all i j c.loop-number.place (c.loop-number.place - 1) a (Some name) x c.args.code.now c.loop-number.code new back old.inside c.index-arguments-number.is is next old.code here;
+    }
+
+pub emit_passed-loop-number-preserved : goal.emit_passed-loop-number-preserved
+emit_passed-loop-number-preserved t c =
+    let w = whole_of c.args.scope.now in
+    let all = c.args.arguments.now in
+    let i = c.loop-number.number in
+    let j = i - 1 in
+    let old = c.loop-number.invariant in
+    let back : j + 1 ≡ i = omega (arith, c.loop-number-test.true) in
+    let a = c.index-arguments-number.result in
+    let is : argument_typed w a ≡ [] = ap (argument_typed w) c.in-Output.is ∙ output_is w c.in-Output.field-0 c.in-Output.field-1 in
+    record {
+      inside = omega (arith, old.inside);
+      place = old.place ∙ none_before w all i j a back old.inside c.index-arguments-number.is is;
+      code = passed_over w c.args.function.now.inputs all i j c.loop-number.place a c.args.code.now c.loop-number.code back old.inside c.index-arguments-number.is is old.code;
+    }

@@ -1,7 +1,9 @@
 use Rattle.std.proofs.Common.{◌≡◌, ◌≤◌, ◌++◌, take, drop, length, reverse, false}
 use Rattle.st_leaves.specs.Selected.{selected_by}
-use Rattle.st_code.specs.Code.{parts_code, terms_code, types_in}
-use Rattle.st_emit.specs.Calls.{AreTyped, arguments_code, positionals}
+use Rattle.st_code.specs.Code.{parts_code, terms_code}
+use Rattle.st_meaning.specs.Sound.{types_in}
+use Rattle.st_meaning.specs.Typing.{arguments_from}
+use Rattle.st_emit.specs.Calls.{AreTyped, arguments_code, passed_in, positionals}
 use Rattle.st_emit.specs.Emits.{Leaves, own_types, terms_in}
 use Rattle.st_emit.specs.Places.{behind_parts, is_indexed}
 use Rattle.st_emit.specs.Trees.{chain_of, parts_in, whole_of}
@@ -51,3 +53,16 @@ invariant-emit_arguments-loop-i l =
 
 abbrev pub decreases-emit_arguments-loop-i : goal.decreases-emit_arguments-loop-i
 decreases-emit_arguments-loop-i l = l.i
+
+-- the values of the arguments from this number on
+abbrev pub invariant-emit_passed-loop-number : goal.invariant-emit_passed-loop-number
+invariant-emit_passed-loop-number l =
+    let w = whole_of l.scope in
+    record {
+      inside : l.number ≤ length l.arguments;
+      place : l.place ≡ length (passed_in w (take l.number l.arguments));
+      code : l.code ≡ l.initial.code ++ reverse (terms_code w.variables (arguments_from l.function.inputs l.place (passed_in w (drop l.number l.arguments))));
+    }
+
+abbrev pub decreases-emit_passed-loop-number : goal.decreases-emit_passed-loop-number
+decreases-emit_passed-loop-number l = l.number

@@ -3,6 +3,7 @@ use Rattle.st_meaning.specs.Typing.{typed}
 use Rattle.st_types.specs.Standard.{standard_of}
 use Rattle.st_emit.specs.Calls.{own_from, positionals}
 use Rattle.st_emit.specs.Trees.{whole_of}
+use Rattle.st_emit.proofs.Calling.{text_own}
 use Rattle.st_emit.proofs.Owns.{call_block, call_conversion, call_function, call_none, ended_own, input_left, output_left, own_skip, positional_left, whole_own}
 use Rattle.st_emit.proofs.own.+own.Goals.{own_of_arguments-in-Positional+else-is_some, own_of_arguments-in-Input, own_of_arguments-in-Output}
 use Rattle.st_emit.proofs.own.+own.Goals as goal
@@ -45,20 +46,23 @@ own_of_arguments-loop-argument-preserved t c =
           })
     ]
 
+pub own_of_call-returns-in_default : goal.own_of_call-returns-in_default
+own_of_call-returns-in_default t c = text_own (whole_of c.args.scope.now) c.args.call.now c.as_slice-name.result.now c.standard_of.result c.result_named.result c.as_slice-name.ensures c.standard_of.ensures c.in_default.is c.result_named.ensures
+
 pub own_of_call-returns-then-not-takes_number : goal.own_of_call-returns-then-not-takes_number
 own_of_call-returns-then-not-takes_number t c =
-    call_none (whole_of c.args.scope.now) c.args.call.now c.as_slice-arguments.result.now c.standard_of.result c.in_ok-standard.standard c.positional_count.result (c.standard_of.ensures ∙ ap standard_of c.as_slice.ensures) c.as_slice-arguments.ensures c.in_ok-standard.was c.positional_count.ensures
+    call_none (whole_of c.args.scope.now) c.args.call.now c.as_slice-arguments.result.now c.standard_of.result c.in-Some.standard c.positional_count.result (c.standard_of.ensures ∙ ap standard_of c.as_slice-name.ensures) c.as_slice-arguments.ensures c.in-Some.is c.positional_count.ensures
     (sym c.takes_number.ensures ∙ c.if-not-takes_number.true)
 
 pub own_of_call-returns-in-Function : goal.own_of_call-returns-in-Function
 own_of_call-returns-in-Function t c =
-    c.own_of_arguments.ensures ∙ call_function (whole_of c.args.scope.now) c.args.call.now c.as_slice-arguments.result.now c.standard_of.result c.in_ok-standard.standard c.in-Function.field-0 c.positional_count.result (c.standard_of.ensures ∙ ap standard_of c.as_slice.ensures) c.as_slice-arguments.ensures c.in_ok-standard.was c.positional_count.ensures
+    c.own_of_arguments.ensures ∙ call_function (whole_of c.args.scope.now) c.args.call.now c.as_slice-arguments.result.now c.standard_of.result c.in-Some.standard c.in-Function.field-0 c.positional_count.result (c.standard_of.ensures ∙ ap standard_of c.as_slice-name.ensures) c.as_slice-arguments.ensures c.in-Some.is c.positional_count.ensures
     (sym c.takes_number.ensures ∙ c.if-not-takes_number.false) c.in-Function.is
 
 pub own_of_call-returns-in-Conversion : goal.own_of_call-returns-in-Conversion
 own_of_call-returns-in-Conversion t c =
-    call_conversion (whole_of c.args.scope.now) c.args.call.now c.as_slice-arguments.result.now c.standard_of.result c.in_ok-standard.standard c.in-Conversion.field-0 c.in-Conversion.to c.positional_count.result (c.standard_of.ensures ∙ ap standard_of c.as_slice.ensures) c.as_slice-arguments.ensures c.in_ok-standard.was c.positional_count.ensures
+    call_conversion (whole_of c.args.scope.now) c.args.call.now c.as_slice-arguments.result.now c.standard_of.result c.in-Some.standard c.in-Conversion.field-0 c.in-Conversion.to c.positional_count.result (c.standard_of.ensures ∙ ap standard_of c.as_slice-name.ensures) c.as_slice-arguments.ensures c.in-Some.is c.positional_count.ensures
     (sym c.takes_number.ensures ∙ c.if-not-takes_number.false) c.in-Conversion.is
 
 pub own_of_call-returns-in-Block : goal.own_of_call-returns-in-Block
-own_of_call-returns-in-Block t c = absurd (call_block (whole_of c.args.scope.now) c.in_ok-standard.standard c.positional_count.result c.in-Block.field-0 (sym c.takes_number.ensures ∙ c.if-not-takes_number.false) c.in-Block.is)
+own_of_call-returns-in-Block t c = absurd (call_block (whole_of c.args.scope.now) c.in-Some.standard c.positional_count.result c.in-Block.field-0 (sym c.takes_number.ensures ∙ c.if-not-takes_number.false) c.in-Block.is)

@@ -1,11 +1,12 @@
 use Rattle.std.proofs.Common.{◌≡◌, ◌≤◌, length}
 use Rattle.st_code.specs.Machine.{Reaches, state}
 use Rattle.st_code.specs.Relative.{among, code_from}
-use Rattle.st_machine.specs.Blocks.{Entrance, environment_with, rooms_of, run_by}
+use Rattle.st_machine.specs.Blocks.{Entrance, run_by}
+use Rattle.st_machine.specs.Levels.{environment_with, rooms_of}
 use Rattle.st_machine.proofs.Ends.{weight}
 use Rattle.st_machine.proofs.instances.+enter.Given as goal
 
--- each level has as many stacks as stand before it
+-- each level has as many levels as stand before it
 abbrev pub decreases-enter : goal.decreases-enter
 decreases-enter g l = length l.levels.now
 
@@ -19,10 +20,10 @@ invariant-loop-place g l =
       forced : content.forced ≡ before.forced;
       lower : rooms_of l.lower ≡ rooms_of l.initial.lower;
       room : l.stack.1 ≡ l.initial.stack.1;
-      steps : l.left ≤ l.fn.left;
-      way : (e : Entrance l.number l.first l.blocks (rooms_of l.fn.levels) l.layout)
-          → Reaches (environment_with e.said.bodies l.now before.forced) l.initial.stack.1 (code_from l.first l.block.code)
-          (among before.values l.first (run_by e.said l.number l.first l.now before l.fn.left)) (state l.place l.stack.0 content.values l.left);
+      steps : l.left ≤ l.limit;
+      way : (e : Entrance l.number l.first l.units (rooms_of l.fn.levels) l.layout)
+          → Reaches (environment_with e.said l.now before.forced) l.initial.stack.1 (code_from l.first l.block.code)
+          (among before.values l.first (run_by e.said l.number l.first l.now before l.limit)) (state l.place l.stack.0 content.values l.left);
     }
 
 abbrev pub decreases-loop-place : goal.decreases-loop-place

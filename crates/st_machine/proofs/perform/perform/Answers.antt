@@ -53,3 +53,6 @@ returns-in-GetAt-clause-does g c = λ line place. rw c.in-GetAt.is (c.get_at.ens
 
 pub returns-in-Invoke-clause-does : goal.returns-in-Invoke-clause-does
 returns-in-Invoke-clause-does g c = λ line place. rw c.in-Invoke.is (rw (to_z-of_z w64 c.args.now (search rules)) at (c.invoke.ensures.does c.args.stack.now.1 line place c.args.left.now c.args.stack.now.0))
+
+pub returns-in-Pick-clause-does : goal.returns-in-Pick-clause-does
+returns-in-Pick-clause-does g c = let content = g.M.Memory.content c.args.layout.now c.args.memory.now in λ line place. rw c.in-Pick.is (c.pick.ensures.does (environment_at c.args.now content.forced) line place content.values c.args.left.now)

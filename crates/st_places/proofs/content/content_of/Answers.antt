@@ -17,7 +17,7 @@ pub returns-in-Some : goal.returns-in-Some
 returns-in-Some c = λ text are.
     subst (λ node. IsContent text (node_part text node) c.base_content.result) (sym c.in-Element.is)
     (member_element_content text c.args.units.now are c.in-Element.unit c.in-Element.number c.in-Some.member.now c.base_content.result (sym c.member_at.ensures ∙ ap option_copied c.in-Some.is)
-    (λ unfolds. c.base_content.ensures text are unfolds))
+    (λ typed. c.base_content.ensures text are typed))
 
 pub returns-in-None : goal.returns-in-None
 returns-in-None c = λ text are.
@@ -28,7 +28,7 @@ pub returns-in-Some-elements_at : goal.returns-in-Some-elements_at
 returns-in-Some-elements_at c = λ text are.
     subst (λ node. IsContent text (node_part text node) c.base_content-in-Some-elements_at.result) (sym c.in-ArrayElement.is)
     (element_content text c.args.units.now are c.in-ArrayElement.unit c.in-Some-elements_at.elements.now c.base_content-in-Some-elements_at.result
-    (sym c.elements_at.ensures ∙ ap option_copied c.in-Some-elements_at.is) (λ unfolds. c.base_content-in-Some-elements_at.ensures text are unfolds))
+    (sym c.elements_at.ensures ∙ ap option_copied c.in-Some-elements_at.is) (λ typed. c.base_content-in-Some-elements_at.ensures text are typed))
 
 pub returns-in-None-elements_at : goal.returns-in-None-elements_at
 returns-in-None-elements_at c = λ text are.

@@ -20,4 +20,4 @@ returns-in-Some-dimensions c = λ text are.
 pub returns-in-None : goal.returns-in-None
 returns-in-None c = λ text are.
     plain_member_content text c.args.units.now are c.args.unit c.args.number c.in-Some.member.now c.base_content.result (sym c.member_at.ensures ∙ ap option_copied c.in-Some.is) c.in-None.is
-    (λ unfolds. c.base_content.ensures text are unfolds)
+    (λ typed. c.base_content.ensures text are typed)

@@ -1,9 +1,9 @@
 use Rattle.std.proofs.Common.{◌≡◌, take}
 use Rattle.std.specs.Prelude.{max}
-use Rattle.st_compile.specs.Depths.{most}
-use Rattle.st_compile.specs.Programs.{program_depth}
+use Rattle.st_bodies.specs.Depths.{most}
+use Rattle.st_compile.specs.Programs.{program_depth, stacks_in}
 use Rattle.st_compile.proofs.image.Image.depth.Given as goal
 
 -- the greatest so far
 abbrev pub invariant-levels : goal.invariant-levels
-invariant-levels l = l.depth ≡ max (program_depth l.self) (most (take l.level-index l.level-items))
+invariant-levels l = l.depth ≡ max (program_depth l.self) (most (stacks_in (take l.room-index l.room-items)))

@@ -9,7 +9,7 @@ use Rattle.st_places.proofs.tables.Tables.elements.Goals as goal
 found : (c : After-elements) → AreElementsOf (units_of c.args.self.now.text) (node_part (units_of c.args.self.now.text) c.args.node) c.elements.result
 found c =
     subst (λ (t : TablesView). AreElementsOf (units_of t.text) (node_part (units_of t.text) c.args.node) c.elements.result) c.self.view_is
-    (c.elements.ensures (units_of c.self.inside.text.now) (subst (AreOf (units_of c.self.inside.text.now)) (sym c.deref.ensures.value) c.self.invariant))
+    (c.elements.ensures (units_of c.self.inside.text.now) (subst (AreOf (units_of c.self.inside.text.now)) (sym c.deref.ensures.value) c.self.invariant.parts))
 
 pub returns-clause-array : goal.returns-clause-array
 returns-clause-array c = array_clause c.args.self.now c.args.node c.elements.result (found c)

@@ -7,4 +7,4 @@ use Rattle.st_places.proofs.tables.Tables.is_small_block.Goals as goal
 pub returns : goal.returns
 returns c =
     small_clause (record { text = c.self.inside.text.now }) c.args.self.now c.args.unit c.is_small_block.result c.self.view_is
-    (c.is_small_block.ensures (units_of c.self.inside.text.now) (subst (AreOf (units_of c.self.inside.text.now)) (sym c.deref.ensures.value) c.self.invariant))
+    (c.is_small_block.ensures (units_of c.self.inside.text.now) (subst (AreOf (units_of c.self.inside.text.now)) (sym c.deref.ensures.value) c.self.invariant.parts))

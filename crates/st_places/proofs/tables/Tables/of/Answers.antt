@@ -1,5 +1,6 @@
 use Rattle.std.proofs.Common.{List, subst, sym, ◌∙◌, ◌≡◌}
 use Rattle.st_check.specs.Programs.{text_of}
+use Rattle.st_check.proofs.ElementaryFunctions.{elementary_functions}
 use Rattle.st_order.specs.Graphs.{IsOrder}
 use Rattle.st_references.specs.References.{graph_of}
 use Rattle.st_program_sizes.specs.Sized.{IsSized}
@@ -7,6 +8,7 @@ use Rattle.st_sizes.specs.declared.size.Size.{Size}
 use Rattle.st_tree.specs.declared.tree.unit.Unit.{Unit as Section}
 use Rattle.st_types.specs.Names.{units_of}
 use Rattle.st_types.specs.Types.{type_at}
+use Rattle.st_places.specs.Callables.{AreElementary, AreFunctions}
 use Rattle.st_places.specs.Contents.{AreNamed, AreOf}
 use Rattle.st_places.proofs.Blocks.{all_named}
 use Rattle.st_places.proofs.Selections.{all_unfolded}
@@ -24,5 +26,12 @@ invariant_of-result c =
     (subst (IsOrder (graph_of (units_of (text_of c.args.program.now)))) (sym c.order-order.ensures.order) c.order-order.ensures.checked.ordered) in
     let named : AreNamed (units_of c.in_ok-scopes.scopes) =
     subst (λ (text : List Section). AreNamed (units_of text)) (sym same) (all_named (units_of (text_of c.args.program.now)) c.order-order.ensures.checked.faultless) in
-    subst (λ (text : List Section). AreOf (units_of text) c.in_ok-units.units.items) c.in_ok-scopes.ensures
-    (record { len = c.in_ok-units.ensures.len; each = c.in_ok-units.ensures.units; unfolded = all_unfolded (units_of c.in_ok-scopes.scopes) c.order-order.result.now ordered; named = named })
+    record {
+      parts =
+          subst (λ (text : List Section). AreOf (units_of text) c.in_ok-units.units.items) c.in_ok-scopes.ensures
+          (record { len = c.in_ok-units.ensures.len; each = c.in_ok-units.ensures.units; unfolded = all_unfolded (units_of c.in_ok-scopes.scopes) c.order-order.result.now ordered; named = named });
+      functions = subst (λ (text : List Section). AreFunctions (units_of text) c.in_ok-functions.functions) c.in_ok-scopes.ensures c.in_ok-functions.ensures;
+      elementary =
+          subst (λ (text : List Section). AreElementary (units_of text)) (sym c.units-text.ensures.units)
+          (elementary_functions c.args.program.now c.order-order.ensures.checked);
+    }

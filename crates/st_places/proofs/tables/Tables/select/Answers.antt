@@ -9,7 +9,7 @@ use Rattle.st_places.proofs.tables.Tables.select.Goals as goal
 found : (c : After-selected) → IsSelected (units_of c.args.self.now.text) (node_part (units_of c.args.self.now.text) c.args.node) c.args.name.now c.selected.result
 found c =
     subst (λ (t : TablesView). IsSelected (units_of t.text) (node_part (units_of t.text) c.args.node) c.args.name.now c.selected.result) c.self.view_is
-    (c.selected.ensures (units_of c.self.inside.text.now) (subst (AreOf (units_of c.self.inside.text.now)) (sym c.deref.ensures.value) c.self.invariant))
+    (c.selected.ensures (units_of c.self.inside.text.now) (subst (AreOf (units_of c.self.inside.text.now)) (sym c.deref.ensures.value) c.self.invariant.parts))
 
 pub returns-clause-offset : goal.returns-clause-offset
 returns-clause-offset c = offset_clause c.args.self.now c.args.node c.args.name.now c.selected.result (found c) c.requires.small

@@ -7,4 +7,4 @@ use Rattle.st_places.proofs.tables.Tables.value.Goals as goal
 pub returns : goal.returns
 returns c =
     type_clause (record { text = c.self.inside.text.now }) c.args.self.now c.args.node c.value_type.result c.self.view_is
-    (c.value_type.ensures (units_of c.self.inside.text.now) (subst (AreOf (units_of c.self.inside.text.now)) (sym c.deref.ensures.value) c.self.invariant))
+    (c.value_type.ensures (units_of c.self.inside.text.now) (subst (AreOf (units_of c.self.inside.text.now)) (sym c.deref.ensures.value) c.self.invariant.parts))

@@ -1,0 +1,4 @@
+pub mod BodyDepths
+pub mod DepthFolds
+pub mod ExpressionDepths
+pub mod TypedDepths

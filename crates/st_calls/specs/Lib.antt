@@ -1,0 +1,4 @@
+pub mod Checked
+pub mod Named
+pub mod Passing
+pub mod Ranks

@@ -1,0 +1,177 @@
+//! Calls of functions.
+ghost use Rattle.std.specs.Prelude.{◌≡◌, ◌≤◌, ◌+◌, [], drop, get_or, length, pos, ℕ, IfOk, IsTrue};
+ghost use Rattle.std.specs.List.{All};
+ghost use Rattle.st_code.specs.Machine.{act, are_cells_in, values_in};
+ghost use Rattle.st_machine.specs.Functions.{begun_by, CallOf, given_by, GivesAs};
+ghost use Rattle.st_machine.specs.Levels.{rooms_of};
+ghost use Rattle.st_machine.specs.Ready.{is_ready};
+ghost use Rattle.st_machine.specs.Running.{environment_at, moved};
+ghost use Rattle.st_meaning.specs.Meaning.{no_value};
+ghost use Rattle.st_values.specs.Values.{IsValue};
+
+use crate::cells::{NO_VALUE, value_in};
+use crate::counting::{go_back, step};
+use crate::distances::{add, index, index_below};
+use crate::function::Function;
+use crate::moves::Move;
+use crate::operations::{
+    apply, combine, drop_one, leave, pick, push, select, skip_if, skip_unless, within,
+};
+use crate::run::Halt;
+use crate::stack::Stack;
+use crate::stacks::Level;
+use crate::variables::{begin, get, get_at, go_next, invoke, load, put, put_at, test};
+use st_code::Instr;
+use st_meaning::Start;
+use st_values::{Elem, Value};
+
+/// Calls the function of this number. It takes so many inputs off the stack, and so many numbers below them are taken away with
+/// them; what it gives is put there. There is a level for each one up to that of the function. It gives how many steps are left.
+///
+/// # Errors
+/// At a fault, with the unit that it is in: this one, or one that its body called.
+pub(crate) fn call(
+    number: u32,
+    inputs: u32,
+    below: u32,
+    functions: &[Function],
+    stack: &mut Stack,
+    levels: &mut [Level],
+    limit: u32,
+) -> Result<u32, Halt>
+    requires may { CallOf number inputs below functions.now (rooms_of levels.old) stack.old }
+    ensures gives { (called : CallOf number inputs below functions.now (rooms_of levels.old) stack.old) → GivesAs (given_by called.said number inputs stack.old.0 limit) (drop (inputs + below) stack.old.0) stack.new.0 result }
+    ensures steps { IfOk result (λ left. left ≤ limit) }
+    ensures room { stack.new.1 ≡ stack.old.1 }
+    ensures rooms { rooms_of levels.new ≡ rooms_of levels.old }
+{
+    let function = &functions[number as usize];
+    let instrs = function.code().instrs();
+    let (lower, upper) = levels.split_at_mut(function.level());
+    let level = &mut upper[0];
+    let own = &mut level.stack;
+    let variables = level.variables.as_mut_slice();
+    set_variables(function, stack.newest(inputs as usize), variables);
+    stack.lower(inputs as usize + below as usize);
+    own.clear();
+    let mut left = limit;
+    let mut place = 0;
+    while place < instrs.len() {
+        if let Instr::Call(unit, inputs, below) = instrs[place] {
+            left = call(unit, inputs, below, functions, own, lower, left)?;
+            place += 1;
+            continue;
+        }
+        match perform(&instrs[place], variables, own, &mut left) {
+            Move::On => place += 1,
+            Move::Skip(distance) => place = (place + 1).saturating_add(distance),
+            Move::Back(distance) => place = place.saturating_sub(distance),
+            Move::Stop(kind) => {
+                let line = function.code().line(place);
+                return Err(Halt {
+                    kind,
+                    line,
+                    unit: Some(number as usize),
+                });
+            }
+        }
+    }
+    stack.push(load(variables, 0));
+    Ok(left)
+}
+
+/// The same with the stack in a place of its own meanwhile, so that the one of the caller can stay in registers.
+#[inline(always)]
+pub(crate) fn call_apart(
+    number: u32,
+    inputs: u32,
+    below: u32,
+    functions: &[Function],
+    stack: &mut Stack,
+    levels: &mut [Level],
+    limit: u32,
+) -> Result<u32, Halt>
+    requires may { CallOf number inputs below functions.now (rooms_of levels.old) stack.old }
+    ensures gives { (called : CallOf number inputs below functions.now (rooms_of levels.old) stack.old) → GivesAs (given_by called.said number inputs stack.old.0 limit) (drop (inputs + below) stack.old.0) stack.new.0 result }
+    ensures steps { IfOk result (λ left. left ≤ limit) }
+    ensures room { stack.new.1 ≡ stack.old.1 }
+    ensures rooms { rooms_of levels.new ≡ rooms_of levels.old }
+{
+    let mut other = stack.take();
+    let result = call(number, inputs, below, functions, &mut other, levels, limit);
+    *stack = other;
+    result
+}
+
+/// Sets the variables of a function as a call of it begins, where its inputs have these cells.
+fn set_variables(function: &Function, cells: &[i64], variables: &mut [Value])
+    requires cells { IsTrue (are_cells_in function.now.inputs cells.now) }
+    requires room { length variables.old ≡ length function.now.starts }
+    ensures { variables.new ≡ begun_by function.now.starts (values_in function.now.inputs cells.now) }
+{
+    let inputs = function.inputs();
+    let starts = function.starts();
+    let mut next = 0;
+    for (i, start) in starts.iter().enumerate() {
+        match *start {
+            Start::Input => {
+                variables[i] = input_at(inputs, cells, next);
+                next += 1;
+            }
+            Start::Value(value) => variables[i] = value,
+        }
+    }
+}
+
+/// The value of the input of this number, where there is one.
+fn input_at(inputs: &[Elem], cells: &[i64], number: usize) -> Value
+    requires { length cells.now ≡ length inputs.now }
+    ensures { result ≡ get_or (values_in inputs.now cells.now) number no_value }
+{
+    if number < inputs.len() {
+        value_in(inputs[number], cells[number])
+    } else {
+        NO_VALUE
+    }
+}
+
+/// Does an instruction of a function, which enters no instance and calls no function.
+#[inline(always)]
+fn perform(instr: &Instr, variables: &mut [Value], stack: &mut Stack, left: &mut u32) -> Move
+    requires values { All IsValue variables.old }
+    requires ready { IsTrue (is_ready stack.old.1 instr.now stack.old.0 variables.old left.old) }
+    ensures values { All IsValue variables.new }
+    ensures does { (line place : ℕ) → act (environment_at (pos 0) []) stack.old.1 instr.now line place stack.old.0 variables.old left.old ≡ moved result line place stack.new.0 variables.new left.new }
+    ensures room { stack.new.1 ≡ stack.old.1 }
+{
+    match *instr {
+        Instr::Push(number) => push(stack, number),
+        Instr::Get(leaf) => get(variables, stack, leaf),
+        Instr::GetAt(leaf) => get_at(variables, stack, leaf),
+        Instr::Put(elem, leaf) => put(variables, stack, elem, leaf),
+        Instr::PutAt(elem, leaf) => put_at(variables, stack, elem, leaf),
+        Instr::Index(elem, last, stride, low) => index(stack, elem, last, stride, low),
+        Instr::IndexBelow(elem, last, stride, low) => index_below(stack, elem, last, stride, low),
+        Instr::Add => add(stack),
+        Instr::Apply(operation, elem) => apply(stack, operation, elem),
+        Instr::Combine(operation, left, right) => combine(stack, operation, left, right),
+        Instr::Select => select(stack),
+        Instr::Step => step(left),
+        Instr::GoOn(distance) => Move::Skip(distance),
+        Instr::SkipUnless(distance) => skip_unless(stack, distance),
+        Instr::SkipIf(distance) => skip_if(stack, distance),
+        Instr::GoBack(distance) => go_back(left, distance),
+        Instr::Within(elem) => within(stack, elem),
+        Instr::Drop => drop_one(stack),
+        Instr::Begin(elem, leaf) => begin(variables, stack, elem, leaf),
+        Instr::Test(elem, leaf, distance) => test(variables, stack, elem, leaf, distance),
+        Instr::Next(elem, leaf, distance) => {
+            go_next(variables, stack, left, elem, leaf, distance)
+        }
+        Instr::Leave => leave(stack),
+        Instr::Invoke(block, leaf) => invoke(variables, block, leaf),
+        Instr::Pick(distance) => pick(stack, distance),
+        // they are for the caller, who has the functions
+        Instr::Enter(..) | Instr::Call(..) => unreachable!(),
+    }
+}
