@@ -1,4 +1,5 @@
 pub mod BodyDepths
+pub mod ChartDepths
 pub mod DepthFolds
 pub mod ExpressionDepths
 pub mod TypedDepths

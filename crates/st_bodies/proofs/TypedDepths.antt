@@ -7,15 +7,17 @@ use Rattle.st_values.specs.declared.elem.Elem.TheVariants as elems
 use Rattle.st_values.specs.declared.value.Value.{Value}
 use Rattle.st_tree.specs.declared.operator.BinOp.{BinOp}
 use Rattle.st_tree.specs.declared.tree.constant.Constant.{Constant}
+use Rattle.st_types.specs.Compositions.{Composition}
 use Rattle.st_types.specs.OwnTypes.{first_own, is_comparison, or_lint}
 use Rattle.st_types.specs.declared.standard.Standard.{Standard}
 use Rattle.st_types.specs.declared.standard.Standard.TheVariants as standards
 use Rattle.st_types.specs.declared.standard.StandardFunction.{StandardFunction}
 use Rattle.st_types.specs.declared.standard.StandardFunction.TheVariants as functions
 use Rattle.st_meaning.specs.Operations.{takes_one, takes_two}
-use Rattle.st_meaning.specs.Terms.{Source, Term, call, constant, stored, unary, binary, how_many, Parts, whole, field_part, element_part}
+use Rattle.st_meaning.specs.Steps.{has_step, step_elem}
+use Rattle.st_meaning.specs.Terms.{Source, Term, call, constant, of_step, stored, unary, binary, how_many, Parts, whole, field_part, element_part}
 use Rattle.st_meaning.specs.Typing as typing
-use Rattle.st_meaning.specs.Typing.{Passed, Typed, alone, arguments_from, as_input, call_typed, chained, combined, combined_all, compared, constant_or, converted, fitted, function_called, function_typed, go_to, goes_to, input_at, joined, literal, named_value, nil, place_typed, prefixed, selected, shifted, sources_from, terms_of, through, unnamed, untyped, variable_typed}
+use Rattle.st_meaning.specs.Typing.{Passed, Typed, alone, arguments_from, as_input, call_typed, chained, combined, combined_all, compared, constant_or, converted, fitted, function_called, function_typed, go_to, goes_to, input_at, joined, literal, named_value, nil, part_or_step, place_typed, prefixed, selected, shifted, sources_from, step_part, step_value, terms_of, through, unnamed, untyped, variable_typed}
 use Rattle.st_meaning.specs.Wholes.{Called, Input, Whole, type_of}
 use Rattle.st_meaning.specs.declared.operation.Binary.{Binary}
 use Rattle.st_meaning.specs.declared.operation.Binary.TheVariants as binaries
@@ -95,11 +97,26 @@ constant_or_depth : (x : Typed) (n : ℕ) (v : Option Value) → HasDepth x n �
 constant_or_depth x n None h = h
 constant_or_depth x n (Some v) h = named_depth v n h.some
 
+step_value_depth : (root : Composition) (name : List ℕ) (part : Option Bool) → HasDepth (step_value root name part) 1
+step_value_depth root name None = untyped_depth 1 (omega arith)
+step_value_depth root name (Some is_time) = by (has_step root name) where
+  by : (b : Bool) → HasDepth (if b then record { own = Some (step_elem is_time); as_type = fitted (step_elem is_time) (of_step is_time name) } else untyped) 1
+  by true = record { some = omega arith; most = fitted_depth (step_elem is_time) (of_step is_time name) 1 (omega arith) (omega arith) }
+  by false = untyped_depth 1 (omega arith)
+
+part_depth : (root : Composition) (name part : List ℕ) (e : Option Elem) → HasDepth (part_or_step root name part e) (max 1 (parts_depth (field_part name (field_part part whole))))
+part_depth root name part None = step_value_depth root name (step_part part)
+part_depth root name part (Some e) = place_typed_depth (field_part name (field_part part whole)) (Some e)
+
 pub variable_depth : (w : Whole) (ps : Parts) → HasDepth (variable_typed w ps) (max 1 (parts_depth ps))
 variable_depth w whole = place_typed_depth whole (type_of w.variables whole)
 variable_depth w (field_part name whole) =
     constant_or_depth (place_typed (field_part name whole) (type_of w.variables (field_part name whole))) (max 1 0) (w.constants name) (place_typed_depth (field_part name whole) (type_of w.variables (field_part name whole)))
-variable_depth w (field_part name (field_part other ps)) = place_typed_depth (field_part name (field_part other ps)) (type_of w.variables (field_part name (field_part other ps)))
+variable_depth w (field_part name (field_part part whole)) = part_depth w.variables name part (type_of w.variables (field_part name (field_part part whole)))
+variable_depth w (field_part name (field_part part (field_part other ps))) =
+    place_typed_depth (field_part name (field_part part (field_part other ps))) (type_of w.variables (field_part name (field_part part (field_part other ps))))
+variable_depth w (field_part name (field_part part (element_part line ts ps))) =
+    place_typed_depth (field_part name (field_part part (element_part line ts ps))) (type_of w.variables (field_part name (field_part part (element_part line ts ps))))
 variable_depth w (field_part name (element_part line ts ps)) = place_typed_depth (field_part name (element_part line ts ps)) (type_of w.variables (field_part name (element_part line ts ps)))
 variable_depth w (element_part line ts ps) = place_typed_depth (element_part line ts ps) (type_of w.variables (element_part line ts ps))
 

@@ -1,5 +1,5 @@
--- How many cells of the stack a body needs, by its structure: at least as many as the code of its commands. Functions that it calls
--- run on stacks of their own.
+-- How many cells of the stack a body needs, by its structure: at least as many as its code. Functions that it calls run on stacks of
+-- their own.
 use Rattle.std.specs.Prelude.{ℕ, ◌+◌, max, Bool, true, false, if◌then◌else◌, List, [], ◌∷◌, map, length, Option, Some, None}
 use Rattle.std.specs.List.{flat_map}
 use Rattle.st_tree.specs.declared.tree.expression.Argument.TheOpen.{Argument-F, Expression-F, Part-F}
@@ -18,10 +18,18 @@ use Rattle.st_tree.specs.declared.tree.statement.RepeatStatement.{RepeatStatemen
 use Rattle.st_tree.specs.declared.tree.statement.Statement.{Statement, fold-Statement}
 use Rattle.st_tree.specs.declared.tree.statement.Statement.TheOpen.{Statement-F}
 use Rattle.st_tree.specs.declared.tree.statement.WhileStatement.{WhileStatement, fold-WhileStatement}
+use Rattle.st_tree.specs.declared.tree.unit.Action.{Action}
+use Rattle.st_tree.specs.declared.tree.unit.Body.{Body}
+use Rattle.st_tree.specs.declared.tree.unit.Body.TheVariants as bodies
+use Rattle.st_tree.specs.declared.tree.unit.ChartElement.{ChartElement}
+use Rattle.st_tree.specs.declared.tree.unit.ChartElement.TheVariants as chart_elements
+use Rattle.st_types.specs.Names.{Declares, actions_in, steps_in}
+use Rattle.st_types.specs.Names as names
 use Rattle.st_types.specs.Standard.{standard_of}
 use Rattle.st_types.specs.declared.standard.Standard.{Standard}
 use Rattle.st_types.specs.declared.standard.Standard.TheVariants as standards
 use Rattle.st_types.specs.declared.standard.StandardFunction.TheVariants as functions
+use Rattle.st_meaning.specs.Sketched.{associations_of}
 
 -- the greatest of them
 abbrev pub most : List ℕ → ℕ
@@ -160,3 +168,33 @@ module _ (inputs : ℕ) where
 
   abbrev pub statements_depth : List Statement → ℕ
   statements_depth statements = most (map statement_depth statements)
+
+  -- ---- charts
+
+  -- of an element: what its condition needs, where it is a transition
+  abbrev pub condition_depths : ChartElement → List ℕ
+  condition_depths (chart_elements.Transition t) = expression_depth t.condition ∷ []
+  condition_depths _ = []
+
+  abbrev pub action_depth : Action → ℕ
+  action_depth a = statements_depth a.statements
+
+  -- The conditions all stay on the stack. Then a number stands there for each action, and above those one for each associated
+  -- variable, or what one of the actions needs.
+  abbrev pub chart_depth : List ChartElement → ℕ
+  chart_depth elements =
+      let actions = flat_map actions_in elements in
+      max (in_turn true 0 (flat_map condition_depths elements)) (length actions + max (length (associations_of (flat_map steps_in elements))) (most (map action_depth actions)))
+
+  -- ---- units
+
+  abbrev pub unit_depth : Body → ℕ
+  unit_depth (bodies.Statements statements) = statements_depth statements
+  unit_depth (bodies.Chart elements) = chart_depth elements
+
+  -- of what a unit declares
+  abbrev pub declared_depth : Declares → ℕ
+  declared_depth (names.program p) = unit_depth p.body
+  declared_depth (names.block b) = unit_depth b.body
+  declared_depth (names.function f) = statements_depth f.statements
+  declared_depth (names.type t) = 0

@@ -1,14 +1,91 @@
 //! How many cells of the stack a body needs at most, by its structure. `inputs` is how many inputs a function of the text takes at most.
-ghost use Rattle.std.specs.Prelude.{◌≡◌, None, Some, map, min, true};
+ghost use Rattle.std.specs.Prelude.{◌≡◌, None, Some, length, map, min, true};
 ghost use Rattle.std.specs.List.{flat_map};
-ghost use Rattle.st_bodies.specs.Depths.{argument_depths, branch_depth, call_depth, called_cells, case_depth, element_depth, expression_depth, for_depth, if_depth, in_turn, invocation_depth, is_choice, most, move_depth, operation_depth, part_depth, place_depth, repeat_depth, statement_depth, statements_depth, step_depth, unnamed_cells, while_depth};
+ghost use Rattle.st_bodies.specs.Depths.{action_depth, argument_depths, branch_depth, call_depth, called_cells, case_depth, chart_depth, condition_depths, element_depth, expression_depth, for_depth, if_depth, in_turn, invocation_depth, is_choice, most, move_depth, operation_depth, part_depth, place_depth, repeat_depth, statement_depth, statements_depth, step_depth, unit_depth, unnamed_cells, while_depth};
+ghost use Rattle.st_meaning.specs.Sketched.{associations_of};
+ghost use Rattle.st_types.specs.Names.{actions_in, steps_in};
 ghost use Rattle.st_types.specs.Standard.{standard_of};
 
 use st_tree::tree::{
-    Argument, Call, CaseElement, CaseStatement, ConditionalPart, Expression, ForStatement,
-    IfStatement, Operation, Part, RepeatStatement, Statement, Variable, WhileStatement,
+    Argument, Body, Call, CaseElement, CaseStatement, ChartElement, ConditionalPart, Expression,
+    ForStatement, IfStatement, Operation, Part, RepeatStatement, Statement, Variable,
+    WhileStatement,
 };
 use st_types::{Standard, StandardFunction, standard_of};
+
+/// How many cells the body of a unit needs, be it statements or a chart. The number stops at the greatest `usize`.
+pub fn body_depth(body: &Body, inputs: usize) -> usize
+    ensures { result ≡ min (unit_depth inputs body.now) usize.MAX }
+{
+    match body {
+        Body::Statements(statements) => statements_depth(statements.as_slice(), inputs),
+        Body::Chart(elements) => chart_depth(elements.as_slice(), inputs),
+    }
+}
+
+/// Of a chart of these elements: its conditions, or a number for each action and what stands above those.
+fn chart_depth(elements: &[ChartElement], inputs: usize) -> usize
+    ensures { result ≡ min (chart_depth inputs elements.now) usize.MAX }
+{
+    let above = count_associations(elements).max(actions_depth(elements, inputs));
+    conditions_depth(elements, inputs).max(above.saturating_add(count_actions(elements)))
+}
+
+/// Of the conditions of transitions, which all stay on the stack, one above the other.
+fn conditions_depth(elements: &[ChartElement], inputs: usize) -> usize
+    ensures { result ≡ min (in_turn true 0 (flat_map (condition_depths inputs) elements.now)) usize.MAX }
+{
+    let mut depth = 0;
+    let mut below = 0;
+    'items: for item in elements {
+        if let ChartElement::Transition(transition) = item {
+            depth = expression_depth(&transition.condition, inputs)
+                .saturating_add(below)
+                .max(depth);
+            below += 1;
+        }
+    }
+    depth
+}
+
+/// Of the action that needs the most.
+fn actions_depth(elements: &[ChartElement], inputs: usize) -> usize
+    ensures { result ≡ min (most (map (action_depth inputs) (flat_map actions_in elements.now))) usize.MAX }
+{
+    let mut depth = 0;
+    'items: for item in elements {
+        if let ChartElement::Action(action) = item {
+            depth = statements_depth(action.statements.as_slice(), inputs).max(depth);
+        }
+    }
+    depth
+}
+
+/// How many actions there are.
+fn count_actions(elements: &[ChartElement]) -> usize
+    ensures { result ≡ length (flat_map actions_in elements.now) }
+{
+    let mut count = 0;
+    'items: for item in elements {
+        if let ChartElement::Action(_) = item {
+            count += 1;
+        }
+    }
+    count
+}
+
+/// How many associations the steps have.
+fn count_associations(elements: &[ChartElement]) -> usize
+    ensures { result ≡ min (length (associations_of (flat_map steps_in elements.now))) usize.MAX }
+{
+    let mut count: usize = 0;
+    'items: for item in elements {
+        if let ChartElement::Step(step) = item {
+            count = count.saturating_add(step.associations.len());
+        }
+    }
+    count
+}
 
 /// How many cells statements need. The number stops at the greatest `usize`.
 #[cycle(statement_depth)]

@@ -1,10 +1,6 @@
-//! What bodies are by their structure: how many cells of the stack they need, and whether they run.
+//! How many cells of the stack bodies need, by their structure.
 #![tactic(auto)]
 
 mod depth;
-mod names;
-mod plain;
 
-pub use depth::statements_depth;
-pub use names::Names;
-pub use plain::{are_plain_statements, is_plain_body};
+pub use depth::{body_depth, statements_depth};

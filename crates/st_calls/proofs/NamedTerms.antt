@@ -5,6 +5,7 @@ use Rattle.st_values.specs.declared.elem.Elem.{Elem}
 use Rattle.st_values.specs.declared.elem.Elem.TheVariants as elems
 use Rattle.st_values.specs.declared.value.Value.{Value}
 use Rattle.st_tree.specs.declared.operator.BinOp.{BinOp}
+use Rattle.st_types.specs.Compositions.{Composition}
 use Rattle.st_types.specs.OwnTypes.{first_own, is_comparison, or_lint}
 use Rattle.st_types.specs.Standard.{standard_of}
 use Rattle.st_types.specs.declared.standard.Standard.{Standard}
@@ -13,8 +14,9 @@ use Rattle.st_types.specs.declared.standard.StandardFunction.{StandardFunction}
 use Rattle.st_types.specs.declared.standard.StandardFunction.TheVariants as functions
 use Rattle.st_meaning.specs.CalledBy.{CalledTest, PartsCall, TermCalls, TermsCall}
 use Rattle.st_meaning.specs.Operations.{takes_one, takes_two}
-use Rattle.st_meaning.specs.Terms.{Term, constant, stored, unary, binary, call, Parts, whole, field_part, element_part}
-use Rattle.st_meaning.specs.Typing.{Passed, Typed, alone, arguments_from, as_input, call_typed, chained, combined, combined_all, compared, constant_or, converted, fitted, function_called, function_typed, go_to, goes_to, input_at, joined, named_value, nil, place_typed, prefixed, shifted, sources_from, terms_of, through, unnamed, unnamed_before, variable_typed}
+use Rattle.st_meaning.specs.Steps.{has_step, step_elem}
+use Rattle.st_meaning.specs.Terms.{Term, constant, stored, of_step, unary, binary, call, Parts, whole, field_part, element_part}
+use Rattle.st_meaning.specs.Typing.{Passed, Typed, alone, arguments_from, as_input, call_typed, chained, combined, combined_all, compared, constant_or, converted, fitted, function_called, function_typed, go_to, goes_to, input_at, joined, named_value, nil, part_or_step, place_typed, prefixed, shifted, sources_from, step_part, step_value, terms_of, through, unnamed, unnamed_before, untyped, variable_typed}
 use Rattle.st_meaning.specs.Wholes.{Called, Input, Whole, type_of}
 use Rattle.st_meaning.specs.declared.operation.Binary.{Binary}
 use Rattle.st_meaning.specs.declared.operation.Binary.TheVariants as binaries
@@ -73,12 +75,29 @@ module _ (test : CalledTest) where
   constant_passes x None h = h
   constant_passes x (Some v) h = named_passes v
 
+  -- a part of a variable, or of a step
+  step_passes : (root : Composition) (name : List ℕ) (t : Option Bool) → Passes (step_value root name t)
+  step_passes root name None = λ t. tt
+  step_passes root name (Some is_time) = by (has_step root name) where
+    by : (b : Bool) → Passes (if b then record { own = Some (step_elem is_time); as_type = fitted (step_elem is_time) (of_step is_time name) } else untyped)
+    by true t = fitted_passes (step_elem is_time) (of_step is_time name) tt t
+    by false t = tt
+
+  part_passes : (root : Composition) (name part : List ℕ) (e : Option Elem) → PartsCall test (field_part name (field_part part whole)) → Passes (part_or_step root name part e)
+  part_passes root name part None h = step_passes root name (step_part part)
+  part_passes root name part (Some e) h = place_passes (field_part name (field_part part whole)) (Some e) h
+
   pub variable_passes : (w : Whole) (ps : Parts) → PartsCall test ps → Passes (variable_typed w ps)
   variable_passes w whole h = place_passes whole (type_of w.variables whole) h
   variable_passes w (field_part name whole) h =
       constant_passes (place_typed (field_part name whole) (type_of w.variables (field_part name whole))) (w.constants name)
       (place_passes (field_part name whole) (type_of w.variables (field_part name whole)) h)
-  variable_passes w (field_part name (field_part other ps)) h = place_passes (field_part name (field_part other ps)) (type_of w.variables (field_part name (field_part other ps))) h
+  variable_passes w (field_part name (field_part part whole)) h =
+      part_passes w.variables name part (type_of w.variables (field_part name (field_part part whole))) h
+  variable_passes w (field_part name (field_part other (field_part more ps))) h =
+      place_passes (field_part name (field_part other (field_part more ps))) (type_of w.variables (field_part name (field_part other (field_part more ps)))) h
+  variable_passes w (field_part name (field_part other (element_part line ts ps))) h =
+      place_passes (field_part name (field_part other (element_part line ts ps))) (type_of w.variables (field_part name (field_part other (element_part line ts ps)))) h
   variable_passes w (field_part name (element_part line ts ps)) h =
       place_passes (field_part name (element_part line ts ps)) (type_of w.variables (field_part name (element_part line ts ps))) h
   variable_passes w (element_part line ts ps) h = place_passes (element_part line ts ps) (type_of w.variables (element_part line ts ps)) h

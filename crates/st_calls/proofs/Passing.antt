@@ -1,13 +1,14 @@
 -- Sound commands whose functions pass a test are sound with those functions alone.
-use Rattle.std.proofs.Common.{◌≡◌, ℕ, true, if◌then◌else◌, List, None, Some, ap, ◌∙◌}
+use Rattle.std.proofs.Common.{if◌then◌else◌, None, ap, ◌∙◌}
 use Rattle.st_types.specs.Compositions.{Composition}
 use Rattle.st_values.specs.declared.elem.Elem.{Elem}
+use Rattle.st_values.specs.declared.elem.Elem.TheVariants as elems
 use Rattle.st_leaves.specs.Selected.{selected_by}
-use Rattle.st_meaning.specs.CalledBy.{BranchesCall, CalledTest, CasesCall, CommandCalls, CommandsCall, MovesCall, PartsCall, TermCalls, TermsCall}
-use Rattle.st_meaning.specs.Sound.{AreSoundBranches, AreSoundCases, AreSoundCommands, AreSoundMoves, AreSoundParts, AreSoundTerms, IsCount, IsPlaceOf, IsSoundCommand, IsSoundTerm, IsTermOf, term_type, types_in}
-use Rattle.st_meaning.specs.Terms.{Branches, Cases, Command, Commands, Moves, Parts, Source, Term, Terms, assign, binary, call, cases, choice, constant, count_loop, element_part, enter, exit, field_part, finish, invoke, more_branches, more_cases, more_commands, more_moves, more_terms, no_branches, no_cases, no_commands, no_moves, no_terms, nothing, repeat_loop, selection, stored, unary, while_loop, whole}
+use Rattle.st_meaning.specs.CalledBy.{ActionsCall, BodyCalls, BranchesCall, CalledTest, CasesCall, CommandCalls, CommandsCall, MovesCall, PartsCall, TermCalls, TermsCall, TestsCall}
+use Rattle.st_meaning.specs.Sound.{AreSoundActions, AreSoundBranches, AreSoundCases, AreSoundCommands, AreSoundMoves, AreSoundParts, AreSoundTerms, AreSoundTests, IsCount, IsPlaceOf, IsSoundBody, IsSoundCommand, IsSoundTerm, IsTermOf, term_type}
+use Rattle.st_meaning.specs.Terms.{Actions, Body, Branches, Cases, Command, Commands, Moves, Parts, Term, Terms, Tests, assign, binary, call, cases, chart_body, choice, constant, count_loop, element_part, enter, exit, field_part, finish, invoke, more_actions, more_branches, more_cases, more_commands, more_moves, more_terms, more_tests, no_actions, no_branches, no_cases, no_commands, no_moves, no_terms, no_tests, nothing, of_step, plain_body, repeat_loop, selection, stored, unary, while_loop, whole}
 use Rattle.st_meaning.specs.Wholes.{Functions}
-use Rattle.st_calls.specs.Passing.{SoundCommandsCallWhatPasses, passing}
+use Rattle.st_calls.specs.Passing.{SoundBodiesCallWhatPasses, SoundCommandsCallWhatPasses, passing}
 
 module _ (functions : Functions) (test : CalledTest) where
   abbrev few : Functions
@@ -17,6 +18,7 @@ module _ (functions : Functions) (test : CalledTest) where
     term_passes : (root : Composition) (t : Term) → IsSoundTerm functions root t → TermCalls test t → IsSoundTerm few root t
     term_passes root (constant v) h c = h
     term_passes root (stored ps) h c = (h.0, parts_pass root ps h.1 c)
+    term_passes root (of_step is_time name) h c = h
     term_passes root (unary o a) h c = (term_passes root a h.0 c, h.1)
     term_passes root (binary o line a b) h c = (term_passes root a h.0 c.0, term_passes root b h.1 c.1, h.2, h.3)
     term_passes root (selection g a b) h c = (term_passes root g h.0 c.0, term_passes root a h.1 c.1, term_passes root b h.2 c.2, h.3)
@@ -59,6 +61,10 @@ module _ (functions : Functions) (test : CalledTest) where
     step = term_of_passes root (term_type root a) s h.step by;
   }
 
+  tests_pass : (root : Composition) (ts : Tests) → AreSoundTests functions root ts → TestsCall test ts → AreSoundTests few root ts
+  tests_pass root no_tests h c = tt
+  tests_pass root (more_tests line t more) h c = (term_of_passes root elems.Bool t h.0 c.0, tests_pass root more h.1 c.1)
+
   mutual
     command_passes : (root : Composition) (c : Command) → IsSoundCommand functions root c → CommandCalls test c → IsSoundCommand few root c
     command_passes root (nothing line) h c = tt
@@ -69,7 +75,7 @@ module _ (functions : Functions) (test : CalledTest) where
     command_passes root (while_loop line t cs) h c = (term_passes root t h.0 c.0, commands_pass root cs h.1 c.1)
     command_passes root (repeat_loop line cs t) h c = (commands_pass root cs h.0 c.0, term_passes root t h.1 c.1)
     command_passes root (invoke line name b inputs outputs) h c = record { block = h.block; inputs = moves_pass root inputs h.inputs c.0; outputs = moves_pass root outputs h.outputs c.1 }
-    command_passes root (enter line name unit body inputs outputs) h c = (moves_pass root inputs h.0 c.0, commands_pass (selected_by root name) body h.1 c.1, moves_pass root outputs h.2 c.2)
+    command_passes root (enter line name unit body inputs outputs) h c = (moves_pass root inputs h.0 c.0, body_passes (selected_by root name) body h.1 c.1, moves_pass root outputs h.2 c.2)
     command_passes root (exit line) h c = tt
     command_passes root (finish line) h c = tt
 
@@ -84,6 +90,26 @@ module _ (functions : Functions) (test : CalledTest) where
     cases_pass : (root : Composition) (e : Elem) (cs : Cases) → AreSoundCases functions root e cs → CasesCall test cs → AreSoundCases few root e cs
     cases_pass root e no_cases h c = tt
     cases_pass root e (more_cases labels cs more) h c = (h.0, commands_pass root cs h.1 c.0, cases_pass root e more h.2 c.1)
+
+    actions_pass : (root : Composition) (as' : Actions) → AreSoundActions functions root as' → ActionsCall test as' → AreSoundActions few root as'
+    actions_pass root no_actions h c = tt
+    actions_pass root (more_actions cs more) h c = (commands_pass root cs h.0 c.0, actions_pass root more h.1 c.1)
+
+    body_passes : (root : Composition) (body : Body) → IsSoundBody functions root body → BodyCalls test body → IsSoundBody few root body
+    body_passes root (plain_body cs) h c = commands_pass root cs h c
+    body_passes root (chart_body unit sketch tests actions) h c = (
+      record {
+        leaves = h.0.leaves;
+        conditions = tests_pass root tests h.0.conditions c.0;
+        as_many_tests = h.0.as_many_tests;
+        variables = h.0.variables;
+        as_many_actions = h.0.as_many_actions;
+      },
+      actions_pass root actions h.1 c.1,
+    )
+
+pub sound_bodies_call_what_passes : SoundBodiesCallWhatPasses
+sound_bodies_call_what_passes functions test root body sound calls = body_passes functions test root body sound calls
 
 pub sound_commands_call_what_passes : SoundCommandsCallWhatPasses
 sound_commands_call_what_passes functions test root cs sound calls = commands_pass functions test root cs sound calls

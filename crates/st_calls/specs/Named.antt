@@ -4,7 +4,7 @@ use Rattle.std.specs.List.{flat_map}
 use Rattle.st_tree.specs.declared.tree.statement.Statement.{Statement}
 use Rattle.st_types.specs.Standard.{standard_of}
 use Rattle.st_references.specs.Calls.{statement_calls}
-use Rattle.st_meaning.specs.CalledBy.{CalledTest, CommandsCall}
+use Rattle.st_meaning.specs.CalledBy.{BodyCalls, CalledTest, CommandsCall}
 use Rattle.st_meaning.specs.Typing.{body_of}
 use Rattle.st_meaning.specs.Wholes.{Called, Invoked, Whole}
 
@@ -18,7 +18,7 @@ NamesPass w test (name ∷ names) = NamePasses w test name × NamesPass w test n
 
 -- so do all that the bodies of instances call
 abbrev pub BodiesPass : Whole → CalledTest → Type 0
-BodiesPass w test = (name : List ℕ) (unit : Invoked) → w.invoked name ≡ Some unit → CommandsCall test unit.body
+BodiesPass w test = (name : List ℕ) (unit : Invoked) → w.invoked name ≡ Some unit → BodyCalls test unit.body
 
 -- Then all do that the commands call which the statements are.
 abbrev pub TypingCallsWhatIsNamed : Type 0

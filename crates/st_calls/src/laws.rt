@@ -1,7 +1,7 @@
 //! The laws.
 ghost use Rattle.st_calls.specs.Checked.{CheckedCallsAreThoseOfTheirBodies, CheckedFunctionsCallBelow, CheckedFunctionsHaveNoBlocks, CheckedFunctionsHaveNoInstances};
 ghost use Rattle.st_calls.specs.Named.{TypingCallsWhatIsNamed};
-ghost use Rattle.st_calls.specs.Passing.{SoundCommandsCallWhatPasses};
+ghost use Rattle.st_calls.specs.Passing.{SoundBodiesCallWhatPasses, SoundCommandsCallWhatPasses};
 ghost use Rattle.st_calls.specs.Ranks.{FunctionsCallBelow};
 
 /// What typing makes of statements calls those functions alone that are named in them: it passes each test that all of these pass.
@@ -17,6 +17,11 @@ pub fn functions_call_below()
 /// Sound commands whose calls pass a test are sound where no functions are known but those that pass it.
 pub fn sound_commands_call_what_passes()
     ensures { SoundCommandsCallWhatPasses }
+{}
+
+/// And so are sound bodies, be they charts or commands.
+pub fn sound_bodies_call_what_passes()
+    ensures { SoundBodiesCallWhatPasses }
 {}
 
 /// The functions of a checked program call none but those that stand before them in its order.

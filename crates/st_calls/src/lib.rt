@@ -5,6 +5,6 @@ mod laws;
 
 pub use laws::{
     checked_calls_are_those_of_their_bodies, checked_functions_call_below,
-    checked_functions_have_no_instances, functions_call_below, sound_commands_call_what_passes,
-    typing_calls_what_is_named,
+    checked_functions_have_no_instances, functions_call_below, sound_bodies_call_what_passes,
+    sound_commands_call_what_passes, typing_calls_what_is_named,
 };

@@ -237,22 +237,35 @@ PROGRAM Main VAR_INPUT Go : BOOL; END_VAR VAR T : TON; END_VAR T(IN := Go, PT :=
 |: scan Main.Go => Main.Wait.IN Main.Wait.ET Main.Lamp
 | 59 - => TRUE! T#49ms FALSE
 | 60 - => TRUE! T#50ms TRUE
-# a program that doesn't run yet in the place of one whose timer runs, and back
+# a chart in the place of statements, and back: the timer goes on where an action invokes it
 PROGRAM Main VAR T : TON; N : INT; END_VAR T(IN := TRUE, PT := T#100ms); END_PROGRAM
 ? scan 10
 ? change
-? PROGRAM Main VAR T : TON; N : INT; END_VAR INITIAL_STEP S1: END_STEP ACTION Go: T(IN := TRUE, PT := T#100ms); END_ACTION END_PROGRAM
+? PROGRAM Main VAR T : TON; N : INT; END_VAR
+? INITIAL_STEP S1: Go(D, T#30ms); END_STEP
+? ACTION Go: T(IN := TRUE, PT := T#100ms); END_ACTION
+? END_PROGRAM
 ? end_change
-? scan 20
 ? undo
 ? scan 30
 ? show Main.T.ET
+? change
+? PROGRAM Main VAR T : TON; N : INT; END_VAR
+? INITIAL_STEP S1: Go(D, T#30ms); END_STEP
+? ACTION Go: T(IN := TRUE, PT := T#100ms); END_ACTION
+? END_PROGRAM
+? end_change
 = ok
 = ok kept 7 dropped 0 new 4
-= refused O10
 = ok
 = ok
 = Main.T.ET = T#20ms
+= ok kept 7 dropped 0 new 4
+|: scan => Main.S1.T Main.T.ET Main.T.Q
+| 40  => T#0ms  T#20ms  FALSE
+| 69  => T#29ms T#20ms  FALSE
+| 70  => T#30ms T#60ms  FALSE
+| 110 => T#70ms T#100ms TRUE
 ";
 
 /// Edges and counts over a change.

@@ -8,6 +8,10 @@ mod all_types;
 #[cfg(test)]
 mod block_changes;
 #[cfg(test)]
+mod chart_body_changes;
+#[cfg(test)]
+mod chart_changes;
+#[cfg(test)]
 mod checked_texts;
 #[cfg(test)]
 mod devices;
@@ -35,6 +39,12 @@ mod run_call_steps;
 mod run_call_stops;
 #[cfg(test)]
 mod run_calls;
+#[cfg(test)]
+mod run_chart_actions;
+#[cfg(test)]
+mod run_chart_stops;
+#[cfg(test)]
+mod run_charts;
 #[cfg(test)]
 mod run_counters;
 #[cfg(test)]

@@ -5,7 +5,7 @@ use st_layout::Cells;
 use st_values::{Elem, Value};
 use std::alloc::Global;
 
-/// A program with statements of all forms, invocations and calls of functions among them.
+/// A program with statements of all forms, invocations, calls of functions and a chart among them.
 const PROGRAM: &[u8] = b"TYPE Pair : STRUCT A : INT; B : ARRAY [0..2] OF INT; END_STRUCT; END_TYPE
 FUNCTION Share : INT VAR_INPUT X : INT; Y : INT := 3; END_VAR VAR CONSTANT K : INT := 2; END_VAR VAR N : INT := 1; END_VAR
 N := N + Twice(Y);
@@ -13,11 +13,19 @@ Share := X * K - N;
 END_FUNCTION
 FUNCTION Twice : INT VAR_INPUT X : INT; END_VAR Twice := X * 2; END_FUNCTION
 FUNCTION One : INT One := 1; RETURN; END_FUNCTION
+FUNCTION_BLOCK Turn VAR_INPUT Go : BOOL; END_VAR VAR_OUTPUT N : INT; Lamp : BOOL; END_VAR
+INITIAL_STEP S1: Lamp(S); END_STEP
+STEP S2: Lamp(R); Up(P); END_STEP
+STEP S3: Up(D, T#5ms); END_STEP
+TRANSITION FROM S1 TO (S2, S3) := Go; END_TRANSITION
+TRANSITION (PRIORITY := 1) FROM (S2, S3) TO S1 := S2.T >= T#1h; END_TRANSITION
+ACTION Up: N := N + 1; END_ACTION
+END_FUNCTION_BLOCK
 FUNCTION_BLOCK Keep VAR_INPUT X : INT; END_VAR VAR_OUTPUT Y : INT; END_VAR Y := Y + Share(Y := X, X := Twice(3)); END_FUNCTION_BLOCK
 PROGRAM Main
 VAR_INPUT Go : BOOL; END_VAR
 VAR CONSTANT K : INT := 2; END_VAR
-VAR P : Pair; T1 : TON; C : CTU; E : F_TRIG; L : ARRAY [0..2] OF BOOL; I, N, S, M : INT; W : WORD; Q : Keep; END_VAR
+VAR P : Pair; T1 : TON; C : CTU; E : F_TRIG; L : ARRAY [0..2] OF BOOL; I, N, S, M : INT; W : WORD; Q : Keep; H : Turn; END_VAR
 ;
 FOR I := 0 TO 2 DO P.B[I] := P.B[I] + I * K; END_FOR;
 WHILE N < 3 DO N := N + 1; IF N = 2 THEN EXIT; END_IF; END_WHILE;
@@ -27,18 +35,28 @@ W := ROL(WORD#16#8001, 1) XOR SEL(Go, W, 16#FF);
 T1(IN := Go AND NOT T1.Q, PT := T#10ms, Q => L[P.B[0]]);
 C(CU := T1.Q, PV := 1, CV => N, Q => L[C.CV]);
 Q(X := Twice(K), Y => S);
+H(Go := Go);
 M := Share(X := 5) + Share(Twice(One()), 0) + One();
 E(CLK := INT_TO_BOOL(P.A));
 IF E.Q THEN RETURN; ELSIF Go THEN P.A := 3; ELSE P.A := 4; END_IF;
 END_PROGRAM";
 
-/// Another one, which keeps its input, its timer and its counter.
+/// Another one, a chart, which keeps its input, its timer, its counter and the instance with a chart.
 const CHANGED: &[u8] =
-    b"PROGRAM Main VAR_INPUT Go : BOOL; END_VAR VAR X : LINT; C : CTU; T1 : TON; END_VAR
-T1(IN := Go, PT := T#100ms);
-C(CU := NOT T1.Q, PV := 3);
-X := Next(X := X);
+    b"PROGRAM Main VAR_INPUT Go : BOOL; END_VAR VAR X : LINT; C : CTU; T1 : TON; H : Turn; END_VAR
+INITIAL_STEP Work: Timing(); Counting(); END_STEP
+STEP Rest: END_STEP
+TRANSITION FROM Work TO Rest := Work.T >= T#1h; END_TRANSITION
+ACTION Timing: T1(IN := Go, PT := T#100ms); H(Go := Go); END_ACTION
+ACTION Counting: C(CU := NOT T1.Q, PV := 3); X := Next(X := X); END_ACTION
 END_PROGRAM
+FUNCTION_BLOCK Turn VAR_INPUT Go : BOOL; END_VAR VAR_OUTPUT N : INT; Lamp : BOOL; END_VAR
+INITIAL_STEP S1: Lamp(S); END_STEP
+STEP S2: Lamp(R); Up(P); END_STEP
+STEP S3: Up(D, T#5ms); END_STEP
+TRANSITION FROM S1 TO (S2, S3) := Go; END_TRANSITION
+ACTION Up: N := N + 10; END_ACTION
+END_FUNCTION_BLOCK
 FUNCTION Next : LINT VAR_INPUT X : LINT; By_So_Many : LINT := 1; END_VAR Next := X + By_So_Many; END_FUNCTION";
 
 /// The controller of the program. Where the load is refused for want of memory it is tried once more.
@@ -87,6 +105,9 @@ fn is_as_before(controller: &Controller<Cells>) -> bool {
             (b"Main.T1.ET", 10),
             (b"Main.T1.$START", 5),
             (b"Main.C.CV", 1),
+            (b"Main.H.N", 2),
+            (b"Main.H.Lamp", 0),
+            (b"Main.H.S3.T", 10),
         ],
     )
 }
@@ -95,7 +116,7 @@ fn is_as_before(controller: &Controller<Cells>) -> bool {
 fn is_changed_in_two_tries(alloc: Global, controller: &mut Controller<Cells>) -> bool {
     for _ in 0..2 {
         match controller.change(alloc, CHANGED) {
-            Ok(counts) => return (counts.kept, counts.dropped, counts.fresh) == (13, 17, 1),
+            Ok(counts) => return (counts.kept, counts.dropped, counts.fresh) == (28, 17, 8),
             Err(Refusal::M) if is_as_before(controller) => (),
             Err(_) => return false,
         }
@@ -138,6 +159,8 @@ fn refused_memory(rt: HostRuntime) {
                 (b"Main.T1.ET", 15),
                 (b"Main.T1.Q", 0),
                 (b"Main.C.CV", 1),
+                (b"Main.H.N", 12),
+                (b"Main.Work.X", 1),
             ],
         )
     );

@@ -1,5 +1,6 @@
 //! Lines `scan` and `reset`: inputs, faults, refusals, and what is between scans.
 use crate::running::{FIRST, all_come_out, put_repeated, run};
+use crate::tables::{cases_of, put_all};
 use st_session::{ACCEPTED, LINE_REFUSED};
 use std::alloc::{AllocError, Global};
 use std::test::Fail;
@@ -611,32 +612,18 @@ PROGRAM Main VAR A : INT := 1; END_VAR A := A * 2; END_PROGRAM
 = Main.A = 10
 ";
 
-/// Programs that don't run yet: nothing else is refused of them.
-const NOT_YET: &[u8] = b"# a chart
-PROGRAM Main VAR Go : BOOL; Lamp : BOOL; END_VAR
-INITIAL_STEP S1: END_STEP
-STEP S2: Lamp(N); END_STEP
-TRANSITION FROM S1 TO S2 := Go; END_TRANSITION
-TRANSITION FROM S2 TO S1 := NOT Go; END_TRANSITION
-END_PROGRAM
-? scan 0
-? show Main.S1.X
-? status
-= refused O10
-= Main.S1.X = TRUE
-= running 0 forces 0 undo 0
-# a function block of the text whose body is a chart; all else goes on
-FUNCTION_BLOCK Blink VAR_INPUT Go : BOOL; END_VAR
-INITIAL_STEP S1: END_STEP
-TRANSITION FROM S1 TO S1 := Go; END_TRANSITION
-END_FUNCTION_BLOCK
-PROGRAM Main VAR B : Blink; A : INT := 6; END_VAR A := A + 1; B(Go := TRUE); END_PROGRAM
-? write Main.A 4
+/// What a session answers over a program that isn't run: its scans alone are refused.
+const NOT_RUN: &[u8] = b"? write Main.A 4
 ? scan 10
-? show Main.B.Go
 ? status
 ? undo
 ? show Main.A
+? scan 1000000000000001
+? scan 0 Main.X:=y
+? scan 0 Main.Y:=1
+? scan 0 Main.A:=1
+? scan 0 Main.X:=1
+? show Main.X
 ? reset
 ? change
 ? PROGRAM Main VAR A : INT; END_VAR A := A * A; END_PROGRAM
@@ -645,39 +632,50 @@ PROGRAM Main VAR B : Blink; A : INT := 6; END_VAR A := A + 1; B(Go := TRUE); END
 ? show Main.A
 = ok
 = refused O10
-= Main.B.Go = FALSE
 = running 0 forces 0 undo 1
 = ok
 = Main.A = 6
-= ok
-= ok kept 1 dropped 5 new 0
-= ok
-= Main.A = 36
-# nothing of a program runs where one part of it doesn't, however deep that stands
-FUNCTION_BLOCK Blink INITIAL_STEP S1: END_STEP END_FUNCTION_BLOCK
-PROGRAM Main VAR A : INT; B : Blink; END_VAR
-A := A + 1;
-IF FALSE THEN CASE A OF 1: ; ELSE B(); END_CASE; END_IF;
-END_PROGRAM
-? scan 0
-? show Main.A
-= refused O10
-= Main.A = 0
-# the moment, and the values of a scan, are tested as ever
-PROGRAM Main VAR_INPUT X : INT; END_VAR VAR A : INT; END_VAR INITIAL_STEP S1: END_STEP END_PROGRAM
-? scan 1000000000000001
-? scan 0 Main.X:=y
-? scan 0 Main.Y:=1
-? scan 0 Main.A:=1
-? scan 0 Main.X:=1
-? show Main.X
 = refused O9
 = refused O3
 = refused O1
 = refused O10
 = refused O10
 = Main.X = 0
+= ok
+= ok kept 1 dropped 1 new 0
+= ok
+= Main.A = 36
 ";
+
+/// Puts the name of a variable behind another one.
+fn put_variable(text: &mut Vec<u8>, name: &[u8]) -> Result<(), AllocError> {
+    put_all(text, &[b", ", name])
+}
+
+/// Puts the names of a hundred variables, which begin with these letters.
+fn put_variables(text: &mut Vec<u8>, first: u8, second: u8) -> Result<(), AllocError> {
+    for tens in b'0'..=b'9' {
+        for units in b'0'..=b'9' {
+            put_variable(text, &[first, second, tens, units])?;
+        }
+    }
+    Ok(())
+}
+
+/// A program with a function of 67,602 variables, its result among them.
+fn many_variables(alloc: Global) -> Result<Vec<u8>, AllocError> {
+    let mut text = Vec::from_slice(alloc, b"FUNCTION F : INT VAR X")?;
+    for first in b'A'..=b'Z' {
+        for second in b'A'..=b'Z' {
+            put_variables(&mut text, first, second)?;
+        }
+    }
+    text.extend_from_slice(
+        b" : BOOL; END_VAR F := 1; END_FUNCTION
+PROGRAM Main VAR_INPUT X : INT; END_VAR VAR A : INT := 6; END_VAR A := F(); END_PROGRAM",
+    )?;
+    Ok(text)
+}
 
 #[test]
 fn inputs_are_set(rt: HostRuntime) -> Result<(), Fail> {
@@ -702,10 +700,17 @@ fn states_stand_between_scans(rt: HostRuntime) -> Result<(), Fail> {
     Ok(())
 }
 
+/// A function of more than 65,536 variables is no cause to refuse a text, but its program isn't run.
 #[test]
 fn some_programs_are_only_loaded(rt: HostRuntime) -> Result<(), Fail> {
-    let count = all_come_out(&rt, rt.alloc(), NOT_YET, 4096)?;
-    assert_eq!(rt; count, 4);
+    let program = many_variables(rt.alloc())?;
+    let cases = cases_of(rt.alloc(), NOT_RUN)?;
+    assert_eq!(rt; cases.len(), 1);
+    for case in &cases {
+        let ran = run(rt.alloc(), &program, &case.session, 4096)?;
+        assert_eq!(rt; ran.status, LINE_REFUSED);
+        assert_eq!(rt; ran.written.as_slice(), case.wanted.as_slice());
+    }
     Ok(())
 }
 

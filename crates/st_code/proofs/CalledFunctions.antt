@@ -1,5 +1,5 @@
--- The code of sound commands calls nothing but functions, each with as many numbers as it has inputs.
-use Rattle.std.proofs.Common.{◌≡◌, ℕ, suc, ◌+◌, Bool, true, false, if◌then◌else◌, List, [], ◌∷◌, ◌++◌, length, IsTrue, refl, ap, sym, subst, arith}
+-- The code of a sound body calls nothing but functions, each with as many numbers as it has inputs.
+use Rattle.std.proofs.Common.{◌≡◌, ℕ, suc, ◌+◌, Bool, true, false, if◌then◌else◌, pos, List, [], ◌∷◌, ◌++◌, length, Option, Some, None, IsTrue, refl, ap, sym, subst, arith}
 use Rattle.std.specs.List.{All}
 use Rattle.std.proofs.lemmas.List.Elements.{All-cons}
 use Rattle.st_values.specs.declared.elem.Elem.{Elem}
@@ -7,12 +7,13 @@ use Rattle.st_tree.specs.declared.tree.declaration.Subrange.{Subrange}
 use Rattle.st_types.specs.Compositions.{Composition}
 use Rattle.st_leaves.specs.Places.{count}
 use Rattle.st_leaves.specs.Selected.{element_of, selected_by, subscripts_of}
-use Rattle.st_meaning.specs.Sound.{AreSoundBranches, AreSoundCases, AreSoundCommands, AreSoundMoves, AreSoundParts, AreSoundTerms, AreSourcesOf, IsCall, IsSoundCommand, IsSoundTerm, is_fixed, term_type, types_in}
-use Rattle.st_meaning.specs.Terms.{Source, written, left_out, Term, constant, stored, unary, binary, selection, call, Terms, no_terms, more_terms, how_many, Parts, whole, field_part, element_part, LabelRange, Command, nothing, assign, choice, cases, count_loop, while_loop, repeat_loop, invoke, enter, exit, finish, Moves, no_moves, more_moves, Commands, no_commands, more_commands, Branches, no_branches, more_branches, Cases, no_cases, more_cases}
+use Rattle.st_meaning.specs.Offsets.{chart_offset}
+use Rattle.st_meaning.specs.Sound.{AreSoundActions, AreSoundBranches, AreSoundCases, AreSoundCommands, AreSoundMoves, AreSoundParts, AreSoundTerms, AreSoundTests, AreSourcesOf, IsCall, IsSoundBody, IsSoundCommand, IsSoundTerm, is_fixed, term_type, types_in}
+use Rattle.st_meaning.specs.Terms.{Source, written, left_out, Term, constant, stored, of_step, unary, binary, selection, call, Terms, no_terms, more_terms, how_many, Parts, whole, field_part, element_part, LabelRange, Command, nothing, assign, choice, cases, count_loop, while_loop, repeat_loop, invoke, enter, exit, finish, Moves, no_moves, more_moves, Commands, no_commands, more_commands, Branches, no_branches, more_branches, Cases, no_cases, more_cases, Tests, no_tests, more_tests, Actions, no_actions, more_actions, Body, plain_body, chart_body}
 use Rattle.st_meaning.specs.Wholes.{Functions, Input}
-use Rattle.st_code.specs.Code.{Line, added, are_in_order, call_code, inputs_code, branch_code, branches_code, case_test, cases_code, command_code, commands_code, index_code, labels_code, moves_code, parts_code, plain, store_code, term_code, terms_code}
+use Rattle.st_code.specs.Code.{Line, actions_code, added, are_in_order, at, body_code, call_code, code_of, inputs_code, branch_code, branches_code, case_test, cases_code, command_code, commands_code, index_code, labels_code, moves_code, parts_code, plain, store_code, term_code, terms_code, tests_code, variables_code}
 use Rattle.st_code.specs.CalledFunctions.{CallsWhere, CodeCallsFunctions, FunctionTest, FunctionsPass}
-use Rattle.st_code.specs.declared.instr.Instr.TheVariants.{Drop, Call}
+use Rattle.st_code.specs.declared.instr.Instr.TheVariants.{Push, Step, Drop, Call, Ask}
 use Rattle.st_code.proofs.Calls.{order_few}
 
 -- as many values as inputs
@@ -70,6 +71,7 @@ module _ (functions : Functions) (root : Composition) (test : FunctionTest) (pas
     term_each : (t : Term) → IsSoundTerm functions root t → Each (term_code root t)
     term_each (constant v) sound = (tt, tt)
     term_each (stored ps) sound = one_of (is_fixed ps) _ _ (tt, tt) (both (parts_code root false root ps) _ (parts_each ps false root sound.1) (tt, tt))
+    term_each (of_step is_time name) sound = (tt, tt)
     term_each (unary o a) sound = both (term_code root a) _ (term_each a sound.0) (tt, tt)
     term_each (binary o line a b) sound = both (term_code root a) _ (term_each a sound.0) (both (term_code root b) _ (term_each b sound.1) (tt, tt))
     term_each (selection g a b) sound =
@@ -160,5 +162,33 @@ module _ (functions : Functions) (root : Composition) (test : FunctionTest) (pas
         branch_each (case_test e labels) (plain Drop ++ commands_code root cs (1 + length rest + out) (1 + length rest + end)) rest (tt, labels_each e labels)
         (tt, commands_each cs (1 + length rest + out) (1 + length rest + end) h.1) (cases_each e more others out end h.2 k)
 
+  -- ---- charts
+
+  tests_each : (unit leaf number : ℕ) (ts : Tests) → AreSoundTests functions root ts → Each (tests_code root unit leaf number ts)
+  tests_each unit leaf number no_tests h = tt
+  tests_each unit leaf number (more_tests line t more) h =
+      let ask = plain (Ask unit leaf number) in
+      let body = at line Step ++ term_code root t in
+      let none = plain (Push (pos 0)) in
+      both (branch_code ask body none) (tests_code root unit leaf (1 + number) more) (branch_each ask body none (tt, tt) (tt, term_each t h.0.sound) (tt, tt)) (tests_each unit leaf (1 + number) more h.1)
+
+  variables_each : (names : List (Option (List ℕ))) → Each (variables_code root names)
+  variables_each [] = tt
+  variables_each (None ∷ names) = variables_each names
+  variables_each (Some name ∷ names) = (tt, variables_each names)
+
+  actions_each : (as' : Actions) → AreSoundActions functions root as' → Each (actions_code root as')
+  actions_each no_actions h = tt
+  actions_each (more_actions cs more) h = (tt, (tt, both (body_code root cs) _ (commands_each cs 0 0 h.0) (actions_each more h.1)))
+
+  body_each : (body : Body) → IsSoundBody functions root body → Each (code_of root body)
+  body_each (plain_body cs) h = commands_each cs 0 0 h
+  body_each (chart_body unit sketch tests actions) h =
+      let leaf = chart_offset root in (
+        tt,
+        both (tests_code root unit leaf 0 tests) _ (tests_each unit leaf 0 tests h.0.conditions)
+            (tt, both (variables_code root sketch.variables) _ (variables_each sketch.variables) (actions_each actions h.1)),
+      )
+
 pub code_calls_functions : CodeCallsFunctions
-code_calls_functions functions root test body pass h = each_line functions root test pass _ (commands_each functions root test pass body 0 0 h)
+code_calls_functions functions root test body pass h = each_line functions root test pass _ (body_each functions root test pass body h)

@@ -29,18 +29,18 @@ abbrev pub cells : Values → List ℤ
 cells xs = map (λ x. cell_of x.bits) xs
 
 -- the first of what is turned round comes next to what follows
-turned_front : (c : ℤ) (cs rest : List ℤ) → reverse (c ∷ cs) ++ rest ≡ reverse cs ++ (c ∷ rest)
+pub turned_front : (c : ℤ) (cs rest : List ℤ) → reverse (c ∷ cs) ++ rest ≡ reverse cs ++ (c ∷ rest)
 turned_front c cs rest = ap (λ l. l ++ rest) (reverse-append (c ∷ []) cs) ∙ append_assoc (reverse cs) (c ∷ []) rest
 
 onto_is : (xs : Values) (stack : List ℤ) → onto xs stack ≡ reverse (cells xs) ++ stack
 onto_is [] stack = refl
 onto_is (x ∷ xs) stack = onto_is xs (cell_of x.bits ∷ stack) ∙ sym (turned_front (cell_of x.bits) (cells xs) stack)
 
-top_cells : (cs rest : List ℤ) → reverse (take (length cs) (reverse cs ++ rest)) ≡ cs
+pub top_cells : (cs rest : List ℤ) → reverse (take (length cs) (reverse cs ++ rest)) ≡ cs
 top_cells cs rest =
     ap (λ n. reverse (take n (reverse cs ++ rest))) (sym (length-reverse cs)) ∙ ap (λ l. reverse l) (take-append_seam (reverse cs) rest) ∙ reverse-reverse cs
 
-below_cells : (cs rest : List ℤ) (below : ℕ) → drop (length cs + below) (reverse cs ++ rest) ≡ drop below rest
+pub below_cells : (cs rest : List ℤ) (below : ℕ) → drop (length cs + below) (reverse cs ++ rest) ≡ drop below rest
 below_cells cs rest below =
     sym (drop-drop below (length cs) (reverse cs ++ rest)) ∙ ap (λ n. drop below (drop n (reverse cs ++ rest))) (sym (length-reverse cs))
     ∙ ap (λ l. drop below l) (drop-append_seam (reverse cs) rest)

@@ -1,5 +1,5 @@
 -- The code of FOR.
-use Rattle.std.proofs.Common.{◌≡◌, ℕ, zero, suc, ◌+◌, ◌-◌, ◌<◌, ◌≤◌, Bool, true, false, if◌then◌else◌, ℤ, List, ◌∷◌, ◌++◌, length, Some, IsTrue, refl, sym, ap, ◌∙◌, subst, arith, length-append}
+use Rattle.std.proofs.Common.{◌≡◌, ℕ, zero, suc, ◌+◌, ◌-◌, ◌<◌, ◌≤◌, Bool, true, false, if◌then◌else◌, ℤ, List, [], ◌∷◌, ◌++◌, length, Some, IsTrue, refl, sym, ap, ◌∙◌, subst, append_assoc, arith, length-append}
 use Rattle.std.specs.Prelude.{◌+ℤ◌, slice_get}
 use Rattle.st_values.specs.Values.{in_range}
 use Rattle.st_values.specs.declared.elem.Elem.{Elem}
@@ -14,7 +14,7 @@ use Rattle.st_code.specs.Machine.{After, State, act, are_cells_of, counted, goes
 use Rattle.st_code.specs.declared.instr.Instr.TheVariants.{Step, Begin, Test, Next, Leave}
 use Rattle.st_code.proofs.Cells.{is_cell, is_cell_of_value, next_ranged, number_back, number_of_value}
 use Rattle.st_code.proofs.Runs.{Runs, led_at, runs_after, runs_at, step_run}
-use Rattle.st_code.proofs.Steps.{HasAt, IsLeaf, World, all_three, halt, has_back, has_front, if_true, leads_on, line_of, puts_value, step, store_keeps}
+use Rattle.st_code.proofs.Steps.{HasAt, IsLeaf, Leads, World, all_three, halt, has_back, has_front, if_true, leads_on, line_of, puts_value, step, store_keeps}
 
 -- what stands behind the values of a loop
 abbrev pub rest_code : ℕ → Elem → ℕ → List Line → List Line
@@ -176,7 +176,11 @@ module _ (w : World) (c : Counting w) where
   turn_run s i pc out last stack left (done values n) go h ra rb = runs_after w s (state pc (held i stack) values n) (pc + 2) out last stack left n (go values n) ra.2 ra.0 (rb values n ra.0 ra.1)
   turn_run s i pc out last stack left (exited values n) go h ra rb =
       (ra.0, ra.1, leads_on w s (state (pc + 1) (held i stack) values n) _ ra.2 (led_at w _ (pc + 1 + 1) (pc + 2) stack values n (omega arith) (step w Leave 0 (pc + 1) (held i stack) values n _ h refl)))
-  turn_run s i pc out last stack left (returned values n) go h ra rb = (ra.0, led_at w s (pc + (2 + last)) (pc + 2 + last) ra.0 values n (omega arith) ra.1)
+  turn_run s i pc out last stack left (returned values n) go h ra rb = (
+    ra.0 ++ held i [],
+    subst (λ cells. Leads w s (state (pc + 2 + last) cells values n)) (sym (append_assoc ra.0 (held i []) stack))
+        (led_at w s (pc + (2 + last)) (pc + 2 + last) (ra.0 ++ held i stack) values n (omega arith) ra.1),
+  )
   turn_run s i pc out last stack left (faulted f) go h ra rb = ra
 
   -- from the body on, to which the next number comes back

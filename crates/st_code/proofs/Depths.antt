@@ -1,19 +1,20 @@
 -- Code is at least as long as the stack that it needs.
-use Rattle.std.proofs.Common.{◌≡◌, ℕ, ◌+◌, ◌-◌, ◌*◌, ◌≤◌, Bool, true, false, if◌then◌else◌, List, [], ◌∷◌, ◌++◌, length, refl, ap, suc, arith, length-append}
+use Rattle.std.proofs.Common.{◌≡◌, ℕ, ◌+◌, ◌-◌, ◌*◌, ◌≤◌, Bool, true, false, if◌then◌else◌, pos, List, [], ◌∷◌, ◌++◌, length, Option, Some, None, refl, ap, suc, arith, length-append}
 use Rattle.std.specs.Prelude.{max}
 use Rattle.st_values.specs.declared.elem.Elem.{Elem}
+use Rattle.st_values.specs.declared.elem.Elem.TheVariants as elems
 use Rattle.st_tree.specs.declared.tree.declaration.Subrange.{Subrange}
 use Rattle.st_types.specs.Compositions.{Composition}
 use Rattle.st_leaves.specs.Leaves.{number_of}
 use Rattle.st_leaves.specs.Places.{count, extent, extent_of}
 use Rattle.st_leaves.specs.Selected.{element_of, selected_by, subscripts_of}
-use Rattle.st_meaning.specs.Offsets.{offset_of}
+use Rattle.st_meaning.specs.Offsets.{chart_offset, offset_of}
 use Rattle.st_meaning.specs.Sound.{is_fixed, term_type, types_in}
-use Rattle.st_meaning.specs.Terms.{Source, written, left_out, Term, constant, stored, unary, binary, selection, call, Terms, no_terms, more_terms, how_many, Parts, whole, field_part, element_part, Command, nothing, assign, choice, cases, count_loop, while_loop, repeat_loop, invoke, enter, exit, finish, Moves, no_moves, more_moves, Commands, no_commands, more_commands, Branches, no_branches, more_branches, Cases, no_cases, more_cases}
-use Rattle.st_code.specs.Code.{Line, added, are_in_order, at, base_of, branch_code, branches_code, call_code, case_test, cases_code, command_code, commands_code, count_code, index_code, inputs_code, moves_code, parts_code, plain, repeat_code, store_code, term_code, terms_code, while_code}
+use Rattle.st_meaning.specs.Terms.{Source, written, left_out, Term, constant, stored, of_step, unary, binary, selection, call, Terms, no_terms, more_terms, how_many, Parts, whole, field_part, element_part, Command, nothing, assign, choice, cases, count_loop, while_loop, repeat_loop, invoke, enter, exit, finish, Moves, no_moves, more_moves, Commands, no_commands, more_commands, Branches, no_branches, more_branches, Cases, no_cases, more_cases, Tests, no_tests, more_tests, Actions, no_actions, more_actions, count_actions, Body, plain_body, chart_body}
+use Rattle.st_code.specs.Code.{Line, actions_code, added, are_in_order, at, base_of, body_code, branch_code, branches_code, call_code, case_test, cases_code, code_of, command_code, commands_code, count_code, index_code, inputs_code, moves_code, parts_code, plain, repeat_code, store_code, term_code, terms_code, tests_code, variables_code, while_code}
 use Rattle.st_code.specs.Correct.{DepthIsAtMostTheLength}
-use Rattle.st_code.specs.Depth.{branches_depth, call_depth, cases_depth, command_depth, commands_depth, moves_depth, parts_depth, term_depth, terms_depth}
-use Rattle.st_code.specs.declared.instr.Instr.TheVariants.{Get, GetAt, Put, PutAt, IndexBelow, Apply, Combine, Select, Step, GoOn, SkipUnless, SkipIf, GoBack, Drop, Begin, Test, Next, Leave, Invoke, Enter, Call}
+use Rattle.st_code.specs.Depth.{actions_depth, body_depth, branches_depth, call_depth, cases_depth, command_depth, commands_depth, count_variables, moves_depth, parts_depth, term_depth, terms_depth, tests_depth}
+use Rattle.st_code.specs.declared.instr.Instr.TheVariants.{Push, Get, GetAt, Put, PutAt, IndexBelow, Apply, Combine, Select, Step, GoOn, SkipUnless, SkipIf, GoBack, Drop, Begin, Test, Next, Leave, Invoke, Enter, Call, Ask, Chart, Cut}
 
 -- subscripts leave a distance
 index_length : (line size : ℕ) (es : List Elem) (rs : List Subrange) → 1 ≤ length (index_code line size es rs)
@@ -61,6 +62,7 @@ function_length unit n sources = by (are_in_order n 0 sources) where
 depth_positive : (t : Term) → 1 ≤ term_depth t
 depth_positive (constant v) = omega arith
 depth_positive (stored ps) = omega arith
+depth_positive (of_step is_time name) = omega arith
 depth_positive (unary o a) = depth_positive a
 depth_positive (binary o line a b) = omega (arith, depth_positive a)
 depth_positive (selection g a b) = omega (arith, depth_positive g)
@@ -72,6 +74,7 @@ module _ (root : Composition) where
     term_length (constant v) = omega arith
     term_length (stored ps) =
         placed_depth ps (is_fixed ps) (plain (Get (base_of root ps))) (parts_code root false root ps) (plain (GetAt (base_of root ps))) refl refl refl (parts_length ps false root)
+    term_length (of_step is_time name) = omega arith
     term_length (unary o a) = omega (arith, term_length a, length-append (term_code root a) (plain (Apply o (term_type root a))))
     term_length (binary o line a b) =
         let ca = term_code root a in let cb = term_code root b in let last = at line (Combine o (term_type root a) (term_type root b)) in
@@ -198,5 +201,52 @@ module _ (root : Composition) where
         let body = commands_code root cs (1 + length rest + out) (1 + length rest + end) in
         omega (arith, commands_length cs (1 + length rest + out) (1 + length rest + end), cases_length e more others out end, branch_length (case_test e labels) (plain Drop ++ body) rest)
 
+  -- ---- charts
+
+  -- each condition has lines for a cell, and for the cells below it
+  tests_length : (unit leaf number : ℕ) (ts : Tests) → tests_depth ts ≤ length (tests_code root unit leaf number ts)
+  tests_length unit leaf number no_tests = omega arith
+  tests_length unit leaf number (more_tests line t more) =
+      let ask = plain (Ask unit leaf number) in let body = at line Step ++ term_code root t in let none = plain (Push (pos 0)) in
+      let rest = tests_code root unit leaf (1 + number) more in
+      omega (arith, term_length t, tests_length unit leaf (1 + number) more, branch_length ask body none, length-append (branch_code ask body none) rest)
+
+  variables_length : (names : List (Option (List ℕ))) → count_variables names ≤ length (variables_code root names)
+  variables_length [] = omega arith
+  variables_length (None ∷ names) = variables_length names
+  variables_length (Some name ∷ names) =
+      let put = store_code root elems.Bool (field_part name whole) in
+      omega (arith, variables_length names, length-append put (variables_code root names))
+
+  -- each action has a line
+  each_action : (as' : Actions) → count_actions as' ≤ length (actions_code root as')
+  each_action no_actions = omega arith
+  each_action (more_actions cs more) =
+      let body = body_code root cs in
+      let one = plain (Cut (1 + count_actions more)) ++ (plain (SkipUnless (length body)) ++ body) in
+      omega (arith, each_action more, length-append one (actions_code root more))
+
+  actions_length : (as' : Actions) → actions_depth as' ≤ length (actions_code root as')
+  actions_length no_actions = omega arith
+  actions_length (more_actions cs more) =
+      let body = body_code root cs in
+      let one = plain (Cut (1 + count_actions more)) ++ (plain (SkipUnless (length body)) ++ body) in
+      omega (arith, each_action more, commands_length cs 0 0, actions_length more, length-append one (actions_code root more))
+
+  body_length : (body : Body) → body_depth body ≤ length (code_of root body)
+  body_length (plain_body cs) = commands_length cs 0 0
+  body_length (chart_body unit sketch tests actions) =
+      let leaf = chart_offset root in
+      let ct = tests_code root unit leaf 0 tests in let cv = variables_code root sketch.variables in let ca = actions_code root actions in
+      omega (
+        arith,
+        tests_length unit leaf 0 tests,
+        variables_length sketch.variables,
+        each_action actions,
+        actions_length actions,
+        length-append ct (plain (Chart unit leaf) ++ (cv ++ ca)),
+        length-append cv ca,
+      )
+
 pub depth_is_at_most_the_length : DepthIsAtMostTheLength
-depth_is_at_most_the_length root body = commands_length root body 0 0
+depth_is_at_most_the_length root body = body_length root body

@@ -1,5 +1,5 @@
 -- The code of invocations of function blocks of the text.
-use Rattle.std.proofs.Common.{◌≡◌, ℕ, ◌+◌, ◌≤◌, List, ◌++◌, drop, length, nat_le, ℤ, Some, refl, ap, ◌∙◌, arith, length-append}
+use Rattle.std.proofs.Common.{◌≡◌, ℕ, ◌+◌, ◌≤◌, List, ◌++◌, drop, length, nat_le, ℤ, Some, refl, ap, sym, ◌∙◌, subst, arith, length-append}
 use Rattle.std.specs.Prelude.{slice_get}
 use Rattle.std.proofs.lemmas.Bool.{le-leb}
 use Rattle.st_leaves.specs.Places.{count}
@@ -7,10 +7,11 @@ use Rattle.st_leaves.specs.Selected.{selected_by}
 use Rattle.st_meaning.specs.Laws.{KeepsFrame, StaysInFrame}
 use Rattle.st_meaning.specs.Meaning.{Values}
 use Rattle.st_meaning.specs.Offsets.{offset_of}
-use Rattle.st_meaning.specs.Sound.{AreSoundCommands, AreValuesOf, IsSoundCommand}
-use Rattle.st_meaning.specs.Statements.{Outcome, done, exited, returned, faulted, after_step, command_meaning, commands_meaning, ended, instance_meaning, left_by, moves_meaning, setting_from, stretch, then_do}
-use Rattle.st_meaning.specs.Terms.{Commands, Moves, enter}
-use Rattle.st_meaning.proofs.Commands.{commands_keep_the_frame}
+use Rattle.st_meaning.specs.Sound.{AreValuesOf, IsSoundBody, IsSoundCommand}
+use Rattle.st_meaning.specs.Statements.{Outcome, done, exited, returned, faulted, after_step, body_meaning, command_meaning, ended, instance_meaning, left_by, moves_meaning, setting_from, stretch, then_do}
+use Rattle.st_meaning.specs.Terms.{Body, Moves, enter}
+use Rattle.st_meaning.proofs.Bodies.{body_ended}
+use Rattle.st_meaning.proofs.Commands.{bodies_keep_the_frame}
 use Rattle.st_meaning.proofs.Instances.{part_has_one, part_keeps}
 use Rattle.st_meaning.proofs.Stretches.{part_fits, part_values}
 use Rattle.st_code.specs.Code.{at, command_code, moves_code, plain}
@@ -24,22 +25,22 @@ use Rattle.st_code.proofs.Steps.{HasAt, World, called, halt, has_back, has_front
 
 module _ (w : World) where
   -- what the body of an invocation does to the values of the instance
-  abbrev body_does : (name : List ℕ) (body : Commands) → Values → ℕ → Outcome
+  abbrev body_does : (name : List ℕ) (body : Body) → Values → ℕ → Outcome
   body_does name body values left =
-      commands_meaning (called w) (selected_by w.root name) (setting_from (offset_of w.root name) w.env.setting) body
+      body_meaning (called w) (selected_by w.root name) (setting_from (offset_of w.root name) w.env.setting) body
       (stretch values (offset_of w.root name) (count (selected_by w.root name))) left
 
   -- it keeps the frame of the instance
-  body_stays : (name : List ℕ) (body : Commands) (values : Values) (left : ℕ) → AreSoundCommands w.functions (selected_by w.root name) body → AreValuesOf w.root values
+  body_stays : (name : List ℕ) (body : Body) (values : Values) (left : ℕ) → IsSoundBody w.functions (selected_by w.root name) body → AreValuesOf w.root values
       → StaysInFrame (selected_by w.root name) (drop (offset_of w.root name) w.env.setting.forced)
       (stretch values (offset_of w.root name) (count (selected_by w.root name))) left (body_does name body values left)
   body_stays name body values left sound ok =
       let part = selected_by w.root name in
-      commands_keep_the_frame w.functions (called w) part (setting_from (offset_of w.root name) w.env.setting) body (stretch values (offset_of w.root name) (count part)) left
+      bodies_keep_the_frame w.functions (called w) part (setting_from (offset_of w.root name) w.env.setting) body (stretch values (offset_of w.root name) (count part)) left
       w.known w.moment (part_has_one w.root name w.apart) (part_values w.root name part refl values ok) sound
 
   -- the unit's body is the one that the invocation means, and the instance stands among the values
-  enters_so : (name : List ℕ) (unit : ℕ) (body : Commands) (pc : ℕ) (stack : List ℤ) (values : Values) (left : ℕ)
+  enters_so : (name : List ℕ) (unit : ℕ) (body : Body) (pc : ℕ) (stack : List ℤ) (values : Values) (left : ℕ)
       → IsBodyOf (called w) (selected_by w.root name) body (w.env.bodies unit) → AreValuesOf w.root values
       → act w.env w.room (Enter unit (offset_of w.root name)) 0 pc stack values left
       ≡ entered pc stack (left_by unit (offset_of w.root name) values (ended (body_does name body values left)))
@@ -54,7 +55,7 @@ module _ (w : World) where
       ∙ if_true (nat_le (leaf + size) (length values)) (entered pc stack (left_by unit leaf values (ended (run within (stretch values leaf size) left)))) stuck
       (le-leb (leaf + size) (length values) fits)
       ∙ ap (λ o. entered pc stack (left_by unit leaf values o))
-      (is.same within (stretch values leaf size) left w.moment (part_values w.root name part refl values ok))
+      (is.same within (stretch values leaf size) left w.moment (part_values w.root name part refl values ok) ∙ sym (body_ended (called w) part within body (stretch values leaf size) left))
 
   -- the run goes on with what the body leaves
   done_run : (name : List ℕ) (unit pc out last : ℕ) (stack : List ℤ) (values : Values) (left : ℕ) (part : Values) (n : ℕ) → AreValuesOf w.root values
@@ -81,16 +82,21 @@ module _ (w : World) where
   left_run name unit pc out last stack values left (returned part n) ok h e keeps = done_run name unit pc out last stack values left part n ok h e keeps
   left_run name unit pc out last stack values left (faulted f) ok h e keeps = halt w (Enter unit (offset_of w.root name)) 0 pc stack values left _ h e
 
-  instance_run : (name : List ℕ) (unit : ℕ) (body : Commands) (pc out last : ℕ) (stack : List ℤ) (values : Values) (left : ℕ)
+  instance_run : (name : List ℕ) (unit : ℕ) (body : Body) (pc out last : ℕ) (stack : List ℤ) (values : Values) (left : ℕ)
       → slice_get w.code pc ≡ Some (line_of 0 (Enter unit (offset_of w.root name))) → IsBodyOf (called w) (selected_by w.root name) body (w.env.bodies unit)
-      → AreSoundCommands w.functions (selected_by w.root name) body → AreValuesOf w.root values
+      → IsSoundBody w.functions (selected_by w.root name) body → AreValuesOf w.root values
       → Runs w (state pc stack values left) (pc + 1) out last stack left
-      (instance_meaning w.root w.env.setting name unit (λ within part i. commands_meaning (called w) (selected_by w.root name) within body part i) values left)
+      (instance_meaning w.root w.env.setting name unit (λ within part i. body_meaning (called w) (selected_by w.root name) within body part i) values left)
   instance_run name unit body pc out last stack values left h is sound ok =
-      left_run name unit pc out last stack values left (body_does name body values left) ok h (enters_so name unit body pc stack values left is ok)
-      (body_stays name body values left sound ok)
+      let leaf = offset_of w.root name in
+      let within = setting_from leaf w.env.setting in
+      let part = selected_by w.root name in
+      subst (λ o. Runs w (state pc stack values left) (pc + 1) out last stack left (left_by unit leaf values o))
+      (body_ended (called w) part within body (stretch values leaf (count part)) left)
+      (left_run name unit pc out last stack values left (body_does name body values left) ok h (enters_so name unit body pc stack values left is ok)
+      (body_stays name body values left sound ok))
 
-  pub enter_run : (line : ℕ) (name : List ℕ) (unit : ℕ) (body : Commands) (inputs outputs : Moves) (pc out last : ℕ) (stack : List ℤ)
+  pub enter_run : (line : ℕ) (name : List ℕ) (unit : ℕ) (body : Body) (inputs outputs : Moves) (pc out last : ℕ) (stack : List ℤ)
       → HasAt w.code pc (command_code w.root (enter line name unit body inputs outputs) out last)
       → IsSoundCommand w.functions w.root (enter line name unit body inputs outputs) → IsBodyOf (called w) (selected_by w.root name) body (w.env.bodies unit)
       → length stack + command_depth (enter line name unit body inputs outputs) ≤ w.room → (values : Values) (left : ℕ) → AreValuesOf w.root values
@@ -105,7 +111,7 @@ module _ (w : World) where
       let past : q + (1 + length co) ≡ pc + length (at line Step ++ (at line Step ++ (ci ++ (call ++ co)))) = omega (arith, length-append ci (call ++ co)) in
       let len : q + 1 + length co ≡ pc + length (at line Step ++ (at line Step ++ (ci ++ (call ++ co)))) = omega (arith, past) in
       let means : Values → ℕ → Outcome = (λ others k.
-      instance_meaning w.root w.env.setting name unit (λ within part i. commands_meaning (called w) (selected_by w.root name) within body part i) others k) in
+      instance_meaning w.root w.env.setting name unit (λ within part i. body_meaning (called w) (selected_by w.root name) within body part i) others k) in
       let after : Values → ℕ → Outcome = (λ them j. moves_meaning (called w) w.root w.env.setting outputs them j) in
       let behind : Values → ℕ → Outcome = (λ others k. then_do (means others k) after) in
       let run : ℕ → Outcome = (λ n. then_do (moves_meaning (called w) w.root w.env.setting inputs values n) behind) in

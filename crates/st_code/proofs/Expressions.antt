@@ -18,10 +18,13 @@ use Rattle.st_meaning.specs.Meaning.{Values, located, value_at, value_of, values
 use Rattle.st_meaning.specs.Operations.{Answer, gives, stops, binary_value, has_count, takes_one, takes_two, then_with, unary_value}
 use Rattle.st_meaning.specs.Sound.{AreSoundParts, AreSoundTerms, AreValuesOf, IsSoundTerm, is_fixed, term_type, types_in}
 use Rattle.st_meaning.specs.Statements.{faulted, is_nonzero}
-use Rattle.st_meaning.specs.Terms.{Term, constant, stored, unary, binary, selection, call, Terms, no_terms, more_terms, Parts, whole, field_part, element_part, how_many}
+use Rattle.st_meaning.specs.Offsets.{step_leaf}
+use Rattle.st_meaning.specs.Steps.{step_path}
+use Rattle.st_meaning.specs.Terms.{Term, constant, stored, of_step, unary, binary, selection, call, Terms, no_terms, more_terms, Parts, whole, field_part, element_part, how_many}
 use Rattle.st_meaning.specs.Wholes.{type_of}
 use Rattle.st_meaning.specs.declared.operation.Binary.{Binary}
 use Rattle.st_meaning.specs.declared.operation.Unary.{Unary}
+use Rattle.st_meaning.proofs.ChartTypes.{step_leads}
 use Rattle.st_code.specs.Code.{at, base_of, cell_of, parts_code, plain, term_code, terms_code}
 use Rattle.st_code.specs.Depth.{parts_depth, term_depth, terms_depth}
 use Rattle.st_code.specs.Machine.{State, answered, gets, goes, is_cell_of, state, stuck, takes_operands, value_in}
@@ -155,6 +158,11 @@ module _ (w : World) where
         let t = some_type (type_of w.root ps) sound.0 in
         stored_run ps (is_fixed ps) t.0 pc stack values left ok t.1 refl (omega (arith, room)) has
         (λ h. parts_runs ps w.root t.0 t.1 sound.1 w.small.bounds false 0 (λ e. refl) (omega (arith, w.small.few)) pc stack h (omega (arith, room)) values left ok)
+    term_goes (of_step is_time name) pc stack has sound room values left ok =
+        let at = step_leads w.root is_time name sound in
+        let leaf = step_leaf w.root is_time name in
+        step w (Get leaf) 0 pc stack values left _ has.0
+        (if_below (length stack) w.room (gets leaf pc stack values left) stuck (omega (arith, room)) ∙ gets_value w (step_path is_time name) leaf pc stack values left ok at.leads)
     term_goes (unary o a) pc stack has sound room values left ok =
         let ca = term_code w.root a in
         let last = plain (Apply o (term_type w.root a)) in

@@ -2,6 +2,7 @@ pub mod Beside
 pub mod CalledFunctions
 pub mod Calls
 pub mod Cells
+pub mod ChartRuns
 pub mod Counters
 pub mod Depths
 pub mod Entering

@@ -22,7 +22,7 @@ module _ (w : World) where
       → Runs w s pc' out last stack left (after_turn o go)
   turn_run s pc pc' out last stack left (done values n) go e ra rb = runs_after w s (state pc stack values n) pc' out last stack left n (go values n) ra.2 ra.0 (rb values n ra.0 ra.1)
   turn_run s pc pc' out last stack left (exited values n) go e ra rb = (ra.0, ra.1, led_at w s (pc + 1) pc' stack values n e ra.2)
-  turn_run s pc pc' out last stack left (returned values n) go e ra rb = (ra.0, led_at w s (pc + (1 + last)) (pc' + last) ra.0 values n (omega arith) ra.1)
+  turn_run s pc pc' out last stack left (returned values n) go e ra rb = (ra.0, led_at w s (pc + (1 + last)) (pc' + last) (ra.0 ++ stack) values n (omega arith) ra.1)
   turn_run s pc pc' out last stack left (faulted f) go e ra rb = ra
 
   -- a jump back, which counts a step

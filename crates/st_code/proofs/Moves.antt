@@ -33,7 +33,7 @@ abbrev pub move_depth : Parts → Term → ℕ
 move_depth ps t = max (term_depth t) (1 + parts_depth ps)
 
 -- the test of a block's leaves finds what values of their types are
-are_typed : (es : List Elem) (cells : Values) → AllZip IsOfType es cells → are_of_types es cells ≡ true
+pub are_typed : (es : List Elem) (cells : Values) → AllZip IsOfType es cells → are_of_types es cells ≡ true
 are_typed [] [] h = refl
 are_typed [] (v ∷ cells) h = elim h [ ]
 are_typed (e ∷ es) [] h = elim h [ ]

@@ -1,6 +1,7 @@
 -- What an instruction does to a stretch of the values it does among all values, and as many values are left.
-use Rattle.std.proofs.Common.{◌≡◌, ℕ, zero, suc, ◌+◌, ◌*◌, ◌-◌, ◌^◌, ◌<◌, ◌≤◌, Bool, true, false, ◌&&◌, if◌then◌else◌, nat_le, nat_lt, ℤ, pos, negsuc, List, [], ◌∷◌, drop, length, get_or, reverse, take, Some, refl, ap, sym, ◌∙◌, subst, arith, length-drop, length-take}
+use Rattle.std.proofs.Common.{◌≡◌, ℕ, zero, suc, ◌+◌, ◌*◌, ◌-◌, ◌^◌, ◌<◌, ◌≤◌, Bool, true, false, ◌&&◌, if◌then◌else◌, nat_le, nat_lt, ℤ, pos, negsuc, List, [], ◌∷◌, ◌++◌, drop, length, map, get_or, reverse, take, Some, refl, ap, sym, ◌∙◌, subst, arith, length-drop, length-take}
 use Rattle.std.specs.Prelude.{◌+ℤ◌, ◌-ℤ◌}
+use Rattle.std.proofs.Math.Seq.{drop-drop}
 use Rattle.std.proofs.lemmas.Bool.{and_from, and_parts, le-leb, leb-true, lt-ltb, ltb-true}
 use Rattle.st_values.specs.Types.{is_same}
 use Rattle.st_values.specs.Values.{in_range}
@@ -12,15 +13,17 @@ use Rattle.st_types.specs.declared.standard.StandardBlock.TheVariants as blocks
 use Rattle.st_leaves.specs.Places.{count}
 use Rattle.st_blocks.specs.Cells.{types_of}
 use Rattle.st_blocks.specs.Steps.{stepped}
+use Rattle.st_meaning.specs.Charts.{actions_on, is_asked, moved_on, names_on, times_set, variables_on}
 use Rattle.st_meaning.specs.Meaning.{Values, no_value, stored_to}
 use Rattle.st_meaning.specs.Operations.{Answer, gives, stops, answered_in, binary_value, takes_one, unary_value}
-use Rattle.st_meaning.specs.Statements.{Setting, Outcome, done, exited, returned, faulted, block_done, ended, goes_on, is_nonzero, left_by, setting_from, stretch, unless_forced, with_stretch}
+use Rattle.st_meaning.specs.Sketches.{Sketch, chart_size, chart_types}
+use Rattle.st_meaning.specs.Statements.{Setting, Outcome, done, exited, returned, faulted, block_done, chart_done, ended, goes_on, is_nonzero, left_by, part_made, setting_from, stretch, times_done, unless_forced, with_stretch}
 use Rattle.st_meaning.proofs.Stretches.{block_count, stretch_at, stretch_length}
 use Rattle.st_code.specs.Code.{cell_of}
-use Rattle.st_code.specs.Machine.{After, goes, stuck, Environment, UnitBody, act, answered, are_cells_in, are_cells_of, are_of_types, counted, distance_in, entered, enters, gets, has_leaf, has_leaves, indexed, is_cell_of, number_in, puts, puts_distance, state, takes_operands, tested, turned, value_in, values_in}
+use Rattle.st_code.specs.Machine.{After, goes, stuck, Environment, UnitBody, act, answered, are_cells_in, are_cells_of, are_of_types, charted, counted, distance_in, entered, enters, gets, has_chart, has_leaf, has_leaves, indexed, is_cell_of, number_in, put, puts, puts_distance, state, takes_operands, tested, truth_of, turned, value_in, values_in}
 use Rattle.st_code.specs.Relative.{GoesAlike, InstructionsAreRelative, environment_from, from_leaf}
 use Rattle.st_code.specs.declared.instr.Instr.{Instr}
-use Rattle.st_code.specs.declared.instr.Instr.TheVariants.{Push, Get, GetAt, Put, PutAt, Index, IndexBelow, Add, Apply, Combine, Select, Step, GoOn, SkipUnless, SkipIf, GoBack, Within, Drop, Begin, Test, Next, Leave, Invoke, Enter, Pick, Call}
+use Rattle.st_code.specs.declared.instr.Instr.TheVariants.{Push, Get, GetAt, Put, PutAt, Index, IndexBelow, Add, Apply, Combine, Select, Step, GoOn, SkipUnless, SkipIf, GoBack, Within, Drop, Begin, Test, Next, Leave, Invoke, Enter, Pick, Call, Times, Ask, Chart, Cut}
 use Rattle.st_code.proofs.Stretches.{setting_twice, stretch_twice, with_itself, with_stored, with_twice}
 
 -- ---- the leaves of standard blocks
@@ -49,6 +52,16 @@ leaves_fit values b leaf h =
     let n = count (standard b) in
     let many : length (stretch values leaf n) ≡ n = as_many_types (types_of b) (stretch values leaf n) h ∙ block_count b in
     omega (arith, many, some_leaves b, length-take n (drop leaf values), length-drop leaf values)
+
+-- and where a chart has values of its types
+some_size : (sketch : Sketch) → 1 ≤ chart_size sketch
+some_size sketch = omega arith
+
+pub chart_fits : (values : Values) (sketch : Sketch) (leaf : ℕ) → has_chart values sketch leaf ≡ true → leaf + chart_size sketch ≤ length values
+chart_fits values sketch leaf h =
+    let n = chart_size sketch in
+    let many : length (stretch values leaf n) ≡ n = as_many_types (chart_types sketch) (stretch values leaf n) h in
+    omega (arith, many, some_size sketch, length-take n (drop leaf values), length-drop leaf values)
 
 module _ (values : Values) (first size : ℕ) (fits : first + size ≤ length values) where
   abbrev part : Values
@@ -175,6 +188,75 @@ module _ (values : Values) (first size : ℕ) (fits : first + size ≤ length va
         ap (λ (all : Values). goes (state place stack all left)) (block_alike setting b leaf few),
       ))
 
+  -- ---- charts
+
+  part_alike : (marks : List Bool) (leaf n : ℕ) (make : Values → Values) → leaf + n ≤ size
+      → part_made marks (first + leaf) n make values ≡ with_stretch values first (part_made (drop first marks) leaf n make part)
+  part_alike marks leaf n make few =
+      let made : List Bool → Values → Values = (λ forced old. unless_forced forced old (make old)) in
+      ap (λ (vs : Values). with_stretch values (first + leaf) (made (drop (first + leaf) marks) vs)) (sym (stretch_twice values first size leaf n few))
+      ∙ ap (λ (forced : List Bool). with_stretch values (first + leaf) (made forced (stretch part leaf n))) (sym (drop-drop leaf first marks))
+      ∙ sym (with_twice values first size fits leaf (made (drop leaf (drop first marks)) (stretch part leaf n)) (omega (arith, few)))
+
+  -- the leaves of a chart in the stretch are there among all values
+  chart_inside : (sketch : Sketch) (leaf : ℕ) → has_chart part sketch leaf ≡ true → leaf + chart_size sketch ≤ size
+  chart_inside sketch leaf h = omega (arith, chart_fits part sketch leaf h, stretch_length values first size fits)
+
+  chart_there : (sketch : Sketch) (leaf : ℕ) → leaf + chart_size sketch ≤ size → has_chart part sketch leaf ≡ true → has_chart values sketch (first + leaf) ≡ true
+  chart_there sketch leaf few h = ap (λ (vs : Values). are_of_types (chart_types sketch) vs) (sym (stretch_twice values first size leaf (chart_size sketch) few)) ∙ h
+
+  times_alike : (setting : Setting) (sketch : Sketch) (leaf place : ℕ) (stack : List ℤ) (left : ℕ)
+      → Alike (if has_chart part sketch leaf then goes (state place stack (times_done (setting_from first setting) sketch leaf part) left) else stuck)
+      (if has_chart values sketch (first + leaf) then goes (state place stack (times_done setting sketch (first + leaf) values) left) else stuck)
+  times_alike setting sketch leaf place stack left =
+      when_so (has_chart part sketch leaf) (has_chart values sketch (first + leaf)) _ _
+      (λ h.
+      let few = chart_inside sketch leaf h in (
+        chart_there sketch leaf few h,
+        ap (λ (all : Values). goes (state place stack all left)) (part_alike setting.forced leaf (chart_size sketch) (times_set sketch setting.now) few),
+      ))
+
+  ask_alike : (sketch : Sketch) (room leaf number place : ℕ) (stack : List ℤ) (left : ℕ)
+      → Alike (if has_chart part sketch leaf then put room place (truth_of (is_asked sketch (stretch part leaf (chart_size sketch)) number)) stack part left else stuck)
+      (if has_chart values sketch (first + leaf) then put room place (truth_of (is_asked sketch (stretch values (first + leaf) (chart_size sketch)) number)) stack values left else stuck)
+  ask_alike sketch room leaf number place stack left =
+      when_so (has_chart part sketch leaf) (has_chart values sketch (first + leaf)) _ _
+      (λ h.
+      let few = chart_inside sketch leaf h in
+      let cell = truth_of (is_asked sketch (stretch part leaf (chart_size sketch)) number) in (
+        chart_there sketch leaf few h,
+        subst (λ (vs : Values). Alike (put room place cell stack part left) (put room place (truth_of (is_asked sketch vs number)) stack values left))
+            (stretch_twice values first size leaf (chart_size sketch) few)
+            (when (nat_lt (length stack) room) (goes (state (place + 1) (cell ∷ stack) part left)) (goes (state (place + 1) (cell ∷ stack) values left)) (same (place + 1) (cell ∷ stack) left)),
+      ))
+
+  -- what an invocation leaves on the stack
+  abbrev cells_of : Setting → Sketch → List ℤ → Values → List ℤ
+  cells_of setting sketch stack cells =
+      let count = length sketch.passages in
+      let on = names_on sketch (reverse (map is_nonzero (take count stack))) setting.now cells in
+      map truth_of (variables_on sketch.variables on) ++ (map truth_of (actions_on sketch on) ++ drop count stack)
+
+  charted_alike : (setting : Setting) (sketch : Sketch) (room leaf place : ℕ) (stack : List ℤ) (left : ℕ)
+      → Alike (charted (setting_from first setting) sketch room leaf place stack part left) (charted setting sketch room (first + leaf) place stack values left)
+  charted_alike setting sketch room leaf place stack left =
+      let count = length sketch.passages in
+      let conditions = reverse (map is_nonzero (take count stack)) in
+      let n = chart_size sketch in
+      let fits_room : Values → Bool = (λ cells. nat_le (length (cells_of setting sketch stack cells)) room) in
+      when_so (has_chart part sketch leaf && nat_le count (length stack) && fits_room (stretch part leaf n))
+      (has_chart values sketch (first + leaf) && nat_le count (length stack) && fits_room (stretch values (first + leaf) n)) _ _
+      (λ h.
+      let both = and_parts (has_chart part sketch leaf && nat_le count (length stack)) (fits_room (stretch part leaf n)) h in
+      let there' = (and_parts (has_chart part sketch leaf) (nat_le count (length stack)) both.0).0 in
+      let few = chart_inside sketch leaf there' in
+      let same_cells : stretch part leaf n ≡ stretch values (first + leaf) n = stretch_twice values first size leaf n few in (
+        subst (λ (vs : Values). (are_of_types (chart_types sketch) vs && nat_le count (length stack) && fits_room vs) ≡ true) same_cells h,
+        ap (λ (vs : Values). goes (state (place + 1) (cells_of setting sketch stack vs) (chart_done setting sketch (first + leaf) conditions values) left)) (sym same_cells)
+            ∙ ap (λ (all : Values). goes (state (place + 1) (cells_of setting sketch stack (stretch part leaf n)) all left))
+            (part_alike setting.forced leaf n (moved_on sketch conditions setting.now) few),
+      ))
+
   left_alike : (unit leaf place : ℕ) (stack : List ℤ) (o : Outcome) → leaf ≤ size
       → Alike (entered place stack (left_by unit leaf part o)) (entered place stack (left_by unit (first + leaf) values o))
   left_alike unit leaf place stack (done others n) few =
@@ -252,6 +334,10 @@ module _ (values : Values) (first size : ℕ) (fits : first + size ≤ length va
         let rest = drop (inputs + below) stack in
         when (are_cells_in f.inputs cells && nat_lt (length rest) room) _ _
         (answered_alike (answered_in unit (f.run (values_in f.inputs cells) left)) place rest)
+    act_alike (Times unit leaf) line place stack left = times_alike env.setting (env.charts unit) leaf (place + 1) stack left
+    act_alike (Ask unit leaf number) line place stack left = ask_alike (env.charts unit) room leaf number place stack left
+    act_alike (Chart unit leaf) line place stack left = charted_alike env.setting (env.charts unit) room leaf place stack left
+    act_alike (Cut count) line place stack left = when (nat_le count (length stack)) _ _ (same (place + 1) (drop (length stack - count) stack) left)
     act_alike i line place stack left = tt
 
 pub instructions_are_relative : InstructionsAreRelative

@@ -35,11 +35,11 @@ truth_is false = refl
 
 module _ (w : World) where
   -- What the code of statements does: the run goes on behind it, or behind the loop or at the end of the body, so many instructions
-  -- further. A loop may leave its cells on the stack where RETURN ends the body.
+  -- further. Loops may leave cells above the stack where RETURN ends the body.
   abbrev pub Runs : State → (pc out last : ℕ) → List ℤ → ℕ → Outcome → Type 0
   Runs s pc out last stack left (done values n) = (n ≤ left) × AreValuesOf w.root values × Leads w s (state pc stack values n)
   Runs s pc out last stack left (exited values n) = (n ≤ left) × AreValuesOf w.root values × Leads w s (state (pc + out) stack values n)
-  Runs s pc out last stack left (returned values n) = (cells : List ℤ) × Leads w s (state (pc + last) cells values n)
+  Runs s pc out last stack left (returned values n) = (cells : List ℤ) × Leads w s (state (pc + last) (cells ++ stack) values n)
   Runs s pc out last stack left (faulted f) = Ends w (faulted f) s
 
   pub led_at : (s : State) (p q : ℕ) (stack : List ℤ) (values : Values) (n : ℕ) → p ≡ q → Leads w s (state p stack values n) → Leads w s (state q stack values n)
@@ -79,7 +79,7 @@ module _ (w : World) where
       → Runs s pc' out last stack left (then_do o go)
   then_run s pc pc' m out last stack left (done values n) go e ra rb = runs_after s (state pc stack values n) pc' out last stack left n (go values n) ra.2 ra.0 (rb values n ra.1)
   then_run s pc pc' m out last stack left (exited values n) go e ra rb = (ra.0, ra.1, led_at s (pc + (m + out)) (pc' + out) stack values n (omega arith) ra.2)
-  then_run s pc pc' m out last stack left (returned values n) go e ra rb = (ra.0, led_at s (pc + (m + last)) (pc' + last) ra.0 values n (omega arith) ra.1)
+  then_run s pc pc' m out last stack left (returned values n) go e ra rb = (ra.0, led_at s (pc + (m + last)) (pc' + last) (ra.0 ++ stack) values n (omega arith) ra.1)
   then_run s pc pc' m out last stack left (faulted f) go e ra rb = ra
 
   -- ---- choices
@@ -91,7 +91,7 @@ module _ (w : World) where
   past_run s pc pc' m out last stack left (done values n) e h r =
       (r.0, r.1, led_at s (pc + 1 + m) pc' stack values n e (leads_on w s (state pc stack values n) _ r.2 (step w (GoOn m) 0 pc stack values n _ h refl)))
   past_run s pc pc' m out last stack left (exited values n) e h r = (r.0, r.1, led_at s (pc + (1 + m + out)) (pc' + out) stack values n (omega arith) r.2)
-  past_run s pc pc' m out last stack left (returned values n) e h r = (r.0, led_at s (pc + (1 + m + last)) (pc' + last) r.0 values n (omega arith) r.1)
+  past_run s pc pc' m out last stack left (returned values n) e h r = (r.0, led_at s (pc + (1 + m + last)) (pc' + last) (r.0 ++ stack) values n (omega arith) r.1)
   past_run s pc pc' m out last stack left (faulted f) e h r = r
 
   pub skip_run : (cell : ℤ) (b : Bool) (pc n pc' out last : ℕ) (under stack : List ℤ) (values : Values) (left : ℕ) (there here : Outcome) → is_nonzero cell ≡ b
@@ -206,7 +206,7 @@ module _ (w : World) where
       )
 
   -- at a place that is found without subscripts
-  fixed_put_run : (ps : Parts) (e : Elem) (v : Value) (pc out last : ℕ) (stack : List ℤ) (values : Values) (left : ℕ) → AreValuesOf w.root values → IsOf e v
+  pub fixed_put_run : (ps : Parts) (e : Elem) (v : Value) (pc out last : ℕ) (stack : List ℤ) (values : Values) (left : ℕ) → AreValuesOf w.root values → IsOf e v
       → IsPlaceOf w.functions w.root e ps → is_fixed ps ≡ true
       → slice_get w.code pc ≡ Some (line_of 0 (Put e (base_of w.root ps)))
       → Runs (state pc (cell_of v.bits ∷ stack) values left)

@@ -6,16 +6,14 @@ use Rattle.st_values.specs.declared.value.Value.{Value}
 use Rattle.st_leaves.specs.Paths.{Path}
 use Rattle.st_leaves.specs.Places.{LeadsTo}
 use Rattle.st_operators.specs.Laws.{IsOf}
-use Rattle.st_meaning.specs.Laws.{PlacesHaveLeaves, PlacesTakeSteps, TermsGiveValues}
 use Rattle.st_meaning.specs.Meaning.{Values, located, stored_at, value_of}
 use Rattle.st_meaning.specs.Operations.{gives}
 use Rattle.st_meaning.specs.Sound.{AreSoundBranches, AreSoundCases, AreSoundCommands, AreValuesOf, IsCount, IsSoundCommand, term_type}
 use Rattle.st_meaning.specs.Statements.{Outcome, done, exited, returned, faulted, alike, branches_meaning, cases_meaning, command_meaning, commands_meaning, count_turns, ended, given, has_label, is_true, repeat_turns, while_turns}
 use Rattle.st_meaning.specs.Terms.{Term, Parts, Command, nothing, assign, choice, cases, count_loop, while_loop, repeat_loop, invoke, enter, exit, finish, Commands, no_commands, more_commands, Branches, no_branches, more_branches, Cases, no_cases, more_cases}
-use Rattle.st_code.specs.Code.{Line, at, base_of, body_code, branches_code, case_test, cases_code, cell_of, command_code, commands_code, plain, repeat_code, term_code, while_code}
-use Rattle.st_code.specs.Correct.{CodeDoesAsCommandsMean}
+use Rattle.st_code.specs.Code.{Line, at, base_of, branches_code, case_test, cases_code, cell_of, command_code, commands_code, plain, repeat_code, term_code, while_code}
 use Rattle.st_code.specs.Depth.{branches_depth, cases_depth, command_depth, commands_depth}
-use Rattle.st_code.specs.Invocations.{BranchesInvoke, CasesInvoke, CommandInvokes, InvokesAs, IsInvokedAs}
+use Rattle.st_code.specs.Invocations.{BranchesInvoke, CasesInvoke, CommandInvokes, Invoke, IsInvokedAs}
 use Rattle.st_code.specs.Machine.{State, ends_here, next_at, state, truth_of}
 use Rattle.st_code.specs.declared.instr.Instr.TheVariants.{Drop, GoOn, Step}
 use Rattle.st_code.proofs.Cells.{nonzero_cell}
@@ -26,7 +24,7 @@ use Rattle.st_code.proofs.Loops.{repeat_run, while_run}
 use Rattle.st_code.proofs.Moves.{invoke_run, move_code, move_run, moved}
 use Rattle.st_code.proofs.Parts.{fixed_found}
 use Rattle.st_code.proofs.Runs.{Runs, branch_run, branch_test, case_run, drop_run, given_run, led_at, runs_after, runs_at, step_run, then_run, truth_is}
-use Rattle.st_code.proofs.Steps.{Ends, HasAt, World, called, has_all, has_back, has_front, leaf_known, stays, step}
+use Rattle.st_code.proofs.Steps.{Ends, HasAt, World, called, has_back, has_front, leaf_known, stays, step}
 
 module _ (w : World) where
   -- what statements mean
@@ -84,7 +82,7 @@ module _ (w : World) where
         (λ n e. (omega arith, ok, led_at w _ (pc + 1 + 1 + out) (pc + length (command_code w.root (exit line) out last) + out) stack values n (omega arith) (step w (GoOn out) 0 (pc + 1) stack values n _ has.1.0 refl)))
     command_runs (finish line) pc out last stack has sound calls room values left ok =
         step_run w line pc _ out last stack stack values left (λ n. returned values n) has.0
-        (λ n e. (stack, led_at w _ (pc + 1 + 1 + last) (pc + length (command_code w.root (finish line) out last) + last) stack values n (omega arith) (step w (GoOn last) 0 (pc + 1) stack values n _ has.1.0 refl)))
+        (λ n e. ([], led_at w _ (pc + 1 + 1 + last) (pc + length (command_code w.root (finish line) out last) + last) stack values n (omega arith) (step w (GoOn last) 0 (pc + 1) stack values n _ has.1.0 refl)))
     command_runs (assign line ps t) pc out last stack has sound calls room values left ok =
         let one = move_code w.root ps t in
         let len : pc + 1 + length one ≡ pc + length (at line Step ++ one) = omega arith in
@@ -165,8 +163,8 @@ module _ (w : World) where
     command_runs (enter line name unit body inputs outputs) pc out last stack has sound calls room values left ok =
         enter_run w line name unit body inputs outputs pc out last stack has sound calls room values left ok
 
-    commands_run : (cs : Commands) (pc out last : ℕ) (stack : List ℤ) → HasAt w.code pc (commands_code w.root cs out last) → AreSoundCommands w.functions w.root cs
-        → InvokesAs (called w) w.root w.env.bodies cs → length stack + commands_depth cs ≤ w.room → (values : Values) (left : ℕ) → AreValuesOf w.root values
+    pub commands_run : (cs : Commands) (pc out last : ℕ) (stack : List ℤ) → HasAt w.code pc (commands_code w.root cs out last) → AreSoundCommands w.functions w.root cs
+        → Invoke (IsInvokedAs (called w) w.root w.env.bodies) cs → length stack + commands_depth cs ≤ w.room → (values : Values) (left : ℕ) → AreValuesOf w.root values
         → Runs w (state pc stack values left) (pc + length (commands_code w.root cs out last)) out last stack left (means cs values left)
     commands_run no_commands pc out last stack has sound calls room values left ok = let len : pc ≡ pc + 0 = omega arith in (omega arith, ok, stays w _ _ (ap (λ p. state p stack values left) len))
     commands_run (more_commands c cs) pc out last stack has sound calls room values left ok =
@@ -222,38 +220,13 @@ module _ (w : World) where
         (λ q h. cases_run more e co other v q out last stack of h sound.2 calls.1 (omega (arith, room)) values left ok ro))
 
   -- past the last instruction the run has ended
-  past_end : (n : ℕ) (cells : List ℤ) (values : Values) (left : ℕ) → length w.code ≤ n → Ends w (done values left) (state n cells values left)
+  pub past_end : (n : ℕ) (cells : List ℤ) (values : Values) (left : ℕ) → length w.code ≤ n → Ends w (done values left) (state n cells values left)
   past_end n cells values left h =
       ends_here (state n cells values left) (ap (λ l. next_at w.env w.room l (state n cells values left)) (slice_get_past w.code n h))
 
-  -- how a body ends
-  body_ends : (n : ℕ) (o : Outcome) (s : State) (left : ℕ) → n ≡ length w.code → Runs w s n 0 0 [] left o → Ends w (ended o) s
+  -- how the statements of a body end
+  pub body_ends : (n : ℕ) (o : Outcome) (s : State) (left : ℕ) → n ≡ length w.code → Runs w s n 0 0 [] left o → Ends w (ended o) s
   body_ends n (done values m) s left e r = r.2.by (done values m) (past_end n [] values m (omega (arith, e)))
   body_ends n (exited values m) s left e r = r.2.by (done values m) (past_end (n + 0) [] values m (omega (arith, e)))
-  body_ends n (returned values m) s left e r = r.1.by (done values m) (past_end (n + 0) r.0 values m (omega (arith, e)))
+  body_ends n (returned values m) s left e r = r.1.by (done values m) (past_end (n + 0) (r.0 ++ []) values m (omega (arith, e)))
   body_ends n (faulted f) s left e r = r
-
--- by what st_meaning has of the values of terms and the leaves of places
-pub does_as_commands_mean : TermsGiveValues → PlacesHaveLeaves → PlacesTakeSteps → CodeDoesAsCommandsMean
-does_as_commands_mean terms places takes functions root body room small apart sound deep =
-    record {
-      same = λ env values left moment known have_types calls ok.
-          let w : World = record {
-            env = env;
-            moment = moment;
-            room = room;
-            code = body_code root body;
-            root = root;
-            small = small;
-            apart = apart;
-            functions = functions;
-            known = known;
-            have_types = have_types;
-            terms = terms;
-            places = places;
-            takes = takes;
-          } in
-          let n : 0 + length (body_code root body) ≡ length (body_code root body) = omega arith in
-          body_ends w (0 + length (body_code root body)) (commands_meaning (called w) root env.setting body values left) (state 0 [] values left) left n
-          (commands_run w body 0 0 0 [] (has_all (body_code root body) []) sound calls (omega (arith, deep)) values left ok);
-    }

@@ -1,5 +1,6 @@
 -- What the commands invoke that typing makes of statements: the bodies of the units that the names are instances of.
 use Rattle.std.proofs.Common.{◌≡◌, ℕ, List, [], ◌∷◌, map, Option, Some, None, refl, sym, subst}
+use Rattle.std.specs.List.{flat_map}
 use Rattle.st_values.specs.declared.elem.Elem.{Elem}
 use Rattle.st_tree.specs.declared.tree.expression.Argument.{Argument}
 use Rattle.st_tree.specs.declared.tree.expression.Call.{Call, out-Call}
@@ -13,14 +14,18 @@ use Rattle.st_tree.specs.declared.tree.statement.RepeatStatement.{RepeatStatemen
 use Rattle.st_tree.specs.declared.tree.statement.Statement.{Statement, fold-roll-Statement, ind-Statement, map-Statement, roll-Statement}
 use Rattle.st_tree.specs.declared.tree.statement.Statement.TheOpen.{CaseElement-F, CaseStatement-F, ConditionalPart-F, ForStatement-F, IfStatement-F, RepeatStatement-F, Statement-F, WhileStatement-F}
 use Rattle.st_tree.specs.declared.tree.statement.WhileStatement.{WhileStatement, fold-roll-WhileStatement, map-WhileStatement, roll-WhileStatement}
+use Rattle.st_tree.specs.declared.tree.unit.Action.{Action}
+use Rattle.st_tree.specs.declared.tree.unit.ChartElement.{ChartElement}
+use Rattle.st_types.specs.Names.{actions_in}
 use Rattle.st_types.specs.OwnTypes.{or_lint}
 use Rattle.st_types.specs.declared.standard.StandardBlock.{StandardBlock}
 use Rattle.st_leaves.specs.Selected.{selected_by}
+use Rattle.st_meaning.specs.Steps.{chart_within}
 use Rattle.st_meaning.specs.Terms.{Parts, whole, field_part, Command, Commands, Branches, Cases}
-use Rattle.st_meaning.specs.Typing.{Typed, assignment, body_of, branch_of, branches_of, call_command, case_of, cases_of, command_of, commands_of, entrance, for_command, invocation, place_of, typed}
+use Rattle.st_meaning.specs.Typing.{Typed, actions_of, assignment, body_in, body_of, branch_of, branches_of, call_command, case_of, cases_of, chart_or, command_of, commands_of, entrance, for_command, invocation, place_of, typed}
 use Rattle.st_meaning.specs.Wholes.{Invoked, Whole, block_of, type_of}
 use Rattle.st_code.specs.Entrances.{IsInvokedWhere, TypingEntersInstances}
-use Rattle.st_code.specs.Invocations.{Asked, BranchesInvoke, CasesInvoke, CommandInvokes, Invoke, IsInvokedAs, TypingInvokesBodies}
+use Rattle.st_code.specs.Invocations.{ActionsInvoke, Asked, BodyInvokes, BranchesInvoke, CasesInvoke, CommandInvokes, Invoke, IsInvokedAs, TypingInvokesBodies}
 
 module _ (w : Whole) (asked : Asked) (are : (name : List ℕ) (unit : Invoked) → w.invoked name ≡ Some unit → asked name unit.number unit.body) where
   abbrev Invokes : Command → Type 0
@@ -182,8 +187,21 @@ module _ (w : Whole) (asked : Asked) (are : (name : List ℕ) (unit : Invoked) �
   body_invokes [] = tt
   body_invokes (x ∷ body) = (statement_invokes x, body_invokes body)
 
+  -- ---- charts
+
+  actions_invoke : (as' : List Action) → ActionsInvoke asked (actions_of w as')
+  actions_invoke [] = tt
+  actions_invoke (a ∷ more) = (body_invokes a.statements, actions_invoke more)
+
+  chart_invokes : (cs : Commands) (unit : ℕ) (elements : List ChartElement) → Invoke asked cs → BodyInvokes asked (chart_or cs w unit elements)
+  chart_invokes cs unit [] h = h
+  chart_invokes cs unit (e ∷ elements) h = actions_invoke (flat_map actions_in (e ∷ elements))
+
+  unit_invokes : (unit : ℕ) (statements : List Statement) → BodyInvokes asked (body_in w unit statements)
+  unit_invokes unit statements = chart_invokes (body_of w statements) unit (chart_within w.variables) (body_invokes statements)
+
 pub typing_invokes_bodies : TypingInvokesBodies
-typing_invokes_bodies calls w bodies are body = body_invokes w (IsInvokedAs calls w.variables bodies) are body
+typing_invokes_bodies calls w bodies are number body = unit_invokes w (IsInvokedAs calls w.variables bodies) are number body
 
 pub typing_enters_instances : TypingEntersInstances
-typing_enters_instances w test are body = body_invokes w (IsInvokedWhere w.variables test) are body
+typing_enters_instances w test are number body = unit_invokes w (IsInvokedWhere w.variables test) are number body

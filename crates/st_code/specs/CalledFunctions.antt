@@ -1,11 +1,11 @@
--- Which functions code calls: those that its commands call, with as many numbers as they have inputs.
+-- Which functions code calls: those that its body calls, with as many numbers as they have inputs.
 use Rattle.std.specs.Prelude.{◌≡◌, ℕ, Bool, IsTrue, length, Option, Some, None}
 use Rattle.std.specs.List.{All}
 use Rattle.st_types.specs.Compositions.{Composition}
-use Rattle.st_meaning.specs.Sound.{AreSoundCommands}
-use Rattle.st_meaning.specs.Terms.{Commands}
+use Rattle.st_meaning.specs.Sound.{IsSoundBody}
+use Rattle.st_meaning.specs.Terms.{Body}
 use Rattle.st_meaning.specs.Wholes.{Called, Functions}
-use Rattle.st_code.specs.Code.{body_code}
+use Rattle.st_code.specs.Code.{code_of}
 use Rattle.st_code.specs.declared.instr.Instr.{Instr}
 use Rattle.st_code.specs.declared.instr.Instr.TheVariants.{Call}
 
@@ -27,7 +27,7 @@ CallsWhere test i = Unit {0}
 abbrev pub FunctionsPass : Functions → FunctionTest → Type 0
 FunctionsPass functions test = (unit : ℕ) (function : Called) → functions unit ≡ Some function → IsTrue (test unit (length function.inputs))
 
--- the code of sound commands calls nothing but functions, each with as many numbers as it has inputs
+-- the code of a sound body calls nothing but functions, each with as many numbers as it has inputs
 abbrev pub CodeCallsFunctions : Type 0
-CodeCallsFunctions = (functions : Functions) (root : Composition) (test : FunctionTest) (body : Commands) → FunctionsPass functions test
-    → AreSoundCommands functions root body → All (λ l. CallsWhere test l.instr) (body_code root body)
+CodeCallsFunctions = (functions : Functions) (root : Composition) (test : FunctionTest) (body : Body) → FunctionsPass functions test
+    → IsSoundBody functions root body → All (λ l. CallsWhere test l.instr) (code_of root body)

@@ -1,6 +1,6 @@
 -- How many cells the code of terms and commands puts on the stack at most, beside those that stand there before.
-use Rattle.std.specs.Prelude.{ℕ, ◌+◌, max, List, length, if◌then◌else◌}
-use Rattle.st_meaning.specs.Terms.{Source, Term, constant, stored, unary, binary, selection, call, Terms, no_terms, more_terms, how_many, Parts, whole, field_part, element_part, Command, nothing, assign, choice, cases, count_loop, while_loop, repeat_loop, invoke, enter, exit, finish, Moves, no_moves, more_moves, Commands, no_commands, more_commands, Branches, no_branches, more_branches, Cases, no_cases, more_cases}
+use Rattle.std.specs.Prelude.{ℕ, ◌+◌, max, List, [], ◌∷◌, length, Option, Some, None, if◌then◌else◌}
+use Rattle.st_meaning.specs.Terms.{Source, Term, constant, stored, of_step, unary, binary, selection, call, Terms, no_terms, more_terms, how_many, Parts, whole, field_part, element_part, Command, nothing, assign, choice, cases, count_loop, while_loop, repeat_loop, invoke, enter, exit, finish, Moves, no_moves, more_moves, Commands, no_commands, more_commands, Branches, no_branches, more_branches, Cases, no_cases, more_cases, Tests, no_tests, more_tests, Actions, no_actions, more_actions, count_actions, Body, plain_body, chart_body}
 use Rattle.st_code.specs.Code.{are_in_order}
 
 -- the arguments, the inputs above them where they aren't the arguments themselves, and the value
@@ -11,6 +11,7 @@ abbrev mutual
   pub term_depth : Term → ℕ
   term_depth (constant v) = 1
   term_depth (stored ps) = max 1 (parts_depth ps)
+  term_depth (of_step is_time name) = 1
   term_depth (unary o a) = term_depth a
   term_depth (binary o line a b) = max (term_depth a) (1 + term_depth b)
   term_depth (selection g a b) = max (term_depth g) (max (1 + term_depth a) (2 + term_depth b))
@@ -58,3 +59,25 @@ abbrev mutual
   pub cases_depth : Cases → ℕ
   cases_depth no_cases = 0
   cases_depth (more_cases labels cs more) = max 4 (max (commands_depth cs) (cases_depth more))
+
+-- ---- charts
+
+-- each condition stays on the stack
+abbrev pub tests_depth : Tests → ℕ
+tests_depth no_tests = 0
+tests_depth (more_tests line t more) = max (max 1 (term_depth t)) (1 + tests_depth more)
+
+-- how many of the names are variables
+abbrev pub count_variables : List (Option (List ℕ)) → ℕ
+count_variables [] = 0
+count_variables (None ∷ names) = count_variables names
+count_variables (Some name ∷ names) = 1 + count_variables names
+
+-- an action runs above a number for each one behind it
+abbrev pub actions_depth : Actions → ℕ
+actions_depth no_actions = 0
+actions_depth (more_actions cs more) = max (count_actions more + commands_depth cs) (actions_depth more)
+
+abbrev pub body_depth : Body → ℕ
+body_depth (plain_body cs) = commands_depth cs
+body_depth (chart_body unit sketch tests actions) = max (tests_depth tests) (max (count_variables sketch.variables + count_actions actions) (actions_depth actions))

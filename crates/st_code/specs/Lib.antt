@@ -1,5 +1,6 @@
 pub mod Beside
 pub mod CalledFunctions
+pub mod Charts
 pub mod Code
 pub mod Correct
 pub mod Depth

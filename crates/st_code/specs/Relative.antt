@@ -5,7 +5,7 @@ use Rattle.st_meaning.specs.Statements.{Setting, Outcome, done, exited, returned
 use Rattle.st_code.specs.Code.{Line}
 use Rattle.st_code.specs.Machine.{After, goes, ends, stuck, Environment, UnitBody, Reaches, act, state}
 use Rattle.st_code.specs.declared.instr.Instr.{Instr}
-use Rattle.st_code.specs.declared.instr.Instr.TheVariants.{Get, GetAt, Put, PutAt, Begin, Test, Next, Invoke, Enter}
+use Rattle.st_code.specs.declared.instr.Instr.TheVariants.{Get, GetAt, Put, PutAt, Begin, Test, Next, Invoke, Enter, Times, Ask, Chart}
 
 -- the leaf in an instruction, and 0 where it has none
 abbrev pub leaf_in : Instr → ℕ
@@ -18,6 +18,9 @@ leaf_in (Test e leaf distance) = leaf
 leaf_in (Next e leaf distance) = leaf
 leaf_in (Invoke b leaf) = leaf
 leaf_in (Enter unit leaf) = leaf
+leaf_in (Times unit leaf) = leaf
+leaf_in (Ask unit leaf number) = leaf
+leaf_in (Chart unit leaf) = leaf
 leaf_in i = 0
 
 -- the instruction with another leaf in its place
@@ -31,6 +34,9 @@ with_leaf (Test e leaf distance) n = Test e n distance
 with_leaf (Next e leaf distance) n = Next e n distance
 with_leaf (Invoke b leaf) n = Invoke b n
 with_leaf (Enter unit leaf) n = Enter unit n
+with_leaf (Times unit leaf) n = Times unit n
+with_leaf (Ask unit leaf number) n = Ask unit n number
+with_leaf (Chart unit leaf) n = Chart unit n
 with_leaf i n = i
 
 -- the same instruction for an instance whose first leaf has this number
@@ -45,7 +51,7 @@ clipped_from first i = with_leaf i (min (first + leaf_in i) 4294967295)
 
 -- what a run on these values is given, seen from a leaf on
 abbrev pub environment_from : ℕ → Environment → Environment
-environment_from first env = record { setting = setting_from first env.setting; bodies = env.bodies; functions = env.functions }
+environment_from first env = record { setting = setting_from first env.setting; bodies = env.bodies; functions = env.functions; charts = env.charts }
 
 -- Where the run on a stretch of the values goes on, the other one does with what it leaves of the stretch among all values, and where it
 -- ends, which is at a fault, the other one ends so. Where it is stuck nothing is said.

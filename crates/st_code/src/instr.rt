@@ -1,6 +1,7 @@
 //! Instructions.
 ghost use Rattle.std.specs.Prelude.{◌≡◌};
 ghost use Rattle.st_code.specs.CalledFunctions.{call_of};
+ghost use Rattle.st_code.specs.Charts.{chart_of};
 ghost use Rattle.st_code.specs.Entrances.{entrance_of};
 ghost use Rattle.st_code.specs.Relative.{clipped_from};
 
@@ -72,6 +73,16 @@ pub enum Instr {
     /// Takes so many numbers as the inputs of the function that the unit of this number is, takes so many further ones away, and
     /// puts what the function gives.
     Call(u32, u32, u32),
+    /// Sets the times of the active steps of the chart of the unit of this number, the first leaf of which is this one.
+    Times(u32, u32),
+    /// Puts whether that chart has begun, and all steps before its transition of this number are active.
+    Ask(u32, u32, u32),
+    /// Takes for each transition of that chart whether its condition is TRUE, the last one on top, and does what one invocation of the
+    /// chart does to its leaves. Puts for each action whether it is on, the first one on top, and above them for each BOOL variable
+    /// that its steps are associated with, the first one on top.
+    Chart(u32, u32),
+    /// Leaves so many numbers on the stack, the lowest ones.
+    Cut(u32),
 }
 
 impl Instr {
@@ -91,6 +102,9 @@ impl Instr {
             Instr::Next(elem, leaf, far) => Instr::Next(elem, first.saturating_add(leaf), far),
             Instr::Invoke(block, leaf) => Instr::Invoke(block, first.saturating_add(leaf)),
             Instr::Enter(unit, leaf) => Instr::Enter(unit, first.saturating_add(leaf)),
+            Instr::Times(unit, leaf) => Instr::Times(unit, first.saturating_add(leaf)),
+            Instr::Ask(unit, leaf, number) => Instr::Ask(unit, first.saturating_add(leaf), number),
+            Instr::Chart(unit, leaf) => Instr::Chart(unit, first.saturating_add(leaf)),
             other => other,
         }
     }
@@ -113,6 +127,17 @@ impl Instr {
     {
         match *self {
             Instr::Call(unit, inputs, _) => Some((unit, inputs)),
+            _ => None,
+        }
+    }
+
+    /// The unit whose chart the instruction is about.
+    #[inline(always)]
+    pub fn chart(&self) -> Option<u32>
+        ensures { result ≡ chart_of self.now }
+    {
+        match *self {
+            Instr::Times(unit, _) | Instr::Ask(unit, _, _) | Instr::Chart(unit, _) => Some(unit),
             _ => None,
         }
     }

@@ -1,4 +1,5 @@
-//! The code of a unit for a stack machine: its instructions, what each does, and that the code of statements does as they mean.
+//! The code of a unit for a stack machine: its instructions, what each does, and that the code of statements and charts does as they
+//! mean.
 #![tactic(auto)]
 
 mod code;
@@ -9,6 +10,6 @@ pub use code::Code;
 pub use instr::Instr;
 pub use laws::{
     code_calls_functions, code_does_as_commands_mean, code_enters_what_is_invoked,
-    depth_is_at_most_the_length, instructions_are_relative, instructions_keep_lengths,
-    runs_are_relative, typing_enters_instances, typing_invokes_bodies,
+    code_is_of_its_chart, depth_is_at_most_the_length, instructions_are_relative,
+    instructions_keep_lengths, runs_are_relative, typing_enters_instances, typing_invokes_bodies,
 };

@@ -16,19 +16,20 @@ use Rattle.st_meaning.specs.Meaning.{Values}
 use Rattle.st_meaning.specs.Offsets.{IsSmall}
 use Rattle.st_meaning.specs.Sound.{AreInputsOf, AreValuesOf}
 use Rattle.st_meaning.specs.Statements.{Outcome, body_meaning}
+use Rattle.st_meaning.specs.Terms.{plain_body}
 use Rattle.st_meaning.specs.Typing.{body_of}
-use Rattle.st_meaning.specs.Units.{called_by, calls_of, function_at, function_setting, inputs_in, members_begun, members_of_function, root_of, statements_of, unit_given, unit_whole}
+use Rattle.st_meaning.specs.Units.{body_of_unit, called_by, calls_of, function_at, function_setting, inputs_in, members_begun, members_of_function, root_of, statements_of, unit_given, unit_whole}
 use Rattle.st_meaning.proofs.BegunFunctions.{function_begins, members_have_values}
 use Rattle.st_code.specs.Invocations.{HasBodies, InvokesAs}
 use Rattle.st_code.specs.Machine.{Reaches, are_of_types, state}
-use Rattle.st_machine.specs.Functions.{AreFunctions, EntersNothing, FunctionView, IsFunction, IsRunFrom, begun_by}
+use Rattle.st_machine.specs.Functions.{AreFunctions, EntersNothing, FunctionView, HasNoCharts, IsFunction, IsRunFrom, begun_by}
 use Rattle.st_machine.specs.Levels.{environment_with, no_room}
 use Rattle.st_machine.specs.declared.stacks.Room.{Room}
 use Rattle.st_places.specs.Parts.{is_function, is_small_function}
 use Rattle.st_places.specs.Functions.{starts_of}
-use Rattle.st_bodies.specs.Depths.{statements_depth}
-use Rattle.st_bodies.proofs.BodyDepths.{body_deep}
-use Rattle.st_compile.specs.Programs.{block_room, function_room, function_view, most_taken, no_function, no_level, program_functions, program_rooms, small_function, types_taken, unit_code}
+use Rattle.st_places.proofs.Roots.{charts_are_in_bodies}
+use Rattle.st_bodies.proofs.ChartDepths.{body_of_unit_deep}
+use Rattle.st_compile.specs.Programs.{block_room, function_room, function_view, made_of, most_taken, no_function, no_level, own_depth, program_functions, program_rooms, room_at, small_function, types_taken, unit_code}
 use Rattle.st_compile.proofs.Callable.{AreFunctionsSmall, function_calls, have_types, sound_calls}
 use Rattle.st_compile.proofs.Known.{Known}
 use Rattle.st_compile.proofs.OfTypes.{inputs_by_test, values_valid}
@@ -53,17 +54,22 @@ module _ (known : Known) (program : ProgramView) (checked : IsChecked program) (
     few_leaves = leb-true (count (root_of units u)) 65536 (and_parts true (nat_le (count (root_of units u)) 65536) few).1
 
     -- it enters nothing, and invokes nothing
-    enters_nothing : EntersNothing (unit_code units u)
+    enters_nothing : EntersNothing (unit_code units n u)
     unfolding unit_whole
     enters_nothing =
         let w = unit_whole units u in
-        known.enters w.variables (λ unit leaf. false) (body_of w f.statements)
-        (known.entering w (λ unit leaf. false) (λ other found is. absurd (let none : None ≡ Some found = sym (known.plain program checked n u f other at refl) ∙ is in cc)) f.statements)
+        known.enters w.variables (λ unit leaf. false) (body_of_unit units n u)
+        (known.entering w (λ unit leaf. false) (λ other found is. absurd (let none : None ≡ Some found = sym (known.plain program checked n u f other at refl) ∙ is in cc)) n f.statements)
 
-    invokes : InvokesAs (calls_of units) (unit_whole units u).variables (said_of program).bodies (body_of (unit_whole units u) f.statements)
+    invokes : InvokesAs (calls_of units) (unit_whole units u).variables (said_of program).bodies (body_of_unit units n u)
     invokes =
         known.invokes (calls_of units) (unit_whole units u) (said_of program).bodies
-        (λ other found is. absurd (let none : None ≡ Some found = sym (known.plain program checked n u f other at refl) ∙ is in cc)) f.statements
+        (λ other found is. absurd (let none : None ≡ Some found = sym (known.plain program checked n u f other at refl) ∙ is in cc)) n f.statements
+
+    -- its code is about no chart
+    has_no_charts : HasNoCharts (unit_code units n u)
+    unfolding unit_whole
+    has_no_charts = known.charts (unit_whole units u).variables (λ unit. false) (body_of_unit units n u) tt
 
     -- ---- a run of its code
 
@@ -81,41 +87,42 @@ module _ (known : Known) (program : ProgramView) (checked : IsChecked program) (
       values_are = members_have_values (codes "PROGRAM") (members_of_function units f) (function_begins units f) inputs are_inputs
 
       abbrev ends : Outcome
-      ends = body_meaning (calls_of units) (root_of units u) function_setting (body_of (unit_whole units u) f.statements) members_begin left
+      ends = body_meaning (calls_of units) (root_of units u) function_setting (plain_body (body_of (unit_whole units u) f.statements)) members_begin left
 
-      reaches : (room : ℕ) → min (statements_depth (most_taken units) f.statements) (length (unit_code units u)) ≤ room
-          → Reaches (environment_with (said_of program) (pos 0) []) room (unit_code units u) ends (state 0 [] members_begin left)
+      reaches : (room : ℕ) → own_depth units n u ≤ room
+          → Reaches (environment_with (said_of program) (pos 0) []) room (unit_code units n u) ends (state 0 [] members_begin left)
       unfolding unit_whole
       reaches room enough =
           let w = unit_whole units u in
-          let body = body_of w f.statements in
+          let body = body_of_unit units n u in
           let sound = known.units program checked n u at in
           let small : IsSmall w.variables = record { bounds = sound.bounds; few = few_leaves } in
           let deep = known.depth w.variables body in
-          (known.does (function_at units) w.variables body room small (one_leaf_each units u sound) (known.typed units u f.statements) (omega (arith, deep, body_deep w (most_taken units) (takes_few units u) f.statements, enough))).same
-          (environment_with (said_of program) (pos 0) []) members_begin left refl (sound_calls known program checked) (have_types program) invokes values_are
+          (known.does (function_at units) w.variables body room small (one_leaf_each units u sound) (known.typed units u n f.statements) (omega (arith, deep, body_of_unit_deep units n u (most_taken units) (takes_few units u) (charts_are_in_bodies units u), enough))).same
+          (environment_with (said_of program) (pos 0) []) members_begin left refl (sound_calls known program checked) (have_types program) tt invokes values_are
 
-      run_from : (room : ℕ) → min (statements_depth (most_taken units) f.statements) (length (unit_code units u)) ≤ room → IsRunFrom (said_of program) room n (small_function units order n u) inputs left
+      run_from : (room : ℕ) → own_depth units n u ≤ room → IsRunFrom (said_of program) room n (small_function units order n u) inputs left
       run_from room enough = record {
         values = subst (All IsValue) (sym fresh) (values_valid (root_of units u) members_begin values_are);
         outcome = ends;
-        comes = subst (λ vs. Reaches (environment_with (said_of program) (pos 0) []) room (unit_code units u) ends (state 0 [] vs left)) (sym fresh) (reaches room enough);
+        comes = subst (λ vs. Reaches (environment_with (said_of program) (pos 0) []) room (unit_code units n u) ends (state 0 [] vs left)) (sym fresh) (reaches room enough);
         given = known.gives program checked n inputs left ∙ ap (λ o. unit_given units (calls_of units) o inputs left) at;
       }
 
     is_small_one : IsFunction (program_functions program) (said_of program) (get_or (program_rooms program) (level_in order n) no_room) n (small_function units order n u)
     unfolding program_rooms
     is_small_one =
-        let given : get_or (program_rooms program) (level_in order n) no_room ≡ function_room units (Some u) =
-        first_given (λ m. function_room units (unit_at units m)) (λ m. block_room units (unit_at units m)) order (level_in order n) n no_room (at_its_level units order checked.ordered n u at)
-        ∙ ap (function_room units) at in
-        let room : get_or (program_rooms program) (level_in order n) no_room ≡ record { stack = min (statements_depth (most_taken units) f.statements) (length (unit_code units u)); variables = length (starts_of units u) } =
-        given ∙ ap (λ b. if b then record { stack = min (statements_depth (most_taken units) f.statements) (length (unit_code units u)); variables = length (starts_of units u) } else no_room) few in
+        let given : get_or (program_rooms program) (level_in order n) no_room ≡ function_room units n u =
+        first_given (room_at (function_room units) units) (room_at (block_room units) units) order (level_in order n) n no_room (at_its_level units order checked.ordered n u at)
+        ∙ ap (made_of (function_room units) no_room n) at in
+        let room : get_or (program_rooms program) (level_in order n) no_room ≡ record { stack = own_depth units n u; variables = length (starts_of units u) } =
+        given ∙ ap (λ b. if b then record { stack = own_depth units n u; variables = length (starts_of units u) } else no_room) few in
         record {
           inputs = refl;
           variables = ap (λ (r : Room). r.variables) room;
           calls = function_calls known program checked small_functions n u f at refl;
           enters = enters_nothing;
+          charts = has_no_charts;
           runs = λ inputs left typed. run_from inputs left typed (get_or (program_rooms program) (level_in order n) no_room).stack (let stack = ap (λ (r : Room). r.stack) room in omega (arith, stack));
         }
 
@@ -124,9 +131,9 @@ module _ (known : Known) (program : ProgramView) (checked : IsChecked program) (
   pub no_more_levels : length (program_rooms program) ≡ no_level order
   unfolding program_rooms
   no_more_levels =
-      let functions = map (λ m. function_room units (unit_at units m)) order in
-      let blocks = map (λ m. block_room units (unit_at units m)) order in
-      omega (arith, length-append functions blocks, length-map order (λ m. function_room units (unit_at units m)), length-map order (λ m. block_room units (unit_at units m)))
+      let functions = map (room_at (function_room units) units) order in
+      let blocks = map (room_at (block_room units) units) order in
+      omega (arith, length-append functions blocks, length-map order (room_at (function_room units) units), length-map order (room_at (block_room units) units))
 
   abbrev IsOfView : ℕ → FunctionView → Type 0
   IsOfView n v = v.level < length (program_rooms program) → IsFunction (program_functions program) (said_of program) (get_or (program_rooms program) v.level no_room) n v

@@ -9,10 +9,9 @@ use Rattle.st_tree.specs.declared.tree.position.Identifier.{Identifier}
 use Rattle.st_tree.specs.declared.tree.unit.Function.{Function}
 use Rattle.st_types.specs.Names.{Declares, Named, named, unit_at, units_of}
 use Rattle.st_types.specs.Names as names
-use Rattle.st_meaning.specs.CalledBy.{CalledTest}
+use Rattle.st_meaning.specs.CalledBy.{BodyCalls, CalledTest}
 use Rattle.st_meaning.specs.Sound.{AreSoundCalls}
-use Rattle.st_meaning.specs.Typing.{body_of}
-use Rattle.st_meaning.specs.Units.{called_as, called_by, calls_of, function_at, statements_of, unit_whole}
+use Rattle.st_meaning.specs.Units.{body_of_unit, called_as, called_by, calls_of, function_at, statements_of, unit_whole}
 use Rattle.st_meaning.specs.Wholes.{Called, Functions}
 use Rattle.st_calls.specs.Passing.{passing}
 use Rattle.st_code.specs.CalledFunctions.{FunctionsPass}
@@ -21,6 +20,7 @@ use Rattle.st_machine.specs.Functions.{CallsBelow, FunctionView, is_callable, ma
 use Rattle.st_places.specs.Parts.{is_function, is_small_function}
 use Rattle.st_places.specs.Functions.{starts_of}
 use Rattle.st_compile.specs.Programs.{function_view, no_function, program_functions, small_function, types_taken, unit_code}
+use Rattle.st_compile.proofs.Charted.{function_body_is}
 use Rattle.st_compile.proofs.Known.{Known}
 use Rattle.st_compile.proofs.OneLeaf.{one_leaf_each}
 use Rattle.st_compile.proofs.Ordered.{at_its_level, level_below, view_at}
@@ -59,7 +59,7 @@ unit_by units number (Some u) f at e = record { unit = u; at = at; is = is_calle
 pub called_unit : (units : List Named) (number : ℕ) (f : Called) → function_at units number ≡ Some f → IsUnit units number
 called_unit units number f e = unit_by units number (unit_at units number) f refl e
 
-same_number : (m n : ℕ) → m ≡ n → (m == n) ≡ true
+pub same_number : (m n : ℕ) → m ≡ n → (m == n) ≡ true
 same_number m n e = grind (arith, nat_tests)
 
 module _ (known : Known) (program : ProgramView) (checked : IsChecked program) (small : AreFunctionsSmall program) where
@@ -89,11 +89,11 @@ module _ (known : Known) (program : ProgramView) (checked : IsChecked program) (
   its_level n f is = let of = called_unit units n f is in level_below order n (at_its_level units order checked.ordered n of.unit of.at)
 
   -- the code of a unit above all functions
-  pub unit_calls : (u : Named) (level : ℕ) → length order ≤ level → CallsBelow (program_functions program) level (unit_code units u)
-  unit_calls u level above =
+  pub unit_calls : (n : ℕ) (u : Named) (level : ℕ) → length order ≤ level → CallsBelow (program_functions program) level (unit_code units n u)
+  unit_calls n u level above =
       let w = unit_whole units u in
-      let passes : FunctionsPass (function_at units) (may_call (program_functions program) level) = λ n f is. callable n f is level (let below = its_level n f is in omega (arith, below, above)) in
-      known.calling (function_at units) w.variables (may_call (program_functions program) level) (body_of w (statements_of u.declares)) passes (known.typed units u (statements_of u.declares))
+      let passes : FunctionsPass (function_at units) (may_call (program_functions program) level) = λ m f is. callable m f is level (let below = its_level m f is in omega (arith, below, above)) in
+      known.calling (function_at units) w.variables (may_call (program_functions program) level) (body_of_unit units n u) passes (known.typed units u n (statements_of u.declares))
 
   -- that of a function calls what stands below it
   abbrev lower : ℕ → CalledTest
@@ -105,10 +105,10 @@ module _ (known : Known) (program : ProgramView) (checked : IsChecked program) (
     by true test known' = callable m f known' (level_in order n) (ltb-true (level_in order m) (level_in order n) test)
     by false test known' = absurd cc
 
-  pub function_calls : (n : ℕ) (u : Named) (f : Function) → unit_at units n ≡ Some u → u.declares ≡ names.function f → CallsBelow (program_functions program) (level_in order n) (unit_code units u)
-  unfolding unit_whole
+  pub function_calls : (n : ℕ) (u : Named) (f : Function) → unit_at units n ≡ Some u → u.declares ≡ names.function f → CallsBelow (program_functions program) (level_in order n) (unit_code units n u)
   function_calls n u f at is =
       let w = unit_whole units u in
-      let body = body_of w (statements_of u.declares) in
-      let sound = known.passing (function_at units) (lower n) w.variables body (known.typed units u (statements_of u.declares)) (known.below program checked n u f at is) in
+      let body = body_of_unit units n u in
+      let calls = subst (BodyCalls (lower n)) (sym (function_body_is units n u f is)) (known.below program checked n u f at is) in
+      let sound = known.passing (function_at units) (lower n) w.variables body (known.typed units u n (statements_of u.declares)) calls in
       known.calling (passing (lower n) (function_at units)) w.variables (may_call (program_functions program) (level_in order n)) body (lower_passes n) sound

@@ -1,5 +1,5 @@
 -- Units of a checked program by their numbers in the tables: what their names stand for, that they are small, and what is made of them.
-use Rattle.std.proofs.Common.{◌≡◌, ℕ, Bool, zero, suc, ◌<◌, ◌≤◌, true, false, ◌&&◌, ◌||◌, not, nat_le, List, [], ◌∷◌, codes, get_or, length, map, Option, Some, None, refl, ap, sym, ◌∙◌, subst, arith}
+use Rattle.std.proofs.Common.{◌≡◌, ℕ, Bool, zero, suc, ◌==◌, ◌<◌, ◌≤◌, true, false, ◌&&◌, ◌||◌, not, nat_le, List, [], ◌∷◌, codes, get_or, length, map, Option, Some, None, refl, ap, sym, ◌∙◌, subst, arith}
 use Rattle.std.specs.Prelude.{if◌then◌else◌, min}
 use Rattle.std.proofs.lemmas.Bool.{and_parts, leb-true}
 use Rattle.std.proofs.lemmas.List.{length-map}
@@ -7,13 +7,15 @@ use Rattle.std.proofs.lemmas.Option.{same_Some}
 use Rattle.st_check.specs.Faults.{is_program}
 use Rattle.st_check.specs.Laws.{CheckedIsSmall}
 use Rattle.st_check.specs.Programs.{IsChecked, ProgramView, main_of, text_of}
-use Rattle.st_code.specs.Code.{body_code}
+use Rattle.st_code.specs.Code.{code_of}
+use Rattle.st_chart_runs.specs.Charts.{ChartsFit}
+use Rattle.st_chart_runs.specs.declared.workspace.ChartRoom.{ChartRoom}
 use Rattle.st_leaves.specs.Bounds.{HasBounds}
 use Rattle.st_leaves.specs.Places.{count}
 use Rattle.st_machine.specs.Levels.{Rooms}
 use Rattle.st_machine.specs.declared.stacks.Room.{Room}
 use Rattle.st_meaning.specs.Offsets.{IsSmall}
-use Rattle.st_meaning.specs.Typing.{body_of}
+use Rattle.st_meaning.specs.Typing.{body_in}
 use Rattle.st_meaning.specs.Units.{function_at, root_of, statements_of, unit_whole}
 use Rattle.st_meaning.specs.Wholes.{Whole}
 use Rattle.st_places.specs.Laws.{UnitsAreSound}
@@ -23,10 +25,10 @@ use Rattle.st_types.proofs.Units.{unit_at-map}
 use Rattle.st_types.specs.Inside.{named_by}
 use Rattle.st_types.specs.Names.{Named, unit_at, units_of}
 use Rattle.st_types.specs.declared.unit.NamedUnit.{NamedUnit}
-use Rattle.st_bodies.specs.Depths.{statements_depth}
-use Rattle.st_bodies.specs.Plain.{all, functions_at, instances_at, is_plain_unit, stands_for_function, stands_for_instance}
-use Rattle.st_compile.specs.Plain.{is_plain, is_plain_named, is_plain_optional_unit, is_plain_used}
-use Rattle.st_compile.specs.Programs.{HasRoom, block_code, faulty, faulty_name, main_unit, most_taken, name_in, optional_code, optional_depth, program_code, program_depth, program_names, program_rooms, types_taken, unit_code}
+use Rattle.st_bodies.specs.Depths.{declared_depth}
+use Rattle.st_compile.specs.Programs.{HasRoom, block_code, chart_view, faulty, faulty_name, made_of, main_unit, most_taken, name_in, program_charts, program_code, program_depth, program_names, program_rooms, types_taken, unit_chart, unit_code, own_depth}
+use Rattle.st_compile.specs.Small.{function_is_small}
+use Rattle.st_compile.proofs.Charted.{whichever_statements}
 use Rattle.st_compile.proofs.Renamed.{program_root}
 
 -- the variables of a unit
@@ -58,11 +60,6 @@ small_function_where tables n bounds small = by (unit_at (units_of tables.text) 
     few = leb-true (count (root_of (units_of tables.text) u)) 65536 (and_parts (is_function u.declares) (nat_le (count (root_of (units_of tables.text) u)) 65536) small).1;
   }
 
-pub small_used : (tables : TablesView) (n : ℕ) → HasBounds (whole_in tables n).variables → (a b : Bool) → is_small_block_in tables n ≡ a → is_small_function_in tables n ≡ b → (a || b) ≡ true
-    → IsSmall (whole_in tables n).variables
-small_used tables n bounds true b block function used = small_where tables n bounds block
-small_used tables n bounds false b block function used = small_function_where tables n bounds (function ∙ used)
-
 module _ (program : ProgramView) (tables : TablesView) (text : tables.text ≡ text_of program) (n : ℕ) (u : Named) (found : unit_at (units_of (text_of program)) n ≡ Some u) where
   abbrev units : List Named
   units = units_of (text_of program)
@@ -81,11 +78,21 @@ module _ (program : ProgramView) (tables : TablesView) (text : tables.text ≡ t
       subst (λ (w : Whole). HasBounds w.variables) (sym whole_at) (subst (λ c. HasBounds c) (sym (variables_are units u)) (sound program checked n u found).bounds)
 
   -- the code of its body
-  pub code_at : body_code (whole_in tables n).variables (body_of (whole_in tables n) (statements_of u.declares)) ≡ unit_code (units_of (text_of program)) u
-  code_at = ap (λ (w : Whole). body_code w.variables (body_of w (statements_of u.declares))) whole_at
+  pub code_at : code_of (whole_in tables n).variables (body_in (whole_in tables n) n (statements_of u.declares)) ≡ unit_code (units_of (text_of program)) n u
+  code_at = ap (λ (w : Whole). code_of w.variables (body_in w n (statements_of u.declares))) whole_at
 
-  pub block_code_at : (if is_small_block_in tables n then body_code (whole_in tables n).variables (body_of (whole_in tables n) (statements_of u.declares)) else []) ≡ block_code (units_of (text_of program)) u
-  block_code_at = ap (λ b. if b then body_code (whole_in tables n).variables (body_of (whole_in tables n) (statements_of u.declares)) else []) small_block_at ∙ ap (λ ls. if is_small_block units u then ls else []) code_at
+  pub block_code_at : (if is_small_block_in tables n then code_of (whole_in tables n).variables (body_in (whole_in tables n) n (statements_of u.declares)) else []) ≡ block_code (units_of (text_of program)) n u
+  block_code_at =
+      ap (λ b. if b then code_of (whole_in tables n).variables (body_in (whole_in tables n) n (statements_of u.declares)) else []) small_block_at ∙ ap (λ ls. if is_small_block units u then ls else []) code_at
+
+  -- its chart
+  pub chart_at : (main : ℕ) → main ≡ main_of program → (if n == main || is_small_block_in tables n then chart_view (body_in (whole_in tables n) n []) else None)
+      ≡ unit_chart (units_of (text_of program)) (main_of program) n u
+  chart_at main is =
+      ap (λ m. if n == m || is_small_block_in tables n then chart_view (body_in (whole_in tables n) n []) else None) is
+      ∙ ap (λ b. if n == main_of program || b then chart_view (body_in (whole_in tables n) n []) else None) small_block_at
+      ∙ ap (λ c. if n == main_of program || is_small_block units u then c else None)
+      (ap (λ w. chart_view (body_in w n [])) whole_at ∙ whichever_statements (unit_whole units u) n [] (statements_of u.declares))
 
   pub small_function_at : is_small_function_in tables n ≡ is_small_function (units_of (text_of program)) u
   unfolding is_small_function_in
@@ -99,16 +106,9 @@ module _ (program : ProgramView) (tables : TablesView) (text : tables.text ≡ t
   pub taken_at : types_taken (function_at (units_of tables.text) n) ≡ types_taken (function_at (units_of (text_of program)) n)
   taken_at = ap (λ t. types_taken (function_at (units_of t) n)) text
 
-  -- whether it runs
-  pub plain_at : is_plain_unit (functions_at (tables, n)) (instances_at (tables, n)) u.declares ≡ is_plain_named (units_of (text_of program)) u
-  plain_at = ap (λ w. is_plain_unit (stands_for_function w) (stands_for_instance w) u.declares) whole_at
-
-  pub used_at : (if is_small_block_in tables n || is_small_function_in tables n then is_plain_unit (functions_at (tables, n)) (instances_at (tables, n)) u.declares else not (is_function u.declares))
-      ≡ is_plain_used (units_of (text_of program)) u
-  used_at =
-      ap (λ b. if b || is_small_function_in tables n then is_plain_unit (functions_at (tables, n)) (instances_at (tables, n)) u.declares else not (is_function u.declares)) small_block_at
-      ∙ ap (λ b. if is_small_block units u || b then is_plain_unit (functions_at (tables, n)) (instances_at (tables, n)) u.declares else not (is_function u.declares)) small_function_at
-      ∙ ap (λ b. if is_small_block units u || is_small_function units u then b else not (is_function u.declares)) plain_at
+  -- if it is a function, whether it is small
+  pub function_small_at : (not (is_function u.declares) || is_small_function_in tables n) ≡ function_is_small (units_of (text_of program)) u
+  function_small_at = ap (λ b. not (is_function u.declares) || b) small_function_at
 
 -- ---- the main unit
 
@@ -125,25 +125,15 @@ module _ (program : ProgramView) (main : ℕ) (is : main ≡ main_of program) (u
       let fits : IsSmall (root_of units u) = subst (λ c. IsSmall c) (sym (program_root units u is_main)) (record { bounds = few.bounds; few = few.few }) in
       subst (λ (w : Whole). IsSmall w.variables) (sym (whole_at program tables text main u found)) (subst (λ c. IsSmall c) (sym (variables_are units u)) fits)
 
-  pub main_code : unit_code (units_of (text_of program)) u ≡ program_code program
+  pub main_code : unit_code (units_of (text_of program)) main u ≡ program_code program
   unfolding program_code
-  main_code = sym (ap (optional_code (units_of (text_of program))) main_found)
+  main_code = ap (λ n. unit_code (units_of (text_of program)) n u) is ∙ sym (ap (made_of (unit_code (units_of (text_of program))) [] (main_of program)) main_found)
 
-  pub main_depth : min (statements_depth (most_taken (units_of (text_of program))) (statements_of u.declares)) (length (unit_code (units_of (text_of program)) u)) ≡ program_depth program
+  pub main_depth : min (declared_depth (most_taken (units_of (text_of program))) u.declares) (length (unit_code (units_of (text_of program)) main u)) ≡ program_depth program
   unfolding program_depth
-  main_depth = sym (ap (optional_depth (units_of (text_of program))) main_found)
-
-  main_plain : is_plain_optional_unit (units_of (text_of program)) (main_unit program) ≡ is_plain_named (units_of (text_of program)) u
-  main_plain = ap (is_plain_optional_unit (units_of (text_of program))) main_found
-
-  -- where it runs, the others decide
-  pub plain_then : is_plain_named (units_of (text_of program)) u ≡ true → all (map (is_plain_used (units_of (text_of program))) (units_of (text_of program))) ≡ is_plain program
-  unfolding is_plain
-  plain_then runs = sym (ap (λ b. b && all (map (is_plain_used (units_of (text_of program))) (units_of (text_of program)))) (main_plain ∙ runs))
-
-  pub plain_else : is_plain_named (units_of (text_of program)) u ≡ false → false ≡ is_plain program
-  unfolding is_plain
-  plain_else fails = sym (ap (λ b. b && all (map (is_plain_used (units_of (text_of program))) (units_of (text_of program)))) (main_plain ∙ fails))
+  main_depth =
+      ap (λ n. min (declared_depth (most_taken (units_of (text_of program))) u.declares) (length (unit_code (units_of (text_of program)) n u))) is
+      ∙ sym (ap (made_of (own_depth (units_of (text_of program))) 0 (main_of program)) main_found)
 
 -- ---- units as they are read
 
@@ -172,12 +162,14 @@ main_below program read same checked main is =
 
 -- ---- an image's stacks, and its names
 
-abbrev roomy : ℕ → List Room → Rooms
-roomy n rs = record { own = n; levels = rs }
-
-pub has_room : (program : ProgramView) (rooms : Rooms) (n : ℕ) (rs : List Room) → rooms ≡ record { own = n; levels = rs } → n ≡ program_depth program → rs ≡ program_rooms program → HasRoom program rooms
-unfolding HasRoom
-has_room program rooms n rs is own levels = is ∙ ap (λ k. roomy k rs) own ∙ ap (roomy (program_depth program)) levels
+pub has_room : (program : ProgramView) (rooms : Rooms) (n : ℕ) (rs : List Room) (room : ChartRoom) → rooms ≡ record { own = n; levels = rs; charts = room } → n ≡ program_depth program
+    → rs ≡ program_rooms program → ChartsFit (program_charts program) room → HasRoom program rooms
+has_room program rooms n rs room is own levels fit =
+    record {
+      own = ap (λ (r : Rooms). r.own) is ∙ own;
+      levels = ap (λ (r : Rooms). r.levels) is ∙ levels;
+      charts = subst (ChartsFit (program_charts program)) (sym (ap (λ (r : Rooms). r.charts) is)) fit;
+    }
 
 names_get : (us : List Named) (n : ℕ) (name : List ℕ) → n < length (map (λ (u : Named). u.name.spelling) us) → name ≡ get_or (map (λ (u : Named). u.name.spelling) us) n name → name ≡ name_in (unit_at us n)
 names_get [] n name below is = absurd (omega (arith, below))

@@ -1,6 +1,7 @@
 pub mod AreBlocks
 pub mod AreFunctions
 pub mod Callable
+pub mod Charted
 pub mod Coded
 pub mod Frames
 pub mod Functioned

@@ -1,6 +1,6 @@
 -- What is made of the units of a program, by their numbers and by their places in the order.
 use Rattle.std.proofs.Common.{◌≡◌, ℕ, zero, suc, ◌+◌, ◌<◌, Bool, true, false, if◌then◌else◌, nat_eq, List, [], ◌∷◌, ◌++◌, map, length, get_or, Some, refl, ap, sym, ◌∙◌, subst, arith}
-use Rattle.std.specs.List.{Contains, slice_get}
+use Rattle.std.specs.List.{All, Contains, slice_get}
 use Rattle.std.specs.Prelude.{slice_index_or}
 use Rattle.std.proofs.lemmas.Bool.{eqb-true, eqb-false}
 use Rattle.std.proofs.lemmas.List.{get_or-append-add, get_or_append_left, length-map}
@@ -8,7 +8,7 @@ use Rattle.st_check.specs.Programs.{level_in}
 use Rattle.st_order.specs.Graphs.{IsOrder}
 use Rattle.st_references.specs.References.{graph_of, references}
 use Rattle.st_types.specs.Names.{Named, unit_at}
-use Rattle.st_compile.specs.Programs.{numbered}
+use Rattle.st_compile.specs.Programs.{made_of, numbered}
 
 -- ---- by their numbers
 
@@ -33,6 +33,10 @@ module _ {V : Type 0} (make : ℕ → Named → V) where
       let same : 0 + i ≡ i = omega arith in
       behind_at 0 units i u is ∙ ap (λ n. Some (make n u)) same
 
+  pub length-numbered : (k : ℕ) (us : List Named) → length (numbered make k us) ≡ length us
+  length-numbered k [] = refl
+  length-numbered k (u ∷ us) = ap suc (length-numbered (suc k) us)
+
   -- the unit that it is made of, which has this number among these
   pub record IsOf (us : List Named) (i number : ℕ) (v : V) : Type 0 where
     pub unit : Named
@@ -55,6 +59,18 @@ module _ {V : Type 0} (make : ℕ → Named → V) where
       let same : 0 + i ≡ i = omega arith in
       subst (λ n. IsOf units i n v) same (unit_behind 0 units i v is)
 
+  got_behind : (other : V) (k : ℕ) (us : List Named) (i : ℕ) → get_or (numbered make k us) i other ≡ made_of make other (k + i) (unit_at us i)
+  got_behind other k [] i = refl
+  got_behind other k (u ∷ us) zero = let same : k ≡ k + zero = omega arith in ap (λ n. make n u) same
+  got_behind other k (u ∷ us) (suc i) =
+      let same : suc k + i ≡ k + suc i = omega arith in
+      got_behind other (suc k) us i ∙ ap (λ n. made_of make other n (unit_at us i)) same
+
+  pub got_at : (other : V) (units : List Named) (i : ℕ) → get_or (numbered make 0 units) i other ≡ made_of make other i (unit_at units i)
+  got_at other units i =
+      let same : 0 + i ≡ i = omega arith in
+      got_behind other 0 units i ∙ ap (λ n. made_of make other n (unit_at units i)) same
+
 -- ---- by their places
 
 found_level : (order : List ℕ) (n k : ℕ) → k < length order → slice_index_or order k n ≡ n → slice_get order (level_in order n) ≡ Some n
@@ -74,6 +90,14 @@ module _ (units : List Named) (order : List ℕ) (ordered : IsOrder (graph_of un
       let rows = length-map units (λ v. references units v.declares) in
       let has : Contains order n = ordered.all n (omega (arith, rows, found_below units n u at)) in
       found_level order n has.0 has.1 has.2
+
+  -- and something is made of each number in the order
+  pub all_made : {V : Type 0} (make : ℕ → Named → V) (given : List ℕ) (made : List V) → given ≡ order → made ≡ numbered make 0 units → All (λ number. number < length made) given
+  all_made make given made same is k d below =
+      let rows = length-map units (λ v. references units v.declares) in
+      let many : length made ≡ length units = ap length is ∙ length-numbered make 0 units in
+      let number = subst (All (λ n. n < length (graph_of units))) (sym same) ordered.rows k d below in
+      omega (arith, number, rows, many)
 
 got_below : {X : Type 0} (xs : List X) (i : ℕ) (x : X) → slice_get xs i ≡ Some x → i < length xs
 got_below [] i x is = absurd cc

@@ -1,4 +1,5 @@
--- What is said of the function blocks and functions of a program: the types of their leaves, what their bodies do, and what they give.
+-- What is said of the function blocks and functions of a program: the types of their leaves, what their bodies do, what they give, and
+-- their charts.
 use Rattle.std.proofs.Common.{◌≡◌, ℕ, suc, ◌+◌, ◌<◌, ◌≤◌, Bool, true, ◌&&◌, if◌then◌else◌, nat_le, List, [], ◌∷◌, drop, length, get_or, Option, Some, None, refl, sym, ◌∙◌, subst, arith, length-drop}
 use Rattle.std.proofs.lemmas.Bool.{and_from, le-leb}
 use Rattle.std.proofs.lemmas.List.{get_or-drop, get_or-map, length-map}
@@ -22,7 +23,8 @@ use Rattle.st_code.proofs.Steps.{same_type}
 use Rattle.st_machine.specs.Blocks.{begins_with, stand_at}
 use Rattle.st_machine.specs.Levels.{Said}
 use Rattle.st_places.specs.Parts.{is_small_block}
-use Rattle.st_compile.specs.Programs.{types_taken, unit_meaning}
+use Rattle.st_compile.specs.Programs.{made_of, types_taken, unit_meaning}
+use Rattle.st_compile.proofs.Charted.{no_sketch, unit_sketch}
 use Rattle.st_compile.proofs.OfTypes.{elems_of, many_elems}
 
 -- of the leaves of a unit
@@ -37,11 +39,12 @@ unit_types units (Some u) = root_types units u
 abbrev pub may_run : List Named → Named → Setting → Values → Bool
 may_run units u setting values = is_small_block units u && (in_range elems.Time setting.now && are_of_types (root_types units u) values)
 
-abbrev pub unit_body : List Named → Option Named → UnitBody
-unit_body units None = record { size = 0; run = λ setting values left. done values left }
-unit_body units (Some u) = record {
+-- of the unit of this number
+abbrev pub unit_body : List Named → ℕ → Option Named → UnitBody
+unit_body units n None = record { size = 0; run = λ setting values left. done values left }
+unit_body units n (Some u) = record {
   size = length (root_types units u);
-  run = λ setting values left. if may_run units u setting values then unit_meaning units u setting values left else done values left;
+  run = λ setting values left. if may_run units u setting values then unit_meaning units n u setting values left else done values left;
 }
 
 -- the function of this number gives what it gives
@@ -51,13 +54,14 @@ function_body units number = record { inputs = types_taken (function_at units nu
 abbrev pub said_of : ProgramView → Said
 said_of program = record {
   types = λ n. unit_types (units_of (text_of program)) (unit_at (units_of (text_of program)) n);
-  bodies = λ n. unit_body (units_of (text_of program)) (unit_at (units_of (text_of program)) n);
+  bodies = λ n. unit_body (units_of (text_of program)) n (unit_at (units_of (text_of program)) n);
   functions = function_body (units_of (text_of program));
+  charts = λ n. made_of (unit_sketch (units_of (text_of program))) no_sketch n (unit_at (units_of (text_of program)) n);
 }
 
-pub body_size : (units : List Named) (u : Option Named) → (unit_body units u).size ≡ length (unit_types units u)
-body_size units None = refl
-body_size units (Some u) = refl
+pub body_size : (units : List Named) (n : ℕ) (u : Option Named) → (unit_body units n u).size ≡ length (unit_types units u)
+body_size units n None = refl
+body_size units n (Some u) = refl
 
 -- ---- the leaves of a part stand where its offset says
 

@@ -1,5 +1,6 @@
 -- Programs as they run: the body of the main unit, those of the function blocks that it invokes, and the functions that it calls.
-use Rattle.std.specs.Prelude.{ℕ, suc, ◌≡◌, ◌+◌, min, max, Bool, true, IsTrue, if◌then◌else◌, List, [], ◌∷◌, ◌++◌, length, map, Option, Some, None, Result, Ok, Err}
+use Rattle.std.specs.Prelude.{ℕ, suc, ◌≡◌, ◌+◌, ◌==◌, min, max, Bool, true, ◌||◌, IsTrue, if◌then◌else◌, List, [], ◌∷◌, ◌++◌, length, map, Option, Some, None, Result, Ok, Err}
+use Rattle.std.specs.Option.{is_some}
 use Rattle.st_check.specs.Programs.{IsChecked, ProgramView, leaves_of_program, level_in, main_of, order_of, text_of}
 use Rattle.st_layout.specs.Memory.{Fits, forced_at, value_at}
 use Rattle.st_values.specs.Values.{in_range}
@@ -9,18 +10,21 @@ use Rattle.st_tree.specs.declared.leaf.Leaf.{Leaf}
 use Rattle.st_types.specs.Names.{Named, unit_at, units_of}
 use Rattle.st_meaning.specs.Meaning.{Values}
 use Rattle.st_meaning.specs.Statements.{Setting, Outcome, done, exited, returned, faulted, body_meaning}
-use Rattle.st_meaning.specs.Typing.{body_of}
-use Rattle.st_meaning.specs.Units.{calls_of, function_at, statements_of, unit_whole}
+use Rattle.st_meaning.specs.Sketches.{Sketch}
+use Rattle.st_meaning.specs.Terms.{Body, plain_body, chart_body}
+use Rattle.st_meaning.specs.Units.{body_of_unit, calls_of, function_at, unit_whole}
 use Rattle.st_meaning.specs.Wholes.{Called}
 use Rattle.st_meaning.specs.declared.fault.RunFault.{RunFault}
-use Rattle.st_code.specs.Code.{Line, body_code}
+use Rattle.st_code.specs.Code.{Line, code_of}
+use Rattle.st_sketches.specs.Views.{SketchView}
+use Rattle.st_chart_runs.specs.Charts.{ChartsFit}
 use Rattle.st_machine.specs.Blocks.{BlockView, UnitsView}
 use Rattle.st_machine.specs.Functions.{FunctionView}
 use Rattle.st_machine.specs.Levels.{Rooms, no_room}
 use Rattle.st_machine.specs.declared.stacks.Room.{Room}
 use Rattle.st_places.specs.Parts.{is_small_block, is_small_function}
 use Rattle.st_places.specs.Functions.{starts_of}
-use Rattle.st_bodies.specs.Depths.{most, statements_depth}
+use Rattle.st_bodies.specs.Depths.{declared_depth, most}
 
 -- ---- units
 
@@ -38,10 +42,10 @@ program_names program = map (λ (u : Named). u.name.spelling) (units_of (text_of
 
 -- ---- what a scan gives
 
--- what the body of a unit does to the values of its variables, where the functions of the text give what they give
-abbrev pub unit_meaning : List Named → Named → Setting → Values → ℕ → Outcome
-unit_meaning units unit setting values left =
-    body_meaning (calls_of units) (unit_whole units unit).variables setting (body_of (unit_whole units unit) (statements_of unit.declares)) values left
+-- what the body of a unit, which has this number, does to the values of its variables, where the functions of the text give what they
+-- give
+abbrev pub unit_meaning : List Named → ℕ → Named → Setting → Values → ℕ → Outcome
+unit_meaning units number unit setting values left = body_meaning (calls_of units) (unit_whole units unit).variables setting (body_of_unit units number unit) values left
 
 -- the number of the unit that a fault is in: the one that was invoked or called, or else the main one
 abbrev pub faulty : ℕ → Option ℕ → ℕ
@@ -59,27 +63,29 @@ result_in program (exited values left) = Ok values
 result_in program (returned values left) = Ok values
 result_in program (faulted f) = Err (record { kind = f.kind; unit = faulty_name program f.unit; line = f.line })
 
-abbrev pub optional_meaning : List Named → Option Named → Setting → Values → ℕ → Outcome
-optional_meaning units None setting values left = done values left
-optional_meaning units (Some unit) setting values left = unit_meaning units unit setting values left
+abbrev pub optional_meaning : List Named → ℕ → Option Named → Setting → Values → ℕ → Outcome
+optional_meaning units number None setting values left = done values left
+optional_meaning units number (Some unit) setting values left = unit_meaning units number unit setting values left
 
 -- what the program makes of the values in which the inputs are stored, at this moment, where these leaves are forced and so many
 -- steps are allowed: new values, or a fault
 unfoldable pub scan_result : ProgramView → Setting → Values → ℕ → Result Values RunFault
-scan_result program setting values limit = result_in program (optional_meaning (units_of (text_of program)) (main_unit program) setting values limit)
+scan_result program setting values limit = result_in program (optional_meaning (units_of (text_of program)) (main_of program) (main_unit program) setting values limit)
 
 -- ---- its code
 
-abbrev pub unit_code : List Named → Named → List Line
-unit_code units unit = body_code (unit_whole units unit).variables (body_of (unit_whole units unit) (statements_of unit.declares))
+-- that of the body of a unit, which has this number
+abbrev pub unit_code : List Named → ℕ → Named → List Line
+unit_code units number unit = code_of (unit_whole units unit).variables (body_of_unit units number unit)
 
-abbrev pub optional_code : List Named → Option Named → List Line
-optional_code units None = []
-optional_code units (Some unit) = unit_code units unit
+-- what is made of the unit of this number, or else that
+abbrev pub made_of : {V : Type 0} → (ℕ → Named → V) → V → ℕ → Option Named → V
+made_of make other number None = other
+made_of make other number (Some unit) = make number unit
 
 -- the code of the main unit's body
 unfoldable pub program_code : ProgramView → List Line
-program_code program = optional_code (units_of (text_of program)) (main_unit program)
+program_code program = made_of (unit_code (units_of (text_of program))) [] (main_of program) (main_unit program)
 
 -- ---- that of its function blocks and functions
 
@@ -98,11 +104,11 @@ numbered make number [] = []
 numbered make number (u ∷ us) = make number u ∷ numbered make (suc number) us
 
 -- a unit that is no function block has none, and neither has one that no program has room for
-abbrev pub block_code : List Named → Named → List Line
-block_code units unit = if is_small_block units unit then unit_code units unit else []
+abbrev pub block_code : List Named → ℕ → Named → List Line
+block_code units number unit = if is_small_block units unit then unit_code units number unit else []
 
 abbrev pub block_view : List Named → List ℕ → ℕ → Named → BlockView
-block_view units order number unit = record { code = block_code units unit; level = block_level order number }
+block_view units order number unit = record { code = block_code units number unit; level = block_level order number }
 
 -- of all units, by their numbers
 unfoldable pub program_blocks : ProgramView → List BlockView
@@ -115,7 +121,7 @@ types_taken (Some f) = map (λ i. i.initial.elem) f.inputs
 
 abbrev pub small_function : List Named → List ℕ → ℕ → Named → FunctionView
 small_function units order number unit = record {
-  code = unit_code units unit;
+  code = unit_code units number unit;
   level = level_in order number;
   inputs = types_taken (function_at units number);
   starts = starts_of units unit;
@@ -131,11 +137,37 @@ function_view units order number unit = if is_small_function units unit then sma
 unfoldable pub program_functions : ProgramView → List FunctionView
 program_functions program = numbered (function_view (units_of (text_of program)) (order_of program)) 0 (units_of (text_of program))
 
-abbrev pub program_units : ProgramView → UnitsView
-program_units program = record { blocks = program_blocks program; functions = program_functions program }
+-- ---- its charts
 
--- ---- for how much there is room: on each stack for as many cells as the statements need by their structure, and no more than there
--- are instructions
+-- a chart as the numbers that the machine runs
+abbrev pub sketch_view : Sketch → SketchView
+sketch_view sketch = record {
+  pulses = sketch.pulses;
+  passages = sketch.passages;
+  links = sketch.links;
+  variables = map is_some sketch.variables;
+  stored = sketch.stored;
+  actions = sketch.actions;
+}
+
+-- where a body is a chart
+abbrev pub chart_view : Body → Option SketchView
+chart_view (plain_body cs) = None
+chart_view (chart_body _ sketch _ _) = Some (sketch_view sketch)
+
+-- those of the main unit and of the function blocks that a program has room for
+abbrev pub unit_chart : List Named → (main number : ℕ) → Named → Option SketchView
+unit_chart units main number unit = if number == main || is_small_block units unit then chart_view (body_of_unit units number unit) else None
+
+-- of all units, by their numbers
+unfoldable pub program_charts : ProgramView → List (Option SketchView)
+program_charts program = numbered (unit_chart (units_of (text_of program)) (main_of program)) 0 (units_of (text_of program))
+
+abbrev pub program_units : ProgramView → UnitsView
+program_units program = record { blocks = program_blocks program; functions = program_functions program; charts = program_charts program }
+
+-- ---- for how much there is room: on each stack for as many cells as the body needs by its structure, and no more than there are
+-- instructions
 
 -- how many inputs a function of the text takes at most
 abbrev pub taken : List Named → ℕ → Named → ℕ
@@ -145,28 +177,28 @@ unfoldable pub most_taken : List Named → ℕ
 most_taken units = most (numbered (taken units) 0 units)
 
 abbrev pub code_depth : List Named → Named → List Line → ℕ
-code_depth units unit code = min (statements_depth (most_taken units) (statements_of unit.declares)) (length code)
+code_depth units unit code = min (declared_depth (most_taken units) unit.declares) (length code)
 
-abbrev pub optional_depth : List Named → Option Named → ℕ
-optional_depth units None = 0
-optional_depth units (Some unit) = code_depth units unit (unit_code units unit)
+abbrev pub own_depth : List Named → ℕ → Named → ℕ
+own_depth units number unit = code_depth units unit (unit_code units number unit)
 
 unfoldable pub program_depth : ProgramView → ℕ
-program_depth program = optional_depth (units_of (text_of program)) (main_unit program)
+program_depth program = made_of (own_depth (units_of (text_of program))) 0 (main_of program) (main_unit program)
 
-abbrev pub block_room : List Named → Option Named → Room
-block_room units None = no_room
-block_room units (Some unit) = record { stack = code_depth units unit (block_code units unit); variables = 0 }
+abbrev pub block_room : List Named → ℕ → Named → Room
+block_room units number unit = record { stack = code_depth units unit (block_code units number unit); variables = 0 }
 
 -- a function has room for its variables too
-abbrev pub function_room : List Named → Option Named → Room
-function_room units None = no_room
-function_room units (Some unit) =
-    if is_small_function units unit then record { stack = code_depth units unit (unit_code units unit); variables = length (starts_of units unit) } else no_room
+abbrev pub function_room : List Named → ℕ → Named → Room
+function_room units number unit =
+    if is_small_function units unit then record { stack = own_depth units number unit; variables = length (starts_of units unit) } else no_room
+
+abbrev pub room_at : (ℕ → Named → Room) → List Named → ℕ → Room
+room_at room units number = made_of room no_room number (unit_at units number)
 
 -- that of each level: of the functions at each place in the order, and then of the function blocks
 abbrev pub level_rooms : List Named → List ℕ → List Room
-level_rooms units order = map (λ n. function_room units (unit_at units n)) order ++ map (λ n. block_room units (unit_at units n)) order
+level_rooms units order = map (room_at (function_room units) units) order ++ map (room_at (block_room units) units) order
 
 unfoldable pub program_rooms : ProgramView → List Room
 program_rooms program = level_rooms (units_of (text_of program)) (order_of program)
@@ -178,9 +210,11 @@ stacks_in rooms = map (λ (r : Room). r.stack) rooms
 unfoldable pub greatest_depth : ProgramView → ℕ
 greatest_depth program = max (program_depth program) (most (stacks_in (program_rooms program)))
 
--- there is so much room
-unfoldable pub HasRoom : ProgramView → Rooms → Type 0
-HasRoom program rooms = rooms ≡ record { own = program_depth program; levels = program_rooms program }
+-- there is so much room, and enough for each chart
+pub record HasRoom (program : ProgramView) (rooms : Rooms) : Type 0 where
+  pub own : rooms.own ≡ program_depth program
+  pub levels : rooms.levels ≡ program_rooms program
+  pub charts : ChartsFit (program_charts program) rooms.charts
 
 -- ---- what follows
 

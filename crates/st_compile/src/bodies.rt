@@ -1,22 +1,23 @@
 //! The code of bodies, and how deep its stack gets.
 ghost use Rattle.std.specs.Prelude.{[], ◌≡◌, if◌then◌else◌, IfOk, length, map, min};
+ghost use Rattle.st_bodies.specs.Depths.{declared_depth};
 ghost use Rattle.st_check.specs.Programs.{text_of};
-ghost use Rattle.st_code.specs.Code.{body_code};
+ghost use Rattle.st_code.specs.Code.{code_of};
 ghost use Rattle.st_leaves.specs.Bounds.{HasBounds};
 ghost use Rattle.st_meaning.specs.Offsets.{IsSmall};
-ghost use Rattle.st_meaning.specs.Typing.{body_of};
+ghost use Rattle.st_meaning.specs.Typing.{body_in};
 ghost use Rattle.st_meaning.specs.Units.{statements_of};
 ghost use Rattle.st_places.specs.Parts.{is_small_block_in, whole_in};
 ghost use Rattle.st_types.specs.Inside.{named_by};
 ghost use Rattle.st_types.specs.Names.{units_of};
-ghost use Rattle.st_bodies.specs.Depths.{statements_depth};
 ghost use Rattle.st_compile.specs.Programs.{most_taken, program_code, program_depth};
 
-use st_bodies::statements_depth;
+use st_bodies::{body_depth, statements_depth};
 use st_check::{Program, checked_program_is_small};
 use st_code::Code;
-use st_emit::emit_body;
+use st_emit::{emit_body, emit_chart};
 use st_places::Tables;
+use st_sketches::Names;
 use st_tree::tree::{Body as Written, Statement};
 use st_types::{NamedUnit, UnitKind};
 use std::alloc::{AllocError, Global};
@@ -48,7 +49,8 @@ pub(crate) fn main_body(
     body_of(alloc, &units[main], tables, main, inputs)
 }
 
-/// The code of a unit's body, where the unit is a function block that a program has room for. Else there is none.
+/// The code of a unit's body, where the unit, which has this number in the tables, is a function block that a program has room for.
+/// Else there is none.
 pub(crate) fn block_of(
     alloc: Global,
     unit: &NamedUnit<'_>,
@@ -57,8 +59,8 @@ pub(crate) fn block_of(
     inputs: usize,
 ) -> Result<Body, AllocError>
     requires bounds { HasBounds (whole_in tables.now number).variables }
-    ensures code { IfOk result (λ body. body.code ≡ (if is_small_block_in tables.now number then body_code (whole_in tables.now number).variables (body_of (whole_in tables.now number) (statements_of (named_by unit.now).declares)) else [])) }
-    ensures depth { IfOk result (λ body. body.depth ≡ min (statements_depth inputs (statements_of (named_by unit.now).declares)) (length body.code)) }
+    ensures code { IfOk result (λ body. body.code ≡ (if is_small_block_in tables.now number then code_of (whole_in tables.now number).variables (body_in (whole_in tables.now number) number (statements_of (named_by unit.now).declares)) else [])) }
+    ensures depth { IfOk result (λ body. body.depth ≡ min (declared_depth inputs (named_by unit.now).declares) (length body.code)) }
 {
     if tables.is_small_block(number) {
         body_of(alloc, unit, tables, number, inputs)
@@ -77,13 +79,43 @@ pub(crate) fn body_of(
     inputs: usize,
 ) -> Result<Body, AllocError>
     requires small { IsSmall (whole_in tables.now number).variables }
-    ensures code { IfOk result (λ body. body.code ≡ body_code (whole_in tables.now number).variables (body_of (whole_in tables.now number) (statements_of (named_by unit.now).declares))) }
-    ensures depth { IfOk result (λ body. body.depth ≡ min (statements_depth inputs (statements_of (named_by unit.now).declares)) (length body.code)) }
+    ensures code { IfOk result (λ body. body.code ≡ code_of (whole_in tables.now number).variables (body_in (whole_in tables.now number) number (statements_of (named_by unit.now).declares))) }
+    ensures depth { IfOk result (λ body. body.depth ≡ min (declared_depth inputs (named_by unit.now).declares) (length body.code)) }
 {
-    let statements = statements_of(unit);
-    let code = emit_body(alloc, tables, number, statements)?;
-    let depth = statements_depth(statements, inputs).min(code.len());
+    let code = code_of(alloc, unit, tables, number)?;
+    let depth = declared_depth(unit, inputs).min(code.len());
     Ok(Body { code, depth })
+}
+
+/// The code of a unit's chart, where its body is one, and else of its statements.
+fn code_of(
+    alloc: Global,
+    unit: &NamedUnit<'_>,
+    tables: &Tables<'_>,
+    number: usize,
+) -> Result<Code, AllocError>
+    requires small { IsSmall (whole_in tables.now number).variables }
+    ensures { IfOk result (λ code. code ≡ code_of (whole_in tables.now number).variables (body_in (whole_in tables.now number) number (statements_of (named_by unit.now).declares))) }
+{
+    let elements = tables.chart(number);
+    if elements.is_empty() {
+        emit_body(alloc, tables, number, statements_of(unit))
+    } else {
+        let names = Names::of(alloc, elements)?;
+        emit_chart(alloc, tables, number, elements, &names)
+    }
+}
+
+/// How many numbers the stack of a unit's body needs room for by its structure, where functions of the text take so many inputs at
+/// most. The number stops at `usize::MAX`.
+fn declared_depth(unit: &NamedUnit<'_>, inputs: usize) -> usize
+    ensures { result ≡ min (declared_depth inputs (named_by unit.now).declares) usize.MAX }
+{
+    match unit.kind {
+        UnitKind::Block(pou) | UnitKind::Program(pou) => body_depth(&pou.body, inputs),
+        UnitKind::Function(function) => statements_depth(function.statements.as_slice(), inputs),
+        UnitKind::Type(_) => 0,
+    }
 }
 
 /// The statements of the body of a unit. A chart has none.

@@ -1,20 +1,21 @@
-//! The code of functions, and the values that their variables begin with.
-ghost use Rattle.std.specs.Prelude.{[], ◌≡◌, IfOk, map};
+//! The code of functions, and the values that their variables begin with; and how many variables they have.
+ghost use Rattle.std.specs.Prelude.{[], ◌≡◌, ◌||◌, IfOk, map, not};
 ghost use Rattle.st_check.specs.Programs.{level_in, order_of, text_of};
 ghost use Rattle.st_leaves.specs.Bounds.{HasBounds};
 ghost use Rattle.st_machine.specs.Levels.{no_room};
 ghost use Rattle.st_meaning.specs.Units.{function_at};
-ghost use Rattle.st_places.specs.Parts.{whole_in};
+ghost use Rattle.st_places.specs.Parts.{is_function, is_small_function_in, whole_in};
 ghost use Rattle.st_types.specs.Inside.{named_by};
 ghost use Rattle.st_types.specs.Names.{unit_at, units_of};
 ghost use Rattle.st_compile.specs.Programs.{function_room, function_view, most_taken, types_taken};
+ghost use Rattle.st_compile.specs.Small.{functions_are_small};
 
 use crate::bodies::body_of;
 use st_check::Program;
 use st_code::Code;
 use st_machine::{Function, Room};
 use st_places::Tables;
-use st_types::NamedUnit;
+use st_types::{NamedUnit, UnitKind};
 use st_values::Elem;
 use std::alloc::{AllocError, Global};
 
@@ -43,7 +44,7 @@ pub(crate) fn function_of(
     requires level { level ≡ level_in (order_of program.now) number }
     requires inputs { inputs ≡ most_taken (units_of (text_of program.now)) }
     ensures function { IfOk result (λ made. made.function ≡ function_view (units_of (text_of program.now)) (order_of program.now) number (named_by unit.now)) }
-    ensures room { IfOk result (λ made. made.room ≡ function_room (units_of (text_of program.now)) (Some (named_by unit.now))) }
+    ensures room { IfOk result (λ made. made.room ≡ function_room (units_of (text_of program.now)) number (named_by unit.now)) }
 {
     if !tables.is_small_function(number) {
         let none = program.order().len() * 2;
@@ -103,4 +104,30 @@ pub(crate) fn most_taken(program: &Program, units: &[NamedUnit<'_>], tables: &Ta
         }
     }
     most
+}
+
+/// Whether all functions of the text have at most 65,536 variables, their results among them.
+pub(crate) fn functions_are_small(
+    program: &Program,
+    units: &[NamedUnit<'_>],
+    tables: &Tables<'_>,
+) -> bool
+    requires units { map named_by units.now ≡ units_of (text_of program.now) }
+    requires tables { tables.now.text ≡ text_of program.now }
+    ensures { result ≡ functions_are_small program.now }
+{
+    let _checked = program.units();
+    'units: for number in 0..units.len() {
+        if !function_is_small(&units[number], tables, number) {
+            return false;
+        }
+    }
+    true
+}
+
+/// Whether a unit, which has this number in the tables, has at most 65,536 variables, if it is a function.
+fn function_is_small(unit: &NamedUnit<'_>, tables: &Tables<'_>, number: usize) -> bool
+    ensures { result ≡ (not (is_function (named_by unit.now).declares) || is_small_function_in tables.now number) }
+{
+    !matches!(unit.kind, UnitKind::Function(_)) || tables.is_small_function(number)
 }

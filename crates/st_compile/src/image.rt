@@ -1,8 +1,8 @@
 //! Images: programs with their layouts, their code and the room that it needs.
 ghost use Rattle.std.specs.Prelude.{◌≡◌, IfOk};
 ghost use Rattle.st_check.specs.Programs.{leaves_of_program};
-ghost use Rattle.st_compile.specs.Plain.{is_plain};
 ghost use Rattle.st_compile.specs.Programs.{HasRoom, faulty_name, greatest_depth, program_code, program_units};
+ghost use Rattle.st_compile.specs.Small.{functions_are_small};
 
 mod apart;
 
@@ -15,13 +15,13 @@ use st_tree::Name;
 use std::alloc::{AllocError, Global};
 use std::marker::Model;
 
-/// A program, the layout of its leaves, and the code of its body and of its function blocks and functions.
+/// A program, the layout of its leaves, the code of its body and of its function blocks and functions, and its charts.
 #[derive(Drop)]
 pub struct Image {
     program: Program,
     layout: Layout,
     code: Fused,
-    /// The function blocks and functions, by the numbers of their units.
+    /// The function blocks, functions and charts, by the numbers of their units.
     units: Units,
     /// For how many numbers the stack of its own code needs room.
     depth: usize,
@@ -29,7 +29,7 @@ pub struct Image {
     rooms: Vec<Room>,
     /// The names of its units, as they are declared.
     names: Vec<Name>,
-    /// Whether its bodies run.
+    /// Whether it runs.
     runs: bool,
 }
 
@@ -37,8 +37,8 @@ impl Model for Image {
     ghost use Rattle.std.specs.Coded.{codes};
     ghost use Rattle.std.specs.Prelude.{◌≡◌};
     ghost use Rattle.st_check.specs.Programs.{ProgramView, leaves_of_program};
-    ghost use Rattle.st_compile.specs.Plain.{is_plain};
     ghost use Rattle.st_compile.specs.Programs.{program_code, program_depth, program_names, program_rooms, program_units};
+    ghost use Rattle.st_compile.specs.Small.{functions_are_small};
     ghost use Rattle.st_tree.specs.contracts.tree.expression.Expression as expression;
     ghost use Rattle.st_tree.specs.contracts.tree.statement.Statement as statement;
 
@@ -48,7 +48,7 @@ impl Model for Image {
 
     ghost view = { λ image. image.program };
 
-    ghost invariant = { λ image. (image.layout ≡ leaves_of_program image.program) × (image.code ≡ program_code image.program) × (image.units ≡ program_units image.program) × (image.depth ≡ program_depth image.program) × (image.rooms.items ≡ program_rooms image.program) × (image.names.items ≡ program_names image.program) × (image.runs ≡ is_plain image.program) };
+    ghost invariant = { λ image. (image.layout ≡ leaves_of_program image.program) × (image.code ≡ program_code image.program) × (image.units ≡ program_units image.program) × (image.depth ≡ program_depth image.program) × (image.rooms.items ≡ program_rooms image.program) × (image.names.items ≡ program_names image.program) × (image.runs ≡ functions_are_small image.program) };
 }
 
 /// The image of a program. It is refused for want of memory alone.
@@ -84,10 +84,9 @@ impl Image {
         &self.layout
     }
 
-    /// Whether the program can be run: its body and those of all function blocks and functions of its text hold statements alone, no
-    /// invocation but of function blocks, and no call but of functions, and no function has more than 65,536 variables.
-    pub fn is_plain(&self) -> bool
-        ensures { result ≡ is_plain self.now }
+    /// Whether the program can be run: no function of its text has more than 65,536 variables.
+    pub fn runs(&self) -> bool
+        ensures { result ≡ functions_are_small self.now }
     {
         self.runs
     }
@@ -107,7 +106,7 @@ impl Image {
     pub fn stacks(&self, alloc: Global) -> Result<Stacks, AllocError>
         ensures { IfOk result (λ stacks. HasRoom self.now stacks) }
     {
-        Stacks::with_room(alloc, self.depth, &self.rooms)
+        Stacks::with_room(alloc, self.depth, &self.rooms, self.units.chart_room())
     }
 
     /// The code of the program's body.
@@ -117,7 +116,7 @@ impl Image {
         &self.code
     }
 
-    /// The function blocks and functions of its text, by the numbers of their units.
+    /// The function blocks, functions and charts of its text, by the numbers of their units.
     pub(crate) fn units(&self) -> &Units
         ensures { result.now ≡ program_units self.now }
     {

@@ -2,6 +2,7 @@
 #![tactic(auto)]
 
 mod bodies;
+mod charts;
 mod functions;
 mod image;
 mod laws;

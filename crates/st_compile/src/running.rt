@@ -2,22 +2,23 @@
 ghost use Rattle.std.specs.Prelude.{◌≡◌, Err, MatchResult, Ok, true};
 ghost use Rattle.st_check.specs.Programs.{leaves_of_program};
 ghost use Rattle.st_machine.specs.Running.{setting_at};
-ghost use Rattle.st_compile.specs.Plain.{is_plain};
 ghost use Rattle.st_compile.specs.Programs.{HasRoom, scan_result};
+ghost use Rattle.st_compile.specs.Small.{functions_are_small};
 
 use crate::image::Image;
 use st_calls::{
     checked_calls_are_those_of_their_bodies, checked_functions_call_below,
-    checked_functions_have_no_instances, sound_commands_call_what_passes,
+    checked_functions_have_no_instances, sound_bodies_call_what_passes,
 };
 use st_check::checked_program_is_small;
 use st_code::{
     code_calls_functions, code_does_as_commands_mean, code_enters_what_is_invoked,
-    depth_is_at_most_the_length, typing_enters_instances, typing_invokes_bodies,
+    code_is_of_its_chart, depth_is_at_most_the_length, typing_enters_instances,
+    typing_invokes_bodies,
 };
 use st_layout::Memory;
 use st_machine::{Stacks, run_fused};
-use st_meaning::{RunFault, calls_are_sound, commands_keep_the_frame, typing_gives_sound_bodies};
+use st_meaning::{RunFault, bodies_keep_the_frame, calls_are_sound, typing_gives_sound_units};
 use st_places::{instances_are_of_blocks, units_are_sound};
 
 /// Runs a program once, over the values of its leaves, at a moment in milliseconds. It takes no memory.
@@ -33,7 +34,7 @@ pub fn run<M: Memory>(
 ) -> Result<(), RunFault>
     requires over { M.IsOver (leaves_of_program image.now) memory.old }
     requires room { HasRoom image.now stacks.old }
-    requires plain { is_plain image.now ≡ true }
+    requires small { functions_are_small image.now ≡ true }
     ensures over { M.IsOver (leaves_of_program image.now) memory.new }
     ensures room { HasRoom image.now stacks.new }
     ensures forced { (M.content (leaves_of_program image.now) memory.new).forced ≡ (M.content (leaves_of_program image.now) memory.old).forced }
@@ -42,15 +43,16 @@ pub fn run<M: Memory>(
     checked_program_is_small();
     units_are_sound();
     instances_are_of_blocks();
-    typing_gives_sound_bodies();
-    commands_keep_the_frame();
+    typing_gives_sound_units();
+    bodies_keep_the_frame();
     code_does_as_commands_mean();
     depth_is_at_most_the_length();
     typing_invokes_bodies();
     typing_enters_instances();
     code_enters_what_is_invoked();
     code_calls_functions();
-    sound_commands_call_what_passes();
+    code_is_of_its_chart();
+    sound_bodies_call_what_passes();
     checked_functions_call_below();
     checked_functions_have_no_instances();
     checked_calls_are_those_of_their_bodies();

@@ -1,11 +1,12 @@
-//! The function blocks and functions of a program, and the room of their levels.
+//! The function blocks, the functions and the charts of a program, and the room of the levels.
 ghost use Rattle.std.specs.Prelude.{◌≡◌, ◌<◌, IfOk, length, map, slice_index_or, ℕ};
 ghost use Rattle.st_check.specs.Programs.{level_in, order_of, text_of};
 ghost use Rattle.st_types.specs.Inside.{named_by};
-ghost use Rattle.st_types.specs.Names.{Named, units_of};
-ghost use Rattle.st_compile.specs.Programs.{block_room, function_room, most_taken, program_blocks, program_functions, program_rooms, program_units};
+ghost use Rattle.st_types.specs.Names.{units_of};
+ghost use Rattle.st_compile.specs.Programs.{block_room, function_room, most_taken, numbered, program_blocks, program_functions, program_rooms, program_units};
 
 use crate::bodies::block_of;
+use crate::charts::charts_of;
 use crate::functions::function_of;
 use crate::levels::{in_order, levels_of};
 use st_check::Program;
@@ -36,8 +37,8 @@ struct Functions {
     rooms: Vec<Room>,
 }
 
-/// The code of the function blocks and functions of a program, which take so many inputs at most. It is refused for want of memory
-/// alone.
+/// The code of the function blocks and functions of a program, which take so many inputs at most, and its charts. They are refused for
+/// want of memory alone.
 pub(crate) fn bodies_of(
     alloc: Global,
     program: &Program,
@@ -55,9 +56,10 @@ pub(crate) fn bodies_of(
     let levels = levels_of(alloc, order, units.len())?;
     let functions = functions_of(alloc, program, units, tables, &levels, inputs)?;
     let blocks = blocks_of(alloc, program, units, tables, &levels, inputs)?;
+    let charts = charts_of(alloc, program, tables, units.len())?;
     let rooms = in_order(alloc, order, &functions.rooms, &blocks.rooms)?;
     Ok(Bodies {
-        units: Units::new(blocks.blocks, functions.functions),
+        units: Units::new(blocks.blocks, functions.functions, charts),
         rooms,
     })
 }
@@ -77,7 +79,7 @@ fn blocks_of(
     requires all { length levels.now ≡ length units.now }
     requires places { (number : ℕ) → number < length units.now → slice_index_or levels.now number 0 ≡ level_in (order_of program.now) number }
     ensures blocks { IfOk result (λ made. made.blocks.items ≡ program_blocks program.now) }
-    ensures rooms { IfOk result (λ made. made.rooms.items ≡ map (λ (u : Named). block_room (units_of (text_of program.now)) (Some u)) (units_of (text_of program.now))) }
+    ensures rooms { IfOk result (λ made. made.rooms.items ≡ numbered (block_room (units_of (text_of program.now))) 0 (units_of (text_of program.now))) }
 {
     units_are_sound();
     let first = program.order().len();
@@ -109,7 +111,7 @@ fn functions_of(
     requires all { length levels.now ≡ length units.now }
     requires places { (number : ℕ) → number < length units.now → slice_index_or levels.now number 0 ≡ level_in (order_of program.now) number }
     ensures functions { IfOk result (λ made. made.functions.items ≡ program_functions program.now) }
-    ensures rooms { IfOk result (λ made. made.rooms.items ≡ map (λ (u : Named). function_room (units_of (text_of program.now)) (Some u)) (units_of (text_of program.now))) }
+    ensures rooms { IfOk result (λ made. made.rooms.items ≡ numbered (function_room (units_of (text_of program.now))) 0 (units_of (text_of program.now))) }
 {
     units_are_sound();
     let _checked = program.units();

@@ -13,7 +13,6 @@ use Rattle.st_control.specs.Laws.{KeepsLoad}
 use Rattle.st_control.specs.Machine.{Machine}
 use Rattle.st_control.specs.Scans.{Input, Scan, can_follow, is_halted, outcome_of, run_of, scan_causes, scan_of, state_after, with_inputs}
 use Rattle.st_control.specs.States.{IsMoment, IsWhole, StateView, leaves_of}
-use Rattle.st_compile.specs.Plain.{is_plain}
 use Rattle.st_compile.specs.Programs.{KeepsFrame}
 use Rattle.st_layout.specs.Layout.{number_of}
 use Rattle.st_layout.specs.Memory.{forced_at, value_at}

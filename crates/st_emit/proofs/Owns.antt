@@ -18,12 +18,13 @@ use Rattle.st_types.specs.declared.standard.Standard.{Standard}
 use Rattle.st_types.specs.declared.standard.Standard.TheVariants as standards
 use Rattle.st_types.specs.declared.standard.StandardFunction.{StandardFunction}
 use Rattle.st_types.specs.declared.standard.StandardFunction.TheVariants as functions
-use Rattle.st_meaning.specs.Typing.{Passed, Typed, argument_typed, call_typed, call_typed_in, chained, combined_all, constant_or, function_typed, joined, operation_typed, place_typed, typed, unnamed, unnamed_before, untyped, variable_typed}
+use Rattle.st_meaning.specs.Typing.{Passed, Typed, argument_typed, call_typed, call_typed_in, chained, combined_all, constant_or, function_typed, joined, named_value, operation_typed, part_or_step, place_typed, typed, unnamed, unnamed_before, untyped, variable_typed}
 use Rattle.st_meaning.specs.Terms.{Parts, whole, field_part, element_part}
 use Rattle.st_values.specs.declared.value.Value.{Value}
 use Rattle.st_meaning.specs.Wholes.{Whole, type_of}
 use Rattle.st_meaning.specs.declared.operation.Binary.TheVariants as binaries
 use Rattle.st_emit.specs.Calls.{counts, own_from, passed_in, positionals, standard_typed, takes_number}
+use Rattle.st_emit.specs.Steps.{as_step}
 use Rattle.st_emit.specs.Trees.{chain_of, constant_in, ends_in_comparison, own_behind, own_joined}
 use Rattle.st_emit.proofs.Trees.{call_in_is, chain_is, operation_is, positional_is, input_is, output_is}
 use Rattle.st_tree.specs.declared.tree.expression.Argument.TheVariants as arguments
@@ -305,21 +306,36 @@ own_found s n x xs c found e f g = f ∙ by c x.own (ap is_some (sym f) ∙ g) �
 
 -- ---- variables
 
-pub variable_splits : (w : Whole) (ps : Parts) → variable_typed w ps ≡ constant_or (place_typed ps (type_of w.variables ps)) (constant_in w ps)
-variable_splits w whole = refl
-variable_splits w (field_part name whole) = refl
-variable_splits w (field_part name (field_part other ps)) = refl
-variable_splits w (field_part name (element_part line ts ps)) = refl
-variable_splits w (element_part line ts ps) = refl
+-- a place of its type, or else this
+abbrev pub place_or : Typed → Parts → Option Elem → Typed
+place_or x ps None = x
+place_or x ps (Some e) = place_typed ps (Some e)
 
-place_own : (ps : Parts) (o : Option Elem) → (place_typed ps o).own ≡ o
-place_own ps None = refl
-place_own ps (Some e) = refl
+place_alone : (ps : Parts) (o : Option Elem) → place_typed ps o ≡ place_or untyped ps o
+place_alone ps None = refl
+place_alone ps (Some e) = refl
 
-pub of_constant : (w : Whole) (ps : Parts) (o : Option Value) (v : Value) → o ≡ constant_in w ps → o ≡ Some v → Some v.elem ≡ (variable_typed w ps).own
-of_constant w ps o v e f =
-    ap (λ c. (constant_or (place_typed ps (type_of w.variables ps)) c).own) (sym f ∙ e) ∙ ap (λ (y : Typed). y.own) (sym (variable_splits w ps))
+part_alone : (w : Whole) (name part : List ℕ) (o : Option Elem)
+    → part_or_step w.variables name part o ≡ place_or (as_step w.variables (field_part name (field_part part whole))) (field_part name (field_part part whole)) o
+part_alone w name part None = refl
+part_alone w name part (Some e) = refl
 
-pub of_place : (w : Whole) (ps : Parts) (o : Option Value) (t : Option Elem) → o ≡ constant_in w ps → o ≡ None → t ≡ type_of w.variables ps → t ≡ (variable_typed w ps).own
-of_place w ps o t e f g =
-    g ∙ sym (place_own ps (type_of w.variables ps)) ∙ ap (λ c. (constant_or (place_typed ps (type_of w.variables ps)) c).own) (sym f ∙ e) ∙ ap (λ (y : Typed). y.own) (sym (variable_splits w ps))
+pub variable_splits : (w : Whole) (ps : Parts) → variable_typed w ps ≡ constant_or (place_or (as_step w.variables ps) ps (type_of w.variables ps)) (constant_in w ps)
+variable_splits w whole = place_alone whole _
+variable_splits w (field_part name whole) = ap (λ x. constant_or x (w.constants name)) (place_alone (field_part name whole) (type_of w.variables (field_part name whole)))
+variable_splits w (field_part name (field_part part whole)) = part_alone w name part (type_of w.variables (field_part name (field_part part whole)))
+variable_splits w (field_part name (field_part part (field_part other ps))) = place_alone (field_part name (field_part part (field_part other ps))) _
+variable_splits w (field_part name (field_part part (element_part line ts ps))) = place_alone (field_part name (field_part part (element_part line ts ps))) _
+variable_splits w (field_part name (element_part line ts ps)) = place_alone (field_part name (element_part line ts ps)) _
+variable_splits w (element_part line ts ps) = place_alone (element_part line ts ps) _
+
+pub is_constant : (w : Whole) (ps : Parts) (o : Option Value) (v : Value) → o ≡ constant_in w ps → o ≡ Some v → variable_typed w ps ≡ named_value v
+is_constant w ps o v e f = variable_splits w ps ∙ ap (constant_or (place_or (as_step w.variables ps) ps (type_of w.variables ps))) (sym e ∙ f)
+
+pub is_place : (w : Whole) (ps : Parts) (o : Option Value) (t : Elem) → o ≡ constant_in w ps → o ≡ None → type_of w.variables ps ≡ Some t → variable_typed w ps ≡ place_typed ps (Some t)
+is_place w ps o t e f g =
+    variable_splits w ps ∙ ap (constant_or (place_or (as_step w.variables ps) ps (type_of w.variables ps))) (sym e ∙ f) ∙ ap (place_or (as_step w.variables ps) ps) g
+
+pub is_step : (w : Whole) (ps : Parts) (o : Option Value) → o ≡ constant_in w ps → o ≡ None → type_of w.variables ps ≡ None → variable_typed w ps ≡ as_step w.variables ps
+is_step w ps o e f g =
+    variable_splits w ps ∙ ap (constant_or (place_or (as_step w.variables ps) ps (type_of w.variables ps))) (sym e ∙ f) ∙ ap (place_or (as_step w.variables ps) ps) g

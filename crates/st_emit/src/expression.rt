@@ -17,6 +17,7 @@ use crate::literal::{is_comparison, or_lint};
 use crate::own::{own, own_of_front, own_or_lint, positional_count, takes_number};
 use crate::places::{constant_named, locate, stops};
 use crate::scope::Scope;
+use crate::steps::emit_step_part;
 use crate::takes::{gives_type, takes, takes_one};
 use st_code::{Code, Instr};
 use st_initials::value_written;
@@ -171,7 +172,7 @@ fn emit_prefixed(
     Ok(())
 }
 
-/// The value of a variable, or of a constant.
+/// The value of a variable, of a part of a step, or of a constant.
 #[cycle(emit)]
 fn emit_variable(
     code: &mut Code,
@@ -190,7 +191,7 @@ fn emit_variable(
         return Ok(());
     }
     let Some(place) = locate(scope, variable) else {
-        emit_nil(code, scope, due)?;
+        emit_step_part(code, scope, variable, due)?;
         return Ok(());
     };
     if !place.elem.is(due) {

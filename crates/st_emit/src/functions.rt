@@ -10,6 +10,7 @@ ghost use Rattle.st_meaning.specs.Typing.{argument_typed, go_to, input_at, is_nu
 ghost use Rattle.st_meaning.specs.Wholes.{Called, Input as Taken};
 
 use crate::index::emit_value;
+use crate::numbers::narrow;
 use crate::own::own_or_lint;
 use crate::scope::Scope;
 use st_code::{Code, Instr};
@@ -150,17 +151,6 @@ fn first_arguments(
         }
     }
     Ok(all)
-}
-
-/// A number as an instruction has it. One that needs more than 32 bits is refused as what no memory is left for.
-fn narrow(number: usize) -> Result<u32, AllocError>
-    ensures { IfOk result (λ narrowed. narrowed ≡ number) }
-{
-    if number <= u32::MAX as usize {
-        Ok(number as u32)
-    } else {
-        Err(AllocError)
-    }
 }
 
 /// The value of the input of this number, above so many arguments: that of the first argument that goes to it, or else what it begins

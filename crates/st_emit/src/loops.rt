@@ -1,19 +1,16 @@
 //! The code of loops (3.3.2.4).
-ghost use Rattle.std.specs.Prelude.{◌≡◌, ◌≤◌, ◌+◌, ◌-◌, ◌++◌, IfOk, IfSome, OnOk, [], length, option_map, reverse};
-ghost use Rattle.st_meaning.specs.Terms.{field_part, whole};
+ghost use Rattle.std.specs.Prelude.{◌≡◌, ◌≤◌, ◌+◌, ◌-◌, ◌++◌, IfOk, OnOk, [], length, reverse};
 ghost use Rattle.st_meaning.specs.Typing.{body_of, condition, step_typed};
-ghost use Rattle.st_meaning.specs.Wholes.{type_of};
-ghost use Rattle.st_code.specs.Code.{base_of, command_code, commands_code, count_code, term_code};
+ghost use Rattle.st_code.specs.Code.{command_code, commands_code, count_code, term_code};
 ghost use Rattle.st_emit.specs.Statements.{for_in, repeat_in, skip_instr, turns_code, while_in};
 ghost use Rattle.st_emit.specs.Trees.{whole_of};
 
 use crate::expression::emit_expression;
+use crate::places::place_named;
 use crate::scope::Scope;
 use crate::statements::emit_statements;
 use st_code::{Code, Instr};
-use st_tree::tree::{
-    Expression, ForStatement, Identifier, RepeatStatement, Statement, WhileStatement,
-};
+use st_tree::tree::{Expression, ForStatement, RepeatStatement, Statement, WhileStatement};
 use st_values::Elem;
 use std::alloc::AllocError;
 
@@ -103,7 +100,7 @@ pub(crate) fn emit_for(
     ensures { OnOk result (code.new ≡ code.old ++ reverse (command_code (whole_of scope.now).variables (for_in (whole_of scope.now) statement.now) 0 (length code.old - end))) }
 {
     let line = statement.position.line;
-    if let Some((elem, leaf)) = counter(scope, &statement.variable) {
+    if let Some((elem, leaf)) = place_named(scope, statement.variable.spelling.as_slice()) {
         let body = statement.statements.as_slice();
         emit_count(code, scope, line, elem, leaf, body, end)?;
         emit_step(code, scope, &statement.step, elem)?;
@@ -111,16 +108,6 @@ pub(crate) fn emit_for(
         emit_expression(code, scope, &statement.first, elem)?;
     }
     code.push(Instr::Step, line)
-}
-
-/// The type of a variable, and how many leaves stand before it.
-fn counter(scope: &Scope<'_>, name: &Identifier) -> Option<(Elem, u32)>
-    ensures elem { option_map (λ found. found.0) result ≡ type_of (whole_of scope.now).variables (field_part name.now.spelling whole) }
-    ensures leaf { IfSome result (λ found. found.1 ≡ base_of (whole_of scope.now).variables (field_part name.now.spelling whole)) }
-{
-    let (leaf, node) = scope.select(scope.root(), name.spelling.as_slice())?;
-    let elem = scope.value(node)?;
-    Some((elem, leaf))
 }
 
 /// The instructions of FOR around its statements, behind its values.

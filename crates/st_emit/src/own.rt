@@ -10,6 +10,7 @@ use crate::functions::result_named;
 use crate::literal::{is_comparison, literal_own, or_lint};
 use crate::places::{constant_named, place_type};
 use crate::scope::Scope;
+use crate::steps::step_type;
 use st_tree::tree::{Argument, Call, Expression, Operation, Variable};
 use st_types::{Standard, StandardFunction, standard_of};
 use st_values::Elem;
@@ -70,14 +71,17 @@ pub(crate) fn positional_count(scope: &Scope<'_>, arguments: &[Argument]) -> usi
     count
 }
 
-/// The own type of a variable, or of a constant.
+/// The own type of a variable, of a part of a step, or of a constant.
 fn own_of_variable(scope: &Scope<'_>, variable: &Variable) -> Option<Elem>
     ensures { result ≡ (variable_typed (whole_of scope.now) (place_of (whole_of scope.now) variable.now)).own }
 {
-    match constant_named(scope, variable) {
-        Some(value) => Some(value.elem),
-        None => place_type(scope, variable),
+    if let Some(value) = constant_named(scope, variable) {
+        return Some(value.elem);
     }
+    if let Some(elem) = place_type(scope, variable) {
+        return Some(elem);
+    }
+    step_type(scope, variable)
 }
 
 /// The type that an expression has by itself.

@@ -4,7 +4,7 @@ ghost use Rattle.std.specs.Option.{is_some};
 ghost use Rattle.st_leaves.specs.Selected.{selected_by};
 ghost use Rattle.st_meaning.specs.Offsets.{IsSmall};
 ghost use Rattle.st_meaning.specs.Sound.{is_fixed};
-ghost use Rattle.st_meaning.specs.Terms.{Parts};
+ghost use Rattle.st_meaning.specs.Terms.{Parts, field_part, whole};
 ghost use Rattle.st_meaning.specs.Typing.{part_typed, place_of};
 ghost use Rattle.st_meaning.specs.Wholes.{type_of};
 ghost use Rattle.st_code.specs.Code.{base_of};
@@ -109,6 +109,16 @@ pub(crate) fn locate(scope: &Scope<'_>, variable: &Variable) -> Option<Place>
         base,
         is_fixed,
     })
+}
+
+/// The type of the variable of this name, and how many leaves stand before it.
+pub(crate) fn place_named(scope: &Scope<'_>, name: &[u8]) -> Option<(Elem, u32)>
+    ensures elem { option_map (λ found. found.0) result ≡ type_of (whole_of scope.now).variables (field_part name.now whole) }
+    ensures leaf { IfSome result (λ found. found.1 ≡ base_of (whole_of scope.now).variables (field_part name.now whole)) }
+{
+    let (leaf, node) = scope.select(scope.root(), name)?;
+    let elem = scope.value(node)?;
+    Some((elem, leaf))
 }
 
 /// The elementary type of the variable, or of the part of one.

@@ -4,9 +4,10 @@ ghost use Rattle.st_values.specs.Values.{IsValue};
 ghost use Rattle.st_types.specs.Compositions.{unknown};
 ghost use Rattle.st_leaves.specs.Places.{count};
 ghost use Rattle.st_leaves.specs.Selected.{element_of, selected_by, subscripts_of, value_type};
-ghost use Rattle.st_meaning.specs.Offsets.{IsSmall, offset_of};
+ghost use Rattle.st_meaning.specs.Offsets.{IsSmall, chart_offset, offset_of};
 ghost use Rattle.st_meaning.specs.Wholes.{Input, block_of};
 ghost use Rattle.std.specs.List.{All};
+ghost use Rattle.st_places.specs.Charts.{leaf_of_step};
 ghost use Rattle.st_places.specs.Parts.{IsNodeOf, is_array, part_in, whole_in};
 ghost use Rattle.st_places.specs.Dimensions.{dimensions_in};
 ghost use Rattle.st_emit.specs.Trees.{whole_of};
@@ -127,6 +128,20 @@ impl<'a> Scope<'a> {
         ensures { result ≡ option_map (λ unit. unit.number) ((whole_of self.now).invoked name.now) }
     {
         self.tables.instance(self.unit, name)
+    }
+
+    /// The leaf that says of the step of this name for how long it has been active, where `is_time`, else whether it is.
+    pub fn step(&self, is_time: bool, name: &[u8]) -> Option<u32>
+        ensures { result ≡ leaf_of_step (whole_of self.now).variables is_time name.now }
+    {
+        self.tables.step(self.unit, is_time, name)
+    }
+
+    /// The first leaf of the chart.
+    pub fn chart_leaf(&self) -> u32
+        ensures { result ≡ chart_offset (whole_of self.now).variables }
+    {
+        self.tables.chart_leaf(self.unit)
     }
 
     /// The function of the text of this name.

@@ -1,6 +1,7 @@
 pub mod Arrivals
 pub mod Begun
 pub mod Calling
+pub mod ChartWorks
 pub mod Clipped
 pub mod Ends
 pub mod Entering
@@ -13,11 +14,11 @@ pub mod Nearer
 pub mod Newest
 pub mod Operands
 pub mod OwnCode
+pub mod Puts
 pub mod Readiness
 pub mod Rooms
 pub mod Stays
 pub mod Stores
-pub mod Stretches
 pub mod Turns
 pub mod Way
 pub mod Within

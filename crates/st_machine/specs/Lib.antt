@@ -1,5 +1,6 @@
 pub mod Blocks
 pub mod Chains
+pub mod Charts
 pub mod Functions
 pub mod Levels
 pub mod Quick

@@ -1,17 +1,16 @@
 //! Invocations of standard function blocks.
-ghost use Rattle.std.specs.Prelude.{◌≡◌, ◌≤◌, ◌+◌, ℕ, ℤ, drop, length, IsTrue, List};
+ghost use Rattle.std.specs.Prelude.{◌≡◌, ◌≤◌, ℕ, ℤ, length, IsTrue, List};
 ghost use Rattle.st_blocks.specs.Cells.{types_of};
 ghost use Rattle.st_code.specs.Machine.{act, has_leaves};
 ghost use Rattle.st_code.specs.declared.instr.Instr.{Instr};
 ghost use Rattle.st_layout.specs.Memory.{Content};
-ghost use Rattle.st_machine.specs.Ready.{FitFrom};
 ghost use Rattle.st_machine.specs.Running.{environment_at, moved, setting_at};
-ghost use Rattle.st_meaning.specs.Statements.{block_done, stretch, unless_forced, with_stretch};
+ghost use Rattle.st_meaning.specs.Statements.{block_done};
 
 use crate::cells::NO_VALUE;
-use crate::leaves::store_value;
 use crate::moves::Move;
 use st_blocks::{MOST_LEAVES, block_step, leaf_count};
+use st_chart_runs::{load_values, store_values};
 use st_layout::{Layout, Memory};
 use st_types::StandardBlock;
 use st_values::Value;
@@ -63,31 +62,4 @@ fn do_block<M: Memory>(
     load_values(memory, layout, leaf, cells);
     block_step(block, cells, now);
     store_values(memory, layout, leaf, cells);
-}
-
-/// Reads the leaves that stand from one of them on into cells.
-fn load_values<M: Memory>(memory: &M, layout: &Layout, leaf: u32, cells: &mut [Value])
-    requires over { M.IsOver layout.now memory.now }
-    requires few { length (M.content layout.now memory.now).values ≤ 65536 }
-    requires there { leaf + length cells.old ≤ length (M.content layout.now memory.now).values }
-    ensures { cells.new ≡ stretch (M.content layout.now memory.now).values leaf (length cells.old) }
-{
-    for (i, cell) in cells.iter_mut().enumerate() {
-        *cell = memory.get(layout, leaf + i as u32);
-    }
-}
-
-/// Stores cells into the leaves that stand from one of them on, unless they are forced.
-fn store_values<M: Memory>(memory: &mut M, layout: &Layout, leaf: u32, cells: &[Value])
-    requires over { M.IsOver layout.now memory.old }
-    requires few { length (M.content layout.now memory.old).values ≤ 65536 }
-    requires there { leaf + length cells.now ≤ length (M.content layout.now memory.old).values }
-    requires fit { FitFrom layout.now leaf cells.now }
-    ensures over { M.IsOver layout.now memory.new }
-    ensures values { (M.content layout.now memory.new).values ≡ with_stretch (M.content layout.now memory.old).values leaf (unless_forced (drop leaf (M.content layout.now memory.old).forced) (stretch (M.content layout.now memory.old).values leaf (length cells.now)) cells.now) }
-    ensures forced { (M.content layout.now memory.new).forced ≡ (M.content layout.now memory.old).forced }
-{
-    for (i, cell) in cells.iter().enumerate() {
-        store_value(memory, layout, leaf + i as u32, *cell);
-    }
 }

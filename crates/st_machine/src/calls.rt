@@ -15,7 +15,7 @@ use crate::distances::{add, index, index_below};
 use crate::function::Function;
 use crate::moves::Move;
 use crate::operations::{
-    apply, combine, drop_one, leave, pick, push, select, skip_if, skip_unless, within,
+    apply, combine, cut, drop_one, leave, pick, push, select, skip_if, skip_unless, within,
 };
 use crate::run::Halt;
 use crate::stack::Stack;
@@ -135,7 +135,7 @@ fn input_at(inputs: &[Elem], cells: &[i64], number: usize) -> Value
     }
 }
 
-/// Does an instruction of a function, which enters no instance and calls no function.
+/// Does an instruction of a function, which enters no instance, calls no function and is about no chart.
 #[inline(always)]
 fn perform(instr: &Instr, variables: &mut [Value], stack: &mut Stack, left: &mut u32) -> Move
     requires values { All IsValue variables.old }
@@ -171,7 +171,9 @@ fn perform(instr: &Instr, variables: &mut [Value], stack: &mut Stack, left: &mut
         Instr::Leave => leave(stack),
         Instr::Invoke(block, leaf) => invoke(variables, block, leaf),
         Instr::Pick(distance) => pick(stack, distance),
+        Instr::Cut(count) => cut(stack, count),
         // they are for the caller, who has the functions
         Instr::Enter(..) | Instr::Call(..) => unreachable!(),
+        Instr::Times(..) | Instr::Ask(..) | Instr::Chart(..) => unreachable!(),
     }
 }

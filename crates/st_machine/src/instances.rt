@@ -2,14 +2,18 @@
 ghost use Rattle.std.specs.Prelude.{◌≡◌, ◌≤◌, IfOk};
 ghost use Rattle.st_layout.specs.Memory.{Content};
 ghost use Rattle.st_machine.specs.Blocks.{Entrance, LeavesAs, made_by};
+ghost use Rattle.st_chart_runs.specs.Views.{room_of};
+ghost use Rattle.st_chart_runs.specs.Charts.{ChartsFit};
 ghost use Rattle.st_machine.specs.Levels.{rooms_of};
 
 use crate::calls::call;
+use crate::charts::do_chart;
 use crate::moves::Move;
 use crate::perform::perform;
 use crate::run::Halt;
 use crate::stacks::Level;
 use crate::units::Units;
+use st_chart_runs::Workspace;
 use st_code::Instr;
 use st_layout::{Layout, Memory};
 
@@ -25,16 +29,19 @@ pub(crate) fn enter<M: Memory>(
     memory: &mut M,
     layout: &Layout,
     levels: &mut [Level],
+    work: &mut Workspace,
     now: i64,
     limit: u32,
 ) -> Result<u32, Halt>
     requires over { M.IsOver layout.now memory.old }
     requires may { Entrance number first units.now (rooms_of levels.old) layout.now }
+    requires fit { ChartsFit units.now.charts (room_of work.old) }
     ensures over { M.IsOver layout.now memory.new }
     ensures forced { (M.content layout.now memory.new).forced ≡ (M.content layout.now memory.old).forced }
     ensures leaves { (entrance : Entrance number first units.now (rooms_of levels.old) layout.now) → LeavesAs (made_by entrance.said number first now (M.content layout.now memory.old) limit) (M.content layout.now memory.new).values result }
     ensures steps { IfOk result (λ left. left ≤ limit) }
     ensures rooms { rooms_of levels.new ≡ rooms_of levels.old }
+    ensures charts { room_of work.new ≡ room_of work.old }
 {
     let blocks = units.blocks();
     let block = &blocks[number];
@@ -49,12 +56,17 @@ pub(crate) fn enter<M: Memory>(
     while place < instrs.len() {
         let instr = instrs[place].from_leaf(first);
         if let Instr::Enter(unit, leaf) = instr {
-            left = enter(unit, leaf, units, memory, layout, lower, now, left)?;
+            left = enter(unit, leaf, units, memory, layout, lower, work, now, left)?;
             place += 1;
             continue;
         }
         if let Instr::Call(unit, inputs, below) = instr {
             left = call(unit, inputs, below, units.functions(), stack, lower, left)?;
+            place += 1;
+            continue;
+        }
+        if instr.chart().is_some() {
+            do_chart(&instr, units.charts(), memory, layout, stack, work, now);
             place += 1;
             continue;
         }
@@ -64,11 +76,8 @@ pub(crate) fn enter<M: Memory>(
             Move::Back(distance) => place = place.saturating_sub(distance),
             Move::Stop(kind) => {
                 let line = block.code().line(place);
-                return Err(Halt {
-                    kind,
-                    line,
-                    unit: Some(number),
-                });
+                let unit = Some(number);
+                return Err(Halt { kind, line, unit });
             }
         }
     }

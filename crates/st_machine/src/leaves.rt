@@ -2,13 +2,13 @@
 ghost use Rattle.std.specs.Prelude.{◌≡◌, ◌<◌, get_or, length, IsTrue, Some};
 ghost use Rattle.st_code.specs.Code.{cell_of};
 ghost use Rattle.st_code.specs.Machine.{has_leaf, is_cell_of, value_in};
-ghost use Rattle.st_layout.specs.Layout.{IsValueAt};
 ghost use Rattle.st_layout.specs.Memory.{Content};
 ghost use Rattle.st_meaning.specs.Meaning.{no_value, stored_to};
 
 use crate::cells::{cell, value_in};
+use st_chart_runs::store_value;
 use st_layout::{Layout, Memory};
-use st_values::{Elem, Value};
+use st_values::Elem;
 
 /// The value of a leaf, as a cell.
 #[inline]
@@ -31,19 +31,4 @@ pub fn store<M: Memory>(memory: &mut M, layout: &Layout, elem: Elem, leaf: u32, 
     ensures forced { (M.content layout.now memory.new).forced ≡ (M.content layout.now memory.old).forced }
 {
     store_value(memory, layout, leaf, value_in(elem, cell));
-}
-
-/// Stores a value of the leaf's type, unless the leaf is forced.
-#[inline]
-pub fn store_value<M: Memory>(memory: &mut M, layout: &Layout, leaf: u32, value: Value)
-    requires over { M.IsOver layout.now memory.old }
-    requires below { leaf < length layout.now }
-    requires value { IsValueAt layout.now leaf value }
-    ensures over { M.IsOver layout.now memory.new }
-    ensures values { (M.content layout.now memory.new).values ≡ stored_to (M.content layout.now memory.old).forced (M.content layout.now memory.old).values value (Some leaf) }
-    ensures forced { (M.content layout.now memory.new).forced ≡ (M.content layout.now memory.old).forced }
-{
-    if !memory.forced(layout, leaf) {
-        memory.set(layout, leaf, value);
-    }
 }

@@ -6,6 +6,7 @@ mod blocks;
 mod calls;
 mod cells;
 mod chains;
+mod charts;
 mod counting;
 mod distances;
 mod entries;

@@ -10,14 +10,14 @@ use crate::counting::{begin, go_back, go_next, step, test};
 use crate::distances::{add, index, index_below};
 use crate::moves::Move;
 use crate::operations::{
-    apply, combine, drop_one, leave, pick, push, select, skip_if, skip_unless, within,
+    apply, combine, cut, drop_one, leave, pick, push, select, skip_if, skip_unless, within,
 };
 use crate::stack::Stack;
 use crate::transfers::{get, get_at, put, put_at};
 use st_code::Instr;
 use st_layout::{Layout, Memory};
 
-/// Does an instruction, which enters no instance and calls no function.
+/// Does an instruction, which enters no instance, calls no function and is about no chart.
 #[inline(always)]
 pub fn perform<M: Memory>(
     instr: &Instr,
@@ -62,7 +62,9 @@ pub fn perform<M: Memory>(
         Instr::Leave => leave(stack),
         Instr::Invoke(block, leaf) => invoke(memory, layout, block, leaf, now),
         Instr::Pick(distance) => pick(stack, distance),
+        Instr::Cut(count) => cut(stack, count),
         // they are for the caller, who has the units
         Instr::Enter(..) | Instr::Call(..) => unreachable!(),
+        Instr::Times(..) | Instr::Ask(..) | Instr::Chart(..) => unreachable!(),
     }
 }

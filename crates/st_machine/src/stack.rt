@@ -1,5 +1,5 @@
 //! The operand stack, whose room is made before a run.
-ghost use Rattle.std.specs.Prelude.{◌≡◌, ◌<◌, ◌≤◌, [], ◌∷◌, drop, get_or, length, pos, reverse, take, IfOk};
+ghost use Rattle.std.specs.Prelude.{◌≡◌, ◌<◌, ◌≤◌, ◌-◌, [], ◌∷◌, drop, get_or, length, pos, reverse, take, IfOk};
 
 use std::alloc::{AllocError, Global};
 use std::marker::Model;
@@ -93,6 +93,15 @@ impl Stack {
         ensures { result ≡ get_or self.now.0 distance (pos 0) }
     {
         self.cells[self.top - 1 - distance]
+    }
+
+    /// Leaves so many numbers, the oldest ones.
+    pub fn cut(&mut self, count: usize)
+        requires { count ≤ length self.old.0 }
+        ensures cells { self.new.0 ≡ drop (length self.old.0 - count) self.old.0 }
+        ensures room { self.new.1 ≡ self.old.1 }
+    {
+        self.top = count;
     }
 
     /// Takes so many numbers away, or all where there are fewer.

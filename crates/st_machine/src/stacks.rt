@@ -4,6 +4,7 @@ ghost use Rattle.st_machine.specs.Levels.{rooms_of};
 
 use crate::cells::NO_VALUE;
 use crate::stack::Stack;
+use st_chart_runs::{ChartRoom, Workspace};
 use st_values::Value;
 use std::alloc::{AllocError, Global};
 use std::marker::Model;
@@ -33,29 +34,41 @@ impl Model for Level {
     ghost view = { λ level. record { stack = level.stack; variables = level.variables.items } };
 }
 
-/// A stack for the program's own code, and a level for each of its blocks and functions.
+/// A stack for the program's own code, a level for each of its blocks and functions, and what charts are worked out on.
 #[derive(Drop)]
 pub struct Stacks {
     pub(crate) own: Stack,
     pub(crate) levels: Vec<Level>,
+    pub(crate) workspace: Workspace,
 }
 
 impl Model for Stacks {
+    ghost use Rattle.st_chart_runs.specs.Views.{room_of};
     ghost use Rattle.st_machine.specs.Levels.{Rooms, rooms_of};
 
     ghost Value = { Rooms };
 
-    ghost view = { λ stacks. record { own = stacks.own.1; levels = rooms_of stacks.levels.items } };
+    ghost view = { λ stacks. record { own = stacks.own.1; levels = rooms_of stacks.levels.items; charts = room_of stacks.workspace } };
 }
 
 impl Stacks {
-    /// Stacks and levels with so much room each.
-    pub fn with_room(alloc: Global, own: usize, levels: &[Room]) -> Result<Stacks, AllocError>
-        ensures { IfOk result (λ stacks. stacks ≡ record { own = own; levels = levels.now }) }
+    /// Stacks and levels with so much room each, and with room for charts.
+    pub fn with_room(
+        alloc: Global,
+        own: usize,
+        levels: &[Room],
+        charts: ChartRoom,
+    ) -> Result<Stacks, AllocError>
+        ensures { IfOk result (λ stacks. stacks ≡ record { own = own; levels = levels.now; charts = charts }) }
     {
         let own = Stack::with_room(alloc, own)?;
         let levels = levels_of(alloc, levels)?;
-        Ok(Stacks { own, levels })
+        let workspace = Workspace::with_room(alloc, charts)?;
+        Ok(Stacks {
+            own,
+            levels,
+            workspace,
+        })
     }
 }
 

@@ -1,15 +1,19 @@
 //! The units of a text whose code a program runs beside its own.
 ghost use Rattle.std.specs.Prelude.{◌≡◌};
+ghost use Rattle.st_chart_runs.specs.Charts.{ChartsFit};
 
 use crate::block::Block;
 use crate::function::Function;
+use st_chart_runs::{ChartRoom, room_for};
+use st_sketches::Sketch;
 use std::marker::Model;
 
-/// The function blocks and the functions of a text, each list by the numbers of the units.
+/// The function blocks, the functions and the charts of a text, each list by the numbers of the units.
 #[derive(Drop)]
 pub struct Units {
     blocks: Vec<Block>,
     functions: Vec<Function>,
+    charts: Vec<Option<Sketch>>,
 }
 
 impl Model for Units {
@@ -17,15 +21,19 @@ impl Model for Units {
 
     ghost Value = { UnitsView };
 
-    ghost view = { λ units. record { blocks = units.blocks.items; functions = units.functions.items } };
+    ghost view = { λ units. record { blocks = units.blocks.items; functions = units.functions.items; charts = units.charts.items } };
 }
 
 impl Units {
-    /// These blocks and functions.
-    pub fn new(blocks: Vec<Block>, functions: Vec<Function>) -> Units
-        ensures { result ≡ record { blocks = blocks.items; functions = functions.items } }
+    /// These blocks, functions and charts.
+    pub fn new(blocks: Vec<Block>, functions: Vec<Function>, charts: Vec<Option<Sketch>>) -> Units
+        ensures { result ≡ record { blocks = blocks.items; functions = functions.items; charts = charts.items } }
     {
-        Units { blocks, functions }
+        Units {
+            blocks,
+            functions,
+            charts,
+        }
     }
 
     /// The function blocks.
@@ -40,5 +48,19 @@ impl Units {
         ensures { result.now ≡ self.now.functions }
     {
         &self.functions
+    }
+
+    /// The room that the charts need.
+    pub fn chart_room(&self) -> ChartRoom
+        ensures { ChartsFit self.now.charts result }
+    {
+        room_for(&self.charts)
+    }
+
+    /// The charts.
+    pub(crate) fn charts(&self) -> &[Option<Sketch>]
+        ensures { result.now ≡ self.now.charts }
+    {
+        &self.charts
     }
 }

@@ -1,5 +1,5 @@
 -- What statements mean depends on nothing but what the functions give that they call (2.5.1, 3.3.1).
-use Rattle.std.proofs.Common.{◌≡◌, ℕ, zero, suc, ◌<◌, ◌≤◌, nat_lt, ℤ, ◌+ℤ◌, Bool, true, false, if◌then◌else◌, List, ◌∷◌, length, Option, Some, None, refl, ap, sym, ◌∙◌, arith, ltb-true}
+use Rattle.std.proofs.Common.{◌≡◌, ℕ, zero, suc, ◌<◌, ◌≤◌, nat_lt, ℤ, ◌+ℤ◌, Bool, true, false, if◌then◌else◌, List, ◌∷◌, drop, get_or, length, Option, Some, None, refl, ap, sym, ◌∙◌, arith, ltb-true}
 use Rattle.st_values.specs.declared.value.Value.{Value}
 use Rattle.st_tree.specs.declared.tree.position.Identifier.{Identifier}
 use Rattle.st_types.specs.Compositions.{Composition}
@@ -8,12 +8,13 @@ use Rattle.st_types.specs.Names as names
 use Rattle.st_leaves.specs.Paths.{field, index}
 use Rattle.st_leaves.specs.Selected.{element_of, selected_by, subscripts_of}
 use Rattle.st_operators.specs.Functions.{selected_of}
-use Rattle.st_meaning.specs.CalledBy.{BranchesCall, CallBelow, CalledFunctionsMatterAlone, CalledTest, CallsAreThoseOfTheirBodies, CasesCall, CommandCalls, CommandsCall, GiveAlike, MovesCall, PartsCall, TermCalls, TermsCall}
+use Rattle.st_meaning.specs.CalledBy.{ActionsCall, BodiesDependOnTheirCalls, BodyCalls, BranchesCall, CallBelow, CalledFunctionsMatterAlone, CalledTest, CallsAreThoseOfTheirBodies, CasesCall, CommandCalls, CommandsCall, GiveAlike, MovesCall, PartsCall, TermCalls, TermsCall, TestsCall}
+use Rattle.st_meaning.specs.Charts.{is_asked}
 use Rattle.st_meaning.specs.Meaning.{Calls, Values, inputs_from, located, numbers_in, stored_at, value_at, value_of, values_of, when_within}
-use Rattle.st_meaning.specs.Offsets.{offset_of}
+use Rattle.st_meaning.specs.Offsets.{chart_offset, offset_of}
 use Rattle.st_meaning.specs.Operations.{Answer, gives, stops, answered_in, binary_value, then_with, unary_value, with_step}
-use Rattle.st_meaning.specs.Statements.{Outcome, Setting, done, exited, returned, faulted, after_step, after_turn, alike, block_done, branches_meaning, cases_meaning, command_meaning, commands_meaning, count_turns, ended, given, goes_on, has_label, instance_meaning, is_true, left_by, moves_meaning, repeat_turns, setting_from, then_do, while_turns}
-use Rattle.st_meaning.specs.Terms.{Term, constant, stored, unary, binary, selection, call, Terms, no_terms, more_terms, Parts, whole, field_part, element_part, Command, nothing, assign, choice, cases, count_loop, while_loop, repeat_loop, invoke, enter, exit, finish, Moves, no_moves, more_moves, Commands, no_commands, more_commands, Branches, no_branches, more_branches, Cases, no_cases, more_cases}
+use Rattle.st_meaning.specs.Statements.{Outcome, Setting, done, exited, returned, faulted, actions_meaning, after_step, after_turn, alike, block_done, body_meaning, branches_meaning, cases_meaning, chart_part, command_meaning, commands_meaning, condition_value, conditions_meaning, count_turns, ended, given, goes_on, has_label, instance_meaning, is_true, left_by, moves_meaning, repeat_turns, setting_from, then_do, times_done, while_turns}
+use Rattle.st_meaning.specs.Terms.{Term, constant, stored, of_step, unary, binary, selection, call, Terms, no_terms, more_terms, Parts, whole, field_part, element_part, Command, nothing, assign, choice, cases, count_loop, while_loop, repeat_loop, invoke, enter, exit, finish, Moves, no_moves, more_moves, Commands, no_commands, more_commands, Branches, no_branches, more_branches, Cases, no_cases, more_cases, Tests, no_tests, more_tests, Actions, no_actions, more_actions, Body, plain_body, chart_body}
 use Rattle.st_meaning.specs.Typing.{body_of}
 use Rattle.st_meaning.specs.Units.{calls_in, calls_of, function_given, function_setting, members_begun, members_of_function, result_given, root_of, statements_of, unit_given, unit_whole}
 
@@ -103,6 +104,7 @@ module _ (test : CalledTest) (calls others : Calls) (same : GiveAlike test calls
     value_same : (root : Composition) (values : Values) (t : Term) → TermCalls test t → (left : ℕ) → value_of calls root values t left ≡ value_of others root values t left
     value_same root values (constant v) h left = refl
     value_same root values (stored ps) h left = ap (λ a. then_with a (λ path n. gives (value_at root values path) n)) (located_same root values root ps h left)
+    value_same root values (of_step is_time name) h left = refl
     value_same root values (unary o a) h left = ap (λ x. then_with x (λ v n. gives (unary_value o v) n)) (value_same root values a h left)
     value_same root values (binary o line a b) h left =
         then_same (value_of calls root values a left) (value_of others root values a left) _ _ (value_same root values a h.0 left)
@@ -141,6 +143,21 @@ module _ (test : CalledTest) (calls others : Calls) (same : GiveAlike test calls
       (λ v n. given_same (located calls root values root ps n) (located others root values root ps n) _ _ (located_same root values root ps h.0 n)
       (λ path m. moves_same root setting more h.2 (stored_at root setting.forced values path v) m))
 
+  -- ---- charts
+
+  condition_same : (root : Composition) (values : Values) (asked : Bool) (line : ℕ) (t : Term) → TermCalls test t → (left : ℕ)
+      → condition_value calls root values asked line t left ≡ condition_value others root values asked line t left
+  condition_same root values true line t h left = stepped_same line left _ _ (λ n. ap (λ a. then_with a (λ v m. gives (is_true v) m)) (value_same root values t h n))
+  condition_same root values false line t h left = refl
+
+  conditions_same : (root : Composition) (values : Values) (asked : ℕ → Bool) (number : ℕ) (ts : Tests) → TestsCall test ts → (left : ℕ)
+      → conditions_meaning calls root values asked number ts left ≡ conditions_meaning others root values asked number ts left
+  conditions_same root values asked number no_tests h left = refl
+  conditions_same root values asked number (more_tests line t more) h left =
+      then_same (condition_value calls root values (asked number) line t left) (condition_value others root values (asked number) line t left) _ _
+      (condition_same root values (asked number) line t h.0 left)
+      (λ b n. ap (λ a. then_with a (λ bs m. gives (b ∷ bs) m)) (conditions_same root values asked (suc number) more h.1 n))
+
   mutual
     command_same : (root : Composition) (setting : Setting) (c : Command) → CommandCalls test c → Same (command_meaning calls root setting c) (command_meaning others root setting c)
     command_same root setting (nothing line) h values left = refl
@@ -176,12 +193,12 @@ module _ (test : CalledTest) (calls others : Calls) (same : GiveAlike test calls
         (λ n. do_same (moves_meaning calls root setting inputs values n) (moves_meaning others root setting inputs values n) _ _ (moves_same root setting inputs h.0 values n)
         (λ them k. moves_same root setting outputs h.1 (block_done setting b (offset_of root name) them) k)))
     command_same root setting (enter line name unit body inputs outputs) h values left =
-        let run : Calls → Values → ℕ → Outcome = (λ c them k. instance_meaning root setting name unit (λ within part i. commands_meaning c (selected_by root name) within body part i) them k) in
+        let run : Calls → Values → ℕ → Outcome = (λ c them k. instance_meaning root setting name unit (λ within part i. body_meaning c (selected_by root name) within body part i) them k) in
         step_same line left _ _
         (λ m. step_same line m _ _
         (λ n. do_same (moves_meaning calls root setting inputs values n) (moves_meaning others root setting inputs values n) _ _ (moves_same root setting inputs h.0 values n)
         (λ them k. do_same (run calls them k) (run others them k) _ _
-        (ap (λ o. left_by unit (offset_of root name) them (ended o)) (commands_same (selected_by root name) (setting_from (offset_of root name) setting) body h.1 _ k))
+        (ap (λ o. left_by unit (offset_of root name) them o) (body_same (selected_by root name) (setting_from (offset_of root name) setting) body h.1 _ k))
         (λ those j. moves_same root setting outputs h.2 those j))))
     command_same root setting (exit line) h values left = refl
     command_same root setting (finish line) h values left = refl
@@ -205,6 +222,28 @@ module _ (test : CalledTest) (calls others : Calls) (same : GiveAlike test calls
     cases_same root setting (more_cases labels cs more) h f g k i values left =
         if_same (has_label labels i) (commands_meaning calls root setting cs values left) (commands_meaning others root setting cs values left) (cases_meaning calls root setting more f i values left)
         (cases_meaning others root setting more g i values left) (commands_same root setting cs h.0 values left) (cases_same root setting more h.1 f g k i values left)
+
+    actions_same : (root : Composition) (setting : Setting) (as' : Actions) → ActionsCall test as' → (on : List Bool)
+        → Same (actions_meaning calls root setting as' on) (actions_meaning others root setting as' on)
+    actions_same root setting no_actions h on values left = refl
+    actions_same root setting (more_actions cs more) h on values left =
+        let run : Calls → Outcome = (λ c. if get_or on 0 false then ended (commands_meaning c root setting cs values left) else done values left) in
+        do_same (run calls) (run others) _ _
+        (if_same (get_or on 0 false) (ended (commands_meaning calls root setting cs values left)) (ended (commands_meaning others root setting cs values left)) (done values left) (done values left)
+        (ap (λ o. ended o) (commands_same root setting cs h.0 values left)) refl)
+        (actions_same root setting more h.1 (drop 1 on))
+
+    body_same : (root : Composition) (setting : Setting) (body : Body) → BodyCalls test body → Same (body_meaning calls root setting body) (body_meaning others root setting body)
+    body_same root setting (plain_body cs) h values left = ap (λ o. ended o) (commands_same root setting cs h values left)
+    body_same root setting (chart_body unit sketch tests actions) h values left =
+        let timed = times_done setting sketch (chart_offset root) values in
+        let asked = is_asked sketch (chart_part root sketch timed) in
+        given_same (conditions_meaning calls root timed asked 0 tests left) (conditions_meaning others root timed asked 0 tests left) _ _
+        (conditions_same root timed asked 0 tests h.0 left)
+        (λ conditions n. actions_same root setting actions h.1 _ _ n)
+
+pub bodies_depend_on_their_calls : BodiesDependOnTheirCalls
+bodies_depend_on_their_calls test calls others same root setting body h values left = body_same test calls others same root setting body h values left
 
 pub called_functions_matter_alone : CalledFunctionsMatterAlone
 called_functions_matter_alone test calls others same root setting cs h values left = commands_same test calls others same root setting cs h values left

@@ -1,5 +1,5 @@
 -- Statements keep the frame (3.3.2).
-use Rattle.std.proofs.Common.{◌≡◌, ℕ, suc, ◌≤◌, ℤ, Bool, true, List, IsTrue, sym, ◌∙◌, subst, if◌then◌else◌}
+use Rattle.std.proofs.Common.{◌≡◌, ℕ, suc, ◌≤◌, ℤ, Bool, true, false, List, drop, get_or, IsTrue, sym, ◌∙◌, subst, if◌then◌else◌}
 use Rattle.st_values.specs.Values.{in_range}
 use Rattle.st_values.specs.declared.elem.Elem.{Elem}
 use Rattle.st_values.specs.declared.elem.Elem.TheVariants as elems
@@ -8,14 +8,15 @@ use Rattle.st_types.specs.Compositions.{Composition}
 use Rattle.st_leaves.specs.Paths.{Path}
 use Rattle.st_leaves.specs.Selected.{selected_by}
 use Rattle.st_operators.specs.Laws.{IsOf}
-use Rattle.st_meaning.specs.Laws.{CommandsKeepTheFrame, HasLeaf, StaysInFrame}
+use Rattle.st_meaning.specs.Laws.{BodiesKeepTheFrame, CommandsKeepTheFrame, HasLeaf, StaysInFrame}
 use Rattle.st_meaning.specs.Meaning.{Calls, Values, located, stored_at, value_of}
 use Rattle.st_meaning.specs.Offsets.{offset_of}
 use Rattle.st_meaning.specs.Operations.{Answer, gives}
-use Rattle.st_meaning.specs.Sound.{AreSoundCalls, AreSoundBranches, AreSoundCases, AreSoundCommands, AreValuesOf, HasOneLeafEach, IsCount, IsSoundCommand, IsSoundTerm, term_type}
-use Rattle.st_meaning.specs.Statements.{Outcome, Setting, done, exited, returned, alike, branches_meaning, cases_meaning, command_meaning, commands_meaning, count_turns, given, goes_on, has_label, is_true, repeat_turns, setting_from, while_turns}
-use Rattle.st_meaning.specs.Terms.{Term, Parts, Command, nothing, assign, choice, cases, count_loop, while_loop, repeat_loop, invoke, enter, exit, finish, Commands, no_commands, more_commands, Branches, no_branches, more_branches, Cases, no_cases, more_cases}
+use Rattle.st_meaning.specs.Sound.{AreSoundActions, AreSoundCalls, AreSoundBranches, AreSoundCases, AreSoundCommands, AreValuesOf, HasOneLeafEach, IsCount, IsSoundBody, IsSoundCommand, IsSoundTerm, term_type}
+use Rattle.st_meaning.specs.Statements.{Outcome, Setting, done, exited, returned, faulted, actions_meaning, alike, body_meaning, branches_meaning, cases_meaning, command_meaning, commands_meaning, count_turns, ended, given, goes_on, has_label, is_true, repeat_turns, setting_from, while_turns}
+use Rattle.st_meaning.specs.Terms.{Term, Parts, Command, nothing, assign, choice, cases, count_loop, while_loop, repeat_loop, invoke, enter, exit, finish, Commands, no_commands, more_commands, Branches, no_branches, more_branches, Cases, no_cases, more_cases, Actions, no_actions, more_actions, count_actions, Body, plain_body, chart_body}
 use Rattle.st_meaning.specs.Wholes.{Functions}
+use Rattle.st_meaning.proofs.ChartFrames.{chart_stays}
 use Rattle.st_meaning.proofs.Frames.{AlwaysStays, either_stays, given_stays, nothing_done, stays_after, step_stays, store_keeps, then_stays}
 use Rattle.st_meaning.proofs.Instances.{part_has_one}
 use Rattle.st_meaning.proofs.Invocations.{enter_stays, invoke_stays}
@@ -92,6 +93,12 @@ module _ (functions : Functions) (calls : Calls) (known : AreSoundCalls function
 
 -- ---- all statements
 
+ended_stays : (root : Composition) (marks : List Bool) (values : Values) (left : ℕ) (o : Outcome) → StaysInFrame root marks values left o → StaysInFrame root marks values left (ended o)
+ended_stays root marks values left (done others n) h = h
+ended_stays root marks values left (exited others n) h = h
+ended_stays root marks values left (returned others n) h = h
+ended_stays root marks values left (faulted f) h = tt
+
 abbrev InTime : Setting → Type 0
 InTime setting = IsTrue (in_range elems.Time setting.now)
 
@@ -131,7 +138,7 @@ module _ (functions : Functions) (calls : Calls) (known : AreSoundCalls function
         invoke_stays functions calls known root setting one now line name b inputs outputs sound values left all
     command_stays root setting now one (enter line name unit body inputs outputs) sound values left all =
         enter_stays functions calls known root setting one line name unit body inputs outputs sound.0 sound.2
-        (commands_stay (selected_by root name) (setting_from (offset_of root name) setting) now (part_has_one root name one) body sound.1) values left all
+        (body_stays (selected_by root name) (setting_from (offset_of root name) setting) now (part_has_one root name one) body sound.1) values left all
     command_stays root setting now one (exit line) sound values left all =
         step_stays root setting.forced values line left (λ n. exited values n) all (λ n. nothing_done root setting.forced values n all)
     command_stays root setting now one (finish line) sound values left all =
@@ -161,6 +168,29 @@ module _ (functions : Functions) (calls : Calls) (known : AreSoundCalls function
     cases_stay root setting now one (more_cases labels cs more) e sound others stays i values left all =
         either_stays root setting.forced values left (has_label labels i) (commands_meaning calls root setting cs values left) (cases_meaning calls root setting more others i values left)
         (λ h. commands_stay root setting now one cs sound.1 values left all) (cases_stay root setting now one more e sound.2 others stays i values left all)
+
+    -- whichever way the statements of an action or a body end
+    actions_stay : (root : Composition) (setting : Setting) → InTime setting → HasOneLeafEach root → (as' : Actions) → AreSoundActions functions root as' → (on : List Bool)
+        → AlwaysStays root setting.forced (actions_meaning calls root setting as' on)
+    actions_stay root setting now one no_actions sound on values left all = nothing_done root setting.forced values left all
+    actions_stay root setting now one (more_actions cs more) sound on values left all =
+        let o = ended (commands_meaning calls root setting cs values left) in
+        then_stays root setting.forced values left (if get_or on 0 false then o else done values left) (actions_meaning calls root setting more (drop 1 on))
+        (either_stays root setting.forced values left (get_or on 0 false) o (done values left)
+        (λ e. ended_stays root setting.forced values left (commands_meaning calls root setting cs values left) (commands_stay root setting now one cs sound.0 values left all))
+        (nothing_done root setting.forced values left all))
+        (actions_stay root setting now one more sound.1 (drop 1 on))
+
+    pub body_stays : (root : Composition) (setting : Setting) → InTime setting → HasOneLeafEach root → (body : Body) → IsSoundBody functions root body
+        → AlwaysStays root setting.forced (body_meaning calls root setting body)
+    body_stays root setting now one (plain_body cs) sound values left all =
+        ended_stays root setting.forced values left (commands_meaning calls root setting cs values left) (commands_stay root setting now one cs sound values left all)
+    body_stays root setting now one (chart_body unit sketch tests actions) sound values left all =
+        chart_stays functions calls known root one sketch tests (count_actions actions) sound.0 setting now (actions_meaning calls root setting actions)
+        (λ on. actions_stay root setting now one actions sound.1 on) values left all
+
+pub bodies_keep_the_frame : BodiesKeepTheFrame
+bodies_keep_the_frame functions calls root setting body values left known now one all sound = body_stays functions calls known root setting now one body sound values left all
 
 pub commands_keep_the_frame : CommandsKeepTheFrame
 commands_keep_the_frame functions calls root setting cs values left known now one all sound = commands_stay functions calls known root setting now one cs sound values left all

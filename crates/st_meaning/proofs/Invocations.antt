@@ -17,8 +17,8 @@ use Rattle.st_meaning.specs.Laws.{KeepsFrame, StaysInFrame}
 use Rattle.st_meaning.specs.Meaning.{Calls, Values, located, no_value, stored_at, value_of}
 use Rattle.st_meaning.specs.Offsets.{offset_of}
 use Rattle.st_meaning.specs.Sound.{AreSoundCalls, AreSoundMoves, AreValuesOf, HasOneLeafEach, IsInvocation, term_type, type_at}
-use Rattle.st_meaning.specs.Statements.{Outcome, Setting, done, exited, returned, faulted, after_step, block_done, command_meaning, commands_meaning, ended, given, instance_meaning, left_by, moves_meaning, setting_from, stretch, then_do, unless_forced}
-use Rattle.st_meaning.specs.Terms.{Commands, Moves, no_moves, more_moves, invoke, enter}
+use Rattle.st_meaning.specs.Statements.{Outcome, Setting, done, exited, returned, faulted, after_step, block_done, body_meaning, command_meaning, given, instance_meaning, left_by, moves_meaning, setting_from, stretch, then_do, unless_forced}
+use Rattle.st_meaning.specs.Terms.{Body, Moves, no_moves, more_moves, invoke, enter}
 use Rattle.st_meaning.specs.Wholes.{Functions}
 use Rattle.st_meaning.proofs.Frames.{AlwaysStays, given_stays, nothing_done, stays_after, step_stays, store_keeps, then_stays}
 use Rattle.st_meaning.proofs.Instances.{part_keeps}
@@ -104,7 +104,7 @@ module _ (functions : Functions) (calls : Calls) (known : AreSoundCalls function
   -- what a body leaves of an instance keeps the frame of the whole where it keeps that of the instance
   left_stays : (name : List ℕ) (unit : ℕ) (values : Values) (left : ℕ) → AreValuesOf root values → (o : Outcome)
       → StaysInFrame (selected_by root name) (drop (offset_of root name) setting.forced) (stretch values (offset_of root name) (count (selected_by root name))) left o
-      → StaysInFrame root setting.forced values left (left_by unit (offset_of root name) values (ended o))
+      → StaysInFrame root setting.forced values left (left_by unit (offset_of root name) values o)
   left_stays name unit values left all (done part rest) keeps = part_keeps root name (selected_by root name) refl setting.forced values all left part rest keeps
   left_stays name unit values left all (exited part rest) keeps = part_keeps root name (selected_by root name) refl setting.forced values all left part rest keeps
   left_stays name unit values left all (returned part rest) keeps = part_keeps root name (selected_by root name) refl setting.forced values all left part rest keeps
@@ -123,12 +123,12 @@ module _ (functions : Functions) (calls : Calls) (known : AreSoundCalls function
       let old = stretch values offset (count part) in
       left_stays name unit values left all (body (setting_from offset setting) old left) (stays old left (part_values root name part refl values all))
 
-  pub enter_stays : (line : ℕ) (name : List ℕ) (unit : ℕ) (body : Commands) (inputs outputs : Moves) → AreSoundMoves functions root inputs → AreSoundMoves functions root outputs
-      → BodyStays name (λ within part i. commands_meaning calls (selected_by root name) within body part i)
+  pub enter_stays : (line : ℕ) (name : List ℕ) (unit : ℕ) (body : Body) (inputs outputs : Moves) → AreSoundMoves functions root inputs → AreSoundMoves functions root outputs
+      → BodyStays name (λ within part i. body_meaning calls (selected_by root name) within body part i)
       → AlwaysStays root setting.forced (command_meaning calls root setting (enter line name unit body inputs outputs))
   enter_stays line name unit body inputs outputs entering leaving stays values left all =
       let forced = setting.forced in
-      let run : Values → ℕ → Outcome = instance_meaning root setting name unit (λ within part i. commands_meaning calls (selected_by root name) within body part i) in
+      let run : Values → ℕ → Outcome = instance_meaning root setting name unit (λ within part i. body_meaning calls (selected_by root name) within body part i) in
       let after : Values → ℕ → Outcome = (λ them j. moves_meaning calls root setting outputs them j) in
       let behind : Values → ℕ → Outcome = (λ others k. then_do (run others k) after) in
       let go : ℕ → Outcome = (λ n. then_do (moves_meaning calls root setting inputs values n) behind) in
@@ -136,5 +136,5 @@ module _ (functions : Functions) (calls : Calls) (known : AreSoundCalls function
       (λ m. step_stays root forced values line m go all
       (λ n. then_stays root forced values n (moves_meaning calls root setting inputs values n) behind (moves_stay inputs entering values n all)
       (λ others k whole. then_stays root forced others k (run others k) after
-      (instance_stays name unit (λ within part i. commands_meaning calls (selected_by root name) within body part i) stays others k whole)
+      (instance_stays name unit (λ within part i. body_meaning calls (selected_by root name) within body part i) stays others k whole)
       (λ them j full. moves_stay outputs leaving them j full))))

@@ -18,7 +18,7 @@ elem_at ls n = (get_or ls n no_leaf).initial.elem
 pub elem_left : (xs ys : List LeafIn) (n : ℕ) → n < length xs → elem_at (xs ++ ys) n ≡ elem_at xs n
 elem_left xs ys n h = ap (λ l. l.initial.elem) (get_or_append_left xs ys no_leaf n h)
 
-elem_right : (xs ys : List LeafIn) (k n : ℕ) → length xs ≡ k → elem_at (xs ++ ys) (k + n) ≡ elem_at ys n
+pub elem_right : (xs ys : List LeafIn) (k n : ℕ) → length xs ≡ k → elem_at (xs ++ ys) (k + n) ≡ elem_at ys n
 elem_right xs ys k n e = ap (λ m. elem_at (xs ++ ys) (m + n)) (sym e) ∙ ap (λ l. l.initial.elem) (get_or-append-add xs ys n no_leaf)
 
 elem_within : (s : Selector) (name : List ℕ) (ls : List LeafIn) (n : ℕ) → elem_at (within s name ls) n ≡ elem_at ls n

@@ -1,5 +1,9 @@
 pub mod BegunFunctions
+pub mod Bodies
 pub mod CalledAlone
+pub mod ChartFrames
+pub mod ChartStates
+pub mod ChartTypes
 pub mod Commands
 pub mod Constants
 pub mod Elements
@@ -12,6 +16,7 @@ pub mod LeafTypes
 pub mod Operands
 pub mod Places
 pub mod Ranges
+pub mod SketchRanges
 pub mod Stretches
 pub mod TermValues
 pub mod Turns
@@ -22,4 +27,5 @@ pub mod TypedStatements
 pub mod TypedTerms
 pub mod Typing
 pub mod Worked
+pub mod WorkedCharts
 pub mod WorkedUnits

@@ -131,7 +131,7 @@ block_types blocks.Tp = refl
 pub block_count : (b : StandardBlock) → length (types_of b) ≡ count (standard b)
 block_count b = ap length (sym (block_types b)) ∙ length-map (block_leaves b) (λ l. l.initial.elem) ∙ length_is_count (standard b)
 
-elem_listed : (ls : List LeafIn) (n : ℕ) → elem_at ls n ≡ get_or (map (λ l. l.initial.elem) ls) n elems.Bool
+pub elem_listed : (ls : List LeafIn) (n : ℕ) → elem_at ls n ≡ get_or (map (λ l. l.initial.elem) ls) n elems.Bool
 elem_listed [] n = refl
 elem_listed (l ∷ ls) zero = refl
 elem_listed (l ∷ ls) (suc n) = elem_listed ls n
@@ -230,7 +230,7 @@ module _ (root : Composition) (name : List ℕ) (c : Composition) (is : selected
 
 -- ---- instances of standard function blocks
 
-zipped : (types : List Elem) (cells : Values) → length cells ≡ length types
+pub zipped : (types : List Elem) (cells : Values) → length cells ≡ length types
     → ((i : ℕ) → i < length types → IsOfType (get_or types i elems.Bool) (get_or cells i no_value)) → AllZip IsOfType types cells
 zipped [] [] e h = tt
 zipped [] (v ∷ cells) e h = absurd (omega (arith, e))

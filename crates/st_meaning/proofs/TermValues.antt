@@ -1,5 +1,5 @@
 -- The value of an expression is one of its type, and no more steps are left.
-use Rattle.std.proofs.Common.{◌≡◌, ℕ, zero, suc, ◌≤◌, IsTrue, List, [], ◌∷◌, get_or, Option, Some, None, is_some, refl, ap, sym, ◌∙◌, subst, arith}
+use Rattle.std.proofs.Common.{◌≡◌, ℕ, zero, suc, ◌≤◌, Bool, true, IsTrue, List, [], ◌∷◌, get_or, Option, Some, None, is_some, refl, ap, sym, ◌∙◌, subst, arith}
 use Rattle.std.specs.Prelude.{slice_get}
 use Rattle.st_values.specs.declared.elem.Elem.{Elem}
 use Rattle.st_values.specs.declared.value.Value.{Value}
@@ -13,10 +13,13 @@ use Rattle.st_operators.specs.Laws.{IsOf}
 use Rattle.st_operators.proofs.Results.{selected_is}
 use Rattle.st_meaning.specs.Laws.{PlacesTakeSteps, TermsGiveValues}
 use Rattle.st_meaning.specs.Meaning.{Calls, Values, inputs_from, located, no_value, numbers_in, value_at, value_from, value_of, value_of_leaf, values_of, when_within}
+use Rattle.st_meaning.specs.Offsets.{step_leaf}
 use Rattle.st_meaning.specs.Operations.{Answer, gives, then_with, answered_in, binary_value, unary_value}
 use Rattle.st_meaning.specs.Sound.{AreInputsOf, AreSoundCalls, AreSoundParts, AreSoundTerms, AreSourcesOf, AreValuesOf, HasOneLeafEach, IsPlaceOf, IsResultOf, IsSoundTerm, IsSourceOf, term_type, types_in}
-use Rattle.st_meaning.specs.Terms.{Source, written, left_out, Term, constant, stored, unary, binary, selection, call, Terms, no_terms, more_terms, Parts, whole, field_part, element_part}
+use Rattle.st_meaning.specs.Terms.{Source, written, left_out, Term, constant, stored, of_step, unary, binary, selection, call, Terms, no_terms, more_terms, Parts, whole, field_part, element_part}
+use Rattle.st_meaning.specs.Steps.{has_step, step_elem, step_path}
 use Rattle.st_meaning.specs.Wholes.{Functions, Input, type_of}
+use Rattle.st_meaning.proofs.ChartTypes.{step_leads}
 use Rattle.st_meaning.proofs.Giving.{answered_given, given_in, same_given, same_left, stepped_in, within_given}
 use Rattle.st_meaning.proofs.Operands.{binary_is, binary_left, unary_is}
 use Rattle.st_meaning.proofs.Places.{places_have_leaves}
@@ -72,6 +75,15 @@ module _ (functions : Functions) (calls : Calls) (known : AreSoundCalls function
       sym (ap (value_of_leaf values) (one found.value leaf.number leaf.leads)) ∙ same_given (value_at root values found.value) v found.left rest found.then' in
       subst (IsOf e) same (subst (λ d. IsOf d (get_or values leaf.number no_value)) leaf.type (all.each leaf.number few))
 
+  step_value : (is_time : Bool) (name : List ℕ) → has_step root name ≡ true → IsOf (term_type root (of_step is_time name)) (value_at root values (step_path is_time name))
+  step_value is_time name h =
+      let at = step_leads root is_time name h in
+      let n = step_leaf root is_time name in
+      let path = step_path is_time name in
+      let few = (places_are_numbers root path n at.leads).0 in
+      subst (IsOf (step_elem is_time)) (sym (ap (value_of_leaf values) (one path n at.leads)))
+      (subst (λ d. IsOf d (get_or values n no_value)) at.type (all.each n few))
+
   mutual
     pub term_value : (t : Term) (left : ℕ) (v : Value) (rest : ℕ) → IsSoundTerm functions root t → value_of calls root values t left ≡ gives v rest
         → IsResultOf (term_type root t) left v rest
@@ -84,6 +96,10 @@ module _ (functions : Functions) (calls : Calls) (known : AreSoundCalls function
         let steps = place_steps root ps left found.value found.left sound.1 found.first in
         let same = same_left (value_at root values found.value) v found.left rest found.then' in
         record { value = stored_value ps left v rest sound h; steps = omega (arith, steps, same) }
+    term_value (of_step is_time name) left v rest sound h =
+        let w = value_at root values (step_path is_time name) in
+        let same = same_left w v left rest h in
+        record { value = subst (IsOf (term_type root (of_step is_time name))) (same_given w v left rest h) (step_value is_time name sound); steps = omega (arith, same) }
     term_value (unary o a) left v rest sound h =
         let x = given_in (value_of calls root values a left) (λ w n. gives (unary_value o w) n) v rest h in
         let is = term_value a left x.value x.left sound.0 x.first in

@@ -11,7 +11,7 @@ use Rattle.st_tree.specs.declared.tree.expression.Variable.{Variable}
 use Rattle.st_types.specs.Compositions.{Composition, unknown, elementary, array, composed, standard}
 use Rattle.st_types.specs.declared.standard.StandardBlock.{StandardBlock}
 use Rattle.st_leaves.specs.Selected.{selected_by}
-use Rattle.st_meaning.specs.Sound.{AreSoundCommands, AreSoundMoves, IsPlaceOf, IsSoundCommand, term_type}
+use Rattle.st_meaning.specs.Sound.{AreSoundMoves, IsPlaceOf, IsSoundBody, IsSoundCommand, term_type}
 use Rattle.st_meaning.specs.Terms.{Moves}
 use Rattle.st_meaning.specs.Typing.{call_command, entrance, input_moves, input_of, inputs_of, invocation, output_moves, output_of, outputs_of, pin_of, place_of, place_typed, typed}
 use Rattle.st_meaning.specs.Wholes.{Functions, Invoked, Whole, block_of, type_of}
@@ -28,7 +28,7 @@ block_is (standard other) b h = cc
 
 -- the bodies of the units whose instances are invoked are sound
 abbrev pub AreSoundBodies : Functions → Whole → Type 0
-AreSoundBodies functions w = (name : List ℕ) (unit : Invoked) → w.invoked name ≡ Some unit → AreSoundCommands functions (selected_by w.variables name) unit.body
+AreSoundBodies functions w = (name : List ℕ) (unit : Invoked) → w.invoked name ≡ Some unit → IsSoundBody functions (selected_by w.variables name) unit.body
 
 module _ (functions : Functions) (w : Whole) (known : KnowsNames functions w) (bodies : AreSoundBodies functions w) where
   input_sound : (name pin : List ℕ) (e : Option Elem) (x : Expression) (more : Moves) → type_of w.variables (pin_of name pin) ≡ e

@@ -1,7 +1,9 @@
 -- What typing makes of statements is sound.
-use Rattle.std.proofs.Common.{◌≡◌, ℕ, pos, List, [], ◌∷◌, map, Option, Some, None, IsTrue, refl, ap, sym, ◌∙◌, subst}
-use Rattle.std.specs.List.{All}
+use Rattle.std.proofs.Common.{◌≡◌, ℕ, pos, Bool, true, false, List, [], ◌∷◌, length, map, Option, Some, None, if◌then◌else◌, IsTrue, refl, ap, sym, ◌∙◌, subst, arith}
+use Rattle.std.specs.List.{All, flat_map}
+use Rattle.std.proofs.lemmas.List.{length-map}
 use Rattle.std.proofs.lemmas.List.Elements.{All-cons, All-nil}
+use Rattle.st_values.specs.Types.{is_same}
 use Rattle.st_values.specs.Values.{in_range}
 use Rattle.st_values.specs.declared.elem.Elem.{Elem}
 use Rattle.st_values.specs.declared.elem.Elem.TheVariants as elems
@@ -18,18 +20,24 @@ use Rattle.st_tree.specs.declared.tree.statement.RepeatStatement.{RepeatStatemen
 use Rattle.st_tree.specs.declared.tree.statement.Statement.{Statement, fold-roll-Statement, ind-Statement, map-Statement, roll-Statement}
 use Rattle.st_tree.specs.declared.tree.statement.Statement.TheOpen.{CaseElement-F, CaseStatement-F, ConditionalPart-F, ForStatement-F, IfStatement-F, RepeatStatement-F, Statement-F, WhileStatement-F}
 use Rattle.st_tree.specs.declared.tree.statement.WhileStatement.{WhileStatement, fold-WhileStatement, fold-roll-WhileStatement, map-WhileStatement, roll-WhileStatement}
-use Rattle.st_types.specs.Compositions.{Composition}
+use Rattle.st_tree.specs.declared.tree.unit.Action.{Action}
+use Rattle.st_tree.specs.declared.tree.unit.Transition.{Transition}
+use Rattle.st_types.specs.Compositions.{Composition, unknown, elementary, array, composed, standard}
 use Rattle.st_types.specs.Initials.{number_in, value_written}
+use Rattle.st_types.specs.Names.{actions_in, steps_in}
 use Rattle.st_types.specs.OwnTypes.{or_lint}
 use Rattle.st_operators.proofs.Results.{wrapped_is}
-use Rattle.st_meaning.specs.Sound.{AreSoundBranches, AreSoundCases, AreSoundCommands, AreSoundParts, IsCount, IsLabelOf, IsPlaceOf, IsSoundCommand, IsTermOf, is_fixed, term_type}
-use Rattle.st_meaning.specs.Terms.{Parts, whole, field_part, Command, choice, while_loop, repeat_loop, Commands, Branches, more_branches, Cases, more_cases}
-use Rattle.st_meaning.specs.Typing.{Typed, alone, assignment, branch_of, branches_of, case_command, case_of, cases_of, command_of, commands_of, condition, for_command, label_range, place_of, step_typed, typed, typed_statement}
+use Rattle.st_meaning.specs.Sketched.{associated_names, associations_of, bool_named, number_among, passage_in, sketch_of, transitions_in, variable_named}
+use Rattle.st_meaning.specs.Sound.{AreBoolVariables, AreSoundActions, AreSoundBranches, AreSoundCases, AreSoundCommands, AreSoundParts, AreSoundTests, HasChartLeaves, IsCount, IsLabelOf, IsPlaceOf, IsSoundBody, IsSoundCommand, IsTermOf, is_fixed, term_type}
+use Rattle.st_meaning.specs.Steps.{chart_within}
+use Rattle.st_meaning.specs.Terms.{Parts, whole, field_part, Command, choice, while_loop, repeat_loop, Commands, Branches, more_branches, Cases, more_cases, count_actions, count_tests}
+use Rattle.st_meaning.specs.Typing.{Typed, actions_of, alone, assignment, body_in, body_of, branch_of, branches_of, case_command, case_of, cases_of, chart_or, command_of, commands_of, condition, for_command, label_range, place_of, step_typed, tests_of, typed, typed_statement}
 use Rattle.st_meaning.specs.Wholes.{Functions, Whole, type_of}
+use Rattle.st_meaning.proofs.ChartTypes.{chart_leaves_are}
 use Rattle.st_meaning.proofs.TypedCalls.{AreSoundBodies, call_command_sound}
 use Rattle.st_meaning.proofs.TypedExpressions.{expression_sound, place_parts}
 use Rattle.st_meaning.proofs.TypedFunctions.{KnowsNames}
-use Rattle.st_meaning.proofs.TypedTerms.{IsSound, alone_sound}
+use Rattle.st_meaning.proofs.TypedTerms.{IsSound, alone_sound, same_type}
 
 -- ---- labels and numbers
 
@@ -104,6 +112,28 @@ assignment_sound functions root line ps None x h parts k = tt
 assignment_sound functions root line ps (Some e) x h parts k =
     let place : IsPlaceOf functions root (term_type root (x.as_type e)) ps = record { type = h ∙ ap (λ d. Some d) (sym (k e).type); parts = parts } in
     (place, (k e).sound)
+
+-- ---- charts
+
+tests_count : (w : Whole) (ts : List Transition) → count_tests (tests_of w ts) ≡ length ts
+tests_count w [] = refl
+tests_count w (t ∷ ts) = let e = tests_count w ts in omega (arith, e)
+
+actions_count : (w : Whole) (as' : List Action) → count_actions (actions_of w as') ≡ length as'
+actions_count w [] = refl
+actions_count w (a ∷ more) = let e = actions_count w more in omega (arith, e)
+
+named_is : (root : Composition) (name : List ℕ) (e : Option Elem) (others : List (Option (List ℕ))) → type_of root (field_part name whole) ≡ e → AreBoolVariables root others
+    → AreBoolVariables root (bool_named name e ∷ others)
+named_is root name None others h rest = rest
+named_is root name (Some e) others h rest = by (is_same e elems.Bool) refl where
+  by : (b : Bool) → is_same e elems.Bool ≡ b → AreBoolVariables root ((if b then Some name else None) ∷ others)
+  by true q = (h ∙ ap (λ d. Some d) (same_type e elems.Bool q), rest)
+  by false q = rest
+
+variables_are : (root : Composition) (names : List (List ℕ)) → AreBoolVariables root (map (variable_named root) names)
+variables_are root [] = tt
+variables_are root (name ∷ names) = named_is root name (type_of root (field_part name whole)) (map (variable_named root) names) refl (variables_are root names)
 
 module _ (functions : Functions) (w : Whole) (known : KnowsNames functions w) (bodies : AreSoundBodies functions w) where
   step_sound : (step : Option Expression) (e : Elem) → IsTermOf functions w.variables e (step_typed w step e)
@@ -216,3 +246,40 @@ module _ (functions : Functions) (w : Whole) (known : KnowsNames functions w) (b
   pub body_sound : (body : List Statement) → AreSoundCommands functions w.variables (commands_of (map (command_of w) body))
   body_sound [] = tt
   body_sound (x ∷ body) = (command_sound x, body_sound body)
+
+  -- ---- charts
+
+  tests_sound : (ts : List Transition) → AreSoundTests functions w.variables (tests_of w ts)
+  tests_sound [] = tt
+  tests_sound (t ∷ ts) = (expression_sound functions w known t.condition elems.Bool, tests_sound ts)
+
+  actions_sound : (as' : List Action) → AreSoundActions functions w.variables (actions_of w as')
+  actions_sound [] = tt
+  actions_sound (a ∷ more) = (body_sound a.statements, actions_sound more)
+
+  -- a chart that the variables end with
+  whole_sound : (cs : Commands) (unit : ℕ) (root : Composition) → w.variables ≡ root → AreSoundCommands functions w.variables cs
+      → IsSoundBody functions w.variables (chart_or cs w unit (chart_within root))
+  whole_sound cs unit unknown same sound = sound
+  whole_sound cs unit (elementary v) same sound = sound
+  whole_sound cs unit (array ranges firsts c) same sound = sound
+  whole_sound cs unit (standard b) same sound = sound
+  whole_sound cs unit (composed name ms []) same sound = sound
+  whole_sound cs unit (composed name ms (e ∷ es)) same sound =
+      let ts = flat_map transitions_in (e ∷ es) in
+      let as' = flat_map actions_in (e ∷ es) in
+      let steps = flat_map steps_in (e ∷ es) in
+      let sketch = sketch_of w.variables (e ∷ es) in
+      let leaves : HasChartLeaves w.variables sketch = subst (λ c. HasChartLeaves c sketch) (sym same) (chart_leaves_are name ms e es w.variables) in (
+        record {
+          leaves = leaves;
+          conditions = tests_sound ts;
+          as_many_tests = length-map ts (passage_in (map (λ s. s.name.spelling) steps)) ∙ sym (tests_count w ts);
+          variables = variables_are w.variables (associated_names [] (associations_of steps));
+          as_many_actions = length-map as' (λ a. number_among (associated_names [] (associations_of steps)) a.name.spelling) ∙ sym (actions_count w as');
+        },
+        actions_sound as',
+      )
+
+  pub unit_body_sound : (unit : ℕ) (statements : List Statement) → IsSoundBody functions w.variables (body_in w unit statements)
+  unit_body_sound unit statements = whole_sound (body_of w statements) unit w.variables refl (body_sound statements)

@@ -18,8 +18,9 @@ use Rattle.st_operators.specs.Operators.{takes, type_given}
 use Rattle.st_operators.proofs.Results.{wrapped_is}
 use Rattle.st_meaning.specs.Operations.{binary_type, has_count, takes_one, takes_two, unary_type}
 use Rattle.st_meaning.specs.Sound.{AreSoundParts, AreSoundTerms, IsTermOf, term_type}
-use Rattle.st_meaning.specs.Terms.{Term, constant, stored, unary, binary, Parts, whole, field_part, element_part}
-use Rattle.st_meaning.specs.Typing.{Typed, alone, chained, combined, combined_all, compared, constant_or, converted, fitted, function_typed, joined, literal, named_value, nil, place_typed, prefixed, selected, shifted, terms_of, through, variable_typed}
+use Rattle.st_meaning.specs.Steps.{has_step, step_elem}
+use Rattle.st_meaning.specs.Terms.{Term, constant, stored, of_step, unary, binary, Parts, whole, field_part, element_part}
+use Rattle.st_meaning.specs.Typing.{Typed, alone, chained, combined, combined_all, compared, constant_or, converted, fitted, function_typed, joined, literal, named_value, nil, part_or_step, place_typed, prefixed, selected, shifted, step_part, step_value, terms_of, through, untyped, variable_typed}
 use Rattle.st_meaning.specs.Wholes.{Functions, Whole, type_of}
 use Rattle.st_meaning.specs.declared.operation.Binary.{Binary}
 use Rattle.st_meaning.specs.declared.operation.Binary.TheVariants as binaries
@@ -50,7 +51,7 @@ type_placed elems.Dword = refl
 type_placed elems.Lword = refl
 type_placed elems.Time = refl
 
-same_type : (d e : Elem) → is_same d e ≡ true → d ≡ e
+pub same_type : (d e : Elem) → is_same d e ≡ true → d ≡ e
 same_type d e h = sym (type_placed d) ∙ ap (λ n. get_or all_types n elems.Bool) ((Decides-eqb (place_of d) (place_of e)).0 h) ∙ type_placed e
 
 pub zero_is_value : (e : Elem) → IsValue (zero_of e)
@@ -220,6 +221,20 @@ module _ (functions : Functions) (root : Composition) where
   through_sound [] keep = tt
   through_sound (f ∷ fs) keep = keep.0 (through fs) (through_sound fs keep.1)
 
+-- a part of a step
+step_value_sound : (functions : Functions) (root : Composition) (name : List ℕ) (t : Option Bool) → IsSound functions root (step_value root name t)
+step_value_sound functions root name None = nil_sound functions root
+step_value_sound functions root name (Some is_time) = by (has_step root name) refl where
+  by : (b : Bool) → has_step root name ≡ b
+      → IsSound functions root (if b then record { own = Some (step_elem is_time); as_type = fitted (step_elem is_time) (of_step is_time name) } else untyped)
+  by true q = fitted_sound functions root (step_elem is_time) (of_step is_time name) (record { type = refl; sound = q })
+  by false q = nil_sound functions root
+
+part_sound : (functions : Functions) (root : Composition) (name part : List ℕ) (e : Option Elem) → type_of root (field_part name (field_part part whole)) ≡ e
+    → IsSound functions root (part_or_step root name part e)
+part_sound functions root name part None h = step_value_sound functions root name (step_part part)
+part_sound functions root name part (Some e) h = place_sound functions root (field_part name (field_part part whole)) (Some e) h tt
+
 -- a variable, or a constant
 pub variable_sound : (functions : Functions) (w : Whole) (ps : Parts) → HasValues w → AreSoundParts functions w.variables ps → IsSound functions w.variables (variable_typed w ps)
 variable_sound functions w whole values parts = place_sound functions w.variables whole (type_of w.variables whole) refl parts
@@ -227,7 +242,12 @@ variable_sound functions w (field_part name whole) values parts = by (w.constant
   by : (c : Option Value) → w.constants name ≡ c → IsSound functions w.variables (constant_or (place_typed (field_part name whole) (type_of w.variables (field_part name whole))) c)
   by None q = place_sound functions w.variables (field_part name whole) (type_of w.variables (field_part name whole)) refl parts
   by (Some v) q = named_sound functions w.variables v (values name v q)
-variable_sound functions w (field_part name (field_part other ps)) values parts = place_sound functions w.variables (field_part name (field_part other ps)) (type_of w.variables (field_part name (field_part other ps))) refl parts
+variable_sound functions w (field_part name (field_part part whole)) values parts =
+    part_sound functions w.variables name part (type_of w.variables (field_part name (field_part part whole))) refl
+variable_sound functions w (field_part name (field_part part (field_part other ps))) values parts =
+    place_sound functions w.variables (field_part name (field_part part (field_part other ps))) (type_of w.variables (field_part name (field_part part (field_part other ps)))) refl parts
+variable_sound functions w (field_part name (field_part part (element_part line ts ps))) values parts =
+    place_sound functions w.variables (field_part name (field_part part (element_part line ts ps))) (type_of w.variables (field_part name (field_part part (element_part line ts ps)))) refl parts
 variable_sound functions w (field_part name (element_part line ts ps)) values parts =
     place_sound functions w.variables (field_part name (element_part line ts ps)) (type_of w.variables (field_part name (element_part line ts ps))) refl parts
 variable_sound functions w (element_part line ts ps) values parts = place_sound functions w.variables (element_part line ts ps) (type_of w.variables (element_part line ts ps)) refl parts

@@ -13,7 +13,7 @@ use Rattle.st_types.specs.declared.standard.StandardBlock.TheVariants as blocks
 use Rattle.st_meaning.specs.Meaning.{Calls, Values, value_of}
 use Rattle.st_meaning.specs.Operations.{Answer, gives, stops, Stop, stop}
 use Rattle.st_meaning.specs.Statements.{Outcome, Setting, done, returned, faulted, body_meaning, command_meaning, commands_meaning}
-use Rattle.st_meaning.specs.Terms.{Term, constant, stored, binary, no_terms, more_terms, Parts, whole, field_part, element_part, Command, assign, cases, count_loop, while_loop, invoke, enter, exit, finish, Moves, no_moves, more_moves, Commands, no_commands, more_commands, no_cases, more_cases}
+use Rattle.st_meaning.specs.Terms.{Term, constant, stored, binary, no_terms, more_terms, Parts, whole, field_part, element_part, Command, assign, cases, count_loop, while_loop, invoke, enter, exit, finish, Moves, no_moves, more_moves, Commands, no_commands, more_commands, no_cases, more_cases, plain_body}
 use Rattle.st_meaning.specs.Typing.{Passed, Typed, function_called, joined, literal, passed, pin_of, place_typed}
 use Rattle.st_meaning.specs.Units.{function_setting, inputs_in, members_begun, result_given}
 use Rattle.st_meaning.specs.Wholes.{Called}
@@ -248,7 +248,7 @@ one_command c = more_commands c no_commands
 
 -- C(..) on line 1, where this is the body of COUNTER
 abbrev enter_counter : Commands → Moves → Moves → Command
-enter_counter body inputs outputs = enter 1 (codes "C") 3 body inputs outputs
+enter_counter body inputs outputs = enter 1 (codes "C") 3 (plain_body body) inputs outputs
 
 abbrev in_counter : List ℕ → Parts
 in_counter name = pin_of (codes "c") name
@@ -332,7 +332,7 @@ nested =
 
 -- O(), where this is the body of COUNTER, and that of OUTER is C();
 abbrev both_enter : Commands → Command
-both_enter body = enter 2 (codes "O") 4 (one_command (enter_counter body no_moves no_moves)) no_moves no_moves
+both_enter body = enter 2 (codes "O") 4 (plain_body (one_command (enter_counter body no_moves no_moves))) no_moves no_moves
 
 -- the leaves of O, which are those of its C
 abbrev nested_values : (by n : ℤ) → Values
@@ -365,7 +365,7 @@ variable name = stored (field_part name whole)
 
 -- the text's functions, where this is the body of GAP
 abbrev calling : Commands → Calls
-calling body unit inputs left = result_given (body_meaning no_calls (composed (codes "PROGRAM") gap_members []) function_setting body (members_begun gap_members inputs) left)
+calling body unit inputs left = result_given (body_meaning no_calls (composed (codes "PROGRAM") gap_members []) function_setting (plain_body body) (members_begun gap_members inputs) left)
 
 -- in the body of GAP, on this line: GAP := t
 abbrev result_in : ℕ → Term → Command

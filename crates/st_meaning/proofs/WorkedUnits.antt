@@ -20,7 +20,7 @@ use Rattle.st_types.specs.Compositions.{Composition, array, composed, none, memb
 use Rattle.st_types.specs.Names.{Named, named}
 use Rattle.st_types.specs.Names as names
 use Rattle.st_types.specs.Types.{shape_of}
-use Rattle.st_meaning.specs.Terms.{no_commands}
+use Rattle.st_meaning.specs.Terms.{no_commands, plain_body}
 use Rattle.st_meaning.specs.Operations.{gives}
 use Rattle.st_meaning.specs.Units.{calls_in, calls_of, functions_in, instance_of, instances_in, members_begun, members_of_function, unit_whole}
 
@@ -50,10 +50,10 @@ root =
     (member (codes "Many") var_kinds.Internal (array [] [] (of_type (codes "LAMP"))) (member (codes "P") var_kinds.Internal (of_type (codes "MAIN")) none))))
     []
 
-first_is_counter : instances_in units root (codes "c") ≡ Some (record { number = 0; body = no_commands })
+first_is_counter : instances_in units root (codes "c") ≡ Some (record { number = 0; body = plain_body no_commands })
 first_is_counter = refl
 
-second_is_lamp : instances_in units root (codes "L") ≡ Some (record { number = 1; body = no_commands })
+second_is_lamp : instances_in units root (codes "L") ≡ Some (record { number = 1; body = plain_body no_commands })
 second_is_lamp = refl
 
 array_is_none : instances_in units root (codes "Many") ≡ None

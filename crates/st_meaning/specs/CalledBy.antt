@@ -5,8 +5,8 @@ use Rattle.st_types.specs.Compositions.{Composition}
 use Rattle.st_types.specs.Names.{Named, unit_at}
 use Rattle.st_types.specs.Names as names
 use Rattle.st_meaning.specs.Meaning.{Calls, Values}
-use Rattle.st_meaning.specs.Statements.{Setting, commands_meaning}
-use Rattle.st_meaning.specs.Terms.{Term, constant, stored, unary, binary, selection, call, Terms, no_terms, more_terms, Parts, whole, field_part, element_part, Command, nothing, assign, choice, cases, count_loop, while_loop, repeat_loop, invoke, enter, exit, finish, Moves, no_moves, more_moves, Commands, no_commands, more_commands, Branches, no_branches, more_branches, Cases, no_cases, more_cases}
+use Rattle.st_meaning.specs.Statements.{Setting, body_meaning, commands_meaning}
+use Rattle.st_meaning.specs.Terms.{Term, constant, stored, of_step, unary, binary, selection, call, Terms, no_terms, more_terms, Parts, whole, field_part, element_part, Command, nothing, assign, choice, cases, count_loop, while_loop, repeat_loop, invoke, enter, exit, finish, Moves, no_moves, more_moves, Commands, no_commands, more_commands, Branches, no_branches, more_branches, Cases, no_cases, more_cases, Tests, no_tests, more_tests, Actions, no_actions, more_actions, Body, plain_body, chart_body}
 use Rattle.st_meaning.specs.Typing.{body_of}
 use Rattle.st_meaning.specs.Units.{calls_of, statements_of, unit_given, unit_whole}
 
@@ -20,6 +20,7 @@ abbrev mutual
   pub TermCalls : CalledTest → Term → Type 0
   TermCalls test (constant v) = Unit {0}
   TermCalls test (stored ps) = PartsCall test ps
+  TermCalls test (of_step is_time name) = Unit {0}
   TermCalls test (unary o a) = TermCalls test a
   TermCalls test (binary o line a b) = TermCalls test a × TermCalls test b
   TermCalls test (selection g a b) = TermCalls test g × TermCalls test a × TermCalls test b
@@ -38,6 +39,10 @@ abbrev pub MovesCall : CalledTest → Moves → Type 0
 MovesCall test no_moves = Unit {0}
 MovesCall test (more_moves ps t more) = PartsCall test ps × TermCalls test t × MovesCall test more
 
+abbrev pub TestsCall : CalledTest → Tests → Type 0
+TestsCall test no_tests = Unit {0}
+TestsCall test (more_tests line t more) = TermCalls test t × TestsCall test more
+
 abbrev mutual
   pub CommandCalls : CalledTest → Command → Type 0
   CommandCalls test (nothing line) = Unit {0}
@@ -48,7 +53,7 @@ abbrev mutual
   CommandCalls test (while_loop line t cs) = TermCalls test t × CommandsCall test cs
   CommandCalls test (repeat_loop line cs t) = CommandsCall test cs × TermCalls test t
   CommandCalls test (invoke line name b inputs outputs) = MovesCall test inputs × MovesCall test outputs
-  CommandCalls test (enter line name unit body inputs outputs) = MovesCall test inputs × CommandsCall test body × MovesCall test outputs
+  CommandCalls test (enter line name unit body inputs outputs) = MovesCall test inputs × BodyCalls test body × MovesCall test outputs
   CommandCalls test (exit line) = Unit {0}
   CommandCalls test (finish line) = Unit {0}
 
@@ -64,6 +69,14 @@ abbrev mutual
   CasesCall test no_cases = Unit {0}
   CasesCall test (more_cases labels cs more) = CommandsCall test cs × CasesCall test more
 
+  pub ActionsCall : CalledTest → Actions → Type 0
+  ActionsCall test no_actions = Unit {0}
+  ActionsCall test (more_actions cs more) = CommandsCall test cs × ActionsCall test more
+
+  pub BodyCalls : CalledTest → Body → Type 0
+  BodyCalls test (plain_body cs) = CommandsCall test cs
+  BodyCalls test (chart_body unit sketch tests actions) = TestsCall test tests × ActionsCall test actions
+
 -- ---- what follows
 
 -- the functions that pass the test give the same
@@ -74,6 +87,11 @@ GiveAlike test calls others = (unit : ℕ) → IsTrue (test unit) → (inputs : 
 abbrev pub CalledFunctionsMatterAlone : Type 0
 CalledFunctionsMatterAlone = (test : CalledTest) (calls others : Calls) → GiveAlike test calls others → (root : Composition) (setting : Setting) (cs : Commands)
     → CommandsCall test cs → (values : Values) (left : ℕ) → commands_meaning calls root setting cs values left ≡ commands_meaning others root setting cs values left
+
+-- and so of bodies
+abbrev pub BodiesDependOnTheirCalls : Type 0
+BodiesDependOnTheirCalls = (test : CalledTest) (calls others : Calls) → GiveAlike test calls others → (root : Composition) (setting : Setting) (body : Body)
+    → BodyCalls test body → (values : Values) (left : ℕ) → body_meaning calls root setting body values left ≡ body_meaning others root setting body values left
 
 -- each function calls none but those of a lower rank
 abbrev pub CallBelow : List Named → (ℕ → ℕ) → Type 0

@@ -12,10 +12,10 @@ use Rattle.st_leaves.specs.Paths.{Path}
 use Rattle.st_leaves.specs.Places.{LeadsTo}
 use Rattle.st_meaning.specs.Meaning.{Calls, Values, located, no_value, value_of}
 use Rattle.st_meaning.specs.Operations.{gives}
-use Rattle.st_meaning.specs.Sound.{AreSoundCalls, AreSoundCommands, AreValuesOf, HasOneLeafEach, IsPlaceOf, IsResultOf, IsSoundTerm, term_type, type_at}
-use Rattle.st_meaning.specs.Statements.{Setting, Outcome, done, exited, returned, faulted, commands_meaning}
-use Rattle.st_meaning.specs.Terms.{Commands, Parts, Term}
-use Rattle.st_meaning.specs.Typing.{body_of}
+use Rattle.st_meaning.specs.Sound.{AreSoundCalls, AreSoundCommands, AreValuesOf, HasOneLeafEach, IsPlaceOf, IsResultOf, IsSoundBody, IsSoundTerm, term_type, type_at}
+use Rattle.st_meaning.specs.Statements.{Setting, Outcome, done, exited, returned, faulted, body_meaning, commands_meaning}
+use Rattle.st_meaning.specs.Terms.{Body, Commands, Parts, Term}
+use Rattle.st_meaning.specs.Typing.{body_in, body_of}
 use Rattle.st_meaning.specs.Units.{calls_of, function_at, members_of_function, result_declared, root_of, unit_whole}
 use Rattle.st_meaning.specs.Wholes.{Functions}
 
@@ -23,6 +23,11 @@ use Rattle.st_meaning.specs.Wholes.{Functions}
 abbrev pub TypingGivesSoundBodies : Type 0
 TypingGivesSoundBodies = (units : List Named) (unit : Named) (body : List Statement)
     → AreSoundCommands (function_at units) (unit_whole units unit).variables (body_of (unit_whole units unit) body)
+
+-- and so is its body, a chart or statements, whichever number it has
+abbrev pub TypingGivesSoundUnits : Type 0
+TypingGivesSoundUnits = (units : List Named) (unit : Named) (number : ℕ) (body : List Statement)
+    → IsSoundBody (function_at units) (unit_whole units unit).variables (body_in (unit_whole units unit) number body)
 
 -- a leaf of this type stands at the path
 pub record HasLeaf (root : Composition) (e : Elem) (path : Path) : Type 0 where
@@ -64,6 +69,12 @@ abbrev pub CommandsKeepTheFrame : Type 0
 CommandsKeepTheFrame = (functions : Functions) (calls : Calls) (root : Composition) (setting : Setting) (cs : Commands) (values : Values) (left : ℕ)
     → AreSoundCalls functions calls → IsTrue (in_range elems.Time setting.now) → HasOneLeafEach root → AreValuesOf root values → AreSoundCommands functions root cs
     → StaysInFrame root setting.forced values left (commands_meaning calls root setting cs values left)
+
+-- and so does a sound body
+abbrev pub BodiesKeepTheFrame : Type 0
+BodiesKeepTheFrame = (functions : Functions) (calls : Calls) (root : Composition) (setting : Setting) (body : Body) (values : Values) (left : ℕ)
+    → AreSoundCalls functions calls → IsTrue (in_range elems.Time setting.now) → HasOneLeafEach root → AreValuesOf root values → IsSoundBody functions root body
+    → StaysInFrame root setting.forced values left (body_meaning calls root setting body values left)
 
 -- The functions of a text are sound, where each place in the variables of one is that of one leaf.
 abbrev pub CallsAreSound : Type 0

@@ -1,10 +1,15 @@
 pub mod CalledBy
+pub mod Charts
+pub mod InRange
 pub mod Laws
 pub mod Meaning
 pub mod Offsets
 pub mod Operations
+pub mod Sketched
+pub mod Sketches
 pub mod Sound
 pub mod Statements
+pub mod Steps
 pub mod Terms
 pub mod Typing
 pub mod Units

@@ -12,7 +12,8 @@ use Rattle.st_leaves.specs.Paths.{Path, field, index, is_same_path}
 use Rattle.st_leaves.specs.Selected.{element_of, selected_by, subscripts_of}
 use Rattle.st_operators.specs.Functions.{selected_of}
 use Rattle.st_meaning.specs.Operations.{Answer, gives, stops, stop, then_with, answered_in, binary_value, unary_value, with_step}
-use Rattle.st_meaning.specs.Terms.{Source, written, left_out, Term, constant, stored, unary, binary, selection, call, Terms, no_terms, more_terms, Parts, whole, field_part, element_part}
+use Rattle.st_meaning.specs.Steps.{step_path}
+use Rattle.st_meaning.specs.Terms.{Source, written, left_out, Term, constant, stored, of_step, unary, binary, selection, call, Terms, no_terms, more_terms, Parts, whole, field_part, element_part}
 use Rattle.st_meaning.specs.declared.fault.RunFaultKind.TheVariants as faults
 
 -- ---- the values of variables: a map from paths to values, as one value for each leaf, in their order
@@ -83,6 +84,7 @@ abbrev mutual
   pub value_of : Calls → Composition → Values → Term → ℕ → Answer Value
   value_of calls root values (constant v) left = gives v left
   value_of calls root values (stored ps) left = then_with (located calls root values root ps left) (λ path n. gives (value_at root values path) n)
+  value_of calls root values (of_step is_time name) left = gives (value_at root values (step_path is_time name)) left
   value_of calls root values (unary o a) left = then_with (value_of calls root values a left) (λ x n. gives (unary_value o x) n)
   value_of calls root values (binary o line a b) left =
       then_with (value_of calls root values a left) (λ x n. then_with (value_of calls root values b n) (λ y m. binary_value o line x y m))

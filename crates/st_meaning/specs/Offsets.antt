@@ -1,10 +1,12 @@
 -- How many leaves stand before a part of a whole (2.4.1).
-use Rattle.std.specs.Prelude.{ℕ, ◌+◌, ◌≤◌, List, [], ◌∷◌, if◌then◌else◌}
+use Rattle.std.specs.Prelude.{ℕ, ◌+◌, ◌≤◌, Bool, true, false, List, [], ◌∷◌, if◌then◌else◌}
 use Rattle.st_values.specs.Words.{is_word}
+use Rattle.st_tree.specs.declared.tree.unit.Step.{Step}
 use Rattle.st_types.specs.Compositions.{Composition, composed, standard, Members, none, member}
 use Rattle.st_types.specs.Standard.{Pin, pins_of}
 use Rattle.st_leaves.specs.Bounds.{HasBounds}
-use Rattle.st_leaves.specs.Places.{count}
+use Rattle.st_leaves.specs.Places.{count, counts, step_count}
+use Rattle.st_meaning.specs.Steps.{steps_within}
 
 -- how many leaves stand before the first member of a name
 abbrev pub member_offset : Members → List ℕ → ℕ
@@ -20,6 +22,21 @@ abbrev pub offset_of : Composition → List ℕ → ℕ
 offset_of (composed name ms chart) n = member_offset ms n
 offset_of (standard b) n = pin_offset (pins_of b) n
 offset_of _ n = 0
+
+-- how many leaves stand before those of its chart, which are the last ones
+abbrev pub chart_offset : Composition → ℕ
+chart_offset (composed name ms chart) = counts ms
+chart_offset _ = 0
+
+-- how many leaves stand before those of the first step of a name
+abbrev pub step_offset : List Step → List ℕ → ℕ
+step_offset [] name = 0
+step_offset (s ∷ steps) name = if is_word s.name.spelling name then 0 else (step_count s + step_offset steps name)
+
+-- the leaf that says of a step for how long it has been active, where this is TRUE, else whether it is
+abbrev pub step_leaf : Composition → Bool → List ℕ → ℕ
+step_leaf root false name = chart_offset root + (1 + step_offset (steps_within root) name)
+step_leaf root true name = chart_offset root + (1 + (step_offset (steps_within root) name + 1))
 
 -- what an accepted program's variables consist of: subscripts in the range of LINT, and at most 65,536 leaves
 pub record IsSmall (c : Composition) : Type 0 where

@@ -1,9 +1,10 @@
 -- Sound terms and commands: each operand has a type that its operator takes, and each place a type of its own.
-use Rattle.std.specs.Prelude.{◌≡◌, ℕ, ◌<◌, ◌≤◌, Bool, true, false, IsTrue, List, [], ◌∷◌, length, get_or, slice_get, Some}
+use Rattle.std.specs.Prelude.{◌≡◌, ℕ, ◌+◌, ◌<◌, ◌≤◌, Bool, true, false, IsTrue, List, [], ◌∷◌, length, get_or, slice_get, Option, Some, None}
 use Rattle.std.specs.List.{All}
 use Rattle.std.specs.Option.{is_some}
 use Rattle.st_values.specs.Values.{IsValue, in_range}
 use Rattle.st_values.specs.declared.elem.Elem.{Elem}
+use Rattle.st_values.specs.declared.elem.Elem.TheVariants as elems
 use Rattle.st_values.specs.declared.value.Value.{Value}
 use Rattle.st_types.specs.Compositions.{Composition, standard}
 use Rattle.st_types.specs.OwnTypes.{or_lint}
@@ -14,14 +15,18 @@ use Rattle.st_leaves.specs.Places.{LeadsTo, count}
 use Rattle.st_leaves.specs.Selected.{selected_by}
 use Rattle.st_operators.specs.Laws.{IsOf}
 use Rattle.st_meaning.specs.Meaning.{Calls, Values, leaf_with, no_value}
+use Rattle.st_meaning.specs.Offsets.{chart_offset}
 use Rattle.st_meaning.specs.Operations.{gives, binary_type, has_count, takes_one, takes_two, unary_type}
-use Rattle.st_meaning.specs.Terms.{Source, written, left_out, Term, constant, stored, unary, binary, selection, call, Terms, no_terms, more_terms, Parts, whole, field_part, element_part, LabelRange, Command, nothing, assign, choice, cases, count_loop, while_loop, repeat_loop, invoke, enter, exit, finish, Moves, no_moves, more_moves, Commands, no_commands, more_commands, Branches, no_branches, more_branches, Cases, no_cases, more_cases}
+use Rattle.st_meaning.specs.Sketches.{Sketch, chart_size, chart_types}
+use Rattle.st_meaning.specs.Steps.{has_step, step_elem}
+use Rattle.st_meaning.specs.Terms.{Source, written, left_out, Term, constant, stored, of_step, unary, binary, selection, call, Terms, no_terms, more_terms, Parts, whole, field_part, element_part, LabelRange, Command, nothing, assign, choice, cases, count_loop, while_loop, repeat_loop, invoke, enter, exit, finish, Moves, no_moves, more_moves, Commands, no_commands, more_commands, Branches, no_branches, more_branches, Cases, no_cases, more_cases, Tests, no_tests, more_tests, count_tests, Actions, no_actions, more_actions, count_actions, Body, plain_body, chart_body}
 use Rattle.st_meaning.specs.Wholes.{Called, Functions, Input, type_of}
 
 -- the type of the value of a term
 abbrev pub term_type : Composition → Term → Elem
 term_type root (constant v) = v.elem
 term_type root (stored ps) = or_lint (type_of root ps)
+term_type root (of_step is_time name) = step_elem is_time
 term_type root (unary o a) = unary_type o (term_type root a)
 term_type root (binary o line a b) = binary_type o (term_type root a)
 term_type root (selection g a b) = term_type root a
@@ -56,6 +61,7 @@ abbrev mutual
   pub IsSoundTerm : Functions → Composition → Term → Type 0
   IsSoundTerm functions root (constant v) = IsValue v
   IsSoundTerm functions root (stored ps) = IsTrue (is_some (type_of root ps)) × AreSoundParts functions root ps
+  IsSoundTerm functions root (of_step is_time name) = IsTrue (has_step root name)
   IsSoundTerm functions root (unary o a) = IsSoundTerm functions root a × IsTrue (takes_one o (term_type root a))
   IsSoundTerm functions root (binary o line a b) =
       IsSoundTerm functions root a × IsSoundTerm functions root b × IsTrue (takes_two o (term_type root a)) × (has_count o ≡ false → term_type root a ≡ term_type root b)
@@ -129,6 +135,40 @@ pub record IsInvocation (functions : Functions) (root : Composition) (name : Lis
   pub inputs : AreSoundMoves functions root entering
   pub outputs : AreSoundMoves functions root leaving
 
+-- ---- charts
+
+-- what stands past the last leaf
+abbrev pub no_leaf : LeafIn
+no_leaf = record { path = []; spine = []; initial = no_value; use' = plain }
+
+-- the type of the leaf of this number
+abbrev pub type_at : Composition → ℕ → Elem
+type_at root n = (get_or (leaves_in root) n no_leaf).initial.elem
+
+-- The leaves of the chart are the last ones of the unit, and have their types.
+pub record HasChartLeaves (root : Composition) (sketch : Sketch) : Type 0 where
+  pub fits : chart_offset root + chart_size sketch ≤ count root
+  pub types : (i : ℕ) → i < chart_size sketch → type_at root (chart_offset root + i) ≡ get_or (chart_types sketch) i elems.Bool
+
+-- each condition is a BOOL
+abbrev pub AreSoundTests : Functions → Composition → Tests → Type 0
+AreSoundTests functions root no_tests = Unit {0}
+AreSoundTests functions root (more_tests line t more) = IsTermOf functions root elems.Bool t × AreSoundTests functions root more
+
+-- each name that is a variable is one of BOOL
+abbrev pub AreBoolVariables : Composition → List (Option (List ℕ)) → Type 0
+AreBoolVariables root [] = Unit {0}
+AreBoolVariables root (None ∷ names) = AreBoolVariables root names
+AreBoolVariables root (Some name ∷ names) = (type_of root (field_part name whole) ≡ Some elems.Bool) × AreBoolVariables root names
+
+-- what a chart needs beside sound actions: as many conditions as transitions, and as many actions as are known
+pub record IsChart (functions : Functions) (root : Composition) (sketch : Sketch) (tests : Tests) (actions : ℕ) : Type 0 where
+  pub leaves : HasChartLeaves root sketch
+  pub conditions : AreSoundTests functions root tests
+  pub as_many_tests : length sketch.passages ≡ count_tests tests
+  pub variables : AreBoolVariables root sketch.variables
+  pub as_many_actions : length sketch.actions ≡ actions
+
 abbrev mutual
   pub IsSoundCommand : Functions → Composition → Command → Type 0
   IsSoundCommand functions root (nothing line) = Unit {0}
@@ -139,7 +179,7 @@ abbrev mutual
   IsSoundCommand functions root (while_loop line t cs) = IsSoundTerm functions root t × AreSoundCommands functions root cs
   IsSoundCommand functions root (repeat_loop line cs t) = AreSoundCommands functions root cs × IsSoundTerm functions root t
   IsSoundCommand functions root (invoke line name b inputs outputs) = IsInvocation functions root name b inputs outputs
-  IsSoundCommand functions root (enter line name unit body inputs outputs) = AreSoundMoves functions root inputs × AreSoundCommands functions (selected_by root name) body × AreSoundMoves functions root outputs
+  IsSoundCommand functions root (enter line name unit body inputs outputs) = AreSoundMoves functions root inputs × IsSoundBody functions (selected_by root name) body × AreSoundMoves functions root outputs
   IsSoundCommand functions root (exit line) = Unit {0}
   IsSoundCommand functions root (finish line) = Unit {0}
 
@@ -155,19 +195,19 @@ abbrev mutual
   AreSoundCases functions root e no_cases = Unit {0}
   AreSoundCases functions root e (more_cases labels cs more) = All (IsLabelOf e) labels × AreSoundCommands functions root cs × AreSoundCases functions root e more
 
+  pub AreSoundActions : Functions → Composition → Actions → Type 0
+  AreSoundActions functions root no_actions = Unit {0}
+  AreSoundActions functions root (more_actions cs more) = AreSoundCommands functions root cs × AreSoundActions functions root more
+
+  pub IsSoundBody : Functions → Composition → Body → Type 0
+  IsSoundBody functions root (plain_body cs) = AreSoundCommands functions root cs
+  IsSoundBody functions root (chart_body unit sketch tests actions) = IsChart functions root sketch tests (count_actions actions) × AreSoundActions functions root actions
+
 -- ---- values of leaves
 
 -- each place is that of one leaf: the first with its path
 abbrev pub HasOneLeafEach : Composition → Type 0
 HasOneLeafEach root = (path : Path) (n : ℕ) → LeadsTo root path n → leaf_with root path ≡ Some n
-
--- what stands past the last leaf
-abbrev pub no_leaf : LeafIn
-no_leaf = record { path = []; spine = []; initial = no_value; use' = plain }
-
--- the type of the leaf of this number
-abbrev pub type_at : Composition → ℕ → Elem
-type_at root n = (get_or (leaves_in root) n no_leaf).initial.elem
 
 -- one value of its type for each leaf
 pub record AreValuesOf (root : Composition) (values : Values) : Type 0 where

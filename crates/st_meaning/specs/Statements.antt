@@ -1,16 +1,18 @@
 -- What statements do (3.3.2): from the values of variables, the forced leaves and the steps left, to new values and the steps that
 -- are left then, or to what stops the run.
-use Rattle.std.specs.Prelude.{ℕ, zero, suc, ◌+◌, Bool, true, false, ◌&&◌, ◌||◌, if◌then◌else◌, ℤ, pos, negsuc, ◌+ℤ◌, int_le, List, [], ◌∷◌, ◌++◌, drop, length, take}
+use Rattle.std.specs.Prelude.{ℕ, zero, suc, ◌+◌, Bool, true, false, ◌&&◌, ◌||◌, if◌then◌else◌, ℤ, pos, negsuc, ◌+ℤ◌, int_le, List, [], ◌∷◌, ◌++◌, drop, get_or, length, take}
 use Rattle.st_values.specs.declared.value.Value.{Value}
 use Rattle.st_types.specs.Compositions.{Composition, standard}
 use Rattle.st_types.specs.declared.standard.StandardBlock.{StandardBlock}
 use Rattle.st_leaves.specs.Places.{count}
 use Rattle.st_leaves.specs.Selected.{selected_by}
 use Rattle.st_blocks.specs.Steps.{stepped}
+use Rattle.st_meaning.specs.Charts.{actions_on, is_asked, moved_on, names_on, names_stored, times_set}
 use Rattle.st_meaning.specs.Meaning.{Calls, Values, located, stored_at, value_of}
-use Rattle.st_meaning.specs.Offsets.{offset_of}
-use Rattle.st_meaning.specs.Operations.{Answer, gives, stops, Stop, stop, in_unit}
-use Rattle.st_meaning.specs.Terms.{LabelRange, Command, nothing, assign, choice, cases, count_loop, while_loop, repeat_loop, invoke, enter, exit, finish, Moves, no_moves, more_moves, Commands, no_commands, more_commands, Branches, no_branches, more_branches, Cases, no_cases, more_cases}
+use Rattle.st_meaning.specs.Offsets.{chart_offset, offset_of}
+use Rattle.st_meaning.specs.Operations.{Answer, gives, stops, Stop, stop, in_unit, then_with, with_step}
+use Rattle.st_meaning.specs.Sketches.{Sketch, chart_size}
+use Rattle.st_meaning.specs.Terms.{Term, LabelRange, Tests, no_tests, more_tests, Actions, no_actions, more_actions, Body, plain_body, chart_body, Command, nothing, assign, choice, cases, count_loop, while_loop, repeat_loop, invoke, enter, exit, finish, Moves, no_moves, more_moves, Commands, no_commands, more_commands, Branches, no_branches, more_branches, Cases, no_cases, more_cases}
 use Rattle.st_meaning.specs.declared.fault.RunFaultKind.TheVariants as faults
 
 -- what a run is given beside the values: the moment, in milliseconds, and which leaves are forced
@@ -137,7 +139,47 @@ left_by unit offset values (faulted f) = faulted (in_unit unit f)
 abbrev pub instance_meaning : Composition → Setting → List ℕ → ℕ → (Setting → Values → ℕ → Outcome) → Values → ℕ → Outcome
 instance_meaning root setting name unit body values left =
     let offset = offset_of root name in
-    left_by unit offset values (ended (body (setting_from offset setting) (stretch values offset (count (selected_by root name))) left))
+    left_by unit offset values (body (setting_from offset setting) (stretch values offset (count (selected_by root name))) left)
+
+-- ---- charts (2.6)
+
+-- the values of the leaves of a chart
+abbrev pub chart_part : Composition → Sketch → Values → Values
+chart_part root sketch values = stretch values (chart_offset root) (chart_size sketch)
+
+-- what is made of values that stand together takes their place, unless a leaf is forced
+abbrev pub part_made : List Bool → (offset size : ℕ) → (Values → Values) → Values → Values
+part_made forced offset size make values =
+    let old = stretch values offset size in with_stretch values offset (unless_forced (drop offset forced) old (make old))
+
+-- the times of the active steps
+abbrev pub times_done : Setting → Sketch → ℕ → Values → Values
+times_done setting sketch offset values = part_made setting.forced offset (chart_size sketch) (times_set sketch setting.now) values
+
+-- what follows of the conditions
+abbrev pub chart_done : Setting → Sketch → ℕ → List Bool → Values → Values
+chart_done setting sketch offset conditions values = part_made setting.forced offset (chart_size sketch) (moved_on sketch conditions setting.now) values
+
+-- A condition that is asked takes a step, and one that isn't counts as FALSE.
+abbrev pub condition_value : Calls → Composition → Values → Bool → ℕ → Term → ℕ → Answer Bool
+condition_value calls root values asked line t left =
+    if asked then with_step line left (λ n. then_with (value_of calls root values t n) (λ v m. gives (is_true v) m)) else gives false left
+
+-- of the transitions from this number on
+abbrev pub conditions_meaning : Calls → Composition → Values → (ℕ → Bool) → ℕ → Tests → ℕ → Answer (List Bool)
+conditions_meaning calls root values asked number no_tests left = gives [] left
+conditions_meaning calls root values asked number (more_tests line t more) left =
+    then_with (condition_value calls root values (asked number) line t left) (λ b n.
+    then_with (conditions_meaning calls root values asked (suc number) more n) (λ bs m. gives (b ∷ bs) m))
+
+-- The times are set, the conditions are asked, the transitions are cleared, and the variables are stored that the steps are
+-- associated with; then the actions run, of which it is known which are on.
+abbrev pub chart_meaning : Calls → Composition → Setting → Sketch → Tests → (List Bool → Values → ℕ → Outcome) → Values → ℕ → Outcome
+chart_meaning calls root setting sketch tests run values left =
+    let timed = times_done setting sketch (chart_offset root) values in
+    given (conditions_meaning calls root timed (is_asked sketch (chart_part root sketch timed)) 0 tests left) (λ conditions n.
+    let on = names_on sketch conditions setting.now (chart_part root sketch timed) in
+    run (actions_on sketch on) (names_stored root setting.forced sketch.variables on (chart_done setting sketch (chart_offset root) conditions timed)) n)
 
 -- ---- statements
 
@@ -182,7 +224,7 @@ abbrev mutual
   command_meaning calls root setting (enter line name unit body inputs outputs) values left =
       after_step line left (λ m. after_step line m (λ n.
       then_do (moves_meaning calls root setting inputs values n) (λ others k.
-      then_do (instance_meaning root setting name unit (λ within part i. commands_meaning calls (selected_by root name) within body part i) others k)
+      then_do (instance_meaning root setting name unit (λ within part i. body_meaning calls (selected_by root name) within body part i) others k)
       (λ them j. moves_meaning calls root setting outputs them j))))
   command_meaning calls root setting (exit line) values left = after_step line left (λ n. exited values n)
   command_meaning calls root setting (finish line) values left = after_step line left (λ n. returned values n)
@@ -205,6 +247,15 @@ abbrev mutual
   cases_meaning calls root setting (more_cases labels cs more) others i values left =
       if has_label labels i then commands_meaning calls root setting cs values left else cases_meaning calls root setting more others i values left
 
--- a body
-abbrev pub body_meaning : Calls → Composition → Setting → Commands → Values → ℕ → Outcome
-body_meaning calls root setting cs values left = ended (commands_meaning calls root setting cs values left)
+  -- those actions that are on, one after the other. RETURN ends the action that it stands in.
+  pub actions_meaning : Calls → Composition → Setting → Actions → List Bool → Values → ℕ → Outcome
+  actions_meaning calls root setting no_actions on values left = done values left
+  actions_meaning calls root setting (more_actions cs more) on values left =
+      then_do (if get_or on 0 false then ended (commands_meaning calls root setting cs values left) else done values left)
+      (actions_meaning calls root setting more (drop 1 on))
+
+  -- a body
+  pub body_meaning : Calls → Composition → Setting → Body → Values → ℕ → Outcome
+  body_meaning calls root setting (plain_body cs) values left = ended (commands_meaning calls root setting cs values left)
+  body_meaning calls root setting (chart_body unit sketch tests actions) values left =
+      chart_meaning calls root setting sketch tests (λ on others n. actions_meaning calls root setting actions on others n) values left

@@ -1,8 +1,9 @@
 -- Programs with the type of each literal: what typing makes of a tree, and what meaning and code are about.
-use Rattle.std.specs.Prelude.{ℕ, ◌+◌, ℤ, List}
+use Rattle.std.specs.Prelude.{ℕ, ◌+◌, ℤ, Bool, List}
 use Rattle.st_values.specs.declared.elem.Elem.{Elem}
 use Rattle.st_values.specs.declared.value.Value.{Value}
 use Rattle.st_types.specs.declared.standard.StandardBlock.{StandardBlock}
+use Rattle.st_meaning.specs.Sketches.{Sketch}
 use Rattle.st_meaning.specs.declared.operation.Binary.{Binary}
 use Rattle.st_meaning.specs.declared.operation.Unary.{Unary}
 
@@ -20,6 +21,8 @@ mutual
     constant : Value → Term
     -- the value of a place
     stored : Parts → Term
+    -- of the step of this name (2.6.2) for how long it has been active, where this is TRUE, else whether it is
+    of_step : Bool → List ℕ → Term
     unary : Unary → Term → Term
     binary : Binary → ℕ → Term → Term → Term
     -- SEL: the first of the last two where the one before is FALSE, else the second
@@ -52,6 +55,15 @@ pub record LabelRange : Type 0 where
   pub least : ℤ
   pub greatest : ℤ
 
+-- the conditions of transitions (2.6.3), in the order of the text, each with the line of its TRANSITION
+pub data Tests : Type 0 where
+  no_tests : Tests
+  more_tests : ℕ → Term → Tests → Tests
+
+abbrev pub count_tests : Tests → ℕ
+count_tests no_tests = 0
+count_tests (more_tests line t ts) = 1 + count_tests ts
+
 mutual
   -- a statement, and its line (3.3.2)
   pub data Command : Type 0 where
@@ -68,7 +80,7 @@ mutual
     invoke : ℕ → List ℕ → StandardBlock → Moves → Moves → Command
     -- an invocation of a function block of the text: the name of the instance, the number of its unit, what the body of that unit is,
     -- what its inputs are given, and what its outputs are assigned to
-    enter : ℕ → List ℕ → ℕ → Commands → Moves → Moves → Command
+    enter : ℕ → List ℕ → ℕ → Body → Moves → Moves → Command
     exit : ℕ → Command
     finish : ℕ → Command
 
@@ -85,3 +97,18 @@ mutual
   pub data Cases : Type 0 where
     no_cases : Cases
     more_cases : List LabelRange → Commands → Cases → Cases
+
+  -- what actions do (2.6.4), in the order of the text
+  pub data Actions : Type 0 where
+    no_actions : Actions
+    more_actions : Commands → Actions → Actions
+
+  -- what a program or a function block does
+  pub data Body : Type 0 where
+    plain_body : Commands → Body
+    -- a chart: the number of the unit that it is of, its steps and transitions, their conditions, and its actions
+    chart_body : ℕ → Sketch → Tests → Actions → Body
+
+abbrev pub count_actions : Actions → ℕ
+count_actions no_actions = 0
+count_actions (more_actions cs more) = 1 + count_actions more

@@ -1,6 +1,6 @@
 -- Which type each literal has, and what each name stands for (2.2, 2.4, 3.3.1): from trees to programs without names. An expression
 -- is a term where a type is due of it. In a program that keeps the rules it fits that type; elsewhere it is 0.
-use Rattle.std.specs.Prelude.{ℕ, suc, ◌==◌, Bool, false, if◌then◌else◌, pos, List, [], ◌∷◌, map, slice_get, Option, Some, None}
+use Rattle.std.specs.Prelude.{ℕ, suc, ◌==◌, Bool, true, false, if◌then◌else◌, pos, List, [], ◌∷◌, codes, map, slice_get, Option, Some, None}
 use Rattle.std.specs.List.{flat_map, position}
 use Rattle.st_values.specs.Types.{is_same}
 use Rattle.st_values.specs.Words.{is_word}
@@ -22,7 +22,12 @@ use Rattle.st_tree.specs.declared.tree.statement.Label.{Label}
 use Rattle.st_tree.specs.declared.tree.statement.Label.TheVariants as label_kinds
 use Rattle.st_tree.specs.declared.tree.statement.Statement.{Statement, fold-Statement}
 use Rattle.st_tree.specs.declared.tree.statement.Statement.TheOpen.{Statement-F}
+use Rattle.st_tree.specs.declared.tree.unit.Action.{Action}
+use Rattle.st_tree.specs.declared.tree.unit.ChartElement.{ChartElement}
+use Rattle.st_tree.specs.declared.tree.unit.Transition.{Transition}
+use Rattle.st_types.specs.Compositions.{Composition}
 use Rattle.st_types.specs.Initials.{value_written, zero_of}
+use Rattle.st_types.specs.Names.{actions_in}
 use Rattle.st_types.specs.OwnTypes.{first_own, is_comparison, literal_own, or_lint}
 use Rattle.st_types.specs.Standard.{standard_of}
 use Rattle.st_types.specs.declared.standard.StandardBlock.{StandardBlock}
@@ -32,7 +37,9 @@ use Rattle.st_types.specs.declared.standard.StandardFunction.{StandardFunction}
 use Rattle.st_types.specs.declared.standard.StandardFunction.TheVariants as functions
 use Rattle.st_leaves.specs.Selected.{selected_by}
 use Rattle.st_meaning.specs.Operations.{takes_one, takes_two}
-use Rattle.st_meaning.specs.Terms.{Source, written, left_out, Term, constant, stored, unary, binary, selection, call, Terms, no_terms, more_terms, Parts, whole, field_part, element_part, LabelRange, Command, nothing, assign, choice, cases, count_loop, while_loop, repeat_loop, invoke, enter, exit, finish, Moves, no_moves, more_moves, Commands, no_commands, more_commands, Branches, no_branches, more_branches, Cases, no_cases, more_cases}
+use Rattle.st_meaning.specs.Sketched.{sketch_of, transitions_in}
+use Rattle.st_meaning.specs.Steps.{chart_within, has_step, step_elem}
+use Rattle.st_meaning.specs.Terms.{Source, written, left_out, Term, constant, stored, of_step, unary, binary, selection, call, Terms, no_terms, more_terms, Parts, whole, field_part, element_part, LabelRange, Command, nothing, assign, choice, cases, count_loop, while_loop, repeat_loop, invoke, enter, exit, finish, Moves, no_moves, more_moves, Commands, no_commands, more_commands, Branches, no_branches, more_branches, Cases, no_cases, more_cases, Tests, no_tests, more_tests, Actions, no_actions, more_actions, Body, plain_body, chart_body}
 use Rattle.st_meaning.specs.Wholes.{Called, Input, Invoked, Whole, block_of, type_of}
 use Rattle.st_meaning.specs.declared.operation.Binary.{Binary}
 use Rattle.st_meaning.specs.declared.operation.Binary.TheVariants as binaries
@@ -77,8 +84,23 @@ abbrev pub constant_or : Typed → Option Value → Typed
 constant_or x None = x
 constant_or x (Some v) = named_value v
 
+-- X of a step, which says whether it is active, and T, which says for how long (2.6.2)
+abbrev pub step_part : List ℕ → Option Bool
+step_part part = if is_word (codes "X") part then Some false else if is_word (codes "T") part then Some true else None
+
+abbrev pub step_value : Composition → List ℕ → Option Bool → Typed
+step_value root name None = untyped
+step_value root name (Some is_time) =
+    if has_step root name then record { own = Some (step_elem is_time); as_type = fitted (step_elem is_time) (of_step is_time name) } else untyped
+
+-- a part of a variable, or else one of a step
+abbrev pub part_or_step : Composition → List ℕ → List ℕ → Option Elem → Typed
+part_or_step root name part None = step_value root name (step_part part)
+part_or_step root name part (Some e) = place_typed (field_part name (field_part part whole)) (Some e)
+
 abbrev pub variable_typed : Whole → Parts → Typed
 variable_typed w (field_part name whole) = constant_or (place_typed (field_part name whole) (type_of w.variables (field_part name whole))) (w.constants name)
+variable_typed w (field_part name (field_part part whole)) = part_or_step w.variables name part (type_of w.variables (field_part name (field_part part whole)))
 variable_typed w ps = place_typed ps (type_of w.variables ps)
 
 -- ---- operators
@@ -370,3 +392,23 @@ case_of w x = fold-CaseElement Command (Elem → Cases → Cases) Command (Branc
 -- the commands that a body of statements is
 abbrev pub body_of : Whole → List Statement → Commands
 body_of w statements = commands_of (map (command_of w) statements)
+
+-- ---- charts (2.6)
+
+abbrev pub tests_of : Whole → List Transition → Tests
+tests_of w [] = no_tests
+tests_of w (t ∷ ts) = more_tests t.position.line (condition w t.condition) (tests_of w ts)
+
+abbrev pub actions_of : Whole → List Action → Actions
+actions_of w [] = no_actions
+actions_of w (a ∷ more) = more_actions (body_of w a.statements) (actions_of w more)
+
+-- the chart of these elements, in the unit of this number, and other statements where there are none
+abbrev pub chart_or : Commands → Whole → ℕ → List ChartElement → Body
+chart_or cs w unit [] = plain_body cs
+chart_or cs w unit (e ∷ elements) =
+    chart_body unit (sketch_of w.variables (e ∷ elements)) (tests_of w (flat_map transitions_in (e ∷ elements))) (actions_of w (flat_map actions_in (e ∷ elements)))
+
+-- the body of the unit of this number: the chart that its variables end with, or else these statements
+abbrev pub body_in : Whole → ℕ → List Statement → Body
+body_in w unit statements = chart_or (body_of w statements) w unit (chart_within w.variables)

@@ -9,7 +9,7 @@ use Rattle.st_tree.specs.declared.tree.declaration.TypeName.TheVariants as type_
 use Rattle.st_tree.specs.declared.tree.declaration.VarKind.{VarKind}
 use Rattle.st_tree.specs.declared.tree.declaration.VarKind.TheVariants as var_kinds
 use Rattle.st_tree.specs.declared.tree.statement.Statement.{Statement}
-use Rattle.st_tree.specs.declared.tree.unit.Body.{Body}
+use Rattle.st_tree.specs.declared.tree.unit.Body.{Body as Written}
 use Rattle.st_tree.specs.declared.tree.unit.Body.TheVariants as bodies
 use Rattle.st_tree.specs.declared.tree.unit.Function.{Function}
 use Rattle.st_types.specs.Compositions.{Composition, elementary, composed, Members, none, member, composition_within, declared_composition, members_by, unit_composition}
@@ -20,13 +20,14 @@ use Rattle.st_leaves.specs.LeavesIn.{leaves_in}
 use Rattle.st_meaning.specs.Meaning.{Calls, Values, no_value}
 use Rattle.st_meaning.specs.Operations.{Answer, gives, stops, stop}
 use Rattle.st_meaning.specs.Statements.{Outcome, Setting, done, exited, returned, faulted, body_meaning}
-use Rattle.st_meaning.specs.Typing.{body_of}
+use Rattle.st_meaning.specs.Terms.{Body, plain_body}
+use Rattle.st_meaning.specs.Typing.{body_in, body_of}
 use Rattle.st_meaning.specs.Wholes.{Called, Functions, Input, Invoked, Whole, constant_among}
 use Rattle.st_meaning.specs.declared.fault.RunFaultKind.TheVariants as faults
 
 -- ---- statements
 
-abbrev pub statements_in : Body → List Statement
+abbrev pub statements_in : Written → List Statement
 statements_in (bodies.Statements statements) = statements
 statements_in (bodies.Chart elements) = []
 
@@ -101,7 +102,7 @@ whole_with units unit variables invoked = record {
 -- of a function block, by its number: its body runs over the variables of the instance
 abbrev pub block_invoked : List Named → ℕ → Composition → (List ℕ → Option Invoked) → Declares → Option Invoked
 block_invoked units number c inside (names.block b) =
-    Some (record { number = number; body = body_of (whole_with units (names.block b) c inside) (statements_of (names.block b)) })
+    Some (record { number = number; body = body_in (whole_with units (names.block b) c inside) number (statements_of (names.block b)) })
 block_invoked units number c inside _ = None
 
 abbrev pub unit_invoked : List Named → ℕ → Composition → (List ℕ → Option Invoked) → Option Named → Option Invoked
@@ -147,6 +148,10 @@ root_of units unit = unit_root units (root_name unit.name.spelling unit.declares
 unfoldable pub unit_whole : List Named → Named → Whole
 unit_whole units unit = whole_with units unit.declares (root_of units unit) (instances_in units (root_of units unit))
 
+-- what the body of a unit is, which has this number
+abbrev pub body_of_unit : List Named → ℕ → Named → Body
+body_of_unit units number unit = body_in (unit_whole units unit) number (statements_of unit.declares)
+
 -- ---- calls of functions (2.5.1, 3.3.1)
 
 -- the values that variables begin with
@@ -186,7 +191,7 @@ no_function = stops (stop faults.StepLimit 0)
 
 abbrev pub function_given : List Named → Calls → Named → Declares → Values → ℕ → Answer Value
 function_given units calls unit (names.function f) inputs left =
-    result_given (body_meaning calls (root_of units unit) function_setting (body_of (unit_whole units unit) (statements_of unit.declares)) (members_begun (members_of_function units f) inputs) left)
+    result_given (body_meaning calls (root_of units unit) function_setting (plain_body (body_of (unit_whole units unit) (statements_of unit.declares))) (members_begun (members_of_function units f) inputs) left)
 function_given units calls unit _ inputs left = no_function
 
 abbrev pub unit_given : List Named → Calls → Option Named → Values → ℕ → Answer Value

@@ -7,12 +7,12 @@ use Rattle.st_types.specs.Compositions.{Composition, elementary, standard, is_co
 use Rattle.st_types.specs.Names.{Declared}
 use Rattle.st_types.specs.declared.standard.StandardBlock.{StandardBlock}
 use Rattle.st_leaves.specs.Selected.{element_of, selected_by, takes_subscripts, value_type}
-use Rattle.st_meaning.specs.Terms.{Commands, Parts, whole, field_part, element_part, how_many}
+use Rattle.st_meaning.specs.Terms.{Body, Parts, whole, field_part, element_part, how_many}
 
 -- a unit whose instances are invoked: its number, and what its body is
 pub record Invoked : Type 0 where
   pub number : ℕ
-  pub body : Commands
+  pub body : Body
 
 -- an input of a function, with its name, and the value that it begins with, which is of its type
 pub record Input : Type 0 where

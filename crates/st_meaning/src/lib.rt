@@ -1,5 +1,5 @@
-//! What programs mean: the values of expressions, and what statements do (IEC 61131-3:2003, 3.3), as definitions of the values of
-//! variables by their paths. No code, no stack and no number of a leaf stands in them.
+//! What programs mean: the values of expressions, and what statements and charts do (IEC 61131-3:2003, 2.6 and 3.3), as definitions of
+//! the values of variables by their paths. No code and no stack stands in them.
 #![tactic(auto)]
 
 mod fault;
@@ -9,9 +9,10 @@ mod start;
 
 pub use fault::{RunFault, RunFaultKind};
 pub use laws::{
-    called_functions_matter_alone, calls_are_sound, calls_are_those_of_their_bodies,
-    commands_keep_the_frame, functions_declare_their_results, places_have_leaves,
-    places_take_steps, terms_give_values, typing_gives_sound_bodies,
+    bodies_depend_on_their_calls, bodies_keep_the_frame, called_functions_matter_alone,
+    calls_are_sound, calls_are_those_of_their_bodies, commands_keep_the_frame,
+    functions_declare_their_results, places_have_leaves, places_take_steps, sketches_are_in_range,
+    terms_give_values, typing_gives_sound_bodies, typing_gives_sound_units,
 };
 pub use operation::{Binary, Unary};
 pub use start::Start;

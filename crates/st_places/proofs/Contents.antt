@@ -30,7 +30,6 @@ use Rattle.st_leaves.specs.Selected.{element_of, selected_by, value_type}
 use Rattle.st_leaves.proofs.Counted.{written_elem}
 use Rattle.st_meaning.specs.Offsets.{offset_of}
 use Rattle.st_meaning.specs.Units.{unit_root}
-use Rattle.st_meaning.proofs.BegunFunctions.{functions_declare_their_results}
 use Rattle.st_meaning.specs.Wholes.{block_of}
 use Rattle.st_places.specs.Contents.{AreOf, HasSameParts, IsArrayOf, IsContent, IsNoFunction, IsSelected, IsType, IsUnfolded, contents_of, elements_of, is_function_in}
 use Rattle.st_places.specs.Dimensions.{AreLimited}
@@ -45,6 +44,7 @@ use Rattle.st_places.specs.declared.unit.UnitParts.{UnitParts}
 use Rattle.st_places.proofs.Blocks.{known_shape, known_type, no_function}
 use Rattle.st_places.proofs.Counts.{started_count}
 use Rattle.st_places.proofs.Entries.{of_specified}
+use Rattle.st_places.proofs.Roots.{root_is}
 
 -- ---- the same parts
 
@@ -117,13 +117,9 @@ module _ (units : List Named) where
   unit_parts name (names.program p) is = composed_parts name [] (members_by units (inside units) (names.variables_in (names.program p))) (chart_in (names.program p))
 
   root_parts : (name : List ℕ) (unit : Declares) → HasSameParts (unit_root units name unit) (composed [] (members_by units (inside units) (own_names unit)) (chart_in unit))
-  root_parts name (names.type (declared_types.Derived specification initial)) = composed_parts name [] (members_by units (inside units) []) []
-  root_parts name (names.type (declared_types.Structure position members)) = composed_parts name [] (members_by units (inside units) (names.members_of members)) []
-  root_parts name (names.function h) =
-      subst (λ ms. HasSameParts (composed name ms []) (composed [] (members_by units (inside units) (own_names (names.function h))) [])) (sym (functions_declare_their_results units h))
-      (composed_parts name [] (members_by units (inside units) (own_names (names.function h))) [])
-  root_parts name (names.block b) = composed_parts name [] (members_by units (inside units) (names.variables_in (names.block b))) (chart_in (names.block b))
-  root_parts name (names.program p) = composed_parts name [] (members_by units (inside units) (names.variables_in (names.program p))) (chart_in (names.program p))
+  root_parts name unit =
+      subst (λ c. HasSameParts c (composed [] (members_by units (inside units) (own_names unit)) (chart_in unit))) (sym (root_is units name unit))
+      (composed_parts name [] (members_by units (inside units) (own_names unit)) (chart_in unit))
 
   pub whole_content : (u : Option Named) → HasSameParts (whole_part units u) (contents_of units u)
   whole_content None = same_parts unknown unknown refl

@@ -6,10 +6,8 @@ use Rattle.std.proofs.lemmas.Grind.{flat_map-append}
 use Rattle.std.proofs.lemmas.List.Elements.{Contains-append_left, Contains-append_right}
 use Rattle.st_leaves.specs.Places.{count}
 use Rattle.st_leaves.specs.Selected.{member_selected, selected_by}
-use Rattle.st_meaning.specs.Typing.{body_of}
-use Rattle.st_meaning.specs.Units.{block_invoked, instance_of, instances_in, member_instance, number_invoked, root_of, statements_of, unit_invoked, unit_root, unit_whole}
+use Rattle.st_meaning.specs.Units.{block_invoked, body_of_unit, instance_of, instances_in, member_instance, number_invoked, root_of, unit_invoked, unit_root, unit_whole}
 use Rattle.st_meaning.specs.Wholes.{Invoked}
-use Rattle.st_meaning.proofs.BegunFunctions.{functions_declare_their_results}
 use Rattle.st_order.proofs.Lists.{Contains-nil}
 use Rattle.st_references.specs.References.{contained, declared_names, unit_types}
 use Rattle.st_tree.specs.declared.tree.declaration.DeclaredType.TheVariants as declared_types
@@ -35,11 +33,12 @@ use Rattle.st_places.specs.Members.{is_small_type}
 use Rattle.st_places.specs.Parts.{inside, is_block, own_names}
 use Rattle.st_places.proofs.Blocks.{IsDeclared, IsKnown, known_shape}
 use Rattle.st_places.proofs.Entries.{of_specified}
+use Rattle.st_places.proofs.Roots.{root_is}
 
 module _ (units : List Named) where
   -- what an instance of this function block, whose number this is, invokes
   abbrev pub invocation : ℕ → Named → Invoked
-  invocation i block = record { number = i; body = body_of (unit_whole units block) (statements_of block.declares) }
+  invocation i block = record { number = i; body = body_of_unit units i block }
 
   abbrev pub unit_invocation : ℕ → Named → Option Invoked
   unit_invocation i u = if is_block u.declares then Some (invocation i u) else None
@@ -263,18 +262,10 @@ module _ (units : List Named) where
   -- ---- of a unit
 
   pub of_unit : (whole : List ℕ) (d : Declares) (name : List ℕ) → instances_in units (unit_root units whole d) name ≡ member_instance units (members_by units (inside units) (own_names d)) name
-  of_unit whole (names.type (declared_types.Derived specification initial)) name = refl
-  of_unit whole (names.type (declared_types.Structure position members)) name = refl
-  of_unit whole (names.function f) name = ap (λ ms. member_instance units ms name) (functions_declare_their_results units f)
-  of_unit whole (names.block b) name = refl
-  of_unit whole (names.program p) name = refl
+  of_unit whole d name = ap (λ c. instances_in units c name) (root_is units whole d)
 
   pub selected_of_unit : (whole : List ℕ) (d : Declares) (name : List ℕ) → selected_by (unit_root units whole d) name ≡ member_selected (members_by units (inside units) (own_names d)) name
-  selected_of_unit whole (names.type (declared_types.Derived specification initial)) name = refl
-  selected_of_unit whole (names.type (declared_types.Structure position members)) name = refl
-  selected_of_unit whole (names.function f) name = ap (λ ms. member_selected ms name) (functions_declare_their_results units f)
-  selected_of_unit whole (names.block b) name = refl
-  selected_of_unit whole (names.program p) name = refl
+  selected_of_unit whole d name = ap (λ c. selected_by c name) (root_is units whole d)
 
   pub contained_in : (d : Declares) (j : ℕ) → Contains (flat_map (contained units) (flat_map declared_names (own_names d))) j → Contains (flat_map (contained units) (unit_types d)) j
   contained_in (names.type (declared_types.Derived specification initial)) j has = absurd (Contains-nil j has)

@@ -1,5 +1,6 @@
 pub mod Blocks
 pub mod Callables
+pub mod Charts
 pub mod Constants
 pub mod Contents
 pub mod Counts
@@ -13,6 +14,7 @@ pub mod Members
 pub mod NamedInstances
 pub mod PinNumbers
 pub mod Results
+pub mod Roots
 pub mod Selections
 pub mod Settled
 pub mod SoundUnits

@@ -15,16 +15,14 @@ use Rattle.st_references.specs.Calls.{unit_calls}
 use Rattle.st_references.specs.References.{called, contained, graph_of, references, specified_names, unit_types}
 use Rattle.st_references.proofs.Lists.{all_of}
 use Rattle.st_references.proofs.Units.{made_of_unit}
-use Rattle.st_tree.specs.declared.tree.declaration.DeclaredType.TheVariants as declared_types
 use Rattle.st_tree.specs.declared.tree.declaration.Initial.{Initial}
 use Rattle.st_tree.specs.declared.tree.declaration.Initial.TheVariants as initials
 use Rattle.st_tree.specs.declared.tree.declaration.Specification.{Specification}
 use Rattle.st_tree.specs.declared.tree.declaration.Subrange.{Subrange}
 use Rattle.st_tree.specs.declared.tree.unit.ChartElement.{ChartElement}
-use Rattle.st_types.specs.Compositions.{Composition, composed, Members, declared_composition, optional_composition, started, subscripted}
+use Rattle.st_types.specs.Compositions.{Composition, composed, Members, declared_composition, members_by, optional_composition, started, subscripted}
 use Rattle.st_types.specs.Initials.{element_initial, initial_of}
-use Rattle.st_types.specs.Names.{Declared, Declares, Named, unit_at, units_of}
-use Rattle.st_types.specs.Names as names
+use Rattle.st_types.specs.Names.{Declared, Declares, Named, chart_in, unit_at, units_of}
 use Rattle.st_types.specs.Types.{shape_of, type_at}
 use Rattle.st_types.specs.declared.base.Base.{Base}
 use Rattle.st_types.specs.declared.base.Base.TheVariants as bases
@@ -33,6 +31,7 @@ use Rattle.st_places.specs.Laws.{InstancesAreOfBlocks, IsInstance}
 use Rattle.st_places.specs.Parts.{inside, is_block, own_names}
 use Rattle.st_places.proofs.Blocks.{IsDeclared, IsKnown, all_named, known_shape, own_number}
 use Rattle.st_places.proofs.Instances.{AreFound, IsOfDeclared, among, block_root, contained_in, declared_instance, invocation, of_block, of_unit, optional_invocation, selected_of_unit, shape_invocation, shape_unfolded}
+use Rattle.st_places.proofs.Roots.{root_is}
 use Rattle.st_places.proofs.Selections.{all_unfolded}
 
 -- ---- what is referred to stands before
@@ -104,11 +103,8 @@ module _ (units : List Named) where
   started_composed (Some (initials.Array position items)) name ms chart = refl
 
   started_unit : (initial : Option Initial) (name : List ℕ) (d : Declares) → started initial (unit_root units name d) ≡ unit_root units name d
-  started_unit initial name (names.type (declared_types.Derived specification first)) = started_composed initial name _ _
-  started_unit initial name (names.type (declared_types.Structure position members)) = started_composed initial name _ _
-  started_unit initial name (names.function f) = started_composed initial name _ _
-  started_unit initial name (names.block b) = started_composed initial name _ _
-  started_unit initial name (names.program p) = started_composed initial name _ _
+  started_unit initial name d =
+      subst (λ c. started initial c ≡ c) (sym (root_is units name d)) (started_composed initial name (members_by units (inside units) (own_names d)) (chart_in d))
 
   module _ (found : AreFound units) where
     -- what is declared as an instance consists of what the variables of the function block do

@@ -1,15 +1,15 @@
--- What is so of the units of a checked program: their instances, and how large they are.
+-- What is so of units: their charts, and in a checked program their instances, their bounds and their names.
 use Rattle.std.specs.Prelude.{◌≡◌, ℕ, ◌<◌, true, List, Some}
 use Rattle.std.specs.List.{slice_get}
 use Rattle.st_check.specs.Programs.{IsChecked, ProgramView, order_of, text_of}
 use Rattle.st_leaves.specs.Bounds.{HasBounds}
 use Rattle.st_leaves.specs.Distinct.{HasDistinctNames}
 use Rattle.st_leaves.specs.Selected.{selected_by}
-use Rattle.st_meaning.specs.Typing.{body_of}
-use Rattle.st_meaning.specs.Units.{root_of, statements_of, unit_whole}
+use Rattle.st_meaning.specs.Steps.{chart_within}
+use Rattle.st_meaning.specs.Units.{body_of_unit, root_of, unit_whole}
 use Rattle.st_meaning.specs.Wholes.{Invoked}
 use Rattle.st_places.specs.Parts.{is_block}
-use Rattle.st_types.specs.Names.{Named, unit_at, units_of}
+use Rattle.st_types.specs.Names.{Named, chart_in, unit_at, units_of}
 
 -- The name is that of an instance in a unit: of a function block, whose variables it has, whose body is invoked, and which stands
 -- before the unit in the order.
@@ -18,7 +18,7 @@ pub record IsInstance (units : List Named) (order : List ℕ) (i : ℕ) (u : Nam
   pub at : unit_at units found.number ≡ Some block
   pub is_block : is_block block.declares ≡ true
   pub same : selected_by (root_of units u) name ≡ root_of units block
-  pub body : found.body ≡ body_of (unit_whole units block) (statements_of block.declares)
+  pub body : found.body ≡ body_of_unit units found.number block
   pub before : (p q : ℕ) → slice_get order p ≡ Some found.number → slice_get order q ≡ Some i → p < q
 
 -- what is invoked in a unit of a checked program is an instance of a function block
@@ -36,3 +36,7 @@ pub record IsSoundUnit (units : List Named) (u : Named) : Type 0 where
 abbrev pub UnitsAreSound : Type 0
 UnitsAreSound = (program : ProgramView) → IsChecked program → (i : ℕ) (u : Named) → unit_at (units_of (text_of program)) i ≡ Some u
     → IsSoundUnit (units_of (text_of program)) u
+
+-- the chart that the variables of a unit end with is that of its body
+abbrev pub ChartsAreInBodies : Type 0
+ChartsAreInBodies = (units : List Named) (u : Named) → chart_within (root_of units u) ≡ chart_in u.declares

@@ -1,4 +1,5 @@
 pub mod Callables
+pub mod Charts
 pub mod Contents
 pub mod Dimensions
 pub mod Functions

@@ -1,4 +1,4 @@
--- The tables of a unit: its variables with where their leaves stand, its constants, and the elements of an array type.
+-- The tables of a unit: its variables with where their leaves stand, its constants, its chart, and the elements of an array type.
 use Rattle.std.specs.Prelude.{◌≡◌, ℕ, ◌+◌, ◌*◌, nat_le, Bool, false, List, [], ◌∷◌, Option, Some, None, map, min}
 use Rattle.std.specs.List.{slice_get}
 use Rattle.st_values.specs.declared.value.Value.{Value}
@@ -11,8 +11,9 @@ use Rattle.st_types.specs.declared.base.Base.{Base}
 use Rattle.st_types.specs.declared.base.Base.TheVariants as bases
 use Rattle.st_leaves.specs.Places.{count, extent}
 use Rattle.st_meaning.specs.Wholes.{constant_value}
+use Rattle.st_places.specs.Charts.{HasElements}
 use Rattle.st_places.specs.Dimensions.{AreLimited}
-use Rattle.st_places.specs.Parts.{constants_among, inside, own_names_at, variables_among}
+use Rattle.st_places.specs.Parts.{chart_at, constants_among, inside, own_names_at, variables_among}
 use Rattle.st_places.specs.declared.constant.Constants.{Constants}
 use Rattle.st_places.specs.declared.member.Member.{Member}
 use Rattle.st_places.specs.declared.member.Members.{Members}
@@ -94,6 +95,7 @@ is_small_type units _ = false
 -- of the unit of this number
 pub record IsUnit (units : List Named) (i : ℕ) (parts : UnitParts) : Type 0 where
   pub names : HasNames units (own_names_at units i) parts
+  pub chart : HasElements (chart_at units i) parts.chart
   pub elements : AreElements units (elements_in units (bases.Array i)) parts.elements
   pub small : parts.is_small_block ≡ is_small_type units (type_at units i)
 

@@ -2,11 +2,12 @@
 use Rattle.std.specs.Prelude.{ℕ, suc, ◌<◌, ◌&&◌, nat_le, Bool, true, false, List, [], ◌∷◌, ◌++◌, length, Option, Some, None, if◌then◌else◌}
 use Rattle.std.specs.List.{slice_get}
 use Rattle.std.specs.Option.{option_map_or}
+use Rattle.st_tree.specs.declared.tree.unit.ChartElement.{ChartElement}
 use Rattle.st_tree.specs.declared.tree.unit.Unit.{Unit as Section}
 use Rattle.st_types.specs.Compositions.{Composition, array, elementary, unknown, composition_within, declared_composition, elements_composition, is_constant, started}
 use Rattle.st_types.specs.Initials.{element_initial, unit_element_initial, zero_of}
 use Rattle.st_types.specs.Inside.{declares_at}
-use Rattle.st_types.specs.Names.{Declared, Declares, Named, unit_at, units_of}
+use Rattle.st_types.specs.Names.{Declared, Declares, Named, chart_in, unit_at, units_of}
 use Rattle.st_types.specs.Names as names
 use Rattle.st_types.specs.Types.{elements_in, shape_of}
 use Rattle.st_types.specs.declared.base.Base.{Base}
@@ -41,6 +42,10 @@ own_names unit = result_names unit ++ names_in unit
 -- of the unit of this number
 abbrev pub own_names_at : List Named → ℕ → List Declared
 own_names_at units i = option_map_or own_names (declares_at units i) []
+
+-- the elements of the chart of the unit of this number
+abbrev pub chart_at : List Named → ℕ → List ChartElement
+chart_at units i = option_map_or chart_in (declares_at units i) []
 
 -- ---- the names of a whole that are no constants, in order, and those that are
 

@@ -170,7 +170,7 @@ fn value_at(values: &[Option<Value>], number: usize) -> Option<Option<Value>>
 }
 
 /// The tables of the unit of this number.
-fn parts_of<'t, 'a>(units: &'t [UnitParts<'a>], unit: usize) -> Option<&'t UnitParts<'a>>
+pub(crate) fn parts_of<'t, 'a>(units: &'t [UnitParts<'a>], unit: usize) -> Option<&'t UnitParts<'a>>
     ensures { option_copied result ≡ slice_get units.now unit }
 {
     units.get(unit)

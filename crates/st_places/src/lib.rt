@@ -2,6 +2,7 @@
 //! that are made once, in time linear in the text.
 #![tactic(auto)]
 
+mod chart;
 mod constant;
 mod content;
 mod count;
@@ -11,10 +12,11 @@ mod functions;
 mod laws;
 mod member;
 mod node;
+mod step;
 mod tables;
 mod unit;
 
 pub use function::Function;
-pub use laws::{instances_are_of_blocks, units_are_sound};
+pub use laws::{charts_are_in_bodies, instances_are_of_blocks, units_are_sound};
 pub use node::{Dimension, Node};
 pub use tables::Tables;

@@ -6,9 +6,11 @@ ghost use Rattle.st_initials.specs.Tables.{AreInitials};
 ghost use Rattle.st_check.specs.Programs.{text_of};
 ghost use Rattle.st_leaves.specs.Places.{count};
 ghost use Rattle.st_leaves.specs.Selected.{element_of, selected_by, subscripts_of, value_type};
-ghost use Rattle.st_meaning.specs.Offsets.{IsSmall, offset_of};
+ghost use Rattle.st_meaning.specs.Offsets.{IsSmall, chart_offset, offset_of};
+ghost use Rattle.st_meaning.specs.Steps.{chart_within};
 ghost use Rattle.st_meaning.specs.Units.{function_at};
 ghost use Rattle.st_meaning.specs.Wholes.{Input, Invoked, block_of};
+ghost use Rattle.st_places.specs.Charts.{leaf_of_step};
 ghost use Rattle.st_places.specs.Dimensions.{dimensions_in};
 ghost use Rattle.st_places.specs.Functions.{starts_at};
 ghost use Rattle.st_places.specs.Members.{AreUnits};
@@ -25,6 +27,7 @@ use crate::content::{
 use crate::function::Function;
 use crate::functions::Functions;
 use crate::node::{Dimension, Node};
+use crate::step::{chart_leaf, chart_of, step};
 use crate::unit::UnitParts;
 use st_check::Program;
 use st_initials::{Initials, types_written};
@@ -32,7 +35,7 @@ use st_meaning::Start;
 use st_program_sizes::type_sizes;
 use st_scopes::Tables as Scopes;
 use st_sizes::Size;
-use st_tree::tree::Unit;
+use st_tree::tree::{ChartElement, Unit};
 use st_types::StandardBlock;
 use st_values::{Elem, Value};
 use std::alloc::{AllocError, Global};
@@ -142,6 +145,30 @@ impl<'a> Tables<'a> {
         ensures { result ≡ is_small_function_in self.now unit }
     {
         self.functions.is_small(unit)
+    }
+
+    /// The elements of the chart of the unit of this number. A unit without a chart has none.
+    pub fn chart(&self, unit: usize) -> &'a [ChartElement]
+        ensures { result.now ≡ chart_within (whole_in self.now unit).variables }
+    {
+        chart_of(&self.units, unit)
+    }
+
+    /// The first leaf of the chart of the unit of this number, which says whether the chart has begun.
+    pub fn chart_leaf(&self, unit: usize) -> u32
+        requires { IsSmall (whole_in self.now unit).variables }
+        ensures { result ≡ chart_offset (whole_in self.now unit).variables }
+    {
+        chart_leaf(&self.units, unit)
+    }
+
+    /// The leaf of the step of this name in the unit of this number: the one that says for how long it has been active, or else
+    /// the one that says whether it is.
+    pub fn step(&self, unit: usize, is_time: bool, name: &[u8]) -> Option<u32>
+        requires { IsSmall (whole_in self.now unit).variables }
+        ensures { result ≡ leaf_of_step (whole_in self.now unit).variables is_time name.now }
+    {
+        step(&self.units, unit, is_time, name)
     }
 
     /// What a name selects, and how many leaves stand before it.

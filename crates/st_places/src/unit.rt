@@ -1,4 +1,4 @@
-//! What is declared in a unit: its variables, its constants, and of an array type its elements.
+//! What is declared in a unit: its variables, its constants, its chart, and of an array type its elements.
 ghost use Rattle.std.specs.Prelude.{◌≡◌, ◌<◌, ◌++◌, ◌∷◌, [], ℕ, IfOk, List as Items, OnOk, length};
 ghost use Rattle.st_initials.specs.Tables.{AreInitials};
 ghost use Rattle.st_places.specs.Members.{AreElements, HasMembers, HasNames, IsUnit, is_small_type};
@@ -11,6 +11,7 @@ ghost use Rattle.st_types.specs.Names.{Declared as Name, Named, units_of};
 ghost use Rattle.st_types.specs.Types.{elements_in, type_at};
 ghost use Rattle.st_types.specs.declared.base.Base.TheVariants as bases;
 
+use crate::chart::Chart;
 use crate::constant::Constants;
 use crate::count::leaves_of;
 use crate::dimension::dimensions_of;
@@ -37,6 +38,7 @@ pub(crate) struct ArrayParts {
 pub(crate) struct UnitParts<'a> {
     pub members: Members<'a>,
     pub constants: Constants<'a>,
+    pub chart: Chart<'a>,
     /// Of an array type.
     pub elements: Option<ArrayParts>,
     /// Whether it is a function block whose instances have at most 65,536 leaves.
@@ -57,9 +59,11 @@ impl<'a> UnitParts<'a> {
         requires sizes { (i : ℕ) → IsSized (units_of tables.now) sizes.now (type_at (units_of tables.now) i) }
         ensures { IfOk result (λ parts. IsUnit (units_of tables.now) unit parts) }
     {
+        let named = tables.unit(unit);
         let mut parts = UnitParts {
-            members: results_of(alloc, &tables.unit(unit))?,
+            members: results_of(alloc, &named)?,
             constants: Constants::new(alloc),
+            chart: Chart::of(alloc, named.kind)?,
             elements: elements_of(alloc, tables, sizes, unit)?,
             is_small_block: is_small(sizes, tables.type_at(unit)),
         };
@@ -81,6 +85,7 @@ impl<'a> UnitParts<'a> {
         requires initials { AreInitials (units_of tables.now) initials.now }
         requires sizes { (i : ℕ) → IsSized (units_of tables.now) sizes.now (type_at (units_of tables.now) i) }
         ensures names { OnOk result ((vs : Items Name) → HasNames (units_of tables.now) vs self.old → HasNames (units_of tables.now) (vs ++ seen declared.now ∷ []) self.new) }
+        ensures chart { OnOk result (self.new.chart ≡ self.old.chart) }
         ensures elements { OnOk result (self.new.elements ≡ self.old.elements) }
         ensures small { OnOk result (self.new.is_small_block ≡ self.old.is_small_block) }
     {

@@ -135,7 +135,7 @@ static COMMANDS: [Row; 13] = [
     ),
     (
         10,
-        "The program was halted by a fault; or it can't be scanned yet, since its body, or that of a function block that the text declares, is a chart.",
+        "The program was halted by a fault; or it can't be scanned, since a function of its text has more than 65,536 variables.",
         "See with `status` whether it is halted; then correct the program with `change` or its values with `write`, and give `reset`.",
     ),
     (

@@ -17,7 +17,7 @@ pub const MAX_STEPS: u32 = 10_000_000;
 pub const DEFAULT_STEPS: u32 = 100_000;
 
 /// The program's version, which `--version` prints after its name.
-pub const VERSION: &str = "0.4.0";
+pub const VERSION: &str = "1.0.0";
 
 /// What is to be done with the source text.
 #[derive(Clone, Copy, Debug, PartialEq, Eq)]

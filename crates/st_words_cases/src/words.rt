@@ -204,8 +204,8 @@ fn answers_with_the_version(rt: HostRuntime) -> Result<(), Fail> {
     for flag in ["--version", "-V"] {
         let (kind, text) = told(rt.alloc(), &["stc", flag])?;
         assert!(rt; kind == ErrorKind::DisplayVersion, "{flag}");
-        assert_eq!(rt; text.as_str(), "stc 0.4.0\n");
+        assert_eq!(rt; text.as_str(), "stc 1.0.0\n");
     }
-    assert_eq!(rt; VERSION, "0.4.0");
+    assert_eq!(rt; VERSION, "1.0.0");
     Ok(())
 }

@@ -1,8 +1,8 @@
 //! What an image holds: the fields that are named here and no others.
 ghost use Rattle.std.specs.Prelude.{◌≡◌};
 ghost use Rattle.st_check.specs.Programs.{leaves_of_program};
-ghost use Rattle.st_compile.specs.Plain.{is_plain};
 ghost use Rattle.st_compile.specs.Programs.{program_code, program_depth, program_names, program_rooms, program_units};
+ghost use Rattle.st_compile.specs.Small.{functions_are_small};
 
 use crate::image::Image;
 use st_check::Program;
@@ -29,7 +29,7 @@ fn image_apart(
     ensures depth { result.3.0 ≡ program_depth image.now }
     ensures rooms { result.3.1.now ≡ program_rooms image.now }
     ensures names { result.4.now ≡ program_names image.now }
-    ensures runs { result.5 ≡ is_plain image.now }
+    ensures runs { result.5 ≡ functions_are_small image.now }
 {
     let Image {
         program,

@@ -1,12 +1,12 @@
 use Rattle.std.proofs.Common.{rules, ◌≡◌, ◌∙◌, Result, Ok, Err, ap, length}
 use Rattle.std.specs.Prelude.{IfOk, min}
 use Rattle.std.proofs.lemmas.Result.{IfOk-weaker}
-use Rattle.st_code.specs.Code.{body_code}
-use Rattle.st_meaning.specs.Typing.{body_of}
+use Rattle.st_code.specs.Code.{code_of}
+use Rattle.st_meaning.specs.Typing.{body_in}
 use Rattle.st_meaning.specs.Units.{statements_of}
 use Rattle.st_places.specs.Parts.{whole_in}
 use Rattle.st_types.specs.Inside.{named_by}
-use Rattle.st_bodies.specs.Depths.{statements_depth}
+use Rattle.st_bodies.specs.Depths.{declared_depth}
 use Rattle.st_check.specs.Programs.{text_of}
 use Rattle.st_types.specs.Names.{units_of}
 use Rattle.st_compile.specs.Programs.{program_code, program_depth, unit_code}
@@ -36,7 +36,8 @@ returns-clause-code c =
     let found = read_at c.args.program.now c.args.units.now c.requires.units c.main-main.result c.index-units-main.result below c.index-units-main.is in
     let u = named_by c.index-units-main.result in
     let w = whole_in c.args.tables.now c.main-main.result in
-    IfOk-weaker c.body_of.result (λ (body : Body). body.code ≡ body_code w.variables (body_of w (statements_of u.declares))) (λ (body : Body). body.code ≡ program_code c.args.program.now)
+    let code = code_of w.variables (body_in w c.main-main.result (statements_of u.declares)) in
+    IfOk-weaker c.body_of.result (λ (body : Body). body.code ≡ code) (λ (body : Body). body.code ≡ program_code c.args.program.now)
     (λ body is. is ∙ code_at c.args.program.now c.args.tables.now c.requires.tables c.main-main.result u found ∙ main_code c.args.program.now c.main-main.result c.main-main.ensures.main u found) c.body_of.ensures.code
 
 pub returns-clause-depth : goal.returns-clause-depth
@@ -45,9 +46,10 @@ returns-clause-depth c =
     let found = read_at c.args.program.now c.args.units.now c.requires.units c.main-main.result c.index-units-main.result below c.index-units-main.is in
     let u = named_by c.index-units-main.result in
     let w = whole_in c.args.tables.now c.main-main.result in
-    both_ok c.body_of.result (λ (body : Body). body.code ≡ body_code w.variables (body_of w (statements_of u.declares))) (λ (body : Body). body.depth ≡ min (statements_depth c.args.inputs (statements_of u.declares)) (length body.code))
+    let code = code_of w.variables (body_in w c.main-main.result (statements_of u.declares)) in
+    both_ok c.body_of.result (λ (body : Body). body.code ≡ code) (λ (body : Body). body.depth ≡ min (declared_depth c.args.inputs u.declares) (length body.code))
     (λ (body : Body). body.depth ≡ program_depth c.args.program.now)
-    (λ body code depth. depth ∙ ap (λ ls. min (statements_depth c.args.inputs (statements_of u.declares)) (length ls)) (code ∙ code_at c.args.program.now c.args.tables.now c.requires.tables c.main-main.result u found)
-    ∙ ap (λ k. min (statements_depth k (statements_of u.declares)) (length (unit_code (units_of (text_of c.args.program.now)) u))) c.requires.inputs
+    (λ body is depth. depth ∙ ap (λ ls. min (declared_depth c.args.inputs u.declares) (length ls)) (is ∙ code_at c.args.program.now c.args.tables.now c.requires.tables c.main-main.result u found)
+    ∙ ap (λ k. min (declared_depth k u.declares) (length (unit_code (units_of (text_of c.args.program.now)) c.main-main.result u))) c.requires.inputs
     ∙ main_depth c.args.program.now c.main-main.result c.main-main.ensures.main u found)
     c.body_of.ensures.code c.body_of.ensures.depth

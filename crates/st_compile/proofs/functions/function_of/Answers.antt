@@ -14,7 +14,7 @@ returns-then-not-is_small_function-clause-function c =
 
 pub returns-then-not-is_small_function-clause-room : goal.returns-then-not-is_small_function-clause-room
 returns-then-not-is_small_function-clause-room c =
-    no_room_made (units_of (text_of c.args.program.now)) (named_by c.args.unit.now)
+    no_room_made (units_of (text_of c.args.program.now)) c.args.number (named_by c.args.unit.now)
     (sym (small_function_at c.args.program.now c.args.tables.now c.requires.tables c.args.number (named_by c.args.unit.now) c.requires.found) ∙ sym c.is_small_function.ensures ∙ c.if-not-is_small_function.true)
     c.nothing.result.room c.nothing.ensures.room
 
@@ -36,7 +36,7 @@ pub returns-clause-room : goal.returns-clause-room
 returns-clause-room c =
     let u = named_by c.args.unit.now in
     let code = c.in_ok-body.ensures.code ∙ code_at c.args.program.now c.args.tables.now c.requires.tables c.args.number u c.requires.found in
-    room_made (units_of (text_of c.args.program.now)) u
+    room_made (units_of (text_of c.args.program.now)) c.args.number u
     (sym (small_function_at c.args.program.now c.args.tables.now c.requires.tables c.args.number u c.requires.found) ∙ sym c.is_small_function.ensures ∙ c.if-not-is_small_function.false)
     c.in_ok-body.body.depth (length c.starts-begins.result.now) c.args.inputs c.in_ok-body.body.code c.requires.inputs code c.in_ok-body.ensures.depth
     (ap length (c.starts-begins.ensures ∙ begins_at c.args.program.now c.args.tables.now c.requires.tables c.args.number u c.requires.found))

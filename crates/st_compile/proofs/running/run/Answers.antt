@@ -15,21 +15,22 @@ run_fused-requires-clause-runs g c =
       small = c.checked_program_is_small.ensures;
       units = c.units_are_sound.ensures;
       instances = c.instances_are_of_blocks.ensures;
-      typed = c.typing_gives_sound_bodies.ensures;
-      frame = c.commands_keep_the_frame.ensures;
+      typed = c.typing_gives_sound_units.ensures;
+      frame = c.bodies_keep_the_frame.ensures;
       does = c.code_does_as_commands_mean.ensures;
       depth = c.depth_is_at_most_the_length.ensures;
       invokes = c.typing_invokes_bodies.ensures;
       entering = c.typing_enters_instances.ensures;
       enters = c.code_enters_what_is_invoked.ensures;
       calling = c.code_calls_functions.ensures;
-      passing = c.sound_commands_call_what_passes.ensures;
+      charts = c.code_is_of_its_chart.ensures;
+      passing = c.sound_bodies_call_what_passes.ensures;
       below = c.checked_functions_call_below.ensures;
       plain = c.checked_functions_have_no_instances.ensures.own;
       gives = c.checked_calls_are_those_of_their_bodies.ensures;
       calls = c.calls_are_sound.ensures;
     } in
-    its_run known program checked (functions_small program c.requires.plain) c.args.stacks.now c.requires.room c.args.now (is_time c.args.now c.ranges.now) (λ ls. g.M.Memory.content ls c.args.memory.now)
+    its_run known program checked (functions_small program c.requires.small) c.args.stacks.now c.requires.room c.args.now (is_time c.args.now c.ranges.now) (λ ls. g.M.Memory.content ls c.args.memory.now)
     (g.met.M.Memory.fits (leaves_of_program program) c.args.memory.now c.requires.over) c.args.limit _ c.code.result.now c.units.result.now c.layout.result.now
     (to_z-of_z w64 c.args.now c.ranges.now) c.code.ensures c.units.ensures c.layout.ensures
 
@@ -44,21 +45,22 @@ returns-in-Ok-clause-result g c =
       small = c.checked_program_is_small.ensures;
       units = c.units_are_sound.ensures;
       instances = c.instances_are_of_blocks.ensures;
-      typed = c.typing_gives_sound_bodies.ensures;
-      frame = c.commands_keep_the_frame.ensures;
+      typed = c.typing_gives_sound_units.ensures;
+      frame = c.bodies_keep_the_frame.ensures;
       does = c.code_does_as_commands_mean.ensures;
       depth = c.depth_is_at_most_the_length.ensures;
       invokes = c.typing_invokes_bodies.ensures;
       entering = c.typing_enters_instances.ensures;
       enters = c.code_enters_what_is_invoked.ensures;
       calling = c.code_calls_functions.ensures;
-      passing = c.sound_commands_call_what_passes.ensures;
+      charts = c.code_is_of_its_chart.ensures;
+      passing = c.sound_bodies_call_what_passes.ensures;
       below = c.checked_functions_call_below.ensures;
       plain = c.checked_functions_have_no_instances.ensures.own;
       gives = c.checked_calls_are_those_of_their_bodies.ensures;
       calls = c.calls_are_sound.ensures;
     } in
-    result_done known program checked (functions_small program c.requires.plain) c.args.stacks.now c.requires.room c.args.now (is_time c.args.now c.ranges.now) (λ ls. g.M.Memory.content ls c.args.memory.now)
+    result_done known program checked (functions_small program c.requires.small) c.args.stacks.now c.requires.room c.args.now (is_time c.args.now c.ranges.now) (λ ls. g.M.Memory.content ls c.args.memory.now)
     (g.met.M.Memory.fits (leaves_of_program program) c.args.memory.now c.requires.over) c.args.limit _ c.code.result.now c.units.result.now c.layout.result.now
     (to_z-of_z w64 c.args.now c.ranges.now) c.code.ensures c.units.ensures c.layout.ensures (λ ls. (g.M.Memory.content ls c.run_fused.new.memory).values) c.in-Ok.ensures.ends
 
@@ -73,21 +75,22 @@ returns-in-Err-clause-result g c =
       small = c.checked_program_is_small.ensures;
       units = c.units_are_sound.ensures;
       instances = c.instances_are_of_blocks.ensures;
-      typed = c.typing_gives_sound_bodies.ensures;
-      frame = c.commands_keep_the_frame.ensures;
+      typed = c.typing_gives_sound_units.ensures;
+      frame = c.bodies_keep_the_frame.ensures;
       does = c.code_does_as_commands_mean.ensures;
       depth = c.depth_is_at_most_the_length.ensures;
       invokes = c.typing_invokes_bodies.ensures;
       entering = c.typing_enters_instances.ensures;
       enters = c.code_enters_what_is_invoked.ensures;
       calling = c.code_calls_functions.ensures;
-      passing = c.sound_commands_call_what_passes.ensures;
+      charts = c.code_is_of_its_chart.ensures;
+      passing = c.sound_bodies_call_what_passes.ensures;
       below = c.checked_functions_call_below.ensures;
       plain = c.checked_functions_have_no_instances.ensures.own;
       gives = c.checked_calls_are_those_of_their_bodies.ensures;
       calls = c.calls_are_sound.ensures;
     } in
-    result_faulted known program checked (functions_small program c.requires.plain) c.args.stacks.now c.requires.room c.args.now (is_time c.args.now c.ranges.now) (λ ls. g.M.Memory.content ls c.args.memory.now)
+    result_faulted known program checked (functions_small program c.requires.small) c.args.stacks.now c.requires.room c.args.now (is_time c.args.now c.ranges.now) (λ ls. g.M.Memory.content ls c.args.memory.now)
     (g.met.M.Memory.fits (leaves_of_program program) c.args.memory.now c.requires.over) c.args.limit _ c.code.result.now c.units.result.now c.layout.result.now
     (to_z-of_z w64 c.args.now c.ranges.now) c.code.ensures c.units.ensures c.layout.ensures c.in-Err.halt c.in-Err.ensures.ends
     ∙ ap (λ n. Err (record { kind = c.in-Err.halt.kind; unit = n; line = c.in-Err.halt.line })) (sym c.faulty.ensures)

@@ -1,13 +1,13 @@
-use Rattle.std.proofs.Common.{◌≡◌, ◌∙◌, ◌+◌, rules, ◌≤◌, Some, ap, arith, length}
+use Rattle.std.proofs.Common.{◌≡◌, ◌∙◌, ◌+◌, rules, ◌≤◌, ap, arith, length}
 use Rattle.std.specs.Prelude.{slice_index_or}
 use Rattle.st_calls.proofs.Levels.{level_limit}
 use Rattle.st_check.specs.Programs.{order_of, text_of}
 use Rattle.st_types.specs.Inside.{named_by}
-use Rattle.st_types.specs.Names.{Named, units_of}
+use Rattle.st_types.specs.Names.{units_of}
 use Rattle.st_compile.specs.Programs.{block_level, block_room, block_view, program_blocks}
 use Rattle.st_compile.proofs.Coded.{block_code_at, bounds_at, read_at, read_number}
 use Rattle.st_compile.proofs.Functioned.{block_made, block_room_made}
-use Rattle.st_compile.proofs.Listed.{item_pushed, items_done, view_pushed, views_done}
+use Rattle.st_compile.proofs.Listed.{view_pushed, views_done}
 use Rattle.st_compile.proofs.units.blocks_of.Goals as goal
 
 pub block_of-requires : goal.block_of-requires
@@ -33,10 +33,10 @@ units-preserved c =
     record {
       codes =
           view_pushed units c.units.number u found (block_view units order) c.units.blocks.items c.push.new.self.items c.new.result c.in_ok-push.ensures.items c.units.invariant.codes
-          (block_made units u order c.units.number c.new.result c.in_ok-body.body.code (length c.order-first.result.now + slice_index_or c.args.levels.now c.units.number 0) c.new.ensures code level);
+          (block_made units c.units.number u order c.new.result c.in_ok-body.body.code (length c.order-first.result.now + slice_index_or c.args.levels.now c.units.number 0) c.new.ensures code level);
       given =
-          item_pushed units c.units.number u found (λ (v : Named). block_room units (Some v)) c.units.rooms.items c.push-in-units.new.self.items _ c.in_ok-push-2.ensures.items c.units.invariant.given
-          (block_room_made units u c.in_ok-body.body.depth c.args.inputs c.in_ok-body.body.code c.requires.inputs code c.in_ok-body.ensures.depth);
+          view_pushed units c.units.number u found (block_room units) c.units.rooms.items c.push-in-units.new.self.items _ c.in_ok-push-2.ensures.items c.units.invariant.given
+          (block_room_made units c.units.number u c.in_ok-body.body.depth c.args.inputs c.in_ok-body.body.code c.requires.inputs code c.in_ok-body.ensures.depth);
     }
 
 pub returns-clause-blocks : goal.returns-clause-blocks
@@ -48,4 +48,4 @@ returns-clause-blocks c =
 pub returns-clause-rooms : goal.returns-clause-rooms
 returns-clause-rooms c =
     let units = units_of (text_of c.args.program.now) in
-    items_done (λ (v : Named). block_room units (Some v)) units c.units.rooms.items c.units.number (omega (arith, c.units-test.false, read_number c.args.program.now c.args.units.now c.requires.units)) c.units.invariant.given
+    views_done (block_room units) units c.units.rooms.items c.units.number (omega (arith, c.units-test.false, read_number c.args.program.now c.args.units.now c.requires.units)) c.units.invariant.given

@@ -1,6 +1,6 @@
-use Rattle.std.proofs.Common.{◌≡◌, Some, map, take}
+use Rattle.std.proofs.Common.{◌≡◌, take}
 use Rattle.st_check.specs.Programs.{order_of, text_of}
-use Rattle.st_types.specs.Names.{Named, units_of}
+use Rattle.st_types.specs.Names.{units_of}
 use Rattle.st_compile.specs.Programs.{block_room, block_view, numbered}
 use Rattle.st_compile.proofs.units.blocks_of.Given as goal
 
@@ -8,5 +8,5 @@ use Rattle.st_compile.proofs.units.blocks_of.Given as goal
 abbrev pub invariant-units : goal.invariant-units
 invariant-units l = record {
   codes : l.blocks.items ≡ numbered (block_view (units_of (text_of l.program)) (order_of l.program)) 0 (take l.number (units_of (text_of l.program)));
-  given : l.rooms.items ≡ map (λ (u : Named). block_room (units_of (text_of l.program)) (Some u)) (take l.number (units_of (text_of l.program)));
+  given : l.rooms.items ≡ numbered (block_room (units_of (text_of l.program))) 0 (take l.number (units_of (text_of l.program)));
 }

@@ -1,10 +1,10 @@
-use Rattle.std.proofs.Common.{Some, arith}
+use Rattle.std.proofs.Common.{arith}
 use Rattle.st_check.specs.Programs.{order_of, text_of}
 use Rattle.st_types.specs.Inside.{named_by}
-use Rattle.st_types.specs.Names.{Named, units_of}
+use Rattle.st_types.specs.Names.{units_of}
 use Rattle.st_compile.specs.Programs.{function_room, function_view, program_functions}
 use Rattle.st_compile.proofs.Coded.{bounds_at, read_at, read_number}
-use Rattle.st_compile.proofs.Listed.{item_pushed, items_done, view_pushed, views_done}
+use Rattle.st_compile.proofs.Listed.{view_pushed, views_done}
 use Rattle.st_compile.proofs.units.functions_of.Goals as goal
 
 pub function_of-requires-clause-found : goal.function_of-requires-clause-found
@@ -25,7 +25,7 @@ units-preserved c =
           view_pushed units c.units.number u found (function_view units (order_of c.args.program.now)) c.units.functions.items c.push.new.self.items c.in_ok-made.made.function c.in_ok-push.ensures.items
           c.units.invariant.codes c.in_ok-made.ensures.function;
       given =
-          item_pushed units c.units.number u found (λ (v : Named). function_room units (Some v)) c.units.rooms.items c.push-in-units.new.self.items c.in_ok-made.made.room c.in_ok-push-2.ensures.items
+          view_pushed units c.units.number u found (function_room units) c.units.rooms.items c.push-in-units.new.self.items c.in_ok-made.made.room c.in_ok-push-2.ensures.items
           c.units.invariant.given c.in_ok-made.ensures.room;
     }
 
@@ -38,4 +38,4 @@ returns-clause-functions c =
 pub returns-clause-rooms : goal.returns-clause-rooms
 returns-clause-rooms c =
     let units = units_of (text_of c.args.program.now) in
-    items_done (λ (v : Named). function_room units (Some v)) units c.units.rooms.items c.units.number (omega (arith, c.units-test.false, read_number c.args.program.now c.args.units.now c.requires.units)) c.units.invariant.given
+    views_done (function_room units) units c.units.rooms.items c.units.number (omega (arith, c.units-test.false, read_number c.args.program.now c.args.units.now c.requires.units)) c.units.invariant.given

@@ -1,6 +1,6 @@
-use Rattle.std.proofs.Common.{◌≡◌, Some, map, take}
+use Rattle.std.proofs.Common.{◌≡◌, take}
 use Rattle.st_check.specs.Programs.{order_of, text_of}
-use Rattle.st_types.specs.Names.{Named, units_of}
+use Rattle.st_types.specs.Names.{units_of}
 use Rattle.st_compile.specs.Programs.{function_room, function_view, numbered}
 use Rattle.st_compile.proofs.units.functions_of.Given as goal
 
@@ -8,5 +8,5 @@ use Rattle.st_compile.proofs.units.functions_of.Given as goal
 abbrev pub invariant-units : goal.invariant-units
 invariant-units l = record {
   codes : l.functions.items ≡ numbered (function_view (units_of (text_of l.program)) (order_of l.program)) 0 (take l.number (units_of (text_of l.program)));
-  given : l.rooms.items ≡ map (λ (u : Named). function_room (units_of (text_of l.program)) (Some u)) (take l.number (units_of (text_of l.program)));
+  given : l.rooms.items ≡ numbered (function_room (units_of (text_of l.program))) 0 (take l.number (units_of (text_of l.program)));
 }

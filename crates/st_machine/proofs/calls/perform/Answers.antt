@@ -56,3 +56,6 @@ returns-in-Pick-clause-does c = λ line place. rw c.in-Pick.is (c.pick.ensures.d
 
 pub returns-in-Invoke-clause-does : goal.returns-in-Invoke-clause-does
 returns-in-Invoke-clause-does c = λ line place. rw c.in-Invoke.is (c.invoke.ensures.does c.args.stack.now.1 line place c.args.left.now c.args.stack.now.0)
+
+pub returns-in-Cut-clause-does : goal.returns-in-Cut-clause-does
+returns-in-Cut-clause-does c = λ line place. rw c.in-Cut.is (c.cut.ensures.does (environment_at (pos 0) []) line place c.args.variables.now c.args.left.now)

@@ -1,9 +1,13 @@
-use Rattle.std.proofs.Common.{◌≡◌, ◌∙◌, ◌+◌, ◌-◌, ◌<◌, ◌≤◌, ap, length, refl, sym, subst, rules, w64, arith, take, get_or, Some}
+use Rattle.std.proofs.Common.{◌≡◌, true, false, ◌∙◌, ◌+◌, ◌-◌, ◌<◌, ◌≤◌, ap, length, refl, sym, subst, rules, w64, arith, take, get_or, Some}
 use Rattle.std.proofs.lemmas.Int.{to_z-of_z}
 use Rattle.std.proofs.lemmas.Result.{err_from_is_err_and}
 use Rattle.std.specs.Prelude.{slice_index_or}
 use Rattle.st_meaning.specs.Operations.{stop}
 use Rattle.st_meaning.specs.Statements.{faulted}
+use Rattle.std.specs.Option.{is_some}
+use Rattle.st_chart_runs.specs.Charts.{ChartsFit}
+use Rattle.st_chart_runs.specs.Views.{room_of}
+use Rattle.st_fused.specs.Fused.{is_of_chart}
 use Rattle.st_code.specs.Beside.{line_at}
 use Rattle.st_code.specs.declared.instr.Instr.TheVariants.{Enter, Call}
 use Rattle.st_code.specs.Machine.{Reaches, act, goes, state}
@@ -16,11 +20,12 @@ use Rattle.st_machine.specs.Running.{environment_at, moved, stop_of}
 use Rattle.st_machine.specs.declared.moves.Move.{Move}
 use Rattle.st_machine.proofs.Arrivals.{instrs_of}
 use Rattle.st_machine.proofs.Moments.{is_time}
-use Rattle.st_machine.proofs.Rooms.{room_at, room_of, rooms_many, rooms_taken}
+use Rattle.st_machine.proofs.Rooms.{room_at, rooms_many, rooms_taken}
+use Rattle.st_machine.proofs.Rooms.{room_of as level_room}
 use Rattle.st_machine.proofs.Stays.{Stays, stays_unless}
 use Rattle.st_machine.proofs.Ends.{weight}
 use Rattle.st_machine.proofs.Way.{beyond_code, clipped_place, few_in_code, instr_is, weight_clipped, within_code}
-use Rattle.st_machine.proofs.Within.{all_done, called, called_leads, called_stops, finds_all, inner, inner_leads, inner_stops, is_at, is_block, run_begins, turn_leads, turn_stops, way_clipped}
+use Rattle.st_machine.proofs.Within.{all_done, called, called_leads, called_stops, chart_leads, chart_work, finds_all, inner, inner_leads, inner_stops, is_at, is_block, run_begins, turn_leads, turn_stops, way_clipped}
 use Rattle.st_machine.proofs.instances.+enter.Goals as goal
 
 pub loop-place-init : goal.loop-place-init
@@ -41,7 +46,7 @@ loop-place-init g t c =
     let fits = g.met.M.Memory.fits leaves c.args.memory.now c.requires.over in
     let front : block.level ≡ length lower = omega (arith, halves.front_len, c.level.ensures) in
     let some : 0 < length upper = omega (arith, halves.back_len, c.level.ensures, here.below, rooms_many c.args.levels.now) in
-    let at : get_or rooms block.level no_room ≡ room_of (slice_index_or upper 0 c.index-upper-0.result) =
+    let at : get_or rooms block.level no_room ≡ level_room (slice_index_or upper 0 c.index-upper-0.result) =
     ap (λ ls. get_or (rooms_of ls) block.level no_room) halves.value ∙ room_at lower upper block.level c.index-upper-0.result front some in
     let room : c.clear.new.self.1 ≡ (get_or rooms block.level no_room).stack =
     c.clear.ensures.room ∙ ap (λ (l : LevelView). l.stack.1) c.level-2.view_is ∙ ap (λ (r : Room). r.stack) (sym at) in
@@ -49,6 +54,7 @@ loop-place-init g t c =
       over = c.requires.over;
       forced = refl;
       lower = refl;
+      charts = refl;
       room = refl;
       steps = omega arith;
       way = rw (to_z-of_z w64 now (search rules)) (λ e.
@@ -96,7 +102,10 @@ enter-requires g t c κs within =
         within,
         (
           c.loop-place.invariant.over,
-          inner number first units rooms leaves c.requires.may block here now before fits place unit leaf instr (rooms_of c.loop-place.lower) inside is entrance lower_is c.len-leaves.ensures.sound.few,
+          (
+            inner number first units rooms leaves c.requires.may block here now before fits place unit leaf instr (rooms_of c.loop-place.lower) inside is entrance lower_is c.len-leaves.ensures.sound.few,
+            subst (ChartsFit units.charts) (sym c.loop-place.invariant.charts) c.requires.fit,
+          ),
         ),
       ),
     )
@@ -185,6 +194,7 @@ loop-place-preserved-in-Enter g t c =
       over = c.enter.ensures.over;
       forced = c.enter.ensures.forced ∙ forced;
       lower = c.enter.ensures.rooms ∙ c.loop-place.invariant.lower;
+      charts = c.enter.ensures.charts ∙ c.loop-place.invariant.charts;
       room = c.loop-place.invariant.room;
       steps = omega (arith, c.in_ok-left.ensures.steps, c.loop-place.invariant.steps);
       way = rw (to_z-of_z w64 now (search rules)) (λ e.
@@ -225,7 +235,8 @@ perform-requires-clause-ready g t c =
     let inside = within_code code c.instrs-instrs.result.now place instrs c.loop-place-test.true in
     let instr = c.from_leaf-instr.result in
     let is : instr ≡ clipped_from first (line_at code place).instr = c.from_leaf-instr.ensures ∙ ap (clipped_from first) (instr_is code c.instrs-instrs.result.now place _ instrs inside) in
-    let stay : Stays instr = stays_unless instr c.in_default.not-Enter c.in_default-instr.not-Call in
+    let no_chart : is_of_chart instr ≡ false = ap is_some (sym c.chart.ensures) ∙ sym c.is_some.ensures ∙ c.if-is_some.false in
+    let stay : Stays instr = stays_unless instr c.in_default.not-Enter c.in_default-instr.not-Call no_chart in
     rw c.loop-place.invariant.room (finds_all number first units rooms leaves c.requires.may code now before limit room place stack content left forced few (way c.requires.may) inside instr is stay)
 
 pub loop-place-preserved-in-On : goal.loop-place-preserved-in-On
@@ -252,7 +263,8 @@ loop-place-preserved-in-On g t c =
     let inside = within_code code c.instrs-instrs.result.now place instrs c.loop-place-test.true in
     let instr = c.from_leaf-instr.result in
     let is : instr ≡ clipped_from first (line_at code place).instr = c.from_leaf-instr.ensures ∙ ap (clipped_from first) (instr_is code c.instrs-instrs.result.now place _ instrs inside) in
-    let stay : Stays instr = stays_unless instr c.in_default.not-Enter c.in_default-instr.not-Call in
+    let no_chart : is_of_chart instr ≡ false = ap is_some (sym c.chart.ensures) ∙ sym c.is_some.ensures ∙ c.if-is_some.false in
+    let stay : Stays instr = stays_unless instr c.in_default.not-Enter c.in_default-instr.not-Call no_chart in
     let new = (g.M.Memory.content leaves c.perform.new.memory).values in
     let others = c.perform.new.stack.0 in
     let rest = c.perform.new.left in
@@ -265,6 +277,7 @@ loop-place-preserved-in-On g t c =
       over = c.perform.ensures.over;
       forced = c.perform.ensures.forced ∙ forced;
       lower = c.loop-place.invariant.lower;
+      charts = c.loop-place.invariant.charts;
       room = c.perform.ensures.room ∙ c.loop-place.invariant.room;
       steps = omega (arith, c.loop-place.invariant.steps, (turn_leads number first units rooms leaves c.requires.may code now before limit room place stack content left forced few (way c.requires.may) inside instr is stay other others new rest goes_there).steps);
       way = rw (to_z-of_z w64 now (search rules)) (λ e. (turn_leads number first units rooms leaves e code now before limit room place stack content left forced few (way e) inside instr is stay other others new rest goes_there).onward);
@@ -294,7 +307,8 @@ loop-place-smaller-in-On g t c =
     let inside = within_code code c.instrs-instrs.result.now place instrs c.loop-place-test.true in
     let instr = c.from_leaf-instr.result in
     let is : instr ≡ clipped_from first (line_at code place).instr = c.from_leaf-instr.ensures ∙ ap (clipped_from first) (instr_is code c.instrs-instrs.result.now place _ instrs inside) in
-    let stay : Stays instr = stays_unless instr c.in_default.not-Enter c.in_default-instr.not-Call in
+    let no_chart : is_of_chart instr ≡ false = ap is_some (sym c.chart.ensures) ∙ sym c.is_some.ensures ∙ c.if-is_some.false in
+    let stay : Stays instr = stays_unless instr c.in_default.not-Enter c.in_default-instr.not-Call no_chart in
     let new = (g.M.Memory.content leaves c.perform.new.memory).values in
     let others = c.perform.new.stack.0 in
     let rest = c.perform.new.left in
@@ -329,7 +343,8 @@ loop-place-preserved-in-Skip g t c =
     let inside = within_code code c.instrs-instrs.result.now place instrs c.loop-place-test.true in
     let instr = c.from_leaf-instr.result in
     let is : instr ≡ clipped_from first (line_at code place).instr = c.from_leaf-instr.ensures ∙ ap (clipped_from first) (instr_is code c.instrs-instrs.result.now place _ instrs inside) in
-    let stay : Stays instr = stays_unless instr c.in_default.not-Enter c.in_default-instr.not-Call in
+    let no_chart : is_of_chart instr ≡ false = ap is_some (sym c.chart.ensures) ∙ sym c.is_some.ensures ∙ c.if-is_some.false in
+    let stay : Stays instr = stays_unless instr c.in_default.not-Enter c.in_default-instr.not-Call no_chart in
     let new = (g.M.Memory.content leaves c.perform.new.memory).values in
     let others = c.perform.new.stack.0 in
     let rest = c.perform.new.left in
@@ -344,6 +359,7 @@ loop-place-preserved-in-Skip g t c =
       over = c.perform.ensures.over;
       forced = c.perform.ensures.forced ∙ forced;
       lower = c.loop-place.invariant.lower;
+      charts = c.loop-place.invariant.charts;
       room = c.perform.ensures.room ∙ c.loop-place.invariant.room;
       steps = omega (arith, c.loop-place.invariant.steps, (turn_leads number first units rooms leaves c.requires.may code now before limit room place stack content left forced few (way c.requires.may) inside instr is stay other others new rest goes_there).steps);
       way = rw (to_z-of_z w64 now (search rules)) (λ e.
@@ -374,7 +390,8 @@ loop-place-smaller-in-Skip g t c =
     let inside = within_code code c.instrs-instrs.result.now place instrs c.loop-place-test.true in
     let instr = c.from_leaf-instr.result in
     let is : instr ≡ clipped_from first (line_at code place).instr = c.from_leaf-instr.ensures ∙ ap (clipped_from first) (instr_is code c.instrs-instrs.result.now place _ instrs inside) in
-    let stay : Stays instr = stays_unless instr c.in_default.not-Enter c.in_default-instr.not-Call in
+    let no_chart : is_of_chart instr ≡ false = ap is_some (sym c.chart.ensures) ∙ sym c.is_some.ensures ∙ c.if-is_some.false in
+    let stay : Stays instr = stays_unless instr c.in_default.not-Enter c.in_default-instr.not-Call no_chart in
     let new = (g.M.Memory.content leaves c.perform.new.memory).values in
     let others = c.perform.new.stack.0 in
     let rest = c.perform.new.left in
@@ -411,7 +428,8 @@ loop-place-smaller g t c =
     let inside = within_code code c.instrs-instrs.result.now place instrs c.loop-place-test.true in
     let instr = c.from_leaf-instr.result in
     let is : instr ≡ clipped_from first (line_at code place).instr = c.from_leaf-instr.ensures ∙ ap (clipped_from first) (instr_is code c.instrs-instrs.result.now place _ instrs inside) in
-    let stay : Stays instr = stays_unless instr c.in_default.not-Enter c.in_default-instr.not-Call in
+    let no_chart : is_of_chart instr ≡ false = ap is_some (sym c.chart.ensures) ∙ sym c.is_some.ensures ∙ c.if-is_some.false in
+    let stay : Stays instr = stays_unless instr c.in_default.not-Enter c.in_default-instr.not-Call no_chart in
     let new = (g.M.Memory.content leaves c.perform.new.memory).values in
     let others = c.perform.new.stack.0 in
     let rest = c.perform.new.left in
@@ -446,7 +464,8 @@ loop-place-preserved g t c =
     let inside = within_code code c.instrs-instrs.result.now place instrs c.loop-place-test.true in
     let instr = c.from_leaf-instr.result in
     let is : instr ≡ clipped_from first (line_at code place).instr = c.from_leaf-instr.ensures ∙ ap (clipped_from first) (instr_is code c.instrs-instrs.result.now place _ instrs inside) in
-    let stay : Stays instr = stays_unless instr c.in_default.not-Enter c.in_default-instr.not-Call in
+    let no_chart : is_of_chart instr ≡ false = ap is_some (sym c.chart.ensures) ∙ sym c.is_some.ensures ∙ c.if-is_some.false in
+    let stay : Stays instr = stays_unless instr c.in_default.not-Enter c.in_default-instr.not-Call no_chart in
     let new = (g.M.Memory.content leaves c.perform.new.memory).values in
     let others = c.perform.new.stack.0 in
     let rest = c.perform.new.left in
@@ -459,6 +478,7 @@ loop-place-preserved g t c =
       over = c.perform.ensures.over;
       forced = c.perform.ensures.forced ∙ forced;
       lower = c.loop-place.invariant.lower;
+      charts = c.loop-place.invariant.charts;
       room = c.perform.ensures.room ∙ c.loop-place.invariant.room;
       steps = omega (arith, c.loop-place.invariant.steps, (turn_leads number first units rooms leaves c.requires.may code now before limit room place stack content left forced few (way c.requires.may) inside instr is stay other others new rest goes_there).steps);
       way = rw (to_z-of_z w64 now (search rules), c.saturating_sub-place.ensures) (λ e. (turn_leads number first units rooms leaves e code now before limit room place stack content left forced few (way e) inside instr is stay other others new rest goes_there).onward);
@@ -492,7 +512,8 @@ returns-in-Stop-clause-leaves g t c =
     let inside = within_code code c.instrs-instrs.result.now place instrs c.loop-place-test.true in
     let instr = c.from_leaf-instr.result in
     let is : instr ≡ clipped_from first (line_at code place).instr = c.from_leaf-instr.ensures ∙ ap (clipped_from first) (instr_is code c.instrs-instrs.result.now place _ instrs inside) in
-    let stay : Stays instr = stays_unless instr c.in_default.not-Enter c.in_default-instr.not-Call in
+    let no_chart : is_of_chart instr ≡ false = ap is_some (sym c.chart.ensures) ∙ sym c.is_some.ensures ∙ c.if-is_some.false in
+    let stay : Stays instr = stays_unless instr c.in_default.not-Enter c.in_default-instr.not-Call no_chart in
     let line = (line_at code place).line in
     let does = rw (to_z-of_z w64 now (search rules), c.loop-place.invariant.room) at c.perform.ensures.does in
     let stops_there = does line place ∙ ap (λ (m : Move). moved m line place c.perform.new.stack.0 (g.M.Memory.content leaves c.perform.new.memory).values c.perform.new.left) c.in-Stop.is in
@@ -662,9 +683,82 @@ loop-place-preserved-in-Call g t c =
       over = c.loop-place.invariant.over;
       forced = forced;
       lower = c.call.ensures.rooms ∙ c.loop-place.invariant.lower;
+      charts = c.loop-place.invariant.charts;
       room = c.call.ensures.room ∙ c.loop-place.invariant.room;
       steps = omega (arith, c.in_ok-left-2.ensures.steps, c.loop-place.invariant.steps);
       way = rw (to_z-of_z w64 now (search rules)) (λ e.
           called_leads number first units rooms leaves e code now before limit room place stack content left forced few (way e) inside instr is unit inputs below calls c.in_ok-left-2.left c.call.new.stack.0
           (told (called number first units rooms leaves e code now before limit room place stack content left forced few (way e) inside instr is unit inputs below calls block.level (rooms_of c.loop-place.lower) least lower_is (is_block number first units rooms leaves e block here now before fits).calls c.loop-place.stack.1 c.loop-place.invariant.room)));
+    }
+
+pub do_chart-requires-clause-work : goal.do_chart-requires-clause-work
+do_chart-requires-clause-work g t c =
+    let before = g.M.Memory.content c.args.layout.now c.args.memory.now in
+    let rooms = rooms_of c.args.levels.now in
+    let block = c.index-blocks-number.result in
+    let units = c.args.units.now in
+    let number = c.args.number in
+    let first = c.args.first in
+    let leaves = c.args.layout.now in
+    let limit = c.args.limit in
+    let now = c.args.now in
+    let content = g.M.Memory.content c.args.layout.now c.loop-place.memory in
+    let code = block.code in
+    let place = c.loop-place.place in
+    let stack = c.loop-place.stack.0 in
+    let left = c.loop-place.left in
+    let room = c.clear.new.self.1 in
+    let forced = c.loop-place.invariant.forced in
+    let way = rw (to_z-of_z w64 now (search rules)) at c.loop-place.invariant.way in
+    let few : length content.values ≤ 65536 = omega (arith, (g.met.M.Memory.fits leaves c.loop-place.memory c.loop-place.invariant.over).values, c.len-leaves.ensures.sound.few) in
+    let instrs : c.instrs-instrs.result.now ≡ instrs_of code = c.instrs-instrs.ensures ∙ ap instrs_of c.code.ensures in
+    let inside = within_code code c.instrs-instrs.result.now place instrs c.loop-place-test.true in
+    let instr = c.from_leaf-instr.result in
+    let is : instr ≡ clipped_from first (line_at code place).instr = c.from_leaf-instr.ensures ∙ ap (clipped_from first) (instr_is code c.instrs-instrs.result.now place _ instrs inside) in
+    let here = is_at number first units rooms leaves c.requires.may block (c.index-blocks-number.is ∙ ap (λ bs. slice_index_or bs number block) c.blocks-blocks.ensures) in
+    let fits = g.met.M.Memory.fits leaves c.args.memory.now c.requires.over in
+    let about : is_of_chart instr ≡ true = ap is_some (sym c.chart.ensures) ∙ sym c.is_some.ensures ∙ c.if-is_some.true in
+    rw (to_z-of_z w64 now (search rules), c.charts.ensures) (chart_work number first units rooms leaves c.requires.may code now before limit room place stack content left forced few (way c.requires.may) inside instr is about (is_block number first units rooms leaves c.requires.may block here now before fits).charts (room_of c.loop-place.work) (subst (ChartsFit units.charts) (sym c.loop-place.invariant.charts) c.requires.fit) c.loop-place.stack.1 c.loop-place.invariant.room)
+
+pub loop-place-preserved-then-is_some : goal.loop-place-preserved-then-is_some
+loop-place-preserved-then-is_some g t c =
+    let before = g.M.Memory.content c.args.layout.now c.args.memory.now in
+    let rooms = rooms_of c.args.levels.now in
+    let block = c.index-blocks-number.result in
+    let units = c.args.units.now in
+    let number = c.args.number in
+    let first = c.args.first in
+    let leaves = c.args.layout.now in
+    let limit = c.args.limit in
+    let now = c.args.now in
+    let content = g.M.Memory.content c.args.layout.now c.loop-place.memory in
+    let code = block.code in
+    let place = c.loop-place.place in
+    let stack = c.loop-place.stack.0 in
+    let left = c.loop-place.left in
+    let room = c.clear.new.self.1 in
+    let forced = c.loop-place.invariant.forced in
+    let way = rw (to_z-of_z w64 now (search rules)) at c.loop-place.invariant.way in
+    let few : length content.values ≤ 65536 = omega (arith, (g.met.M.Memory.fits leaves c.loop-place.memory c.loop-place.invariant.over).values, c.len-leaves.ensures.sound.few) in
+    let instrs : c.instrs-instrs.result.now ≡ instrs_of code = c.instrs-instrs.ensures ∙ ap instrs_of c.code.ensures in
+    let inside = within_code code c.instrs-instrs.result.now place instrs c.loop-place-test.true in
+    let instr = c.from_leaf-instr.result in
+    let is : instr ≡ clipped_from first (line_at code place).instr = c.from_leaf-instr.ensures ∙ ap (clipped_from first) (instr_is code c.instrs-instrs.result.now place _ instrs inside) in
+    let here = is_at number first units rooms leaves c.requires.may block (c.index-blocks-number.is ∙ ap (λ bs. slice_index_or bs number block) c.blocks-blocks.ensures) in
+    let fits = g.met.M.Memory.fits leaves c.args.memory.now c.requires.over in
+    let about : is_of_chart instr ≡ true = ap is_some (sym c.chart.ensures) ∙ sym c.is_some.ensures ∙ c.if-is_some.true in
+    let new = (g.M.Memory.content leaves c.do_chart.new.memory).values in
+    let others = c.do_chart.new.stack.0 in
+    let line = (line_at code place).line in
+    let does = rw (to_z-of_z w64 now (search rules), c.charts.ensures) at c.do_chart.ensures.does in
+    record {
+      over = c.do_chart.ensures.over;
+      forced = c.do_chart.ensures.forced ∙ forced;
+      lower = c.loop-place.invariant.lower;
+      charts = c.do_chart.ensures.room ∙ c.loop-place.invariant.charts;
+      room = c.do_chart.ensures.stack ∙ c.loop-place.invariant.room;
+      steps = c.loop-place.invariant.steps;
+      way = rw (to_z-of_z w64 now (search rules)) (λ e.
+          chart_leads number first units rooms leaves e code now before limit room place stack content left forced few (way e) inside instr is about others new
+          (subst (λ n. act (environment_with e.said now before.forced) n instr line place stack content.values left ≡ goes (state (place + 1) others new left)) c.loop-place.invariant.room (does (chart_work number first units rooms leaves e code now before limit room place stack content left forced few (way e) inside instr is about (is_block number first units rooms leaves e block here now before fits).charts (room_of c.loop-place.work) (subst (ChartsFit units.charts) (sym c.loop-place.invariant.charts) c.requires.fit) c.loop-place.stack.1 c.loop-place.invariant.room))));
     }

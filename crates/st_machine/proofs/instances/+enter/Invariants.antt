@@ -1,4 +1,5 @@
 use Rattle.std.proofs.Common.{◌≡◌, ◌≤◌, length}
+use Rattle.st_chart_runs.specs.Views.{room_of}
 use Rattle.st_code.specs.Machine.{Reaches, state}
 use Rattle.st_code.specs.Relative.{among, code_from}
 use Rattle.st_machine.specs.Blocks.{Entrance, run_by}
@@ -19,6 +20,7 @@ invariant-loop-place g l =
       over : g.M.Memory.IsOver l.layout l.memory;
       forced : content.forced ≡ before.forced;
       lower : rooms_of l.lower ≡ rooms_of l.initial.lower;
+      charts : room_of l.work ≡ room_of l.initial.work;
       room : l.stack.1 ≡ l.initial.stack.1;
       steps : l.left ≤ l.limit;
       way : (e : Entrance l.number l.first l.units (rooms_of l.fn.levels) l.layout)

@@ -56,3 +56,6 @@ returns-in-Invoke-clause-does g c = λ line place. rw c.in-Invoke.is (rw (to_z-o
 
 pub returns-in-Pick-clause-does : goal.returns-in-Pick-clause-does
 returns-in-Pick-clause-does g c = let content = g.M.Memory.content c.args.layout.now c.args.memory.now in λ line place. rw c.in-Pick.is (c.pick.ensures.does (environment_at c.args.now content.forced) line place content.values c.args.left.now)
+
+pub returns-in-Cut-clause-does : goal.returns-in-Cut-clause-does
+returns-in-Cut-clause-does g c = let content = g.M.Memory.content c.args.layout.now c.args.memory.now in λ line place. rw c.in-Cut.is (c.cut.ensures.does (environment_at c.args.now content.forced) line place content.values c.args.left.now)

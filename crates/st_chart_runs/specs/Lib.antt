@@ -1,0 +1,4 @@
+pub mod Charts
+pub mod Leaves
+pub mod Parts
+pub mod Views

@@ -1,5 +1,0 @@
-use Rattle.std.proofs.Common.{◌≡◌, drop, take}
-use Rattle.st_machine.proofs.blocks.load_values.Given as goal
-
-abbrev pub invariant-loop-i : goal.invariant-loop-i
-invariant-loop-i g l = take l.i l.cells ≡ take l.i (drop l.leaf (g.M.Memory.content l.layout l.memory).values)

@@ -1,0 +1,44 @@
+-- Charts without names (2.6): the steps before and behind each transition, and what the steps do to the names that they are associated
+-- with. Steps, transitions and names are numbers in the order of the text.
+use Rattle.std.specs.Prelude.{ℕ, Bool, true, false, List, [], ◌∷◌, ◌++◌, length, map, Option}
+use Rattle.st_values.specs.declared.elem.Elem.{Elem}
+use Rattle.st_values.specs.declared.elem.Elem.TheVariants as elems
+use Rattle.st_charts.specs.Passages.{Passage}
+use Rattle.st_charts.specs.declared.table.Link.{Link}
+
+pub record Sketch : Type 0 where
+  -- of each step whether it is associated with the qualifier P
+  pub pulses : List Bool
+  -- the transitions
+  pub passages : List Passage
+  -- the associations
+  pub links : List Link
+  -- of each associated name, in the order of the first association, the BOOL variable that it is, where it is one
+  pub variables : List (Option (List ℕ))
+  -- the names that are associated with the qualifier S, in the order of the first such association
+  pub stored : List ℕ
+  -- the name of each action
+  pub actions : List ℕ
+
+-- ---- the types of its leaves
+
+-- of a step: whether it is active, for how long, since when, and, where it has pulses, whether they were given
+abbrev pub step_types : Bool → List Elem
+step_types true = elems.Bool ∷ elems.Time ∷ elems.Time ∷ elems.Bool ∷ []
+step_types false = elems.Bool ∷ elems.Time ∷ elems.Time ∷ []
+
+abbrev pub steps_types : List Bool → List Elem
+steps_types [] = []
+steps_types (p ∷ pulses) = step_types p ++ steps_types pulses
+
+-- of the names that are stored
+abbrev pub flags_types : List ℕ → List Elem
+flags_types stored = map (λ n. elems.Bool) stored
+
+-- whether the chart has begun, its steps, and the names that are stored
+abbrev pub chart_types : Sketch → List Elem
+chart_types sketch = elems.Bool ∷ (steps_types sketch.pulses ++ flags_types sketch.stored)
+
+-- how many leaves
+abbrev pub chart_size : Sketch → ℕ
+chart_size sketch = length (chart_types sketch)

@@ -1,0 +1,10 @@
+use Rattle.std.proofs.Common.{subst, sym}
+use Rattle.st_types.specs.Names.{units_of}
+use Rattle.st_places.specs.Contents.{AreOf}
+use Rattle.st_places.proofs.Charts.{step_clause}
+use Rattle.st_places.proofs.tables.Tables.step.Goals as goal
+
+pub returns : goal.returns
+returns c =
+    step_clause (record { text = c.self.inside.text.now }) c.args.self.now c.args.unit c.args.is_time c.args.name.now c.step.result c.self.view_is
+    (c.step.ensures (units_of c.self.inside.text.now) (subst (AreOf (units_of c.self.inside.text.now)) (sym c.deref.ensures.value) c.self.invariant.parts)) c.requires
