@@ -476,7 +476,7 @@ fn actions_and_conditions_have_all_parts(rt: HostRuntime) -> Result<(), Fail> {
 
 #[test]
 fn operators_set_what_is_theirs(rt: HostRuntime) -> Result<(), Fail> {
-    let count = all_come_out(&rt, rt.alloc(), SETTINGS, 7)?;
+    let count = all_come_out(&rt, rt.alloc(), SETTINGS, 4096)?;
     assert_eq!(rt; count, 5);
     Ok(())
 }
