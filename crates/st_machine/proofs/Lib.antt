@@ -1,5 +1,6 @@
 pub mod Arrivals
 pub mod Begun
+pub mod ByTable
 pub mod Calling
 pub mod ChartWorks
 pub mod Clipped

@@ -6,3 +6,4 @@ pub mod Levels
 pub mod Quick
 pub mod Ready
 pub mod Running
+pub mod Stretches

@@ -80,29 +80,6 @@ pub(crate) fn call(
     Ok(left)
 }
 
-/// The same with the stack in a place of its own meanwhile, so that the one of the caller can stay in registers.
-#[inline(always)]
-pub(crate) fn call_apart(
-    number: u32,
-    inputs: u32,
-    below: u32,
-    functions: &[Function],
-    stack: &mut Stack,
-    levels: &mut [Level],
-    limit: u32,
-) -> Result<u32, Halt>
-    requires may { CallOf number inputs below functions.now (rooms_of levels.old) stack.old }
-    ensures gives { (called : CallOf number inputs below functions.now (rooms_of levels.old) stack.old) → GivesAs (given_by called.said number inputs stack.old.0 limit) (drop (inputs + below) stack.old.0) stack.new.0 result }
-    ensures steps { IfOk result (λ left. left ≤ limit) }
-    ensures room { stack.new.1 ≡ stack.old.1 }
-    ensures rooms { rooms_of levels.new ≡ rooms_of levels.old }
-{
-    let mut other = stack.take();
-    let result = call(number, inputs, below, functions, &mut other, levels, limit);
-    *stack = other;
-    result
-}
-
 /// Sets the variables of a function as a call of it begins, where its inputs have these cells.
 fn set_variables(function: &Function, cells: &[i64], variables: &mut [Value])
     requires cells { IsTrue (are_cells_in function.now.inputs cells.now) }

@@ -67,30 +67,6 @@ pub(crate) fn do_chart<M: Memory>(
     }
 }
 
-/// The same with the stack in a place of its own meanwhile, so that the one of the caller can stay in registers.
-#[inline(always)]
-pub(crate) fn chart_apart<M: Memory>(
-    instr: &Instr,
-    charts: &[Option<Sketch>],
-    memory: &mut M,
-    layout: &Layout,
-    stack: &mut Stack,
-    workspace: &mut Workspace,
-    now: i64,
-)
-    requires over { M.IsOver layout.now memory.old }
-    requires work { ChartWork instr.now charts.now (room_of workspace.old) now (M.content layout.now memory.old) stack.old }
-    ensures over { M.IsOver layout.now memory.new }
-    ensures forced { (M.content layout.now memory.new).forced ≡ (M.content layout.now memory.old).forced }
-    ensures does { (work : ChartWork instr.now charts.now (room_of workspace.old) now (M.content layout.now memory.old) stack.old) → act work.env stack.old.1 instr.now work.line work.place stack.old.0 (M.content layout.now memory.old).values work.left ≡ goes (state (work.place + 1) stack.new.0 (M.content layout.now memory.new).values work.left) }
-    ensures stack { stack.new.1 ≡ stack.old.1 }
-    ensures room { room_of workspace.new ≡ room_of workspace.old }
-{
-    let mut other = stack.take();
-    do_chart(instr, charts, memory, layout, &mut other, workspace, now);
-    *stack = other;
-}
-
 /// Takes the conditions away, and puts which names of a chart are on: those of its actions, and above them those that are variables.
 fn put_names(sketch: &Sketch, on: &[bool], stack: &mut Stack)
     requires names { length sketch.now.variables ≡ length on.now }

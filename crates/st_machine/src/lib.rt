@@ -22,6 +22,7 @@ mod quick;
 mod run;
 mod stack;
 mod stacks;
+mod stretches;
 mod transfers;
 mod units;
 mod variables;
