@@ -228,7 +228,7 @@ module _ (w : World) where
         (λ x n. terms_run ts (pc + length ct) (cell_of x.bits ∷ stack) (has_back w.code pc ct cs has) sound.1 (omega (arith, room)) values n ok))
 
     pub parts_runs : (ps : Parts) (c : Composition) (e : Elem) → type_of c ps ≡ Some e → AreSoundParts w.functions w.root ps → HasBounds c → (more : Bool) (acc : ℕ)
-        → (more ≡ false → acc ≡ 0) → acc + count c ≤ 65536
+        → (more ≡ false → acc ≡ 0) → acc + count c ≤ 999999
         → (pc : ℕ) (stack : List ℤ) → HasAt w.code pc (parts_code w.root more c ps) → length stack + parts_depth ps ≤ w.room → (values : Values) (left : ℕ)
         → AreValuesOf w.root values
         → PlaceRuns w (state pc (over more acc stack) values left) (pc + length (parts_code w.root more c ps))

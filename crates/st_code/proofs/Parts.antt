@@ -196,7 +196,7 @@ module _ (w : World) where
       (values : Values) (left : ℕ)
       → Leads w s (state pc top values left) → slice_get w.code pc ≡ Some (line_of line i)
       → act w.env w.room i line pc top values left ≡ indexed (x -ℤ number_of r.lower) (extent_of r - 1) stride d line pc stack values left
-      → stride ≡ extent rs * size → IsDistance size rs is d → IsBounded r → extent (r ∷ rs) * size ≤ 65536
+      → stride ≡ extent rs * size → IsDistance size rs is d → IsBounded r → extent (r ∷ rs) * size ≤ 999999
       → IndexRuns s (pc + 1) stack values left line size (r ∷ rs) (x ∷ is) (is_within r x)
   subscript_run s pc line size stride d i top r x rs is stack values left l h acts strides dist bounded few = from (x -ℤ number_of r.lower) refl where
     from_far : (far : ℕ) (b : Bool) → x -ℤ number_of r.lower ≡ pos far → nat_le far (extent_of r - 1) ≡ b → IndexRuns s (pc + 1) stack values left line size (r ∷ rs)
@@ -234,7 +234,7 @@ module _ (w : World) where
 
   -- the last subscript
   last_run : (pc line size : ℕ) (e : Elem) (r : Subrange) (x : Value) (stack : List ℤ) (values : Values) (left : ℕ) → IsOf e x → IsBounded r
-      → extent (r ∷ []) * size ≤ 65536
+      → extent (r ∷ []) * size ≤ 999999
       → slice_get w.code pc ≡ Some (line_of line (Index e (extent_of r - 1) size (number_of r.lower)))
       → IndexRuns (state pc (cell_of x.bits ∷ stack) values left) (pc + 1) stack values left line size (r ∷ []) (x.bits ∷ []) (is_within r x.bits && true)
   last_run pc line size e r x stack values left of bounded few h =
@@ -245,7 +245,7 @@ module _ (w : World) where
 
   -- one below others
   below_run : (s : State) (pc line size : ℕ) (e : Elem) (r : Subrange) (x : Value) (rs : List Subrange) (is : List ℤ) (stack : List ℤ) (values : Values) (left : ℕ)
-      (b : Bool) → IsOf e x → IsBounded r → extent (r ∷ rs) * size ≤ 65536
+      (b : Bool) → IsOf e x → IsBounded r → extent (r ∷ rs) * size ≤ 999999
       → slice_get w.code pc ≡ Some (line_of line (IndexBelow e (extent_of r - 1) (extent rs * size) (number_of r.lower)))
       → IndexRuns s pc (cell_of x.bits ∷ stack) values left line size rs is b
       → IndexRuns s (pc + 1) stack values left line size (r ∷ rs) (x.bits ∷ is) (is_within r x.bits && b)
@@ -258,7 +258,7 @@ module _ (w : World) where
 
   some_run : (line size : ℕ) (es : List Elem) (r : Subrange) (rs : List Subrange) (xs : Values) (pc : ℕ) (stack : List ℤ) (values : Values) (left : ℕ)
       → length es ≡ suc (length rs) → AreOf es xs
-      → All IsBounded (r ∷ rs) → extent (r ∷ rs) * size ≤ 65536 → HasAt w.code pc (index_code line size es (r ∷ rs))
+      → All IsBounded (r ∷ rs) → extent (r ∷ rs) * size ≤ 999999 → HasAt w.code pc (index_code line size es (r ∷ rs))
       → IndexRuns (state pc (onto xs stack) values left) (pc + length (index_code line size es (r ∷ rs))) stack values left line size (r ∷ rs) (numbers_in xs)
       (are_within (r ∷ rs) (numbers_in xs))
   some_run line size [] r rs xs pc stack values left n of bounded few has = absurd (omega (arith, n))
@@ -277,7 +277,7 @@ module _ (w : World) where
 
   index_run : (line size : ℕ) (es : List Elem) (rs : List Subrange) (xs : Values) (pc : ℕ) (stack : List ℤ) (values : Values) (left : ℕ) → length es ≡ length rs
       → AreOf es xs
-      → All IsBounded rs → extent rs * size ≤ 65536 → length stack < w.room → HasAt w.code pc (index_code line size es rs)
+      → All IsBounded rs → extent rs * size ≤ 999999 → length stack < w.room → HasAt w.code pc (index_code line size es rs)
       → IndexRuns (state pc (onto xs stack) values left) (pc + length (index_code line size es rs)) stack values left line size rs (numbers_in xs)
       (are_within rs (numbers_in xs))
   index_run line size [] [] [] pc stack values left n of bounded few room has =
@@ -289,7 +289,7 @@ module _ (w : World) where
   -- ---- elements
 
   -- a distance is added to the one that stood there
-  add_run : (more : Bool) (acc d pc : ℕ) (stack : List ℤ) (values : Values) (left : ℕ) → (more ≡ false → acc ≡ 0) → acc + d ≤ 65536 → HasAt w.code pc (added more)
+  add_run : (more : Bool) (acc d pc : ℕ) (stack : List ℤ) (values : Values) (left : ℕ) → (more ≡ false → acc ≡ 0) → acc + d ≤ 999999 → HasAt w.code pc (added more)
       → Leads w (state pc (pos d ∷ over more acc stack) values left) (state (pc + length (added more)) (pos (acc + d) ∷ stack) values left)
   add_run true acc d pc stack values left z few has =
       step w Add 0 pc (pos d ∷ pos acc ∷ stack) values left _ has.0 (if_below (acc + d) (2 ^ 63) (goes (state (pc + 1) (pos (acc + d) ∷ stack) values left)) stuck (omega (arith, few)))
@@ -314,9 +314,9 @@ module _ (w : World) where
   -- where the subscripts lie within their bounds
   within_run : (line pc pc2 acc : ℕ) (more there : Bool) (stack : List ℤ) (values : Values) (left : ℕ) (rs : List Subrange) (firsts : List (Option Constant))
       (c : Composition) (is : List ℤ) (n : ℕ) (s : State) (b : Bool) (a : Answer Path)
-      → (more ≡ false → acc ≡ 0) → acc + extent rs * count c ≤ 65536 → IndexRuns s pc (over more acc stack) values left line (count c) rs is b
+      → (more ≡ false → acc ≡ 0) → acc + extent rs * count c ≤ 999999 → IndexRuns s pc (over more acc stack) values left line (count c) rs is b
       → HasAt w.code pc (added more)
-      → ((d : ℕ) → acc + d + count c ≤ 65536 → PlaceRuns w (state (pc + length (added more)) (pos (acc + d) ∷ stack) values left) pc2 there stack values (acc + d) c n a)
+      → ((d : ℕ) → acc + d + count c ≤ 999999 → PlaceRuns w (state (pc + length (added more)) (pos (acc + d) ∷ stack) values left) pc2 there stack values (acc + d) c n a)
       → PlaceRuns w s pc2 there stack values acc (array rs firsts c) n (if b then then_with a (λ path m. gives (index is ∷ path) m) else stops (stop faults.IndexOutOfRange line))
   within_run line pc pc2 acc more there stack values left rs firsts c is n s false a z few r has go = r
   within_run line pc pc2 acc more there stack values left rs firsts c is n s true a z few r has go =
@@ -326,10 +326,10 @@ module _ (w : World) where
   -- a list of subscripts, and what follows
   pub group_run : (line : ℕ) (ts : Terms) (more : Bool) (acc : ℕ) (rs : List Subrange) (firsts : List (Option Constant)) (c : Composition) (xs : Answer Values) (pc n : ℕ)
       (rest : List Line) (there : Bool) (stack : List ℤ) (values : Values) (left : ℕ) (a : ℕ → Answer Path)
-      → (more ≡ false → acc ≡ 0) → length (types_in w.root ts) ≡ length rs → All IsBounded rs → acc + extent rs * count c ≤ 65536 → length stack + 2 ≤ w.room
+      → (more ≡ false → acc ≡ 0) → length (types_in w.root ts) ≡ length rs → All IsBounded rs → acc + extent rs * count c ≤ 999999 → length stack + 2 ≤ w.room
       → HasAt w.code pc ((terms_code w.root ts ++ (index_code line (count c) (types_in w.root ts) rs ++ added more)) ++ rest)
       → (HasAt w.code pc (terms_code w.root ts) → TermsRun w (state pc (over more acc stack) values left) (pc + length (terms_code w.root ts)) (types_in w.root ts) (over more acc stack) values xs)
-      → ((pc' d k : ℕ) → acc + d + count c ≤ 65536 → HasAt w.code pc' rest → PlaceRuns w (state pc' (pos (acc + d) ∷ stack) values k) (pc' + length rest) there stack values (acc + d) c n (a k))
+      → ((pc' d k : ℕ) → acc + d + count c ≤ 999999 → HasAt w.code pc' rest → PlaceRuns w (state pc' (pos (acc + d) ∷ stack) values k) (pc' + length rest) there stack values (acc + d) c n (a k))
       → PlaceRuns w (state pc (over more acc stack) values left)
       (pc + length ((terms_code w.root ts ++ (index_code line (count c) (types_in w.root ts) rs ++ added more)) ++ rest)) there stack values acc (array rs firsts c) n
       (then_with xs (λ ys k. when_within line rs (numbers_in ys) (then_with (a k) (λ path m. gives (index (numbers_in ys) ∷ path) m))))

@@ -11,6 +11,7 @@ use Rattle.st_leaves.specs.Places.{count}
 use Rattle.st_leaves.specs.Selected.{selected_by}
 use Rattle.st_meaning.specs.Laws.{StaysInFrame}
 use Rattle.st_meaning.specs.Meaning.{Values}
+use Rattle.st_meaning.proofs.SmallArrays.{small_arrays}
 use Rattle.st_meaning.specs.Offsets.{IsSmall, offset_of}
 use Rattle.st_meaning.specs.Sound.{AreSoundCalls, AreValuesOf}
 use Rattle.st_meaning.specs.Statements.{Setting, Outcome, done, exited, returned, faulted, body_meaning, ended}
@@ -126,7 +127,7 @@ module _ (known : Known) (program : ProgramView) (checked : IsChecked program) (
       let w = unit_whole units u in
       let body = body_of_unit units i u in
       let sound = known.units program checked i u at in
-      let small : IsSmall w.variables = record { bounds = sound.bounds; few = few } in
+      let small : IsSmall w.variables = record { bounds = sound.bounds; arrays = small_arrays (root_of units u) sound.bounds few; few = omega (arith, few) } in
       let deep = known.depth w.variables body in
       let chart = has_its_chart units i u (said_of program).charts (ap (made_of (unit_sketch units) no_sketch i) at) in
       (known.does (function_at units) w.variables body room small (one_leaf_each units u sound) (known.typed units u i (statements_of u.declares)) (omega (arith, deep, body_of_unit_deep units i u (most_taken units) (takes_few units u) (charts_are_in_bodies units u), enough))).same

@@ -50,8 +50,8 @@ module _ (known : Known) (program : ProgramView) (checked : IsChecked program) (
     abbrev u : Named
     u = named name (names.function f)
 
-    few_leaves : count (root_of units u) ≤ 65536
-    few_leaves = leb-true (count (root_of units u)) 65536 (and_parts true (nat_le (count (root_of units u)) 65536) few).1
+    few_leaves : count (root_of units u) ≤ 999999
+    few_leaves = leb-true (count (root_of units u)) 999999 (and_parts true (nat_le (count (root_of units u)) 999999) few).1
 
     -- it enters nothing, and invokes nothing
     enters_nothing : EntersNothing (unit_code units n u)
@@ -96,7 +96,7 @@ module _ (known : Known) (program : ProgramView) (checked : IsChecked program) (
           let w = unit_whole units u in
           let body = body_of_unit units n u in
           let sound = known.units program checked n u at in
-          let small : IsSmall w.variables = record { bounds = sound.bounds; few = few_leaves } in
+          let small : IsSmall w.variables = record { bounds = sound.bounds; arrays = sound.arrays refl; few = few_leaves } in
           let deep = known.depth w.variables body in
           (known.does (function_at units) w.variables body room small (one_leaf_each units u sound) (known.typed units u n f.statements) (omega (arith, deep, body_of_unit_deep units n u (most_taken units) (takes_few units u) (charts_are_in_bodies units u), enough))).same
           (environment_with (said_of program) (pos 0) []) members_begin left refl (sound_calls known program checked) (have_types program) tt invokes values_are

@@ -14,7 +14,8 @@ use Rattle.st_leaves.specs.Bounds.{HasBounds}
 use Rattle.st_leaves.specs.Places.{count}
 use Rattle.st_machine.specs.Levels.{Rooms}
 use Rattle.st_machine.specs.declared.stacks.Room.{Room}
-use Rattle.st_meaning.specs.Offsets.{IsSmall}
+use Rattle.st_meaning.specs.Offsets.{HasSmallArrays, IsSmall}
+use Rattle.st_meaning.proofs.SmallArrays.{small_arrays}
 use Rattle.st_meaning.specs.Typing.{body_in}
 use Rattle.st_meaning.specs.Units.{function_at, root_of, statements_of, unit_whole}
 use Rattle.st_meaning.specs.Wholes.{Whole}
@@ -22,6 +23,7 @@ use Rattle.st_places.specs.Laws.{UnitsAreSound}
 use Rattle.st_places.specs.Functions.{optional_starts, starts_at, starts_of}
 use Rattle.st_places.specs.Parts.{TablesView, is_block, is_function, is_small_block, is_small_block_in, is_small_function, is_small_function_in, optional_small_block, optional_small_function, optional_whole, whole_in}
 use Rattle.st_types.proofs.Units.{unit_at-map}
+use Rattle.st_types.specs.Compositions.{composition_of}
 use Rattle.st_types.specs.Inside.{named_by}
 use Rattle.st_types.specs.Names.{Named, unit_at, units_of}
 use Rattle.st_types.specs.declared.unit.NamedUnit.{NamedUnit}
@@ -43,21 +45,22 @@ small_where tables n bounds small = by (unit_at (units_of tables.text) n) bounds
   by : (u : Option Named) → HasBounds (optional_whole (units_of tables.text) u).variables → optional_small_block (units_of tables.text) u ≡ true
       → IsSmall (optional_whole (units_of tables.text) u).variables
   by None bounds small = absurd cc
-  by (Some u) bounds small = record {
-    bounds = bounds;
-    few = leb-true (count (root_of (units_of tables.text) u)) 65536 (and_parts (is_block u.declares) (nat_le (count (root_of (units_of tables.text) u)) 65536) small).1;
-  }
+  by (Some u) bounds small =
+      let few = leb-true (count (root_of (units_of tables.text) u)) 65536 (and_parts (is_block u.declares) (nat_le (count (root_of (units_of tables.text) u)) 65536) small).1 in
+      record { bounds = bounds; arrays = small_arrays (root_of (units_of tables.text) u) bounds few; few = omega (arith, few) }
 
--- so is a function
-pub small_function_where : (tables : TablesView) (n : ℕ) → HasBounds (whole_in tables n).variables → is_small_function_in tables n ≡ true → IsSmall (whole_in tables n).variables
+-- so is a function, which has no large array
+pub small_function_where : (tables : TablesView) (n : ℕ) → HasBounds (whole_in tables n).variables → HasSmallArrays (whole_in tables n).variables → is_small_function_in tables n ≡ true
+    → IsSmall (whole_in tables n).variables
 unfolding whole_in is_small_function_in unit_whole
-small_function_where tables n bounds small = by (unit_at (units_of tables.text) n) bounds small where
-  by : (u : Option Named) → HasBounds (optional_whole (units_of tables.text) u).variables → optional_small_function (units_of tables.text) u ≡ true
-      → IsSmall (optional_whole (units_of tables.text) u).variables
-  by None bounds small = absurd cc
-  by (Some u) bounds small = record {
+small_function_where tables n bounds arrays small = by (unit_at (units_of tables.text) n) bounds arrays small where
+  by : (u : Option Named) → HasBounds (optional_whole (units_of tables.text) u).variables → HasSmallArrays (optional_whole (units_of tables.text) u).variables
+      → optional_small_function (units_of tables.text) u ≡ true → IsSmall (optional_whole (units_of tables.text) u).variables
+  by None bounds arrays small = absurd cc
+  by (Some u) bounds arrays small = record {
     bounds = bounds;
-    few = leb-true (count (root_of (units_of tables.text) u)) 65536 (and_parts (is_function u.declares) (nat_le (count (root_of (units_of tables.text) u)) 65536) small).1;
+    arrays = arrays;
+    few = leb-true (count (root_of (units_of tables.text) u)) 999999 (and_parts (is_function u.declares) (nat_le (count (root_of (units_of tables.text) u)) 999999) small).1;
   }
 
 module _ (program : ProgramView) (tables : TablesView) (text : tables.text ≡ text_of program) (n : ℕ) (u : Named) (found : unit_at (units_of (text_of program)) n ≡ Some u) where
@@ -76,6 +79,10 @@ module _ (program : ProgramView) (tables : TablesView) (text : tables.text ≡ t
   pub bounds_at : UnitsAreSound → IsChecked program → HasBounds (whole_in tables n).variables
   bounds_at sound checked =
       subst (λ (w : Whole). HasBounds w.variables) (sym whole_at) (subst (λ c. HasBounds c) (sym (variables_are units u)) (sound program checked n u found).bounds)
+
+  pub arrays_at : UnitsAreSound → IsChecked program → is_function u.declares ≡ true → HasSmallArrays (whole_in tables n).variables
+  arrays_at sound checked function =
+      subst (λ (w : Whole). HasSmallArrays w.variables) (sym whole_at) (subst (λ c. HasSmallArrays c) (sym (variables_are units u)) ((sound program checked n u found).arrays function))
 
   -- the code of its body
   pub code_at : code_of (whole_in tables n).variables (body_in (whole_in tables n) n (statements_of u.declares)) ≡ unit_code (units_of (text_of program)) n u
@@ -97,6 +104,9 @@ module _ (program : ProgramView) (tables : TablesView) (text : tables.text ≡ t
   pub small_function_at : is_small_function_in tables n ≡ is_small_function (units_of (text_of program)) u
   unfolding is_small_function_in
   small_function_at = ap (λ t. optional_small_function (units_of t) (unit_at (units_of t) n)) text ∙ ap (optional_small_function units) found
+
+  pub is_function_where : is_small_function_in tables n ≡ true → is_function u.declares ≡ true
+  is_function_where small = (and_parts (is_function u.declares) (nat_le (count (root_of units u)) 999999) (sym small_function_at ∙ small)).0
 
   -- with which values its variables begin
   pub begins_at : starts_at tables n ≡ starts_of (units_of (text_of program)) u
@@ -122,7 +132,7 @@ module _ (program : ProgramView) (main : ℕ) (is : main ≡ main_of program) (u
       let same : checked.unit ≡ u = same_Some checked.unit u (sym checked.found ∙ main_found) in
       let is_main : is_program u.declares ≡ true = subst (λ (v : Named). is_program v.declares ≡ true) same checked.program in
       let few = small program checked u main_found in
-      let fits : IsSmall (root_of units u) = subst (λ c. IsSmall c) (sym (program_root units u is_main)) (record { bounds = few.bounds; few = few.few }) in
+      let fits : IsSmall (root_of units u) = subst (λ c. IsSmall c) (sym (program_root units u is_main)) (record { bounds = few.bounds; arrays = small_arrays (composition_of units u.declares) few.bounds few.few; few = omega (arith, few.few) }) in
       subst (λ (w : Whole). IsSmall w.variables) (sym (whole_at program tables text main u found)) (subst (λ c. IsSmall c) (sym (variables_are units u)) fits)
 
   pub main_code : unit_code (units_of (text_of program)) main u ≡ program_code program

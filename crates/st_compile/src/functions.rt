@@ -1,8 +1,9 @@
 //! The code of functions, and the values that their variables begin with; and how many variables they have.
-ghost use Rattle.std.specs.Prelude.{[], ◌≡◌, ◌||◌, IfOk, map, not};
+ghost use Rattle.std.specs.Prelude.{[], ◌≡◌, ◌||◌, IfOk, map, not, true};
 ghost use Rattle.st_check.specs.Programs.{level_in, order_of, text_of};
 ghost use Rattle.st_leaves.specs.Bounds.{HasBounds};
 ghost use Rattle.st_machine.specs.Levels.{no_room};
+ghost use Rattle.st_meaning.specs.Offsets.{HasSmallArrays};
 ghost use Rattle.st_meaning.specs.Units.{function_at};
 ghost use Rattle.st_places.specs.Parts.{is_function, is_small_function_in, whole_in};
 ghost use Rattle.st_types.specs.Inside.{named_by};
@@ -41,6 +42,7 @@ pub(crate) fn function_of(
     requires found { unit_at (units_of (text_of program.now)) number ≡ Some (named_by unit.now) }
     requires tables { tables.now.text ≡ text_of program.now }
     requires bounds { HasBounds (whole_in tables.now number).variables }
+    requires arrays { is_function (named_by unit.now).declares ≡ true → HasSmallArrays (whole_in tables.now number).variables }
     requires level { level ≡ level_in (order_of program.now) number }
     requires inputs { inputs ≡ most_taken (units_of (text_of program.now)) }
     ensures function { IfOk result (λ made. made.function ≡ function_view (units_of (text_of program.now)) (order_of program.now) number (named_by unit.now)) }
@@ -106,7 +108,7 @@ pub(crate) fn most_taken(program: &Program, units: &[NamedUnit<'_>], tables: &Ta
     most
 }
 
-/// Whether all functions of the text have at most 65,536 variables, their results among them.
+/// Whether all functions of the text have at most 999,999 variables, their results among them.
 pub(crate) fn functions_are_small(
     program: &Program,
     units: &[NamedUnit<'_>],
@@ -125,7 +127,7 @@ pub(crate) fn functions_are_small(
     true
 }
 
-/// Whether a unit, which has this number in the tables, has at most 65,536 variables, if it is a function.
+/// Whether a unit, which has this number in the tables, has at most 999,999 variables, if it is a function.
 fn function_is_small(unit: &NamedUnit<'_>, tables: &Tables<'_>, number: usize) -> bool
     ensures { result ≡ (not (is_function (named_by unit.now).declares) || is_small_function_in tables.now number) }
 {

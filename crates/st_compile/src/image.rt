@@ -1,5 +1,5 @@
 //! Images: programs with their layouts, their code and the room that it needs.
-ghost use Rattle.std.specs.Prelude.{◌≡◌, IfOk};
+ghost use Rattle.std.specs.Prelude.{◌≡◌, IfOk, true};
 ghost use Rattle.st_check.specs.Programs.{leaves_of_program};
 ghost use Rattle.st_compile.specs.Programs.{HasRoom, faulty_name, greatest_depth, program_code, program_units};
 ghost use Rattle.st_compile.specs.Small.{functions_are_small};
@@ -29,13 +29,11 @@ pub struct Image {
     rooms: Vec<Room>,
     /// The names of its units, as they are declared.
     names: Vec<Name>,
-    /// Whether it runs.
-    runs: bool,
 }
 
 impl Model for Image {
     ghost use Rattle.std.specs.Coded.{codes};
-    ghost use Rattle.std.specs.Prelude.{◌≡◌};
+    ghost use Rattle.std.specs.Prelude.{◌≡◌, true};
     ghost use Rattle.st_check.specs.Programs.{ProgramView, leaves_of_program};
     ghost use Rattle.st_compile.specs.Programs.{program_code, program_depth, program_names, program_rooms, program_units};
     ghost use Rattle.st_compile.specs.Small.{functions_are_small};
@@ -48,10 +46,11 @@ impl Model for Image {
 
     ghost view = { λ image. image.program };
 
-    ghost invariant = { λ image. (image.layout ≡ leaves_of_program image.program) × (image.code ≡ program_code image.program) × (image.units ≡ program_units image.program) × (image.depth ≡ program_depth image.program) × (image.rooms.items ≡ program_rooms image.program) × (image.names.items ≡ program_names image.program) × (image.runs ≡ functions_are_small image.program) };
+    ghost invariant = { λ image. (image.layout ≡ leaves_of_program image.program) × (image.code ≡ program_code image.program) × (image.units ≡ program_units image.program) × (image.depth ≡ program_depth image.program) × (image.rooms.items ≡ program_rooms image.program) × (image.names.items ≡ program_names image.program) × (functions_are_small image.program ≡ true) };
 }
 
-/// The image of a program. It is refused for want of memory alone.
+/// The image of a program. It is refused for want of memory, and where a function of its text has more than 999,999 variables. No text
+/// of at most 1,048,576 bytes has such a function: each name in it takes two bytes at least, with what stands behind it.
 pub fn compile(alloc: Global, program: Program) -> Result<Image, AllocError>
     ensures { IfOk result (λ image. image ≡ program) }
 {
@@ -65,7 +64,6 @@ pub fn compile(alloc: Global, program: Program) -> Result<Image, AllocError>
         depth: made.depth,
         rooms: made.rooms,
         names: made.names,
-        runs: made.runs,
     })
 }
 
@@ -82,13 +80,6 @@ impl Image {
         ensures { result.now ≡ leaves_of_program self.now }
     {
         &self.layout
-    }
-
-    /// Whether the program can be run: no function of its text has more than 65,536 variables.
-    pub fn runs(&self) -> bool
-        ensures { result ≡ functions_are_small self.now }
-    {
-        self.runs
     }
 
     /// How many numbers there are at most on a stack while the program runs.
@@ -116,9 +107,11 @@ impl Image {
         &self.code
     }
 
-    /// The function blocks, functions and charts of its text, by the numbers of their units.
+    /// The function blocks, functions and charts of its text, by the numbers of their units. None of the functions has more variables
+    /// than code can tell apart.
     pub(crate) fn units(&self) -> &Units
-        ensures { result.now ≡ program_units self.now }
+        ensures units { result.now ≡ program_units self.now }
+        ensures small { functions_are_small self.now ≡ true }
     {
         &self.units
     }

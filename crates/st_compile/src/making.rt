@@ -1,6 +1,6 @@
-//! What an image keeps of a program: its code and that of its function blocks and functions, its charts, the room that they need, the
-//! names of its units, and whether it runs.
-ghost use Rattle.std.specs.Prelude.{◌≡◌, IfOk, map};
+//! What an image keeps of a program: its code and that of its function blocks and functions, its charts, the room that they need, and
+//! the names of its units.
+ghost use Rattle.std.specs.Prelude.{◌≡◌, IfOk, map, true};
 ghost use Rattle.st_check.specs.Programs.{text_of};
 ghost use Rattle.st_compile.specs.Programs.{program_code, program_depth, program_names, program_rooms, program_units};
 ghost use Rattle.st_compile.specs.Small.{functions_are_small};
@@ -31,27 +31,27 @@ pub(crate) struct Made {
     pub(crate) rooms: Vec<Room>,
     /// The names of its units, as they are declared.
     pub(crate) names: Vec<Name>,
-    /// Whether it runs.
-    pub(crate) runs: bool,
 }
 
-/// What is made of a program. It is refused for want of memory alone.
+/// What is made of a program. It is refused for want of memory, and where a function has more variables than code can tell apart.
 pub(crate) fn made_of(alloc: Global, program: &Program) -> Result<Made, AllocError>
     ensures code { IfOk result (λ made. made.code ≡ program_code program.now) }
     ensures units { IfOk result (λ made. made.units ≡ program_units program.now) }
     ensures depth { IfOk result (λ made. made.depth ≡ program_depth program.now) }
     ensures rooms { IfOk result (λ made. made.rooms.items ≡ program_rooms program.now) }
     ensures names { IfOk result (λ made. made.names.items ≡ program_names program.now) }
-    ensures runs { IfOk result (λ made. made.runs ≡ functions_are_small program.now) }
+    ensures small { IfOk result (λ made. functions_are_small program.now ≡ true) }
 {
     let table = TypeTable::new(alloc, program.units())?;
     let units = table.units();
     let tables = Tables::of(alloc, program)?;
+    if !functions_are_small(program, units, &tables) {
+        return Err(AllocError);
+    }
     let inputs = most_taken(program, units, &tables);
     let main = main_body(alloc, program, units, &tables, inputs)?;
     let bodies = bodies_of(alloc, program, units, &tables, inputs)?;
     let names = names_of(alloc, program, units)?;
-    let runs = functions_are_small(program, units, &tables);
     let code = Fused::of(alloc, main.code)?;
     Ok(Made {
         code,
@@ -59,7 +59,6 @@ pub(crate) fn made_of(alloc: Global, program: &Program) -> Result<Made, AllocErr
         depth: main.depth,
         rooms: bodies.rooms,
         names,
-        runs,
     })
 }
 

@@ -1,9 +1,8 @@
 //! Running a program once.
-ghost use Rattle.std.specs.Prelude.{◌≡◌, Err, MatchResult, Ok, true};
+ghost use Rattle.std.specs.Prelude.{◌≡◌, Err, MatchResult, Ok};
 ghost use Rattle.st_check.specs.Programs.{leaves_of_program};
 ghost use Rattle.st_machine.specs.Running.{setting_at};
 ghost use Rattle.st_compile.specs.Programs.{HasRoom, scan_result};
-ghost use Rattle.st_compile.specs.Small.{functions_are_small};
 
 use crate::image::Image;
 use st_calls::{
@@ -34,7 +33,6 @@ pub fn run<M: Memory>(
 ) -> Result<(), RunFault>
     requires over { M.IsOver (leaves_of_program image.now) memory.old }
     requires room { HasRoom image.now stacks.old }
-    requires small { functions_are_small image.now ≡ true }
     ensures over { M.IsOver (leaves_of_program image.now) memory.new }
     ensures room { HasRoom image.now stacks.new }
     ensures forced { (M.content (leaves_of_program image.now) memory.new).forced ≡ (M.content (leaves_of_program image.now) memory.old).forced }

@@ -1,5 +1,5 @@
 -- Scans and resets: when a scan is refused, and what both make of a machine.
-use Rattle.std.specs.Prelude.{ℕ, ℤ, pos, ◌≡◌, ◌^◌, Bool, true, false, not, ◌&&◌, ◌||◌, if◌then◌else◌, int_le, nat_lt, List, [], ◌∷◌, length, map, set, Result, Ok, Err}
+use Rattle.std.specs.Prelude.{ℕ, ℤ, pos, ◌≡◌, ◌^◌, Bool, true, false, not, ◌&&◌, if◌then◌else◌, int_le, nat_lt, List, [], ◌∷◌, length, map, set, Result, Ok, Err}
 use Rattle.std.specs.List.{list_any, range_with_len}
 use Rattle.st_check.specs.Programs.{ProgramView}
 use Rattle.st_control.specs.Causes.{halted, moment_past, no_such_path, not_an_input, not_of_type}
@@ -7,7 +7,6 @@ use Rattle.st_control.specs.Controllers.{ControllerView, machine_of}
 use Rattle.st_control.specs.Machine.{Cause, Machine, is_value_of, unless}
 use Rattle.st_control.specs.States.{StateView, leaves_of}
 use Rattle.st_compile.specs.Programs.{scan_result}
-use Rattle.st_compile.specs.Small.{functions_are_small}
 use Rattle.st_control.specs.declared.refusal.Refusal.{Refusal}
 use Rattle.st_control.specs.declared.scanning.Scanned.{Scanned}
 use Rattle.st_control.specs.declared.scanning.Scanned.TheVariants.{Done, Faulted}
@@ -69,7 +68,7 @@ scan_causes now inputs s =
     (no_such_path, list_any (has_no_leaf (leaves_of s)) inputs)
     ∷ (not_of_type, list_any (has_other_type (leaves_of s)) inputs)
     ∷ (moment_past, not (can_follow s.now now))
-    ∷ (halted, is_halted s.status || not (functions_are_small s.program))
+    ∷ (halted, is_halted s.status)
     ∷ (not_an_input, list_any (has_no_input (leaves_of s)) inputs)
     ∷ []
 

@@ -36,7 +36,7 @@ pub const NO_ACTIVE_STEP: u8 = 8;
 /// The moment of a scan is before the last one, or above the greatest.
 pub const MOMENT_PAST: u8 = 9;
 
-/// The program was halted by a fault; or it can't be run, since a function of its text has more than 65,536 variables.
+/// The program was halted by a fault.
 pub const HALTED: u8 = 10;
 
 /// A session has no such line.

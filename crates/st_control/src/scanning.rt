@@ -1,10 +1,9 @@
 //! Scans and resets.
-ghost use Rattle.std.specs.Prelude.{◌≡◌, Err, IfOk, MatchResult, Ok, false, true};
+ghost use Rattle.std.specs.Prelude.{◌≡◌, Err, IfOk, MatchResult, Ok, false};
 ghost use Rattle.std.specs.List.{list_any};
 ghost use Rattle.st_check.specs.Programs.{leaves_of_program};
 ghost use Rattle.st_control.specs.Scans.{can_follow, has_no_input, has_no_leaf, has_other_type, is_halted, is_process_input, may_scan, outcome_of, reset_state, reset_values, run_of, run_with, state_after, with_inputs};
 ghost use Rattle.st_compile.specs.Programs.{HasRoom};
-ghost use Rattle.st_compile.specs.Small.{functions_are_small};
 
 use crate::refusal::{HALTED, MOMENT_PAST, NO_SUCH_PATH, NOT_AN_INPUT, NOT_OF_TYPE, Refusal};
 use crate::state::{State, Status, is_value_of};
@@ -44,7 +43,7 @@ impl<M: Memory> State<M> {
         if !can_follow(self.now, now) {
             return Err(Refusal::O(MOMENT_PAST));
         }
-        if is_halted(self.status) || !self.image.runs() {
+        if is_halted(self.status) {
             return Err(Refusal::O(HALTED));
         }
         if names_no_input(layout, inputs) {
@@ -120,7 +119,6 @@ fn run_aside<M: Memory>(
     requires over { M.IsOver (leaves_of_program image.now) memory.now }
     requires second { M.IsOver (leaves_of_program image.now) second.old }
     requires room { HasRoom image.now stacks.old }
-    requires small { functions_are_small image.now ≡ true }
     requires leaves { list_any (has_no_leaf (leaves_of_program image.now)) inputs.now ≡ false }
     requires types { list_any (has_other_type (leaves_of_program image.now)) inputs.now ≡ false }
     ensures second { M.IsOver (leaves_of_program image.now) second.new }

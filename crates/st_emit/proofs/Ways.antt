@@ -1,25 +1,21 @@
 -- Parts of what variables consist of.
-use Rattle.std.proofs.Common.{◌≡◌, ℕ, zero, suc, ◌+◌, ◌*◌, ◌<◌, ◌≤◌, ◌==◌, ℤ, pos, negsuc, ◌-ℤ◌, ◌≤ℤ◌, Bool, true, false, not, if◌then◌else◌, List, [], ◌∷◌, ◌++◌, length, take, drop, get_or, refl, sym, ap, subst, ◌∙◌, arith, add-one}
+use Rattle.std.proofs.Common.{◌≡◌, ℕ, ◌+◌, ◌<◌, ◌≤◌, ◌==◌, Bool, true, false, not, if◌then◌else◌, List, [], ◌∷◌, ◌++◌, length, take, drop, get_or, refl, sym, ap, subst, ◌∙◌, arith, add-one}
 use Rattle.std.specs.Prelude.{Option, Some, None, ◌&&◌}
-use Rattle.std.specs.List.{All}
-use Rattle.std.proofs.lemmas.Int.{ints}
 use Rattle.std.proofs.lemmas.Bool.Decides.{Decides-eqb}
 use Rattle.st_values.specs.Words.{is_word}
 use Rattle.st_values.specs.declared.elem.Elem.{Elem}
-use Rattle.st_tree.specs.declared.tree.declaration.Subrange.{Subrange}
 use Rattle.st_tree.specs.declared.tree.expression.Expression.{Expression}
 use Rattle.st_tree.specs.declared.tree.expression.Part.{Part, fold_out-Part, map-Part, out-Part}
 use Rattle.st_tree.specs.declared.tree.expression.Part.TheVariants as selectors
 use Rattle.st_tree.specs.declared.tree.position.Identifier.{Identifier}
 use Rattle.st_tree.specs.declared.tree.position.Position.{Position}
-use Rattle.st_sizes.specs.Subscripts.{values_from}
 use Rattle.st_types.specs.Compositions.{Composition, unknown, elementary, array, composed, standard, Members, none, member}
 use Rattle.st_types.specs.Standard.{Pin, pin_named, pins_of}
-use Rattle.st_leaves.specs.Bounds.{HasBounds, HaveBounds, IsBounded}
-use Rattle.st_leaves.specs.Leaves.{number_of}
-use Rattle.st_leaves.specs.Places.{count, extent, extent_of}
+use Rattle.st_leaves.specs.Bounds.{HasBounds, HaveBounds}
+use Rattle.st_leaves.specs.Places.{count, extent}
 use Rattle.st_leaves.specs.Selected.{element_of, member_selected, pin_selected, selected_by, subscripts_of, takes_subscripts}
-use Rattle.st_meaning.specs.Offsets.{IsSmall, offset_of}
+use Rattle.st_meaning.specs.Offsets.{HasSmallArrays, HaveSmallArrays, IsSmall, offset_of}
+use Rattle.st_meaning.proofs.SmallArrays.{not_less, some_elements}
 use Rattle.st_meaning.proofs.Stretches.{selected_fits}
 use Rattle.st_meaning.specs.Sound.{is_fixed}
 use Rattle.st_meaning.specs.Terms.{Parts, whole, field_part, element_part, how_many}
@@ -66,33 +62,33 @@ selected_bounds (array ranges firsts c) n h = tt
 selected_bounds (composed name ms chart) n h = member_bounds ms n h
 selected_bounds (standard b) n h = pin_bounds (pin_named (pins_of b) n)
 
+member_arrays : (ms : Members) (n : List ℕ) → HaveSmallArrays ms → HasSmallArrays (member_selected ms n)
+member_arrays none n h = tt
+member_arrays (member other kind c ms) n h = by (is_word other n) (member_arrays ms n h.1) where
+  by : (b : Bool) → HasSmallArrays (member_selected ms n) → HasSmallArrays (if b then c else member_selected ms n)
+  by true more = h.0
+  by false more = more
+
+pin_arrays : (o : Option Pin) → HasSmallArrays (pin_selected o)
+pin_arrays None = tt
+pin_arrays (Some p) = tt
+
+selected_arrays : (c : Composition) (n : List ℕ) → HasSmallArrays c → HasSmallArrays (selected_by c n)
+selected_arrays unknown n h = tt
+selected_arrays (elementary v) n h = tt
+selected_arrays (array ranges firsts c) n h = tt
+selected_arrays (composed name ms chart) n h = member_arrays ms n h
+selected_arrays (standard b) n h = pin_arrays (pin_named (pins_of b) n)
+
 pub selected_small : (c : Composition) (n : List ℕ) → IsSmall c → IsSmall (selected_by c n)
-selected_small c n h = record { bounds = selected_bounds c n h.bounds; few = omega (arith, selected_fits c n, h.few) }
+selected_small c n h = record { bounds = selected_bounds c n h.bounds; arrays = selected_arrays c n h.arrays; few = omega (arith, selected_fits c n, h.few) }
 
 -- ---- elements
-
-values_some : (z : ℤ) → pos 0 ≤ℤ z → 0 < values_from z
-values_some (pos n) h = omega arith
-values_some (negsuc n) h = absurd (omega (arith, ints))
-
-extent_some : (r : Subrange) → IsBounded r → 0 < extent_of r
-extent_some r h = let far : pos 0 ≤ℤ (number_of r.upper -ℤ number_of r.lower) = omega (arith, ints, h.ordered) in values_some (number_of r.upper -ℤ number_of r.lower) far
-
-grows : (a b : ℕ) → 0 < a → b ≤ a * b
-grows zero b h = absurd (omega arith)
-grows (suc a) b h = grind arith
-
-extents_some : (rs : List Subrange) → All IsBounded rs → 0 < extent rs
-extents_some [] h = omega arith
-extents_some (r ∷ rs) h =
-    let a : 0 < extent_of r = extent_some r (h zero r (omega arith)) in
-    let b : 0 < extent rs = extents_some rs (λ k d lt. h (suc k) d (omega arith)) in
-    omega (arith, grows (extent_of r) (extent rs) a, b)
 
 pub element_fits : (c : Composition) → HasBounds c → count (element_of c) ≤ count c
 element_fits unknown h = omega arith
 element_fits (elementary v) h = omega arith
-element_fits (array ranges firsts c) h = grows (extent ranges) (count c) (extents_some ranges h.0)
+element_fits (array ranges firsts c) h = not_less (extent ranges) (count c) (some_elements ranges h.0)
 element_fits (composed name ms chart) h = omega arith
 element_fits (standard b) h = omega arith
 
@@ -103,8 +99,15 @@ element_bounds (array ranges firsts c) h = h.1
 element_bounds (composed name ms chart) h = tt
 element_bounds (standard b) h = tt
 
+element_arrays : (c : Composition) → HasSmallArrays c → HasSmallArrays (element_of c)
+element_arrays unknown h = tt
+element_arrays (elementary v) h = tt
+element_arrays (array ranges firsts c) h = h.1
+element_arrays (composed name ms chart) h = tt
+element_arrays (standard b) h = tt
+
 pub element_small : (c : Composition) → IsSmall c → IsSmall (element_of c)
-element_small c h = record { bounds = element_bounds c h.bounds; few = omega (arith, element_fits c h.bounds, h.few) }
+element_small c h = record { bounds = element_bounds c h.bounds; arrays = element_arrays c h.arrays; few = omega (arith, element_fits c h.bounds, h.few) }
 
 -- ---- subscripts
 

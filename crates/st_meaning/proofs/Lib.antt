@@ -17,6 +17,7 @@ pub mod Operands
 pub mod Places
 pub mod Ranges
 pub mod SketchRanges
+pub mod SmallArrays
 pub mod Stretches
 pub mod TermValues
 pub mod Turns

@@ -1,11 +1,11 @@
 -- How many leaves stand before a part of a whole (2.4.1).
-use Rattle.std.specs.Prelude.{ℕ, ◌+◌, ◌≤◌, Bool, true, false, List, [], ◌∷◌, if◌then◌else◌}
+use Rattle.std.specs.Prelude.{ℕ, ◌+◌, ◌*◌, ◌≤◌, Bool, true, false, List, [], ◌∷◌, if◌then◌else◌}
 use Rattle.st_values.specs.Words.{is_word}
 use Rattle.st_tree.specs.declared.tree.unit.Step.{Step}
-use Rattle.st_types.specs.Compositions.{Composition, composed, standard, Members, none, member}
+use Rattle.st_types.specs.Compositions.{Composition, array, composed, standard, Members, none, member}
 use Rattle.st_types.specs.Standard.{Pin, pins_of}
 use Rattle.st_leaves.specs.Bounds.{HasBounds}
-use Rattle.st_leaves.specs.Places.{count, counts, step_count}
+use Rattle.st_leaves.specs.Places.{count, counts, extent, step_count}
 use Rattle.st_meaning.specs.Steps.{steps_within}
 
 -- how many leaves stand before the first member of a name
@@ -38,7 +38,22 @@ abbrev pub step_leaf : Composition → Bool → List ℕ → ℕ
 step_leaf root false name = chart_offset root + (1 + step_offset (steps_within root) name)
 step_leaf root true name = chart_offset root + (1 + (step_offset (steps_within root) name + 1))
 
--- what an accepted program's variables consist of: subscripts in the range of LINT, and at most 65,536 leaves
+-- ---- what code can tell apart
+
+-- the elements of each array in a whole have at most 65,536 leaves together
+abbrev mutual
+  pub HasSmallArrays : Composition → Type 0
+  HasSmallArrays (array ranges firsts c) = (extent ranges * count c ≤ 65536) × HasSmallArrays c
+  HasSmallArrays (composed whole ms chart) = HaveSmallArrays ms
+  HasSmallArrays _ = Unit {0}
+
+  pub HaveSmallArrays : Members → Type 0
+  HaveSmallArrays none = Unit {0}
+  HaveSmallArrays (member name kind c ms) = HasSmallArrays c × HaveSmallArrays ms
+
+-- Subscripts lie in the range of LINT, no array is large, and there are at most 999,999 leaves. The variables of an accepted program
+-- are so, and those of each function that a text of 2 ^ 20 bytes has room for.
 pub record IsSmall (c : Composition) : Type 0 where
   pub bounds : HasBounds c
-  pub few : count c ≤ 65536
+  pub arrays : HasSmallArrays c
+  pub few : count c ≤ 999999

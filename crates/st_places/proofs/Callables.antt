@@ -211,13 +211,13 @@ module _ (units : List Named) where
   declared_counted : (name : List ℕ) (f : Section) → length (declared_starts units (names.function f)) ≡ count (unit_root units name (names.function f))
   declared_counted name f = starts_counted (members_of_function units f) ∙ omega arith
 
-  small_declared : (name : List ℕ) (d : Declares) (n : ℕ) → length (declared_starts units d) ≡ n → 0 < n → (is_function d && nat_le (count (unit_root units name d)) 65536) ≡ nat_le n 65536
+  small_declared : (name : List ℕ) (d : Declares) (n : ℕ) → length (declared_starts units d) ≡ n → 0 < n → (is_function d && nat_le (count (unit_root units name d)) 999999) ≡ nat_le n 999999
   small_declared name (names.type t) n is some = absurd (omega (arith, is, some))
-  small_declared name (names.function f) n is some = ap (λ m. nat_le m 65536) (sym (declared_counted name f) ∙ is)
+  small_declared name (names.function f) n is some = ap (λ m. nat_le m 999999) (sym (declared_counted name f) ∙ is)
   small_declared name (names.block b) n is some = absurd (omega (arith, is, some))
   small_declared name (names.program p) n is some = absurd (omega (arith, is, some))
 
-  pub small_optional : (u : Option Named) (n : ℕ) → length (optional_starts units u) ≡ n → 0 < n → nat_le n 65536 ≡ optional_small_function units u
+  pub small_optional : (u : Option Named) (n : ℕ) → length (optional_starts units u) ≡ n → 0 < n → nat_le n 999999 ≡ optional_small_function units u
   small_optional None n is some = absurd (omega (arith, is, some))
   small_optional (Some u) n is some = sym (small_declared (root_name u.name.spelling u.declares) u.declares n is some)
 

@@ -128,7 +128,7 @@ steps_in_chart [] name there = absurd (cc)
 steps_in_chart (e ∷ elements) name there = omega arith
 
 -- the leaf of X of the first step of a name, and that of T
-module _ (root : Composition) (name : List ℕ) (k offset leaf flag : ℕ) (is : IsStepAt 1 (steps_within root) name k) (small : count root ≤ 65536) (begun : leaf ≡ chart_offset root)
+module _ (root : Composition) (name : List ℕ) (k offset leaf flag : ℕ) (is : IsStepAt 1 (steps_within root) name k) (small : count root ≤ 999999) (begun : leaf ≡ chart_offset root)
     (stands : offset ≡ min (1 + step_offset (steps_within root) name) 1000000) (behind : flag ≡ min (leaf + offset) 4294967295) where
   room : (flag ≡ step_leaf root false name) × (flag < 1000000)
   room =
@@ -175,7 +175,7 @@ module _ (units : List Named) where
       pub known_elements : parts.chart.elements.now ≡ chart_within (whole_part units (unit_at units i))
       known_elements = (are.each i parts is).chart.elements ∙ sym (elements_are (unit_at units i))
 
-      pub known_leaf : (leaf : ℕ) → leaf ≡ min parts.members.count 1000000 → count (whole_part units (unit_at units i)) ≤ 65536 → leaf ≡ chart_offset (whole_part units (unit_at units i))
+      pub known_leaf : (leaf : ℕ) → leaf ≡ min parts.members.count 1000000 → count (whole_part units (unit_at units i)) ≤ 999999 → leaf ≡ chart_offset (whole_part units (unit_at units i))
       known_leaf leaf stands small =
           omega (arith, stands, small, (are.each i parts is).names.members.count, before_is (unit_at units i), before_chart (whole_part units (unit_at units i)))
 
@@ -210,17 +210,17 @@ unfolding part_in
 elements_clause s t unit elements same is = is ∙ ap (λ (x : TablesView). chart_within (part_in x (nodes.Whole unit))) same ∙ ap chart_within (root_part t unit)
 
 pub leaf_clause : (s t : TablesView) (unit leaf : ℕ) → s ≡ t
-    → (count (whole_part (units_of s.text) (unit_at (units_of s.text) unit)) ≤ 65536 → leaf ≡ chart_offset (whole_part (units_of s.text) (unit_at (units_of s.text) unit)))
+    → (count (whole_part (units_of s.text) (unit_at (units_of s.text) unit)) ≤ 999999 → leaf ≡ chart_offset (whole_part (units_of s.text) (unit_at (units_of s.text) unit)))
     → IsSmall (whole_in t unit).variables → leaf ≡ chart_offset (whole_in t unit).variables
 unfolding part_in
 leaf_clause s t unit leaf same is small =
     let root : part_in s (nodes.Whole unit) ≡ (whole_in t unit).variables = ap (λ (x : TablesView). part_in x (nodes.Whole unit)) same ∙ root_part t unit in
-    is (subst (λ c. count c ≤ 65536) (sym root) small.few) ∙ ap chart_offset root
+    is (subst (λ c. count c ≤ 999999) (sym root) small.few) ∙ ap chart_offset root
 
 pub step_clause : (s t : TablesView) (unit : ℕ) (is_time : Bool) (name : List ℕ) (found : Option ℕ) → s ≡ t
-    → (count (whole_part (units_of s.text) (unit_at (units_of s.text) unit)) ≤ 65536 → found ≡ leaf_of_step (whole_part (units_of s.text) (unit_at (units_of s.text) unit)) is_time name)
+    → (count (whole_part (units_of s.text) (unit_at (units_of s.text) unit)) ≤ 999999 → found ≡ leaf_of_step (whole_part (units_of s.text) (unit_at (units_of s.text) unit)) is_time name)
     → IsSmall (whole_in t unit).variables → found ≡ leaf_of_step (whole_in t unit).variables is_time name
 unfolding part_in
 step_clause s t unit is_time name found same is small =
     let root : part_in s (nodes.Whole unit) ≡ (whole_in t unit).variables = ap (λ (x : TablesView). part_in x (nodes.Whole unit)) same ∙ root_part t unit in
-    is (subst (λ c. count c ≤ 65536) (sym root) small.few) ∙ ap (λ c. leaf_of_step c is_time name) root
+    is (subst (λ c. count c ≤ 999999) (sym root) small.few) ∙ ap (λ c. leaf_of_step c is_time name) root

@@ -1,11 +1,10 @@
 -- What is selected in tables.
 use Rattle.std.specs.Borrow.{Bor}
 use Rattle.std.proofs.Common.{◌≡◌, ℕ, zero, suc, ◌*◌, ◌-◌, ◌<◌, ◌≤◌, true, false, List, [], ◌∷◌, ◌++◌, length, take, Option, Some, None, IfSome, refl, ap, sym, ◌∙◌, subst, arith, ◌⊎◌, inl, inr}
-use Rattle.std.specs.Prelude.{ℤ, pos, negsuc, ◌-ℤ◌, ◌≤ℤ◌}
+use Rattle.std.specs.Prelude.{ℤ}
 use Rattle.std.specs.List.{All, Contains, slice_get}
 use Rattle.std.proofs.Math.Nat.{le-mul_of_pos_right, mul_assoc, mul_comm}
 use Rattle.std.proofs.lemmas.Bool.{cases_lt}
-use Rattle.std.proofs.lemmas.Int.{ints}
 use Rattle.std.proofs.lemmas.List.{length-map, take_all}
 use Rattle.std.proofs.lemmas.List.Elements.{All-contains, All-head, All-tail}
 use Rattle.std.proofs.lemmas.Option.{same_Some}
@@ -13,7 +12,6 @@ use Rattle.st_order.specs.Graphs.{IsOrder}
 use Rattle.st_references.proofs.Contents.{order_len}
 use Rattle.st_references.specs.References.{graph_of, references}
 use Rattle.st_program_sizes.proofs.Names.{past_unknown}
-use Rattle.st_sizes.specs.Subscripts.{values_from}
 use Rattle.st_tree.specs.declared.tree.declaration.Subrange.{Subrange}
 use Rattle.st_types.specs.Compositions.{Composition, unknown, composition_within}
 use Rattle.st_types.specs.Names.{Named, unit_at, units_of}
@@ -25,7 +23,8 @@ use Rattle.st_leaves.specs.Bounds.{HasBounds, IsBounded}
 use Rattle.st_leaves.specs.Leaves.{number_of}
 use Rattle.st_leaves.specs.Places.{count, extent, extent_of}
 use Rattle.st_leaves.specs.Selected.{element_of, selected_by, subscripts_of, value_type}
-use Rattle.st_meaning.specs.Offsets.{IsSmall, offset_of}
+use Rattle.st_meaning.specs.Offsets.{HasSmallArrays, IsSmall, offset_of}
+use Rattle.st_meaning.proofs.SmallArrays.{some_elements, some_numbers}
 use Rattle.st_meaning.specs.Units.{unit_whole}
 use Rattle.st_meaning.specs.Wholes.{block_of}
 use Rattle.st_places.specs.Contents.{AreElementsOf, IsArrayOf, IsSelected, IsUnfolded}
@@ -40,19 +39,8 @@ use Rattle.st_places.proofs.Settled.{IsSettled, settled}
 
 -- ---- the dimensions of an array that isn't too large
 
-some_values : (z : ℤ) → pos 0 ≤ℤ z → 0 < values_from z
-some_values (pos n) h = omega arith
-some_values (negsuc n) h = absurd (omega (arith, ints, h))
-
-some_numbers : (r : Subrange) → IsBounded r → 0 < extent_of r
-some_numbers r bounded = some_values (number_of r.upper -ℤ number_of r.lower) (omega (arith, ints, bounded.ordered))
-
 product_pos : (a b : ℕ) → 0 < a → 0 < b → 0 < a * b
 product_pos a b h k = let more : a ≤ a * b = le-mul_of_pos_right {m = b} a k in omega (arith, h, more)
-
-some_elements : (rs : List Subrange) → All IsBounded rs → 0 < extent rs
-some_elements [] all = omega arith
-some_elements (r ∷ rs) all = product_pos (extent_of r) (extent rs) (some_numbers r (All-head IsBounded r rs all)) (some_elements rs (All-tail IsBounded r rs all))
 
 abbrev made : ℕ → ℕ → ℤ → Dimension
 made last stride low = record { last = last; stride = stride; low = low }
@@ -155,9 +143,9 @@ module _ (t : TablesView) (node : Node) where
   of_array : (c element : Composition) (ds : List Dimension) → IsArrayOf c element ds → IsSmall c → 0 < count (element_of c) → ds ≡ dimensions_in (subscripts_of c) (count (element_of c))
   of_array c element ds is small some =
       let bounds = subst HasBounds is.is small.bounds in
-      let few : extent is.ranges * count element ≤ 65536 = subst (λ x. count x ≤ 65536) is.is small.few in
+      let arrays = subst HasSmallArrays is.is small.arrays in
       let here : 0 < count element = subst (λ x. 0 < count (element_of x)) is.is some in
-      exact (count element) is.ranges ds is.limited bounds.0 here few ∙ sym (ap (λ x. dimensions_in (subscripts_of x) (count (element_of x))) is.is)
+      exact (count element) is.ranges ds is.limited bounds.0 here arrays.0 ∙ sym (ap (λ x. dimensions_in (subscripts_of x) (count (element_of x))) is.is)
 
   pub dimensions_clause : (r : Option (Bor (List Dimension) × Node)) → AreElementsOf (units_of t.text) (node_part (units_of t.text) node) r → IsSmall (part_in t node)
       → IfSome r (λ found. 0 < count (element_of (part_in t node)) → found.0.now ≡ dimensions_in (subscripts_of (part_in t node)) (count (element_of (part_in t node))))

@@ -1,9 +1,12 @@
 -- Bounds and names in the units of checked programs.
-use Rattle.std.proofs.Common.{◌≡◌, ℕ, suc, List, [], ◌∷◌, ◌++◌, codes, length, Some, ap, append-nil, subst, sym}
-use Rattle.std.specs.List.{flat_map}
+use Rattle.std.proofs.Common.{◌≡◌, ℕ, suc, Bool, true, false, if◌then◌else◌, List, [], ◌∷◌, ◌++◌, codes, length, Some, refl, ap, append-nil, subst, sym}
+use Rattle.std.specs.List.{AllByRecursion, flat_map}
+use Rattle.std.proofs.lemmas.List.Elements.{recursion_from_All}
+use Rattle.st_check.specs.Laws.{IsOneValue}
 use Rattle.st_check.specs.Programs.{text_of}
 use Rattle.st_check.proofs.Apart.{NamesAreApart, apart, nothing_parts}
 use Rattle.st_check.proofs.DistinctNames.{UnitsAreApart, distinct_composed, distinct_of, distinct_within, of_blocks}
+use Rattle.st_check.proofs.ElementaryFunctions.{elementary_functions}
 use Rattle.st_check.proofs.ShortUnits.{short_of}
 use Rattle.st_check.proofs.Small.{has_bounds}
 use Rattle.st_check.proofs.UnitsApart.{unit_faultless, units_apart}
@@ -13,16 +16,18 @@ use Rattle.st_check_units.specs.Repeats.{repeated}
 use Rattle.st_check_units.specs.Units.{node_faults, unit_faults, variable_names}
 use Rattle.st_leaves.specs.Bounds.{HasBounds}
 use Rattle.st_leaves.specs.Distinct.{HasDistinctNames}
+use Rattle.st_meaning.specs.Offsets.{HasSmallArrays, HaveSmallArrays}
 use Rattle.st_meaning.specs.Units.{result_declared, root_name, unit_root}
 use Rattle.st_meaning.proofs.BegunFunctions.{functions_declare_their_results}
 use Rattle.st_tree.specs.declared.tree.declaration.DeclaredType.TheVariants as declared_types
 use Rattle.st_tree.specs.declared.tree.unit.Function.{Function}
-use Rattle.st_types.specs.Compositions.{composed, composition_of, unit_composition}
-use Rattle.st_types.specs.Names.{Declares, Named, unit_at, units_of, variables_of}
+use Rattle.st_types.specs.Compositions.{Composition, composed, composition_of, declared_composition, is_constant, member, members_by, unit_composition}
+use Rattle.st_types.specs.Names.{Declared, Declares, Named, unit_at, units_of, variables_of}
 use Rattle.st_types.specs.Names as names
 use Rattle.st_types.specs.Scopes.{scope_of}
 use Rattle.st_places.specs.Laws.{IsSoundUnit, UnitsAreSound}
-use Rattle.st_places.specs.Parts.{inside}
+use Rattle.st_places.specs.Callables.{AreElementary}
+use Rattle.st_places.specs.Parts.{inside, is_function}
 
 module _ (units : List Named) where
   -- the result of a function is one value
@@ -54,16 +59,40 @@ module _ (units : List Named) where
   root_distinct apart_units u (names.block b) none name other h = h
   root_distinct apart_units u (names.program p) none name other h = h
 
-  sound_unit : node_faults units ≡ [] → (i : ℕ) (u : Named) → unit_at units i ≡ Some u → IsSoundUnit units u
+  -- each variable of a function is one value, and no array
+  one_value : (c : Composition) → IsOneValue c → HasSmallArrays c
+  one_value c one = subst HasSmallArrays (sym one.is) tt
+
+  members_small : (vs : List Declared) → AllByRecursion (λ v. IsOneValue (declared_composition units (inside units) v)) vs → HaveSmallArrays (members_by units (inside units) vs)
+  members_small [] each = tt
+  members_small (v ∷ vs) each = by (is_constant v.kind) (members_small vs each.1)
+    where
+      by : (b : Bool) → HaveSmallArrays (members_by units (inside units) vs) → HaveSmallArrays (if b then members_by units (inside units) vs else member v.name.spelling v.kind (declared_composition units (inside units) v) (members_by units (inside units) vs))
+      by true others = others
+      by false others = (one_value (declared_composition units (inside units) v) each.0, others)
+
+  root_arrays : AreElementary units → (i : ℕ) (u : Named) (d : Declares) → unit_at units i ≡ Some u → u.declares ≡ d → (name : List ℕ) → is_function d ≡ true
+      → HasSmallArrays (unit_root units name d)
+  root_arrays elementary' i u (names.function f) at is name function = (
+    tt,
+    members_small (variables_of f.variables)
+        (recursion_from_All (λ v. IsOneValue (declared_composition units (inside units) v)) (variables_of f.variables) (elementary' i u f at is)),
+  )
+  root_arrays elementary' i u (names.type t) at is name function = absurd (cc)
+  root_arrays elementary' i u (names.block b) at is name function = absurd (cc)
+  root_arrays elementary' i u (names.program p) at is name function = absurd (cc)
+
+  sound_unit : node_faults units ≡ [] → AreElementary units → (i : ℕ) (u : Named) → unit_at units i ≡ Some u → IsSoundUnit units u
   unfolding composition_of
-  sound_unit faultless i u at = record {
+  sound_unit faultless elementary' i u at = record {
     bounds =
         root_bounds (codes "PROGRAM") (root_name u.name.spelling u.declares) u.declares
         (has_bounds (composition_of units u.declares) (short_of units (units_short units faultless) u.declares (units_short units faultless i u at)));
     distinct =
         root_distinct (units_apart units faultless) u u.declares (unit_faultless units i u faultless at) (codes "PROGRAM") (root_name u.name.spelling u.declares)
         (distinct_of units (units_apart units faultless) u.declares (units_apart units faultless i u at));
+    arrays = root_arrays elementary' i u u.declares at refl (root_name u.name.spelling u.declares);
   }
 
 pub units_are_sound : UnitsAreSound
-units_are_sound program checked i u at = sound_unit (units_of (text_of program)) checked.faultless i u at
+units_are_sound program checked i u at = sound_unit (units_of (text_of program)) checked.faultless (elementary_functions program checked) i u at

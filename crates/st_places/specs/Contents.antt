@@ -104,7 +104,7 @@ IsContent units c (contents.Array dimensions node) = IsArrayOf c (node_part unit
 -- what a name selects, and, of what isn't too large, how many leaves stand before it
 abbrev pub IsSelected : List Named → Composition → List ℕ → Option (ℕ × Node) → Type 0
 IsSelected units c name None = selected_by c name ≡ unknown
-IsSelected units c name (Some found) = (node_part units found.1 ≡ selected_by c name) × ((count c ≤ 65536 → found.0 ≡ offset_of c name) × IsNodeIn units found.1)
+IsSelected units c name (Some found) = (node_part units found.1 ≡ selected_by c name) × ((count c ≤ 999999 → found.0 ≡ offset_of c name) × IsNodeIn units found.1)
 
 -- an array of this with these dimensions, and else none
 abbrev pub AreElementsOf : List Named → Composition → Option (Bor (List Dimension) × Node) → Type 0

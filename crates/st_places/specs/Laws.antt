@@ -5,10 +5,11 @@ use Rattle.st_check.specs.Programs.{IsChecked, ProgramView, order_of, text_of}
 use Rattle.st_leaves.specs.Bounds.{HasBounds}
 use Rattle.st_leaves.specs.Distinct.{HasDistinctNames}
 use Rattle.st_leaves.specs.Selected.{selected_by}
+use Rattle.st_meaning.specs.Offsets.{HasSmallArrays}
 use Rattle.st_meaning.specs.Steps.{chart_within}
 use Rattle.st_meaning.specs.Units.{body_of_unit, root_of, unit_whole}
 use Rattle.st_meaning.specs.Wholes.{Invoked}
-use Rattle.st_places.specs.Parts.{is_block}
+use Rattle.st_places.specs.Parts.{is_block, is_function}
 use Rattle.st_types.specs.Names.{Named, chart_in, unit_at, units_of}
 
 -- The name is that of an instance in a unit: of a function block, whose variables it has, whose body is invoked, and which stands
@@ -27,10 +28,12 @@ InstancesAreOfBlocks = (program : ProgramView) → IsChecked program → (i : �
     → (name : List ℕ) (found : Invoked) → (unit_whole (units_of (text_of program)) u).invoked name ≡ Some found
     → IsInstance (units_of (text_of program)) (order_of program) i u name found
 
--- the bounds of a unit's arrays are numbers of LINT, and no two members and steps of one whole in it have the same name
+-- The bounds of a unit's arrays are numbers of LINT, and no two members and steps of one whole in it have the same name. A function
+-- has no large array, since each of its variables is one value (2.5.1).
 pub record IsSoundUnit (units : List Named) (u : Named) : Type 0 where
   pub bounds : HasBounds (root_of units u)
   pub distinct : HasDistinctNames (root_of units u)
+  pub arrays : is_function u.declares ≡ true → HasSmallArrays (root_of units u)
 
 -- all units of a checked program are such
 abbrev pub UnitsAreSound : Type 0

@@ -128,9 +128,9 @@ optional_small_block units (Some u) = is_small_block units u
 unfoldable pub is_small_block_in : TablesView → ℕ → Bool
 is_small_block_in tables unit = optional_small_block (units_of tables.text) (unit_at (units_of tables.text) unit)
 
--- a function that has at most 65536 variables, its result among them
+-- a function that has at most 999999 variables, its result among them
 abbrev pub is_small_function : List Named → Named → Bool
-is_small_function units unit = is_function unit.declares && nat_le (count (root_of units unit)) 65536
+is_small_function units unit = is_function unit.declares && nat_le (count (root_of units unit)) 999999
 
 abbrev pub optional_small_function : List Named → Option Named → Bool
 optional_small_function units None = false

@@ -21,6 +21,9 @@ use st_tree::tree::Function as Section;
 use st_types::UnitKind;
 use std::alloc::{AllocError, Global};
 
+/// The most variables of a function that has code, its result among them.
+const MOST_VARIABLES: usize = 999_999;
+
 /// A unit as what can be called.
 #[derive(Drop)]
 pub(crate) struct Callable<'a> {
@@ -81,12 +84,12 @@ impl<'a> Functions<'a> {
         }
     }
 
-    /// Whether the unit of this number is a function that has at most 65,536 variables.
+    /// Whether the unit of this number is a function that has at most 999,999 variables.
     pub fn is_small(&self, number: usize) -> bool
         ensures { (text : Items Named) → AreFunctions text self.now → AreElementary text → result ≡ optional_small_function text (unit_at text number) }
     {
         let count = self.starts(number).len();
-        0 < count && count <= 65_536
+        0 < count && count <= MOST_VARIABLES
     }
 }
 

@@ -8,7 +8,7 @@ pub fn instances_are_of_blocks()
 {}
 
 /// In each unit of a checked program, the bounds of all arrays are numbers of LINT, and no two variables and steps of one whole have
-/// the same name.
+/// the same name. A function has no large array.
 pub fn units_are_sound()
     ensures { UnitsAreSound }
 {}

@@ -140,7 +140,7 @@ impl<'a> Tables<'a> {
         self.functions.starts(unit)
     }
 
-    /// Whether the unit of this number is a function that has at most 65,536 variables.
+    /// Whether the unit of this number is a function that has at most 999,999 variables.
     pub fn is_small_function(&self, unit: usize) -> bool
         ensures { result ≡ is_small_function_in self.now unit }
     {

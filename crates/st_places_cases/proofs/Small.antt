@@ -1,11 +1,10 @@
 -- The variables of the program of a checked text aren't too large.
-use Rattle.std.proofs.Common.{◌≡◌, ◌≤◌, ℕ, true, List, codes, refl, ap, subst, sym, ◌∙◌}
+use Rattle.std.proofs.Common.{◌≡◌, ◌≤◌, ℕ, true, List, codes, refl, ap, subst, sym, ◌∙◌, arith}
 use Rattle.st_check.specs.Faults.{is_program}
 use Rattle.st_check.specs.Laws.{CheckedIsSmall}
 use Rattle.st_check.specs.Programs.{IsChecked, ProgramView, main_of, text_of}
-use Rattle.st_leaves.specs.Bounds.{HasBounds}
-use Rattle.st_leaves.specs.Places.{count}
 use Rattle.st_meaning.specs.Offsets.{IsSmall}
+use Rattle.st_meaning.proofs.SmallArrays.{small_arrays}
 use Rattle.st_meaning.specs.Units.{root_name, root_of, unit_root, unit_whole}
 use Rattle.st_places.specs.Parts.{TablesView, inside, optional_whole, whole_in}
 use Rattle.st_types.specs.Compositions.{composition_of, unit_composition}
@@ -39,5 +38,5 @@ main_small program checked tables main text is small =
     let units = units_of (text_of program) in
     let few = small program checked checked.unit checked.found in
     let root = root_is units checked.unit checked.program in
-    let fits : IsSmall (unit_whole units checked.unit).variables = record { bounds = subst HasBounds (sym root) few.bounds; few = subst (λ c. count c ≤ 65536) (sym root) few.few } in
+    let fits : IsSmall (unit_whole units checked.unit).variables = subst IsSmall (sym root) (record { bounds = few.bounds; arrays = small_arrays (composition_of units checked.unit.declares) few.bounds few.few; few = omega (arith, few.few) }) in
     subst (λ w. IsSmall w.variables) (sym (main_whole program checked tables main text is)) fits

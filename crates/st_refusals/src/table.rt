@@ -135,8 +135,8 @@ static COMMANDS: [Row; 13] = [
     ),
     (
         10,
-        "The program was halted by a fault; or it can't be scanned, since a function of its text has more than 65,536 variables.",
-        "See with `status` whether it is halted; then correct the program with `change` or its values with `write`, and give `reset`.",
+        "The program was halted by a fault.",
+        "See with `status` at which fault, correct the program with `change` or its values with `write`, and give `reset`.",
     ),
     (
         11,

@@ -2,7 +2,6 @@
 ghost use Rattle.std.specs.Prelude.{◌≡◌};
 ghost use Rattle.st_check.specs.Programs.{leaves_of_program};
 ghost use Rattle.st_compile.specs.Programs.{program_code, program_depth, program_names, program_rooms, program_units};
-ghost use Rattle.st_compile.specs.Small.{functions_are_small};
 
 use crate::image::Image;
 use st_check::Program;
@@ -20,7 +19,6 @@ fn image_apart(
     (&Fused, &Units),
     (usize, &[Room]),
     &[Name],
-    bool,
 )
     ensures program { result.0.now ≡ image.now }
     ensures layout { result.1.now ≡ leaves_of_program image.now }
@@ -29,7 +27,6 @@ fn image_apart(
     ensures depth { result.3.0 ≡ program_depth image.now }
     ensures rooms { result.3.1.now ≡ program_rooms image.now }
     ensures names { result.4.now ≡ program_names image.now }
-    ensures runs { result.5 ≡ functions_are_small image.now }
 {
     let Image {
         program,
@@ -39,7 +36,6 @@ fn image_apart(
         depth,
         rooms,
         names,
-        runs,
     } = image;
     (
         program,
@@ -47,6 +43,5 @@ fn image_apart(
         (code, units),
         (*depth, rooms.as_slice()),
         names.as_slice(),
-        *runs,
     )
 }

@@ -2,7 +2,7 @@ use Rattle.std.proofs.Common.{◌≡◌, ◌++◌, ◌∙◌, ap, arith, length,
 use Rattle.st_check.specs.Programs.{order_of, text_of}
 use Rattle.st_types.specs.Inside.{named_by}
 use Rattle.st_types.specs.Names.{units_of}
-use Rattle.st_compile.proofs.Coded.{begins_at, code_at, small_function_at, small_function_where, taken_at}
+use Rattle.st_compile.proofs.Coded.{begins_at, code_at, is_function_where, small_function_at, small_function_where, taken_at}
 use Rattle.st_compile.proofs.Functioned.{no_room_made, none_made, room_made, view_made}
 use Rattle.st_compile.proofs.functions.function_of.Goals as goal
 
@@ -19,7 +19,12 @@ returns-then-not-is_small_function-clause-room c =
     c.nothing.result.room c.nothing.ensures.room
 
 pub body_of-requires : goal.body_of-requires
-body_of-requires c = record { small = small_function_where c.args.tables.now c.args.number c.requires.bounds (sym c.is_small_function.ensures ∙ c.if-not-is_small_function.false) }
+body_of-requires c = record {
+  small = small_function_where c.args.tables.now c.args.number c.requires.bounds
+      (c.requires.arrays (is_function_where c.args.program.now c.args.tables.now c.requires.tables c.args.number (named_by c.args.unit.now) c.requires.found
+      (sym c.is_small_function.ensures ∙ c.if-not-is_small_function.false)))
+      (sym c.is_small_function.ensures ∙ c.if-not-is_small_function.false);
+}
 
 pub returns-clause-function : goal.returns-clause-function
 returns-clause-function c =

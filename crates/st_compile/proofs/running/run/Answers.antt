@@ -30,9 +30,9 @@ run_fused-requires-clause-runs g c =
       gives = c.checked_calls_are_those_of_their_bodies.ensures;
       calls = c.calls_are_sound.ensures;
     } in
-    its_run known program checked (functions_small program c.requires.small) c.args.stacks.now c.requires.room c.args.now (is_time c.args.now c.ranges.now) (λ ls. g.M.Memory.content ls c.args.memory.now)
+    its_run known program checked (functions_small program c.units.ensures.small) c.args.stacks.now c.requires.room c.args.now (is_time c.args.now c.ranges.now) (λ ls. g.M.Memory.content ls c.args.memory.now)
     (g.met.M.Memory.fits (leaves_of_program program) c.args.memory.now c.requires.over) c.args.limit _ c.code.result.now c.units.result.now c.layout.result.now
-    (to_z-of_z w64 c.args.now c.ranges.now) c.code.ensures c.units.ensures c.layout.ensures
+    (to_z-of_z w64 c.args.now c.ranges.now) c.code.ensures c.units.ensures.units c.layout.ensures
 
 pub returns-in-Ok-clause-room : goal.returns-in-Ok-clause-room
 returns-in-Ok-clause-room g c = room_kept c.args.image.now c.args.stacks.now c.run_fused.new.stacks c.in-Ok.ensures.rooms c.requires.room
@@ -60,9 +60,9 @@ returns-in-Ok-clause-result g c =
       gives = c.checked_calls_are_those_of_their_bodies.ensures;
       calls = c.calls_are_sound.ensures;
     } in
-    result_done known program checked (functions_small program c.requires.small) c.args.stacks.now c.requires.room c.args.now (is_time c.args.now c.ranges.now) (λ ls. g.M.Memory.content ls c.args.memory.now)
+    result_done known program checked (functions_small program c.units.ensures.small) c.args.stacks.now c.requires.room c.args.now (is_time c.args.now c.ranges.now) (λ ls. g.M.Memory.content ls c.args.memory.now)
     (g.met.M.Memory.fits (leaves_of_program program) c.args.memory.now c.requires.over) c.args.limit _ c.code.result.now c.units.result.now c.layout.result.now
-    (to_z-of_z w64 c.args.now c.ranges.now) c.code.ensures c.units.ensures c.layout.ensures (λ ls. (g.M.Memory.content ls c.run_fused.new.memory).values) c.in-Ok.ensures.ends
+    (to_z-of_z w64 c.args.now c.ranges.now) c.code.ensures c.units.ensures.units c.layout.ensures (λ ls. (g.M.Memory.content ls c.run_fused.new.memory).values) c.in-Ok.ensures.ends
 
 pub returns-in-Err-clause-room : goal.returns-in-Err-clause-room
 returns-in-Err-clause-room g c = room_kept c.args.image.now c.args.stacks.now c.run_fused.new.stacks c.in-Err.ensures.rooms c.requires.room
@@ -90,7 +90,7 @@ returns-in-Err-clause-result g c =
       gives = c.checked_calls_are_those_of_their_bodies.ensures;
       calls = c.calls_are_sound.ensures;
     } in
-    result_faulted known program checked (functions_small program c.requires.small) c.args.stacks.now c.requires.room c.args.now (is_time c.args.now c.ranges.now) (λ ls. g.M.Memory.content ls c.args.memory.now)
+    result_faulted known program checked (functions_small program c.units.ensures.small) c.args.stacks.now c.requires.room c.args.now (is_time c.args.now c.ranges.now) (λ ls. g.M.Memory.content ls c.args.memory.now)
     (g.met.M.Memory.fits (leaves_of_program program) c.args.memory.now c.requires.over) c.args.limit _ c.code.result.now c.units.result.now c.layout.result.now
-    (to_z-of_z w64 c.args.now c.ranges.now) c.code.ensures c.units.ensures c.layout.ensures c.in-Err.halt c.in-Err.ensures.ends
+    (to_z-of_z w64 c.args.now c.ranges.now) c.code.ensures c.units.ensures.units c.layout.ensures c.in-Err.halt c.in-Err.ensures.ends
     ∙ ap (λ n. Err (record { kind = c.in-Err.halt.kind; unit = n; line = c.in-Err.halt.line })) (sym c.faulty.ensures)

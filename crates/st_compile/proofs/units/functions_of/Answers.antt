@@ -3,7 +3,7 @@ use Rattle.st_check.specs.Programs.{order_of, text_of}
 use Rattle.st_types.specs.Inside.{named_by}
 use Rattle.st_types.specs.Names.{units_of}
 use Rattle.st_compile.specs.Programs.{function_room, function_view, program_functions}
-use Rattle.st_compile.proofs.Coded.{bounds_at, read_at, read_number}
+use Rattle.st_compile.proofs.Coded.{arrays_at, bounds_at, read_at, read_number}
 use Rattle.st_compile.proofs.Listed.{view_pushed, views_done}
 use Rattle.st_compile.proofs.units.functions_of.Goals as goal
 
@@ -14,6 +14,11 @@ pub function_of-requires-clause-bounds : goal.function_of-requires-clause-bounds
 function_of-requires-clause-bounds c =
     let found = read_at c.args.program.now c.args.units.now c.requires.units c.units.number c.index-units-number.result c.units-test.true c.index-units-number.is in
     bounds_at c.args.program.now c.args.tables.now c.requires.tables c.units.number (named_by c.index-units-number.result) found c.units_are_sound.ensures c.units-checked.ensures.checked
+
+pub function_of-requires-clause-arrays : goal.function_of-requires-clause-arrays
+function_of-requires-clause-arrays c =
+    let found = read_at c.args.program.now c.args.units.now c.requires.units c.units.number c.index-units-number.result c.units-test.true c.index-units-number.is in
+    arrays_at c.args.program.now c.args.tables.now c.requires.tables c.units.number (named_by c.index-units-number.result) found c.units_are_sound.ensures c.units-checked.ensures.checked
 
 pub units-preserved : goal.units-preserved
 units-preserved c =
