@@ -1,16 +1,15 @@
 -- The leaves of charts, step by step.
-use Rattle.std.proofs.Common.{codes, ◌≡◌, ℕ, suc, ◌+◌, ◌-◌, ◌<◌, ◌≤◌, false, List, [], ◌∷◌, ◌++◌, length, take, drop, get_or, refl, ap, sym, ◌∙◌, arith, append-nil, append_assoc, length-append}
+use Rattle.std.proofs.Common.{codes, ◌≡◌, ℕ, suc, ◌+◌, ◌-◌, ◌<◌, ◌≤◌, false, true, if◌then◌else◌, List, [], ◌∷◌, ◌++◌, length, take, drop, get_or, refl, ap, sym, ◌∙◌, arith, append-nil, append_assoc, length-append}
 use Rattle.std.specs.Borrow.{Bor}
 use Rattle.std.specs.List.{flat_map}
 use Rattle.std.proofs.lemmas.Grind.{flat_map-append}
 use Rattle.std.proofs.lemmas.List.{length-map, length-take-le, map-append, take-append-drop, take_more}
-use Rattle.st_tree.specs.declared.tree.unit.ChartElement.{ChartElement}
 use Rattle.st_tree.specs.declared.tree.unit.Step.{Step}
-use Rattle.st_types.specs.Names.{steps_in}
-use Rattle.st_leaves.specs.LeavesIn.{begun, chart_in, one, truth, all_steps_in, step_in, stored_in}
+use Rattle.st_leaves.specs.LeavesIn.{begun, one, truth, all_steps_in, step_in, stored_in, whole_chart_in}
 use Rattle.st_leaves.specs.Paths.{kept}
 use Rattle.st_values.specs.declared.value.Value.{Value}
-use Rattle.st_listing.specs.Listings.{AreWays, ListingView, listed, spelled}
+use Rattle.st_chart_parts.specs.Charts.{ChartView, leaves_of_parts, spelled}
+use Rattle.st_listing.specs.Listings.{AreWays, ListingView, listed}
 use Rattle.st_listing.proofs.Listings.{listed_count, listed_more, ways_append, ways_by, ways_more}
 
 -- ---- steps
@@ -28,50 +27,34 @@ steps_append name back (s ∷ a) b =
 pub steps_more : (name : List ℕ) (a : List Step) (s : Step) → all_steps_in name 1 (a ++ s ∷ []) ≡ all_steps_in name 1 a ++ step_in name (1 + length (all_steps_in name 1 a)) s
 steps_more name a s = steps_append name 1 a (s ∷ []) ∙ ap (λ ls. all_steps_in name 1 a ++ ls) (append-nil (step_in name (1 + length (all_steps_in name 1 a)) s))
 
--- the steps of some elements are a front of those of all
-steps_split : (elements : List ChartElement) (i : ℕ) → flat_map steps_in elements ≡ flat_map steps_in (take i elements) ++ flat_map steps_in (drop i elements)
-steps_split elements i = ap (flat_map steps_in) (sym (take-append-drop i elements)) ∙ flat_map-append steps_in (take i elements) (drop i elements)
+-- the steps so far and one more
+pub steps_next : (name : List ℕ) (steps : List Step) (i : ℕ) (step : Step) → i < length steps → get_or steps i step ≡ step
+    → all_steps_in name 1 (take (i + 1) steps) ≡ all_steps_in name 1 (take i steps) ++ step_in name (1 + length (all_steps_in name 1 (take i steps))) step
+steps_next name steps i step within at = ap (all_steps_in name 1) (take_more steps i step within ∙ ap (λ s. take i steps ++ s ∷ []) at) ∙ steps_more name (take i steps) step
 
-pub steps_below : (name : List ℕ) (elements : List ChartElement) (i : ℕ) → length (all_steps_in name 1 (flat_map steps_in (take i elements))) ≤ length (all_steps_in name 1 (flat_map steps_in elements))
-steps_below name elements i =
-    let front = flat_map steps_in (take i elements) in
-    let rest = all_steps_in name (1 + length (all_steps_in name 1 front)) (flat_map steps_in (drop i elements)) in
-    let is = ap length (ap (all_steps_in name 1) (steps_split elements i) ∙ steps_append name 1 front (flat_map steps_in (drop i elements))) in
-    let both = length-append (all_steps_in name 1 front) rest in
+-- some of the steps have no more leaves than all
+pub steps_below : (name : List ℕ) (steps : List Step) (i : ℕ) → length (all_steps_in name 1 (take i steps)) ≤ length (all_steps_in name 1 steps)
+steps_below name steps i =
+    let rest = all_steps_in name (1 + length (all_steps_in name 1 (take i steps))) (drop i steps) in
+    let is = ap length (ap (all_steps_in name 1) (sym (take-append-drop i steps)) ∙ steps_append name 1 (take i steps) (drop i steps)) in
+    let both = length-append (all_steps_in name 1 (take i steps)) rest in
     omega (arith, is, both)
-
--- the steps of one element more
-pub elements_more : (elements : List ChartElement) (i : ℕ) (element : ChartElement) (s : Step) → i < length elements → get_or elements i element ≡ element → steps_in element ≡ s ∷ []
-    → flat_map steps_in (take (i + 1) elements) ≡ flat_map steps_in (take i elements) ++ s ∷ []
-elements_more elements i element s within at is =
-    ap (flat_map steps_in) (take_more elements i element within) ∙ flat_map-append steps_in (take i elements) (get_or elements i element ∷ [])
-    ∙ ap (λ ss. flat_map steps_in (take i elements) ++ ss) (append-nil (steps_in (get_or elements i element)) ∙ ap steps_in at ∙ is)
-
-pub elements_same : (elements : List ChartElement) (i : ℕ) (element : ChartElement) → i < length elements → get_or elements i element ≡ element → steps_in element ≡ []
-    → flat_map steps_in (take (i + 1) elements) ≡ flat_map steps_in (take i elements)
-elements_same elements i element within at is =
-    ap (flat_map steps_in) (take_more elements i element within) ∙ flat_map-append steps_in (take i elements) (get_or elements i element ∷ [])
-    ∙ ap (λ ss. flat_map steps_in (take i elements) ++ ss) (append-nil (steps_in (get_or elements i element)) ∙ ap steps_in at ∙ is)
-    ∙ append-nil (flat_map steps_in (take i elements))
 
 -- ---- what is left of the room
 
-pub steps_split_at : (s now : ListingView) (name : List ℕ) (elements : List ChartElement) (i : ℕ) (element : ChartElement) (step : Step) (back : ℕ) → i < length elements → get_or elements i element ≡ element
-    → steps_in element ≡ step ∷ [] → now ≡ listed s (all_steps_in name 1 (flat_map steps_in (take i elements))) → back ≡ length now.leaves - length s.leaves + 1
-    → all_steps_in name 1 (flat_map steps_in (take (i + 1) elements)) ≡ all_steps_in name 1 (flat_map steps_in (take i elements)) ++ step_in name back step
-steps_split_at s now name elements i element step back within at is so_far back_is =
-    let count = listed_count s now (all_steps_in name 1 (flat_map steps_in (take i elements))) so_far in
-    ap (all_steps_in name 1) (elements_more elements i element step within at is) ∙ steps_more name (flat_map steps_in (take i elements)) step
-    ∙ ap (λ n. all_steps_in name 1 (flat_map steps_in (take i elements)) ++ step_in name n step) (omega (arith, count, back_is))
+pub steps_split_at : (s now : ListingView) (name : List ℕ) (steps : List Step) (i : ℕ) (step : Step) (back : ℕ) → i < length steps → get_or steps i step ≡ step → now ≡ listed s (all_steps_in name 1 (take i steps))
+    → back ≡ length now.leaves - length s.leaves + 1 → all_steps_in name 1 (take (i + 1) steps) ≡ all_steps_in name 1 (take i steps) ++ step_in name back step
+steps_split_at s now name steps i step back within at so_far back_is =
+    let count = listed_count s now (all_steps_in name 1 (take i steps)) so_far in
+    steps_next name steps i step within at ∙ ap (λ n. all_steps_in name 1 (take i steps) ++ step_in name n step) (omega (arith, count, back_is))
 
-pub steps_room : (s now : ListingView) (name : List ℕ) (elements : List ChartElement) (i : ℕ) (element : ChartElement) (step : Step) (back : ℕ) → i < length elements → get_or elements i element ≡ element
-    → steps_in element ≡ step ∷ [] → now ≡ listed s (all_steps_in name 1 (flat_map steps_in (take i elements))) → back ≡ length now.leaves - length s.leaves + 1
-    → length s.leaves + length (all_steps_in name 1 (flat_map steps_in elements)) ≤ 65536 → length now.leaves + length (step_in name back step) ≤ 65536
-steps_room s now name elements i element step back within at is so_far back_is room =
-    let count = listed_count s now (all_steps_in name 1 (flat_map steps_in (take i elements))) so_far in
-    let split = ap length (steps_split_at s now name elements i element step back within at is so_far back_is) in
-    let both = length-append (all_steps_in name 1 (flat_map steps_in (take i elements))) (step_in name back step) in
-    let below = steps_below name elements (i + 1) in
+pub steps_room : (s now : ListingView) (name : List ℕ) (steps : List Step) (i : ℕ) (step : Step) (back : ℕ) → i < length steps → get_or steps i step ≡ step → now ≡ listed s (all_steps_in name 1 (take i steps))
+    → back ≡ length now.leaves - length s.leaves + 1 → length s.leaves + length (all_steps_in name 1 steps) ≤ 65536 → length now.leaves + length (step_in name back step) ≤ 65536
+steps_room s now name steps i step back within at so_far back_is room =
+    let count = listed_count s now (all_steps_in name 1 (take i steps)) so_far in
+    let split = ap length (steps_split_at s now name steps i step back within at so_far back_is) in
+    let both = length-append (all_steps_in name 1 (take i steps)) (step_in name back step) in
+    let below = steps_below name steps (i + 1) in
     omega (arith, count, split, both, below, room)
 
 -- ---- stored names
@@ -100,34 +83,35 @@ words_room now words room = omega (arith, length-map words (λ w. w.now), room)
 
 -- ---- a whole chart
 
-module _ (name : List ℕ) (stored : List (List ℕ)) (elements : List ChartElement) (some : 0 < length elements) where
-  chart_some : chart_in name stored elements ≡ one (kept (codes "CHART")) name (truth false) begun ++ all_steps_in name 1 (flat_map steps_in elements) ++ flat_map (stored_in name) stored
-  chart_some = by elements some where
-    by : (es : List ChartElement) → 0 < length es → chart_in name stored es ≡ one (kept (codes "CHART")) name (truth false) begun ++ all_steps_in name 1 (flat_map steps_in es) ++ flat_map (stored_in name) stored
-    by [] some = absurd (omega (arith, some))
-    by (e ∷ es) some = refl
+-- of a unit without one
+abbrev pub no_chart : ChartView
+no_chart = record { is_there = false; steps = []; stored = [] }
 
-  pub chart_room : (s now after : ListingView) (v : Value) → now ≡ listed s (one (kept (codes "CHART")) name v begun) → after ≡ listed now (all_steps_in name 1 (flat_map steps_in elements))
-      → length s.leaves + length (chart_in name stored elements) ≤ 65536 → length after.leaves + length stored ≤ 65536
+module _ (name : List ℕ) (chart : ChartView) (some : chart.is_there ≡ true) where
+  whole : leaves_of_parts name chart ≡ one (kept (codes "CHART")) name (truth false) begun ++ all_steps_in name 1 chart.steps ++ flat_map (stored_in name) chart.stored
+  whole = ap (λ b. if b then whole_chart_in name chart.stored chart.steps else []) some
+
+  pub chart_room : (s now after : ListingView) (v : Value) → now ≡ listed s (one (kept (codes "CHART")) name v begun) → after ≡ listed now (all_steps_in name 1 chart.steps)
+      → length s.leaves + length (leaves_of_parts name chart) ≤ 65536 → length after.leaves + length chart.stored ≤ 65536
   chart_room s now after v first steps room =
-      let all = all_steps_in name 1 (flat_map steps_in elements) in
+      let steps_are = all_steps_in name 1 chart.steps in
       let one_more = listed_count s now (one (kept (codes "CHART")) name v begun) first in
-      let more = listed_count now after all steps in
-      let whole = ap length chart_some in
-      let parts = length-append all (flat_map (stored_in name) stored) in
-      let names = stored_length name stored in
-      omega (arith, one_more, more, whole, parts, names, room)
+      let more = listed_count now after steps_are steps in
+      let parts = length-append steps_are (flat_map (stored_in name) chart.stored) in
+      let names = stored_length name chart.stored in
+      let all = ap length whole in
+      omega (arith, one_more, more, parts, names, all, room)
 
-  pub chart_listed : (s now after new : ListingView) (v : Value) → v ≡ truth false → now ≡ listed s (one (kept (codes "CHART")) name v begun) → after ≡ listed now (all_steps_in name 1 (flat_map steps_in elements))
-      → new ≡ listed after (flat_map (stored_in name) stored) → new ≡ listed s (chart_in name stored elements)
+  pub chart_listed : (s now after new : ListingView) (v : Value) → v ≡ truth false → now ≡ listed s (one (kept (codes "CHART")) name v begun) → after ≡ listed now (all_steps_in name 1 chart.steps)
+      → new ≡ listed after (flat_map (stored_in name) chart.stored) → new ≡ listed s (leaves_of_parts name chart)
   chart_listed s now after new v begins_so first steps names =
-      let chart = one (kept (codes "CHART")) name (truth false) begun in
-      let all = all_steps_in name 1 (flat_map steps_in elements) in
-      listed_more s after new (chart ++ all) (flat_map (stored_in name) stored) (chart_in name stored elements) chart_some
-      (listed_more s now after chart all (chart ++ all) refl (first ∙ ap (λ w. listed s (one (kept (codes "CHART")) name w begun)) begins_so) steps) names
+      let begins = one (kept (codes "CHART")) name (truth false) begun in
+      let all = all_steps_in name 1 chart.steps in
+      listed_more s after new (begins ++ all) (flat_map (stored_in name) chart.stored) (leaves_of_parts name chart) whole
+      (listed_more s now after begins all (begins ++ all) refl (first ∙ ap (λ w. listed s (one (kept (codes "CHART")) name w begun)) begins_so) steps) names
 
-  pub chart_ways : AreWays (all_steps_in name 1 (flat_map steps_in elements)) → AreWays (flat_map (stored_in name) stored) → AreWays (chart_in name stored elements)
+  pub chart_ways : AreWays (all_steps_in name 1 chart.steps) → AreWays (flat_map (stored_in name) chart.stored) → AreWays (leaves_of_parts name chart)
   chart_ways steps names =
-      let chart = one (kept (codes "CHART")) name (truth false) begun in
-      let all = all_steps_in name 1 (flat_map steps_in elements) in
-      ways_more (chart ++ all) (flat_map (stored_in name) stored) (chart_in name stored elements) chart_some (ways_append chart all (ways_by chart refl) steps) names
+      let begins = one (kept (codes "CHART")) name (truth false) begun in
+      let all = all_steps_in name 1 chart.steps in
+      ways_more (begins ++ all) (flat_map (stored_in name) chart.stored) (leaves_of_parts name chart) whole (ways_append begins all (ways_by begins refl) steps) names

@@ -10,6 +10,7 @@ use Rattle.st_tree.specs.declared.tree.declaration.VarKind.{VarKind}
 use Rattle.st_tree.specs.declared.tree.declaration.VarKind.TheVariants as var_kinds
 use Rattle.st_leaves.specs.LeavesIn.{LeafIn, used_as, within}
 use Rattle.st_leaves.specs.Paths.{field}
+use Rattle.st_chart_parts.proofs.Units.{names_of_unit}
 use Rattle.st_program_sizes.specs.Sized.{type_leaves}
 use Rattle.st_scopes.specs.Declarations.{names_at, names_in}
 use Rattle.st_types.specs.Compositions.{is_constant}
@@ -20,7 +21,7 @@ use Rattle.st_types.specs.declared.unit.NamedUnit.{NamedUnit}
 use Rattle.st_types.proofs.Units.{unit_at-map}
 use Rattle.st_listing.specs.Walks.{ListsTheSame, declared_leaves, member_leaves, variable_leaves}
 use Rattle.st_listing.proofs.Empties.{none_declared}
-use Rattle.st_listing.proofs.Walks.{constant_member, constant_variable, members_more, names_of_unit, other_member, other_variable, variables_more}
+use Rattle.st_listing.proofs.Walks.{constant_member, constant_variable, members_more, other_member, other_variable, variables_more}
 
 -- ---- one list after another: where the first of them lists so, both do
 

@@ -4,7 +4,6 @@ pub mod Choices
 pub mod DeclaredNames
 pub mod Empties
 pub mod Listings
-pub mod NamesStored
 pub mod ProgramLeaves
 pub mod Variables
 pub mod Walks

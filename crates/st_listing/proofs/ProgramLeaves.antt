@@ -1,5 +1,5 @@
 -- The leaves of a program, where its parts are listed.
-use Rattle.std.proofs.Common.{◌≡◌, ℕ, suc, ◌<◌, ◌≤◌, ◌||◌, Bool, false, true, List, [], ◌∷◌, map, length, Option, Some, None, Result, Ok, Err, IfOk, refl, ap, sym, ◌∙◌, subst, arith, nat_lt}
+use Rattle.std.proofs.Common.{◌≡◌, ℕ, suc, ◌<◌, ◌≤◌, ◌||◌, Bool, false, true, List, [], ◌∷◌, map, length, Some, Result, Ok, Err, IfOk, refl, ap, sym, ◌∙◌, subst, arith, nat_lt}
 use Rattle.std.proofs.lemmas.Bool.Decides.{nat_tests}
 use Rattle.std.proofs.lemmas.List.{length-map}
 use Rattle.st_tree.specs.declared.leaf.Leaf.{Leaf}
@@ -16,6 +16,7 @@ use Rattle.st_leaves.specs.LeavesIn.{LeafIn, leaves_of_whole}
 use Rattle.st_leaves.specs.Limits.{has_long_path, is_too_large, sizes_of}
 use Rattle.st_leaves.specs.Programs.{leaf_at, leaves_from, program_leaves}
 use Rattle.st_leaves.specs.Sound.{IsSound}
+use Rattle.st_chart_parts.proofs.Units.{same_unit}
 use Rattle.st_check.specs.Laws.{CheckedHasSoundLeaves}
 use Rattle.st_check.specs.Programs.{IsChecked, ProgramView, leaves_of_program, main_of, optional_leaves, text_of}
 use Rattle.st_listing.specs.Listings.{AreWays, ListingView, leaves_behind, listed}
@@ -54,15 +55,6 @@ found_below units i u found = by (nat_lt i (length units)) refl where
   by : (b : Bool) → b ≡ nat_lt i (length units) → i < length units
   by true is = grind (arith, nat_tests)
   by false is = absurd (let none = unit_at-past units i (grind (arith, nat_tests)) in let both = sym found ∙ none in cc)
-
-pub the_unit : Named → Option Named → Named
-the_unit other None = other
-the_unit other (Some u) = u
-
--- two units that are found under one number are one
-pub same_unit : (a b : Named) → Some a ≡ Some b → a ≡ b
-unfolding the_unit
-same_unit a b is = ap (the_unit a) is
 
 -- what a walk lists where nothing was listed
 pub all_walked : (units : List Named) (main : ℕ) (u : Named) (read : NamedUnit) (name : List ℕ) (s t : ListingView) (items : List Leaf) → Some (named_by read) ≡ unit_at units main → unit_at units main ≡ Some u

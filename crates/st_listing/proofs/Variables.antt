@@ -1,15 +1,12 @@
 -- The variables of a program, listed one after the other, and then its chart.
 use Rattle.std.proofs.Common.{◌≡◌, ℕ, suc, ◌+◌, ◌<◌, ◌≤◌, Bool, false, List, [], ◌∷◌, ◌++◌, Some, Result, Ok, Err, OnOk, codes, drop, get_or, length, map, refl, ap, sym, ◌∙◌, subst, arith, length-append}
-use Rattle.std.proofs.lemmas.List.{drop_all, drop_more, length-map}
+use Rattle.std.proofs.lemmas.List.{drop_all, drop_more}
 use Rattle.std.proofs.lemmas.List.Elements.{All-cons, All-head, All-tail}
 use Rattle.st_values.specs.Words.{AreWordBytes}
 use Rattle.st_tree.specs.declared.tree.declaration.DeclaredType.TheVariants as declared_types
 use Rattle.st_tree.specs.declared.tree.declaration.VarKind.{VarKind}
 use Rattle.st_tree.specs.declared.tree.declaration.VarKind.TheVariants as var_kinds
-use Rattle.st_tree.specs.declared.tree.unit.ChartElement.{ChartElement}
 use Rattle.st_types.specs.Compositions.{Composition, composition_of, composition_within, is_constant}
-use Rattle.st_types.specs.Inside.{declared_by, named_by}
-use Rattle.st_types.specs.declared.unit.NamedUnit.{NamedUnit}
 use Rattle.st_types.specs.Names.{Declared, Declares, Named, chart_in, unit_at, variables_of}
 use Rattle.st_types.specs.Names as names
 use Rattle.st_types.specs.declared.base.Base.{Base}
@@ -17,13 +14,15 @@ use Rattle.st_leaves.specs.Charts.{stored_of}
 use Rattle.st_leaves.specs.LeavesIn.{LeafIn, as_input, leaves_of_whole, used_as, within}
 use Rattle.st_leaves.specs.LeavesIn as leaves
 use Rattle.st_leaves.specs.Paths.{HasWords, field}
-use Rattle.st_scopes.specs.Declarations.{names_at, names_in}
+use Rattle.st_chart_parts.specs.Charts.{ChartView, leaves_of_parts, parts_of}
+use Rattle.st_chart_parts.proofs.UnitCharts.{leaves_are}
+use Rattle.st_chart_parts.proofs.Units.{names_of_unit, unit_item}
+use Rattle.st_scopes.specs.Declarations.{names_in}
 use Rattle.st_listing.specs.Kinds.{is_input}
 use Rattle.st_listing.specs.Listings.{AreWays, ListingView, as_inputs, inside, listed, outside}
-use Rattle.st_listing.specs.Walks.{ListsTheSame, declared_leaves, variable_leaves}
+use Rattle.st_listing.specs.Walks.{AreRows, declared_leaves, variable_leaves}
 use Rattle.st_listing.proofs.Listings.{length_listed, length_used, length_within, listed_inputs, listed_twice, listed_within, ways_append, ways_none, ways_within}
-use Rattle.st_listing.proofs.ProgramLeaves.{same_unit}
-use Rattle.st_listing.proofs.Walks.{names_of_unit, other_variable, variables_more, with_chart}
+use Rattle.st_listing.proofs.Walks.{other_variable, rows_at, variables_more, with_chart}
 
 abbrev pub program : List ℕ
 program = codes "PROGRAM"
@@ -94,15 +93,17 @@ all_ways left whole none each = each (subst AreWays (sym none) ways_none)
 
 -- ---- the program
 
-pub program_split : (units : List Named) (depth i : ℕ) (u : Named) (vs : List Declared) (stored : List (List ℕ)) (elements : List ChartElement) → unit_at units i ≡ Some u → depth ≡ length units + 1 → ListsTheSame units vs (names_at units i)
-    → stored ≡ stored_of u.declares → elements ≡ chart_in u.declares → leaves_of_whole (composition_of units u.declares) ≡ variable_leaves units depth program vs ++ leaves.chart_in program stored elements
+pub program_split : (units : List Named) (rows : List (List Declared)) (charts : List ChartView) (depth i : ℕ) (u : Named) (vs other : List Declared) (chart c : ChartView) → i < length units → unit_at units i ≡ Some u
+    → AreRows units rows → charts ≡ map (λ u. parts_of u.declares) units → depth ≡ length units + 1 → vs ≡ get_or rows i other → chart ≡ get_or charts i c
+    → leaves_of_whole (composition_of units u.declares) ≡ variable_leaves units depth program vs ++ leaves_of_parts program chart
 unfolding composition_of
-program_split units depth i u vs stored elements at deep same stored_are elements_are =
+program_split units rows charts depth i u vs other chart c below at rows_are charts_are deep vs_at chart_at =
+    let same = rows_at units rows i vs other rows_are below vs_at in
+    let parts = chart_at ∙ unit_item (λ u. parts_of u.declares) units charts i u c at charts_are in
     by u.declares ∙ ap (λ n. variable_leaves units n program (names_in u.declares) ++ leaves.chart_in program (stored_of u.declares) (chart_in u.declares)) (omega (arith, deep))
     ∙ ap (λ ds. variable_leaves units depth program ds ++ leaves.chart_in program (stored_of u.declares) (chart_in u.declares)) (sym (names_of_unit units i u at))
     ∙ ap (λ ls. ls ++ leaves.chart_in program (stored_of u.declares) (chart_in u.declares)) (sym (same.variables depth program (omega (arith, deep))))
-    ∙ ap (λ ns. variable_leaves units depth program vs ++ leaves.chart_in program ns (chart_in u.declares)) (sym stored_are)
-    ∙ ap (λ es. variable_leaves units depth program vs ++ leaves.chart_in program stored es) (sym elements_are) where
+    ∙ ap (λ ls. variable_leaves units depth program vs ++ ls) (leaves_are program (stored_of u.declares) (chart_in u.declares) ∙ ap (leaves_of_parts program) (sym parts)) where
       inside : Base → Composition
       inside = composition_within units (suc (length units))
 
@@ -112,13 +113,6 @@ program_split units depth i u vs stored elements at deep same stored_are element
       by (names.function f) = refl
       by (names.block b) = with_chart units inside program (variable_leaves units (suc (length units)) program (variables_of b.variables)) (names.block b)
       by (names.program p) = with_chart units inside program (variable_leaves units (suc (length units)) program (variables_of p.variables)) (names.program p)
-
-pub program_parts : (units : List Named) (rows : List NamedUnit) (i : ℕ) (read : NamedUnit) (u : Named) (vs : List Declared) (stored : List (List ℕ)) (elements : List ChartElement) → map named_by rows ≡ units
-    → Some (named_by read) ≡ unit_at units i → unit_at units i ≡ Some u → ListsTheSame units vs (names_at units i) → stored ≡ stored_of u.declares → elements ≡ chart_in (declared_by read.kind)
-    → leaves_of_whole (composition_of units u.declares) ≡ variable_leaves units (length rows + 1) program vs ++ leaves.chart_in program stored elements
-program_parts units rows i read u vs stored elements are read_at at same stored_are elements_are =
-    program_split units (length rows + 1) i u vs stored elements at (ap (λ n. n + 1) (sym (length-map rows named_by) ∙ ap length are)) same stored_are
-    (elements_are ∙ ap (λ (v : Named). chart_in v.declares) (same_unit (named_by read) u (read_at ∙ at)))
 
 pub first_room : (s : ListingView) (a b whole : List LeafIn) → whole ≡ a ++ b → length s.leaves + length whole ≤ 65536 → length s.leaves + length a ≤ 65536
 first_room s a b whole split room = let parts = ap length split ∙ length-append a b in omega (arith, parts, room)

@@ -1,6 +1,5 @@
 -- What a walk lists, part by part.
 use Rattle.std.proofs.Common.{◌⊎◌, inl, inr, ◌≡◌, ◌≢◌, ◌≤◌, ◌<◌, ◌+◌, ◌-◌, ℕ, zero, suc, ℤ, Bool, true, false, List, [], ◌∷◌, ◌++◌, Option, Some, None, map, codes, drop, get_or, length, if◌then◌else◌, refl, ap, sym, ◌∙◌, append-nil, length-append, subst, arith, take, slice_set}
-use Rattle.std.specs.Option.{option_map, option_map_or}
 use Rattle.std.specs.Prelude.{slice_index_or}
 use Rattle.std.proofs.lemmas.List.{get_or_default, drop_all, drop_more, length-drop, length-map, take-append-drop, take_all}
 use Rattle.st_values.specs.declared.elem.Elem.TheVariants as elems
@@ -25,12 +24,14 @@ use Rattle.st_types.specs.declared.base.Base.TheVariants as bases
 use Rattle.st_types.specs.declared.standard.StandardBlock.{StandardBlock}
 use Rattle.st_tree.specs.declared.tree.declaration.Specification.{Specification}
 use Rattle.st_tree.specs.declared.tree.declaration.Specification.TheVariants as specifications
-use Rattle.st_tree.specs.declared.tree.unit.ChartElement.{ChartElement}
 use Rattle.st_types.specs.declared.base.Base.{Base}
 use Rattle.st_leaves.specs.Charts.{stored_by, stored_of}
 use Rattle.st_leaves.specs.LeavesIn.{LeafIn, block_leaves, elements_in, first_written, leaves_in, member_names, members_in, plain, starting, subscript_lists, used_as, variables_in, within}
 use Rattle.st_leaves.specs.LeavesIn as leaves
 use Rattle.st_leaves.specs.Paths.{field, index, selector_text}
+use Rattle.st_chart_parts.specs.Charts.{ChartView, leaves_of_parts, parts_of}
+use Rattle.st_chart_parts.proofs.UnitCharts.{leaves_are}
+use Rattle.st_chart_parts.proofs.Units.{names_of_unit, there, unit_item}
 use Rattle.st_initials.specs.Lists.{values_of}
 use Rattle.st_scopes.specs.Declarations.{names_at, names_in}
 use Rattle.st_leaves.proofs.Spellings.{variables_are_members}
@@ -290,45 +291,25 @@ unit_none units depth i above = ap (λ u. leaves_in (optional_composition units 
   none (u ∷ us) zero above = absurd (omega (arith, above))
   none (u ∷ us) (suc n) above = none us n (omega (arith, above))
 
--- the name of a unit, in a list of all
-pub unit_name : (units : List Named) (all : List (List ℕ)) (i : ℕ) (u : Named) (d : List ℕ) → unit_at units i ≡ Some u → all ≡ map (λ u. raised u.name.spelling) units → get_or all i d ≡ raised u.name.spelling
-unit_name units all i u d at are = ap (λ ns. get_or ns i d) are ∙ by units i at where
-  by : (us : List Named) (n : ℕ) → unit_at us n ≡ Some u → get_or (map (λ u. raised u.name.spelling) us) n d ≡ raised u.name.spelling
-  by [] n at = absurd (cc)
-  by (v ∷ us) zero at = let same = some_is v u at in ap (λ u. raised u.name.spelling) same where
-    some_is : (v u : Named) → Some v ≡ Some u → v ≡ u
-    some_is v u h = cc
-  by (v ∷ us) (suc n) at = by us n at
-
-pub names_of_unit : (units : List Named) (i : ℕ) (u : Named) → unit_at units i ≡ Some u → names_at units i ≡ names_in u.declares
-names_of_unit units i u at = ap (λ o. option_map_or names_in (option_map (λ u. u.declares) o) []) at
-
--- what stands for a unit, in a list for all units
-pub unit_read : {X Y : Type 0} (f : X → Y) (g : Named → Y) (units : List Named) (all : List X) (i : ℕ) (u : Named) (d : X) → unit_at units i ≡ Some u → map f all ≡ map g units → f (get_or all i d) ≡ g u
-unit_read f g [] all i u d at are = absurd (cc)
-unit_read f g (v ∷ us) [] i u d at are = absurd (cc)
-unit_read f g (v ∷ us) (x ∷ xs) zero u d at are =
-    let here : f x ≡ g v = cc in
-    let same : v ≡ u = cc in
-    here ∙ ap g same
-unit_read f g (v ∷ us) (x ∷ xs) (suc n) u d at are =
-    let rest : map f xs ≡ map g us = cc in
-    unit_read f g us xs n u d at rest
-
-pub unit_split : (units : List Named) (depth i : ℕ) (u : Named) (name : List ℕ) (vs : List Declared) (stored : List (List ℕ)) (elements : List ChartElement) → unit_at units i ≡ Some u → name ≡ raised u.name.spelling
-    → ListsTheSame units vs (names_at units i) → depth ≤ suc (length units) → stored ≡ stored_of u.declares → elements ≡ chart_in u.declares
-    → unit_leaves units depth i ≡ member_leaves units depth name vs ++ leaves.chart_in name stored elements
-unit_split units depth i u name vs stored elements at named same within stored_are elements_are =
-    ap (λ o. leaves_in (optional_composition units (composition_within units depth) o)) at ∙ unit_has units (composition_within units depth) u
-    ∙ ap (λ n. member_leaves units depth n (names_in u.declares) ++ leaves.chart_in n (stored_of u.declares) (chart_in u.declares)) (sym named)
-    ∙ ap (λ ds. member_leaves units depth name ds ++ leaves.chart_in name (stored_of u.declares) (chart_in u.declares)) (sym (names_of_unit units i u at))
-    ∙ ap (λ ls. ls ++ leaves.chart_in name (stored_of u.declares) (chart_in u.declares)) (sym (same.members depth name within))
-    ∙ ap (λ ns. member_leaves units depth name vs ++ leaves.chart_in name ns (chart_in u.declares)) (sym stored_are)
-    ∙ ap (λ es. member_leaves units depth name vs ++ leaves.chart_in name stored es) (sym elements_are)
-
 -- the names of a unit that are listed, in the table of all
 pub rows_at : (units : List Named) (rows : List (List Declared)) (i : ℕ) (vs other : List Declared) → AreRows units rows → i < length units → vs ≡ get_or rows i other → ListsTheSame units vs (names_at units i)
 rows_at units rows i vs other are below at = subst (λ ds. ListsTheSame units ds (names_at units i)) (sym (at ∙ get_or_default rows i other [] (omega (arith, below, are.len)))) (are.each i below)
+
+-- a unit's leaves, by what the tables have of it
+pub unit_split : (units : List Named) (names : List (List ℕ)) (rows : List (List Declared)) (charts : List ChartView) (depth i : ℕ) (name n : List ℕ) (vs other : List Declared) (chart c : ChartView) → i < length units
+    → names ≡ map (λ u. raised u.name.spelling) units → AreRows units rows → charts ≡ map (λ u. parts_of u.declares) units → depth ≤ suc (length units) → name ≡ get_or names i n → vs ≡ get_or rows i other → chart ≡ get_or charts i c
+    → unit_leaves units depth i ≡ member_leaves units depth name vs ++ leaves_of_parts name chart
+unit_split units names rows charts depth i name n vs other chart c below names_are rows_are charts_are within name_at vs_at chart_at =
+    let found = there units i below in
+    let u = found.0 in
+    let named = name_at ∙ unit_item (λ u. raised u.name.spelling) units names i u n found.1 names_are in
+    let same = rows_at units rows i vs other rows_are below vs_at in
+    let parts = chart_at ∙ unit_item (λ u. parts_of u.declares) units charts i u c found.1 charts_are in
+    ap (λ o. leaves_in (optional_composition units (composition_within units depth) o)) found.1 ∙ unit_has units (composition_within units depth) u
+    ∙ ap (λ n. member_leaves units depth n (names_in u.declares) ++ leaves.chart_in n (stored_of u.declares) (chart_in u.declares)) (sym named)
+    ∙ ap (λ ds. member_leaves units depth name ds ++ leaves.chart_in name (stored_of u.declares) (chart_in u.declares)) (sym (names_of_unit units i u found.1))
+    ∙ ap (λ ls. ls ++ leaves.chart_in name (stored_of u.declares) (chart_in u.declares)) (sym (same.members depth name within))
+    ∙ ap (λ ls. member_leaves units depth name vs ++ ls) (leaves_are name (stored_of u.declares) (chart_in u.declares) ∙ ap (leaves_of_parts name) (sym parts))
 
 pub members_left : (units : List Named) (depth : ℕ) (of : List ℕ) (vs : List Declared) (i : ℕ) (v : Declared) → i < length vs → get_or vs i v ≡ v
     → member_leaves units depth of (drop i vs) ≡ member_leaves units depth of (v ∷ []) ++ member_leaves units depth of (drop (i + 1) vs)

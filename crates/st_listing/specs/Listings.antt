@@ -1,12 +1,8 @@
 -- The leaves of a program, one put behind the other.
-use Rattle.std.specs.Borrow.{Bor}
-use Rattle.std.specs.Prelude.{ℕ, suc, Bool, true, false, List, [], ◌∷◌, ◌++◌, length, map, take, ◌-◌}
-use Rattle.std.specs.List.{All, flat_map}
+use Rattle.std.specs.Prelude.{ℕ, suc, Bool, true, false, List, [], ◌∷◌, ◌++◌, length, take, ◌-◌}
+use Rattle.std.specs.List.{All}
 use Rattle.st_values.specs.Words.{raised}
 use Rattle.st_tree.specs.declared.leaf.Leaf.{Leaf}
-use Rattle.st_tree.specs.declared.tree.unit.Association.{Association}
-use Rattle.st_tree.specs.declared.tree.unit.ChartElement.{ChartElement}
-use Rattle.st_types.specs.Names.{steps_in}
 use Rattle.st_leaves.specs.LeavesIn.{LeafIn, Use, as_input}
 use Rattle.st_leaves.specs.Paths.{HasWords, Selector, path_text, selector_text}
 use Rattle.st_leaves.specs.Programs.{role_at}
@@ -60,11 +56,3 @@ as_inputs s is_input = record { leaves = s.leaves; text = s.text; spine = s.spin
 -- all names on the ways to these leaves are words
 abbrev pub AreWays : List LeafIn → Type 0
 AreWays leaves = All (λ l. HasWords l.path) leaves
-
--- the names that these words are
-abbrev pub spelled : List (Bor (List ℕ)) → List (List ℕ)
-spelled words = map (λ word. word.now) words
-
--- what the steps of a chart are associated with
-abbrev pub associations_in : List ChartElement → List Association
-associations_in elements = flat_map (λ s. s.associations) (flat_map steps_in elements)

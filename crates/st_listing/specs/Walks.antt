@@ -14,12 +14,11 @@ use Rattle.st_types.specs.Initials.{unit_element_initial, value_written, zero_of
 use Rattle.st_types.specs.Compositions.{elements_composition}
 use Rattle.st_types.specs.Types.{elements_in, type_at}
 use Rattle.st_types.specs.declared.base.Base.TheVariants as bases
-use Rattle.st_leaves.specs.Charts.{stored_of}
 use Rattle.st_leaves.specs.LeavesIn.{LeafIn, leaves_in, members_in, variables_in}
+use Rattle.st_chart_parts.specs.Charts.{parts_of}
 use Rattle.st_initials.specs.Tables.{AreInitials}
 use Rattle.st_program_sizes.specs.Sized.{IsSized}
 use Rattle.st_scopes.specs.Declarations.{names_at}
-use Rattle.st_listing.specs.Listings.{spelled}
 use Rattle.st_listing.specs.declared.rows.Sieve.{Sieve}
 use Rattle.st_listing.specs.declared.walk.Part.{Part}
 use Rattle.st_listing.specs.declared.walk.Walk.{Walk}
@@ -80,10 +79,10 @@ IsSieve sieve = (i : ℕ) → IsSized (units_of sieve.tables.now) sieve.sizes.no
 abbrev pub units_in : Walk → List Named
 units_in walk = units_of walk.tables.now
 
--- the tables have the initial values of the text, the names of its units in upper case, the declared names that are listed, and the names
--- that the charts store
+-- the tables have the initial values of the text, the names of its units in upper case, the declared names that are listed, and the parts
+-- of the charts
 pub record IsWalk (walk : Walk) : Type 0 where
   pub initials : AreInitials (units_in walk) walk.initials.now
   pub names : walk.names.now ≡ map (λ u. raised u.name.spelling) (units_in walk)
   pub rows : AreRows (units_in walk) walk.rows.now
-  pub stored : map (λ names. spelled names.items) walk.stored.now ≡ map (λ u. stored_of u.declares) (units_in walk)
+  pub charts : walk.charts.now ≡ map (λ u. parts_of u.declares) (units_in walk)

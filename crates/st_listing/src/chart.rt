@@ -1,59 +1,53 @@
 //! The leaves of charts (2.6).
 ghost use Rattle.std.specs.List.{flat_map};
-ghost use Rattle.std.specs.Prelude.{◌≡◌, ◌+◌, ◌≤◌, ◌++◌, [], ◌∷◌, OnOk, length};
-ghost use Rattle.st_types.specs.Names.{steps_in};
-ghost use Rattle.st_leaves.specs.LeavesIn.{all_steps_in, chart_in, state_in, step_in, stored_in};
-ghost use Rattle.st_listing.specs.Listings.{AreWays, listed, spelled};
+ghost use Rattle.std.specs.Prelude.{◌≡◌, ◌+◌, ◌≤◌, OnOk, length};
+ghost use Rattle.st_chart_parts.specs.Charts.{leaves_of_parts, spelled};
+ghost use Rattle.st_leaves.specs.LeavesIn.{all_steps_in, state_in, step_in, stored_in};
+ghost use Rattle.st_listing.specs.Listings.{AreWays, listed};
 
 use crate::leaf_use::LeafUse;
 use crate::listing::Listing;
 use crate::values::{truth, zero_of};
-use st_leaves::has_pulse;
+use st_chart_parts::{ChartParts, StepPart};
 use st_tree::Word;
-use st_tree::tree::{ChartElement, Step};
 use st_values::Elem;
 use std::alloc::{AllocError, Global};
 
 impl<'a> Listing<'a> {
-    /// Lists the chart of a unit of that name, which stores these names: whether it has begun, its steps, and the names. Without
-    /// elements there is no chart.
+    /// Lists the chart of a unit of that name, if it has one: whether it has begun, its steps, and the names that it stores.
     pub fn list_chart(
         &mut self,
         alloc: Global,
         of: &'a [u8],
-        elements: &[ChartElement],
-        stored: &[&Word],
+        chart: &ChartParts<'_>,
     ) -> Result<(), AllocError>
-        requires room { length self.old.leaves + length (chart_in of.now (spelled stored.now) elements.now) ≤ 65536 }
-        ensures listed { OnOk result (self.new ≡ listed self.old (chart_in of.now (spelled stored.now) elements.now)) }
-        ensures ways { OnOk result (AreWays (chart_in of.now (spelled stored.now) elements.now)) }
+        requires room { length self.old.leaves + length (leaves_of_parts of.now chart.now) ≤ 65536 }
+        ensures listed { OnOk result (self.new ≡ listed self.old (leaves_of_parts of.now chart.now)) }
+        ensures ways { OnOk result (AreWays (leaves_of_parts of.now chart.now)) }
     {
-        if elements.is_empty() {
+        if !chart.is_there() {
             return Ok(());
         }
         self.put_kept(alloc, b"CHART", of, truth(false), LeafUse::Begun)?;
-        self.list_steps(alloc, of, elements)?;
-        self.list_stored(alloc, of, stored)?;
+        self.list_steps(alloc, of, chart.steps())?;
+        self.list_stored(alloc, of, chart.stored())?;
         Ok(())
     }
 
-    /// Lists the steps among these elements. The leaf before the first tells whether the chart has begun.
+    /// Lists these steps. The leaf before the first tells whether the chart has begun.
     fn list_steps(
         &mut self,
         alloc: Global,
         of: &'a [u8],
-        elements: &[ChartElement],
+        steps: &[StepPart<'_>],
     ) -> Result<(), AllocError>
-        requires room { length self.old.leaves + length (all_steps_in of.now 1 (flat_map steps_in elements.now)) ≤ 65536 }
+        requires room { length self.old.leaves + length (all_steps_in of.now 1 steps.now) ≤ 65536 }
         requires begun { 1 ≤ length self.old.leaves }
-        ensures listed { OnOk result (self.new ≡ listed self.old (all_steps_in of.now 1 (flat_map steps_in elements.now))) }
-        ensures ways { OnOk result (AreWays (all_steps_in of.now 1 (flat_map steps_in elements.now))) }
+        ensures listed { OnOk result (self.new ≡ listed self.old (all_steps_in of.now 1 steps.now)) }
+        ensures ways { OnOk result (AreWays (all_steps_in of.now 1 steps.now)) }
     {
         let first = self.count();
-        'elements: for element in elements {
-            let ChartElement::Step(step) = element else {
-                continue;
-            };
+        'steps: for step in steps {
             let back = (self.count() - first + 1) as u32;
             self.list_step(alloc, of, back, step)?;
         }
@@ -66,17 +60,16 @@ impl<'a> Listing<'a> {
         alloc: Global,
         of: &'a [u8],
         back: u32,
-        step: &Step,
+        step: &StepPart<'_>,
     ) -> Result<(), AllocError>
         requires room { length self.old.leaves + length (step_in of.now back step.now) ≤ 65536 }
         requires back { back ≤ length self.old.leaves }
         ensures listed { OnOk result (self.new ≡ listed self.old (step_in of.now back step.now)) }
         ensures ways { OnOk result (AreWays (step_in of.now back step.now)) }
     {
-        let has_pulse = has_pulse(step.associations.as_slice());
         let mark = self.mark();
-        self.enter(step.name.spelling.letters(), of)?;
-        self.list_state(alloc, back, step.is_initial, has_pulse)?;
+        self.enter(step.name().letters(), of)?;
+        self.list_state(alloc, back, step.is_initial(), step.has_pulse())?;
         self.leave(mark);
         Ok(())
     }

@@ -15,8 +15,8 @@ ghost use Rattle.st_values.specs.Words.{raised};
 
 use crate::listing::{Listing, upper_case};
 use crate::rows::rows_of;
-use crate::stored::names_stored;
 use crate::walk::Walk;
+use st_chart_parts::chart_parts;
 use st_check::{Program, checked_program_has_sound_leaves};
 use st_initials::{Initials, types_written};
 use st_leaves::leaves_follow_the_composition;
@@ -55,14 +55,14 @@ fn main_leaves(
     let sizes = type_sizes(alloc, tables, order)?;
     let names = upper_names(alloc, tables.units())?;
     let rows = rows_of(alloc, tables, sizes.as_slice())?;
-    let stored = names_stored(alloc, tables)?;
+    let charts = chart_parts(alloc, tables)?;
     let walk = Walk {
         alloc,
         tables,
         initials: &initials,
         names: names.as_slice(),
         rows: rows.as_slice(),
-        stored: stored.as_slice(),
+        charts: charts.as_slice(),
     };
     walked_leaves(walk, main)
 }

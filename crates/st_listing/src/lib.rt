@@ -9,8 +9,6 @@ mod leaves;
 mod listing;
 mod program;
 mod rows;
-mod spellings;
-mod stored;
 mod subscripts;
 mod values;
 mod walk;

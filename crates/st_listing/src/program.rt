@@ -9,7 +9,7 @@ ghost use Rattle.st_types.specs.Names.{Named, unit_at};
 
 use crate::listing::Listing;
 use crate::rows::Row;
-use crate::walk::{Walk, chart_of};
+use crate::walk::Walk;
 use st_tree::tree::VarKind;
 use std::alloc::AllocError;
 
@@ -23,12 +23,9 @@ impl<'a, 't> Walk<'a, 't> {
         ensures listed { (u : Named) → unit_at (units_in self.entry) unit ≡ Some u → OnOk result (listing.new ≡ listed listing.old (leaves_of_whole (composition_of (units_in self.entry) u.declares))) }
         ensures ways { (u : Named) → unit_at (units_in self.entry) unit ≡ Some u → OnOk result (AreWays (leaves_of_whole (composition_of (units_in self.entry) u.declares))) }
     {
-        let program = self.tables.unit(unit);
-        let elements = chart_of(program.kind);
-        let stored = self.stored[unit].as_slice();
-        let depth = self.tables.units().len() + 1;
+        let depth = self.tables.len() + 1;
         self.list_variables(depth, self.rows[unit].as_slice(), listing)?;
-        listing.list_chart(self.alloc, b"PROGRAM", elements, stored)
+        listing.list_chart(self.alloc, b"PROGRAM", &self.charts[unit])
     }
 
     /// Lists variables of the program, in order.

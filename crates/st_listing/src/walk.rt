@@ -10,19 +10,18 @@ ghost use Rattle.st_leaves.specs.LeavesIn.{elements_in, starting, subscript_list
 ghost use Rattle.st_leaves.specs.Paths.{index, selector_text};
 ghost use Rattle.st_listing.specs.Listings.{AreWays, listed};
 ghost use Rattle.st_listing.specs.Walks.{IsWalk, array_leaves, declared_leaves, member_leaves, part_leaves, unit_leaves, units_in};
-ghost use Rattle.st_types.specs.Inside.{declared_by};
-ghost use Rattle.st_types.specs.Names.{chart_in};
 
 use crate::leaf_use::LeafUse;
 use crate::listing::Listing;
 use crate::rows::Row;
 use crate::subscripts::Subscripts;
 use crate::values::started_value;
+use st_chart_parts::ChartParts;
 use st_initials::{FirstValues, Initials, Written};
 use st_scopes::Tables;
-use st_tree::tree::{Body, ChartElement, Constant, Subrange};
-use st_tree::{List, Word};
-use st_types::{Base, UnitKind};
+use st_tree::List;
+use st_tree::tree::{Constant, Subrange};
+use st_types::Base;
 use std::alloc::{AllocError, Global};
 
 /// What has a base, and begins so.
@@ -45,8 +44,8 @@ pub(crate) struct Walk<'a, 't> {
     pub names: &'t [List<u8>],
     /// The declared names that are listed, by the numbers of the units.
     pub rows: &'t [List<Row<'a>>],
-    /// The names that the charts of the units store.
-    pub stored: &'t [Vec<&'a Word>],
+    /// The parts of the charts of the units that have leaves.
+    pub charts: &'t [ChartParts<'a>],
 }
 
 impl<'a, 't> Walk<'a, 't> {
@@ -170,10 +169,8 @@ impl<'a, 't> Walk<'a, 't> {
             return Ok(());
         }
         let name = self.names[unit].as_slice();
-        let stored = self.stored[unit].as_slice();
-        let elements = chart_of(self.tables.unit(unit).kind);
         self.list_members(depth, name, self.rows[unit].as_slice(), listing)?;
-        listing.list_chart(self.alloc, name, elements, stored)
+        listing.list_chart(self.alloc, name, &self.charts[unit])
     }
 
     /// Lists members of a whole of that name, in order.
@@ -251,18 +248,5 @@ impl<'a, 't> Walk<'a, 't> {
             initial: self.initials.of_elements(self.tables, specification),
         };
         self.list_elements(ranges, FirstValues::of(initial), element, listing)
-    }
-}
-
-/// The chart of a unit. A unit without one has no elements.
-pub(crate) fn chart_of<'a>(unit: UnitKind<'a>) -> &'a [ChartElement]
-    ensures { result.now ≡ chart_in (declared_by unit.entry) }
-{
-    let (UnitKind::Block(pou) | UnitKind::Program(pou)) = unit else {
-        return &[];
-    };
-    match &pou.body {
-        Body::Statements(_) => &[],
-        Body::Chart(elements) => elements.as_slice(),
     }
 }

@@ -4,7 +4,6 @@ use Rattle.st_sizes.specs.declared.size.Size.{Size}
 use Rattle.st_types.specs.Names.{units_of}
 use Rattle.st_types.specs.Types.{type_at}
 use Rattle.st_values.specs.Words.{raised}
-use Rattle.st_listing.specs.Listings.{spelled}
 use Rattle.st_listing.specs.Walks.{AreRows}
 use Rattle.st_listing.proofs.leaves.main_leaves.Goals as goal
 
@@ -16,5 +15,5 @@ walked_leaves-requires-clause-walk c = record {
   initials = c.in_ok-initials.ensures;
   names = c.as_slice-2.ensures.value ∙ c.in_ok-names.ensures ∙ ap (map (λ u. raised u.name.spelling)) c.units.ensures;
   rows = subst (AreRows (units_of c.args.tables.now)) (sym c.as_slice-3.ensures.value) c.in_ok-rows.ensures;
-  stored = ap (map (λ names. spelled names.items)) c.as_slice-4.ensures.value ∙ c.in_ok-stored.ensures;
+  charts = c.as_slice-4.ensures.value ∙ c.in_ok-charts.ensures;
 }

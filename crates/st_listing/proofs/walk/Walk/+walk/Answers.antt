@@ -1,15 +1,15 @@
-use Rattle.std.proofs.Common.{rules, ◌+◌, ◌-◌, [], ◌∷◌, ap, arith, drop, length, refl, subst, sym, ◌∙◌}
+use Rattle.std.proofs.Common.{rules, ◌+◌, ◌-◌, [], ◌∷◌, ap, arith, drop, get_or, length, refl, subst, sym, ◌∙◌}
 use Rattle.std.specs.Option.{option_copied}
 use Rattle.std.proofs.lemmas.Result.{on_ok_weaker}
-use Rattle.st_leaves.specs.Charts.{stored_of}
-use Rattle.st_leaves.specs.LeavesIn.{chart_in, elements_in, plain, subscript_lists}
-use Rattle.st_listing.specs.Listings.{AreWays, listed, outside, spelled}
+use Rattle.st_chart_parts.specs.Charts.{leaves_of_parts}
+use Rattle.st_leaves.specs.LeavesIn.{elements_in, plain, subscript_lists}
+use Rattle.st_listing.specs.Listings.{AreWays, listed, outside}
 use Rattle.st_listing.specs.Walks.{declared_leaves, member_leaves, part_leaves, started_value, unit_leaves, units_in}
-use Rattle.st_types.specs.Inside.{named_by}
 use Rattle.st_types.specs.Types.{shape_of}
 use Rattle.st_types.specs.declared.base.Base.TheVariants as bases
+use Rattle.st_listing.proofs.ChartListings.{no_chart}
 use Rattle.st_listing.proofs.Listings.{listed_more, ways_by, ways_more}
-use Rattle.st_listing.proofs.Walks.{declared_part_of, element_listed, elementary_listed, elements_within, first_room, left_more, left_room, left_ways, member_listed, member_ways, members_left, next_element, next_element_room, next_element_ways, no_depth, nothing_listed, nothing_ways, part_array, part_elementary, part_of, part_standard, part_unit, part_unknown, room_of, rows_at, second_room, some_left, unit_name, unit_none, unit_read, unit_split}
+use Rattle.st_listing.proofs.Walks.{declared_part_of, element_listed, elementary_listed, elements_within, first_room, left_more, left_room, left_ways, member_listed, member_ways, members_left, next_element, next_element_room, next_element_ways, no_depth, nothing_listed, nothing_ways, part_array, part_elementary, part_of, part_standard, part_unit, part_unknown, room_of, second_room, some_left, unit_none, unit_split}
 use Rattle.st_listing.proofs.walk.Walk.+walk.Goals as goal
 
 pub list_array-of_array-requires-clause-unit : goal.list_array-of_array-requires-clause-unit
@@ -186,55 +186,36 @@ list_unit-returns-then-unit-len-clause-ways t c =
 pub list_unit-list_members-requires : goal.list_unit-list_members-requires
 list_unit-list_members-requires t c =
     let units = units_in c.args.self in
-    let u = named_by c.unit.result in
-    let named = c.as_slice-name.ensures ∙ unit_name units c.args.self.names.now c.args.unit u c.index-self-unit.result (sym c.unit.ensures) c.requires.walk.names in
-    let rows = rows_at units c.args.self.rows.now c.args.unit c.as_slice.result.now c.index-self-unit-3.result c.requires.walk.rows (omega (arith, c.len.ensures, c.if-unit-len.false)) c.as_slice.ensures in
-    let stored = ap spelled c.as_slice-stored.ensures.value
-    ∙ unit_read (λ names. spelled names.items) (λ u. stored_of u.declares) units c.args.self.stored.now c.args.unit u c.index-self-unit-2.result (sym c.unit.ensures) c.requires.walk.stored in
-    let split = unit_split units c.args.depth c.args.unit u c.as_slice-name.result.now c.as_slice.result.now (spelled c.as_slice-stored.result.now) c.chart_of-elements.result.now (sym c.unit.ensures) named rows c.requires.depth stored c.chart_of-elements.ensures in (
-      omega (arith, c.decreases),
-      (
-        c.requires.walk,
-        (c.requires.depth, first_room c.args.listing.now (member_leaves units c.args.depth c.as_slice-name.result.now c.as_slice.result.now) (chart_in c.as_slice-name.result.now (spelled c.as_slice-stored.result.now) c.chart_of-elements.result.now) _ split c.requires.room),
-      ),
-    )
+    let members = member_leaves units c.args.depth c.as_slice-name.result.now c.as_slice.result.now in
+    let chart = leaves_of_parts c.as_slice-name.result.now (get_or c.args.self.charts.now c.args.unit no_chart) in
+    let split = unit_split units c.args.self.names.now c.args.self.rows.now c.args.self.charts.now c.args.depth c.args.unit c.as_slice-name.result.now c.index-self-unit.result c.as_slice.result.now c.index-self-unit-2.result
+    (get_or c.args.self.charts.now c.args.unit no_chart) no_chart (omega (arith, c.len.ensures, c.if-unit-len.false)) c.requires.walk.names c.requires.walk.rows c.requires.walk.charts c.requires.depth c.as_slice-name.ensures c.as_slice.ensures refl in (omega (arith, c.decreases), (c.requires.walk, (c.requires.depth, first_room c.args.listing.now members chart _ split c.requires.room)))
 
 pub list_unit-list_chart-requires : goal.list_unit-list_chart-requires
 list_unit-list_chart-requires t c =
     let units = units_in c.args.self in
-    let u = named_by c.unit.result in
-    let named = c.as_slice-name.ensures ∙ unit_name units c.args.self.names.now c.args.unit u c.index-self-unit.result (sym c.unit.ensures) c.requires.walk.names in
-    let rows = rows_at units c.args.self.rows.now c.args.unit c.as_slice.result.now c.index-self-unit-3.result c.requires.walk.rows (omega (arith, c.len.ensures, c.if-unit-len.false)) c.as_slice.ensures in
-    let stored = ap spelled c.as_slice-stored.ensures.value
-    ∙ unit_read (λ names. spelled names.items) (λ u. stored_of u.declares) units c.args.self.stored.now c.args.unit u c.index-self-unit-2.result (sym c.unit.ensures) c.requires.walk.stored in
-    let split = unit_split units c.args.depth c.args.unit u c.as_slice-name.result.now c.as_slice.result.now (spelled c.as_slice-stored.result.now) c.chart_of-elements.result.now (sym c.unit.ensures) named rows c.requires.depth stored c.chart_of-elements.ensures in record {
-      room =
-          second_room c.args.listing.now c.list_members.new.listing (member_leaves units c.args.depth c.as_slice-name.result.now c.as_slice.result.now) (chart_in c.as_slice-name.result.now (spelled c.as_slice-stored.result.now) c.chart_of-elements.result.now) _ split
-          c.in_ok-list_members.ensures.listed c.requires.room;
-    }
+    let members = member_leaves units c.args.depth c.as_slice-name.result.now c.as_slice.result.now in
+    let parts = get_or c.args.self.charts.now c.args.unit c.index-self-unit-3.result in
+    let chart = leaves_of_parts c.as_slice-name.result.now parts in
+    let split = unit_split units c.args.self.names.now c.args.self.rows.now c.args.self.charts.now c.args.depth c.args.unit c.as_slice-name.result.now c.index-self-unit.result c.as_slice.result.now c.index-self-unit-2.result
+    parts c.index-self-unit-3.result (omega (arith, c.len.ensures, c.if-unit-len.false)) c.requires.walk.names c.requires.walk.rows c.requires.walk.charts c.requires.depth c.as_slice-name.ensures c.as_slice.ensures refl in record { room = second_room c.args.listing.now c.list_members.new.listing members chart _ split c.in_ok-list_members.ensures.listed c.requires.room }
 
 pub list_unit-returns-clause-listed : goal.list_unit-returns-clause-listed
 list_unit-returns-clause-listed t c =
     let units = units_in c.args.self in
-    let u = named_by c.unit.result in
-    let named = c.as_slice-name.ensures ∙ unit_name units c.args.self.names.now c.args.unit u c.index-self-unit.result (sym c.unit.ensures) c.requires.walk.names in
-    let rows = rows_at units c.args.self.rows.now c.args.unit c.as_slice.result.now c.index-self-unit-3.result c.requires.walk.rows (omega (arith, c.len.ensures, c.if-unit-len.false)) c.as_slice.ensures in
-    let stored = ap spelled c.as_slice-stored.ensures.value
-    ∙ unit_read (λ names. spelled names.items) (λ u. stored_of u.declares) units c.args.self.stored.now c.args.unit u c.index-self-unit-2.result (sym c.unit.ensures) c.requires.walk.stored in
-    let split = unit_split units c.args.depth c.args.unit u c.as_slice-name.result.now c.as_slice.result.now (spelled c.as_slice-stored.result.now) c.chart_of-elements.result.now (sym c.unit.ensures) named rows c.requires.depth stored c.chart_of-elements.ensures in
-    on_ok_weaker c.list_chart.result
-    (λ h. listed_more c.args.listing.now c.list_members.new.listing c.list_chart.new.self (member_leaves units c.args.depth c.as_slice-name.result.now c.as_slice.result.now)
-    (chart_in c.as_slice-name.result.now (spelled c.as_slice-stored.result.now) c.chart_of-elements.result.now) (unit_leaves units c.args.depth c.args.unit) split c.in_ok-list_members.ensures.listed h) c.list_chart.ensures.listed
+    let members = member_leaves units c.args.depth c.as_slice-name.result.now c.as_slice.result.now in
+    let parts = get_or c.args.self.charts.now c.args.unit c.index-self-unit-3.result in
+    let chart = leaves_of_parts c.as_slice-name.result.now parts in
+    let split = unit_split units c.args.self.names.now c.args.self.rows.now c.args.self.charts.now c.args.depth c.args.unit c.as_slice-name.result.now c.index-self-unit.result c.as_slice.result.now c.index-self-unit-2.result
+    parts c.index-self-unit-3.result (omega (arith, c.len.ensures, c.if-unit-len.false)) c.requires.walk.names c.requires.walk.rows c.requires.walk.charts c.requires.depth c.as_slice-name.ensures c.as_slice.ensures refl in
+    on_ok_weaker c.list_chart.result (λ h. listed_more c.args.listing.now c.list_members.new.listing c.list_chart.new.self members chart (unit_leaves units c.args.depth c.args.unit) split c.in_ok-list_members.ensures.listed h) c.list_chart.ensures.listed
 
 pub list_unit-returns-clause-ways : goal.list_unit-returns-clause-ways
 list_unit-returns-clause-ways t c =
     let units = units_in c.args.self in
-    let u = named_by c.unit.result in
-    let named = c.as_slice-name.ensures ∙ unit_name units c.args.self.names.now c.args.unit u c.index-self-unit.result (sym c.unit.ensures) c.requires.walk.names in
-    let rows = rows_at units c.args.self.rows.now c.args.unit c.as_slice.result.now c.index-self-unit-3.result c.requires.walk.rows (omega (arith, c.len.ensures, c.if-unit-len.false)) c.as_slice.ensures in
-    let stored = ap spelled c.as_slice-stored.ensures.value
-    ∙ unit_read (λ names. spelled names.items) (λ u. stored_of u.declares) units c.args.self.stored.now c.args.unit u c.index-self-unit-2.result (sym c.unit.ensures) c.requires.walk.stored in
-    let split = unit_split units c.args.depth c.args.unit u c.as_slice-name.result.now c.as_slice.result.now (spelled c.as_slice-stored.result.now) c.chart_of-elements.result.now (sym c.unit.ensures) named rows c.requires.depth stored c.chart_of-elements.ensures in
-    on_ok_weaker c.list_chart.result
-    (λ h. ways_more (member_leaves units c.args.depth c.as_slice-name.result.now c.as_slice.result.now) (chart_in c.as_slice-name.result.now (spelled c.as_slice-stored.result.now) c.chart_of-elements.result.now) (unit_leaves units c.args.depth c.args.unit) split
-    c.in_ok-list_members.ensures.ways h) c.list_chart.ensures.ways
+    let members = member_leaves units c.args.depth c.as_slice-name.result.now c.as_slice.result.now in
+    let parts = get_or c.args.self.charts.now c.args.unit c.index-self-unit-3.result in
+    let chart = leaves_of_parts c.as_slice-name.result.now parts in
+    let split = unit_split units c.args.self.names.now c.args.self.rows.now c.args.self.charts.now c.args.depth c.args.unit c.as_slice-name.result.now c.index-self-unit.result c.as_slice.result.now c.index-self-unit-2.result
+    parts c.index-self-unit-3.result (omega (arith, c.len.ensures, c.if-unit-len.false)) c.requires.walk.names c.requires.walk.rows c.requires.walk.charts c.requires.depth c.as_slice-name.ensures c.as_slice.ensures refl in
+    on_ok_weaker c.list_chart.result (λ h. ways_more members chart (unit_leaves units c.args.depth c.args.unit) split c.in_ok-list_members.ensures.ways h) c.list_chart.ensures.ways

@@ -1,0 +1,3 @@
+pub mod NamesStored
+pub mod UnitCharts
+pub mod Units

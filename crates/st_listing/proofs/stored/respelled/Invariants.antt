@@ -1,8 +1,0 @@
-use Rattle.std.proofs.Common.{◌≡◌, map, take}
-use Rattle.st_leaves.specs.Charts.{as_declared}
-use Rattle.st_listing.specs.Listings.{spelled}
-use Rattle.st_listing.proofs.stored.respelled.Given as goal
-
--- the names so far
-abbrev pub invariant-names : goal.invariant-names
-invariant-names l = spelled l.words.items ≡ map (as_declared l.declared) (spelled (take l.name-index l.names))

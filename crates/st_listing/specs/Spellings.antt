@@ -1,8 +1,0 @@
--- How names are declared, in code.
-use Rattle.std.specs.Prelude.{◌≡◌}
-use Rattle.st_listing.specs.Listings.{spelled}
-use Rattle.st_listing.specs.declared.spellings.Spellings.TheInside.{Inside}
-
--- the table has the names that these words are
-pub record AreSpellings (all : Inside) : Type 0 where
-  pub names : all.names ≡ spelled all.words.items
