@@ -4,6 +4,7 @@ pub mod Choices
 pub mod DeclaredNames
 pub mod Empties
 pub mod Listings
+pub mod MemberLists
 pub mod ProgramLeaves
 pub mod Variables
 pub mod Walks

@@ -1,6 +1,5 @@
 -- The variables of a program, listed one after the other, and then its chart.
 use Rattle.std.proofs.Common.{◌≡◌, ℕ, suc, ◌+◌, ◌<◌, ◌≤◌, Bool, false, List, [], ◌∷◌, ◌++◌, Some, Result, Ok, Err, OnOk, codes, drop, get_or, length, map, refl, ap, sym, ◌∙◌, subst, arith, length-append}
-use Rattle.std.proofs.lemmas.List.{drop_all, drop_more}
 use Rattle.std.proofs.lemmas.List.Elements.{All-cons, All-head, All-tail}
 use Rattle.st_values.specs.Words.{AreWordBytes}
 use Rattle.st_tree.specs.declared.tree.declaration.DeclaredType.TheVariants as declared_types
@@ -17,12 +16,14 @@ use Rattle.st_leaves.specs.Paths.{HasWords, field}
 use Rattle.st_chart_parts.specs.Charts.{ChartView, leaves_of_parts, parts_of}
 use Rattle.st_chart_parts.proofs.UnitCharts.{leaves_are}
 use Rattle.st_chart_parts.proofs.Units.{names_of_unit, unit_item}
-use Rattle.st_scopes.specs.Declarations.{names_in}
+use Rattle.st_scopes.specs.Declarations.{names_at, names_in}
 use Rattle.st_listing.specs.Kinds.{is_input}
 use Rattle.st_listing.specs.Listings.{AreWays, ListingView, as_inputs, inside, listed, outside}
-use Rattle.st_listing.specs.Walks.{AreRows, declared_leaves, variable_leaves}
+use Rattle.st_listing.specs.Members.{MemberView, declared_of}
+use Rattle.st_listing.specs.Walks.{ListsTheSame, declared_leaves, variable_leaves}
 use Rattle.st_listing.proofs.Listings.{length_listed, length_used, length_within, listed_inputs, listed_twice, listed_within, ways_append, ways_none, ways_within}
-use Rattle.st_listing.proofs.Walks.{other_variable, rows_at, variables_more, with_chart}
+use Rattle.st_listing.proofs.MemberLists.{drop_end, drop_one}
+use Rattle.st_listing.proofs.Walks.{other_variable, variables_more, with_chart}
 
 abbrev pub program : List ℕ
 program = codes "PROGRAM"
@@ -78,27 +79,23 @@ module _ (units : List Named) (depth : ℕ) (v : Declared) (other : is_constant 
 
 -- ---- one after the other
 
-drop_one : {X : Type 0} (xs : List X) (i : ℕ) (x : X) → i < length xs → get_or xs i x ≡ x → drop i xs ≡ x ∷ drop (i + 1) xs
-drop_one xs i x within at = drop_more xs i x within ∙ ap (λ y. y ∷ drop (i + 1) xs) at
+pub variables_left : (units : List Named) (depth : ℕ) (ms : List MemberView) (i : ℕ) (m : MemberView) → i < length ms → m ≡ get_or ms i m
+    → variable_leaves units depth program (declared_of (drop i ms)) ≡ variable_leaves units depth program (m.declared ∷ []) ++ variable_leaves units depth program (declared_of (drop (i + 1) ms))
+variables_left units depth ms i m within at = ap (variable_leaves units depth program) (drop_one ms i m within at) ∙ variables_more units depth program m.declared (declared_of (drop (i + 1) ms))
 
-pub variables_left : (units : List Named) (depth : ℕ) (vs : List Declared) (i : ℕ) (v : Declared) → i < length vs → v ≡ get_or vs i v
-    → variable_leaves units depth program (drop i vs) ≡ variable_leaves units depth program (v ∷ []) ++ variable_leaves units depth program (drop (i + 1) vs)
-variables_left units depth vs i v within at = ap (variable_leaves units depth program) (drop_one vs i v within (sym at)) ∙ variables_more units depth program v (drop (i + 1) vs)
-
-pub variables_end : (units : List Named) (depth : ℕ) (vs : List Declared) (i : ℕ) → length vs ≤ i → variable_leaves units depth program (drop i vs) ≡ []
-variables_end units depth vs i above = ap (variable_leaves units depth program) (drop_all i vs above)
+pub variables_end : (units : List Named) (depth : ℕ) (ms : List MemberView) (i : ℕ) → length ms ≤ i → variable_leaves units depth program (declared_of (drop i ms)) ≡ []
+variables_end units depth ms i above = ap (variable_leaves units depth program) (drop_end ms i above)
 
 pub all_ways : (left whole : List LeafIn) → left ≡ [] → (AreWays left → AreWays whole) → AreWays whole
 all_ways left whole none each = each (subst AreWays (sym none) ways_none)
 
 -- ---- the program
 
-pub program_split : (units : List Named) (rows : List (List Declared)) (charts : List ChartView) (depth i : ℕ) (u : Named) (vs other : List Declared) (chart c : ChartView) → i < length units → unit_at units i ≡ Some u
-    → AreRows units rows → charts ≡ map (λ u. parts_of u.declares) units → depth ≡ length units + 1 → vs ≡ get_or rows i other → chart ≡ get_or charts i c
+pub program_split : (units : List Named) (charts : List ChartView) (depth i : ℕ) (u : Named) (vs : List Declared) (chart c : ChartView) → unit_at units i ≡ Some u
+    → ListsTheSame units vs (names_at units i) → charts ≡ map (λ u. parts_of u.declares) units → depth ≡ length units + 1 → chart ≡ get_or charts i c
     → leaves_of_whole (composition_of units u.declares) ≡ variable_leaves units depth program vs ++ leaves_of_parts program chart
 unfolding composition_of
-program_split units rows charts depth i u vs other chart c below at rows_are charts_are deep vs_at chart_at =
-    let same = rows_at units rows i vs other rows_are below vs_at in
+program_split units charts depth i u vs chart c at same charts_are deep chart_at =
     let parts = chart_at ∙ unit_item (λ u. parts_of u.declares) units charts i u c at charts_are in
     by u.declares ∙ ap (λ n. variable_leaves units n program (names_in u.declares) ++ leaves.chart_in program (stored_of u.declares) (chart_in u.declares)) (omega (arith, deep))
     ∙ ap (λ ds. variable_leaves units depth program ds ++ leaves.chart_in program (stored_of u.declares) (chart_in u.declares)) (sym (names_of_unit units i u at))

@@ -1,7 +1,7 @@
 -- What a walk lists, part by part.
 use Rattle.std.proofs.Common.{◌⊎◌, inl, inr, ◌≡◌, ◌≢◌, ◌≤◌, ◌<◌, ◌+◌, ◌-◌, ℕ, zero, suc, ℤ, Bool, true, false, List, [], ◌∷◌, ◌++◌, Option, Some, None, map, codes, drop, get_or, length, if◌then◌else◌, refl, ap, sym, ◌∙◌, append-nil, length-append, subst, arith, take, slice_set}
 use Rattle.std.specs.Prelude.{slice_index_or}
-use Rattle.std.proofs.lemmas.List.{get_or_default, drop_all, drop_more, length-drop, length-map, take-append-drop, take_all}
+use Rattle.std.proofs.lemmas.List.{get_or_default, drop_all, length-drop, length-map, take-append-drop, take_all}
 use Rattle.st_values.specs.declared.elem.Elem.TheVariants as elems
 use Rattle.std.proofs.Math.Seq.{drop-append_seam}
 use Rattle.st_tree.specs.declared.leaf.Leaf.{Leaf}
@@ -296,25 +296,19 @@ pub rows_at : (units : List Named) (rows : List (List Declared)) (i : ℕ) (vs o
 rows_at units rows i vs other are below at = subst (λ ds. ListsTheSame units ds (names_at units i)) (sym (at ∙ get_or_default rows i other [] (omega (arith, below, are.len)))) (are.each i below)
 
 -- a unit's leaves, by what the tables have of it
-pub unit_split : (units : List Named) (names : List (List ℕ)) (rows : List (List Declared)) (charts : List ChartView) (depth i : ℕ) (name n : List ℕ) (vs other : List Declared) (chart c : ChartView) → i < length units
-    → names ≡ map (λ u. raised u.name.spelling) units → AreRows units rows → charts ≡ map (λ u. parts_of u.declares) units → depth ≤ suc (length units) → name ≡ get_or names i n → vs ≡ get_or rows i other → chart ≡ get_or charts i c
+pub unit_split : (units : List Named) (names : List (List ℕ)) (charts : List ChartView) (depth i : ℕ) (name n : List ℕ) (vs : List Declared) (chart c : ChartView) → i < length units
+    → names ≡ map (λ u. raised u.name.spelling) units → ListsTheSame units vs (names_at units i) → charts ≡ map (λ u. parts_of u.declares) units → depth ≤ suc (length units) → name ≡ get_or names i n → chart ≡ get_or charts i c
     → unit_leaves units depth i ≡ member_leaves units depth name vs ++ leaves_of_parts name chart
-unit_split units names rows charts depth i name n vs other chart c below names_are rows_are charts_are within name_at vs_at chart_at =
+unit_split units names charts depth i name n vs chart c below names_are same charts_are within name_at chart_at =
     let found = there units i below in
     let u = found.0 in
     let named = name_at ∙ unit_item (λ u. raised u.name.spelling) units names i u n found.1 names_are in
-    let same = rows_at units rows i vs other rows_are below vs_at in
     let parts = chart_at ∙ unit_item (λ u. parts_of u.declares) units charts i u c found.1 charts_are in
     ap (λ o. leaves_in (optional_composition units (composition_within units depth) o)) found.1 ∙ unit_has units (composition_within units depth) u
     ∙ ap (λ n. member_leaves units depth n (names_in u.declares) ++ leaves.chart_in n (stored_of u.declares) (chart_in u.declares)) (sym named)
     ∙ ap (λ ds. member_leaves units depth name ds ++ leaves.chart_in name (stored_of u.declares) (chart_in u.declares)) (sym (names_of_unit units i u found.1))
     ∙ ap (λ ls. ls ++ leaves.chart_in name (stored_of u.declares) (chart_in u.declares)) (sym (same.members depth name within))
     ∙ ap (λ ls. member_leaves units depth name vs ++ ls) (leaves_are name (stored_of u.declares) (chart_in u.declares) ∙ ap (leaves_of_parts name) (sym parts))
-
-pub members_left : (units : List Named) (depth : ℕ) (of : List ℕ) (vs : List Declared) (i : ℕ) (v : Declared) → i < length vs → get_or vs i v ≡ v
-    → member_leaves units depth of (drop i vs) ≡ member_leaves units depth of (v ∷ []) ++ member_leaves units depth of (drop (i + 1) vs)
-members_left units depth of vs i v within at =
-    ap (member_leaves units depth of) (drop_more vs i v within ∙ ap (λ x. x ∷ drop (i + 1) vs) at) ∙ members_more units depth of v (drop (i + 1) vs)
 
 -- a member's leaves are listed within it
 pub member_listed : (units : List Named) (depth : ℕ) (of name : List ℕ) (v : Declared) (s inner now outer : ListingView) → is_constant v.kind ≡ false → name ≡ v.name.spelling → inner ≡ inside s (field name) of
@@ -350,10 +344,10 @@ declared_part units depth v initial none initial_is = by v.specification none �
         still e = unknown_started units depth e
     of_array false none = absurd (cc)
 
-pub declared_part_of : (units : List Named) (depth : ℕ) (v : Declared) (initial : Option Initial) (shape : Shape) → shape ≡ shape_of units v.specification → shape.subscripts ≡ None → initial ≡ initial_of units v
-    → declared_leaves units depth v ≡ leaves_in (started initial (composition_within units depth shape.base))
-declared_part_of units depth v initial shape is none initial_is =
-    declared_part units depth v initial (ap (λ s. s.subscripts) (sym is) ∙ none) initial_is ∙ ap (λ s. leaves_in (started initial (composition_within units depth s.base))) (sym is)
+pub declared_part_of : (units : List Named) (depth : ℕ) (v : Declared) (initial : Option Initial) (shape : Shape) (base : Base) → shape ≡ shape_of units v.specification → shape.subscripts ≡ None → base ≡ shape.base → initial ≡ initial_of units v
+    → declared_leaves units depth v ≡ leaves_in (started initial (composition_within units depth base))
+declared_part_of units depth v initial shape base is none base_is initial_is =
+    declared_part units depth v initial (ap (λ s. s.subscripts) (sym is) ∙ none) initial_is ∙ ap (λ b. leaves_in (started initial (composition_within units depth b))) (ap (λ s. s.base) (sym is) ∙ sym base_is)
 
 -- ---- leaves that begin with a value
 

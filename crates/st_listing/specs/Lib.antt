@@ -1,6 +1,7 @@
 pub mod Choices
 pub mod Kinds
 pub mod Listings
+pub mod Members
 pub mod Rows
 pub mod Uses
 pub mod Walks

@@ -1,5 +1,6 @@
 -- What a walk through what variables consist of lists.
 use Rattle.std.specs.Prelude.{◌≡◌, ◌<◌, ◌≤◌, ℕ, suc, List, [], Option, Some, get_or, length, map}
+use Rattle.std.specs.List.{All}
 use Rattle.std.specs.Option.{option_copied}
 use Rattle.st_values.specs.Words.{raised}
 use Rattle.st_values.specs.declared.elem.Elem.{Elem}
@@ -19,6 +20,7 @@ use Rattle.st_chart_parts.specs.Charts.{parts_of}
 use Rattle.st_initials.specs.Tables.{AreInitials}
 use Rattle.st_program_sizes.specs.Sized.{IsSized}
 use Rattle.st_scopes.specs.Declarations.{names_at}
+use Rattle.st_listing.specs.Members.{IsMember, MemberView, declared_of}
 use Rattle.st_listing.specs.declared.rows.Sieve.{Sieve}
 use Rattle.st_listing.specs.declared.walk.Part.{Part}
 use Rattle.st_listing.specs.declared.walk.Walk.{Walk}
@@ -69,6 +71,11 @@ pub record AreRows (units : List Named) (rows : List (List Declared)) : Type 0 w
   pub len : length rows ≡ length units
   pub each : (i : ℕ) → i < length units → ListsTheSame units (get_or rows i []) (names_at units i)
 
+-- of each unit some that list the same as all that it declares, with what stands for their types
+pub record AreMembers (units : List Named) (members : List (List MemberView)) : Type 0 where
+  pub rows : AreRows units (map declared_of members)
+  pub each : All (All (IsMember units)) members
+
 -- the table has the sizes of the types of the text
 abbrev pub IsSieve : Sieve → Type 0
 IsSieve sieve = (i : ℕ) → IsSized (units_of sieve.tables.now) sieve.sizes.now (type_at (units_of sieve.tables.now) i)
@@ -84,5 +91,5 @@ units_in walk = units_of walk.tables.now
 pub record IsWalk (walk : Walk) : Type 0 where
   pub initials : AreInitials (units_in walk) walk.initials.now
   pub names : walk.names.now ≡ map (λ u. raised u.name.spelling) (units_in walk)
-  pub rows : AreRows (units_in walk) walk.rows.now
+  pub members : AreMembers (units_in walk) walk.members.now
   pub charts : walk.charts.now ≡ map (λ u. parts_of u.declares) (units_in walk)

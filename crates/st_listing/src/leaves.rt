@@ -14,6 +14,7 @@ ghost use Rattle.st_types.specs.Names.{Named, unit_at, units_of};
 ghost use Rattle.st_values.specs.Words.{raised};
 
 use crate::listing::{Listing, upper_case};
+use crate::members::members_of;
 use crate::rows::rows_of;
 use crate::walk::Walk;
 use st_chart_parts::chart_parts;
@@ -56,12 +57,13 @@ fn main_leaves(
     let names = upper_names(alloc, tables.units())?;
     let rows = rows_of(alloc, tables, sizes.as_slice())?;
     let charts = chart_parts(alloc, tables)?;
+    let members = members_of(alloc, tables, &initials, rows.as_slice())?;
     let walk = Walk {
         alloc,
         tables,
         initials: &initials,
         names: names.as_slice(),
-        rows: rows.as_slice(),
+        members: members.as_slice(),
         charts: charts.as_slice(),
     };
     walked_leaves(walk, main)

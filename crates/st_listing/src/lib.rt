@@ -7,6 +7,7 @@ mod empty;
 mod leaf_use;
 mod leaves;
 mod listing;
+mod members;
 mod program;
 mod rows;
 mod subscripts;

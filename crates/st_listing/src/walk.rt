@@ -3,17 +3,19 @@
 //! Only what has leaves is walked through.
 //! A part is walked through with a depth, as its composition is defined: at most so many units stand inside one another. In a
 //! checked program no part is deeper.
+ghost use Rattle.std.specs.List.{All};
 ghost use Rattle.std.specs.Option.{option_copied};
 ghost use Rattle.std.specs.Prelude.{◌≡◌, ◌+◌, ◌≤◌, ◌<◌, ◌∷◌, [], ℤ, List, Some, OnOk, codes, length, suc};
 ghost use Rattle.st_initials.specs.Lists.{values_of};
 ghost use Rattle.st_leaves.specs.LeavesIn.{elements_in, starting, subscript_lists, within};
 ghost use Rattle.st_leaves.specs.Paths.{index, selector_text};
 ghost use Rattle.st_listing.specs.Listings.{AreWays, listed};
+ghost use Rattle.st_listing.specs.Members.{IsMember, declared_of};
 ghost use Rattle.st_listing.specs.Walks.{IsWalk, array_leaves, declared_leaves, member_leaves, part_leaves, unit_leaves, units_in};
 
 use crate::leaf_use::LeafUse;
 use crate::listing::Listing;
-use crate::rows::Row;
+use crate::members::Member;
 use crate::subscripts::Subscripts;
 use crate::values::started_value;
 use st_chart_parts::ChartParts;
@@ -43,7 +45,7 @@ pub(crate) struct Walk<'a, 't> {
     /// The names of the units, in upper case.
     pub names: &'t [List<u8>],
     /// The declared names that are listed, by the numbers of the units.
-    pub rows: &'t [List<Row<'a>>],
+    pub members: &'t [List<Member<'a, 't>>],
     /// The parts of the charts of the units that have leaves.
     pub charts: &'t [ChartParts<'a>],
 }
@@ -169,7 +171,7 @@ impl<'a, 't> Walk<'a, 't> {
             return Ok(());
         }
         let name = self.names[unit].as_slice();
-        self.list_members(depth, name, self.rows[unit].as_slice(), listing)?;
+        self.list_members(depth, name, self.members[unit].as_slice(), listing)?;
         listing.list_chart(self.alloc, name, &self.charts[unit])
     }
 
@@ -179,14 +181,15 @@ impl<'a, 't> Walk<'a, 't> {
         self,
         depth: usize,
         of: &'t [u8],
-        members: &'t [Row<'a>],
+        members: &'t [Member<'a, 't>],
         listing: &mut Listing<'t>,
     ) -> Result<(), AllocError>
         requires walk { IsWalk self }
         requires depth { depth ≤ suc (length (units_in self)) }
-        requires room { length listing.old.leaves + length (member_leaves (units_in self) depth of.now members.now) ≤ 65536 }
-        ensures listed { OnOk result (listing.new ≡ listed listing.old (member_leaves (units_in self.entry) depth of.now members.now)) }
-        ensures ways { OnOk result (AreWays (member_leaves (units_in self.entry) depth of.now members.now)) }
+        requires known { All (IsMember (units_in self)) members.now }
+        requires room { length listing.old.leaves + length (member_leaves (units_in self) depth of.now (declared_of members.now)) ≤ 65536 }
+        ensures listed { OnOk result (listing.new ≡ listed listing.old (member_leaves (units_in self.entry) depth of.now (declared_of members.now))) }
+        ensures ways { OnOk result (AreWays (member_leaves (units_in self.entry) depth of.now (declared_of members.now))) }
     {
         'members: for member in members {
             self.list_member(depth, of, member, listing)?;
@@ -200,17 +203,18 @@ impl<'a, 't> Walk<'a, 't> {
         self,
         depth: usize,
         of: &'t [u8],
-        member: &'t Row<'a>,
+        member: &'t Member<'a, 't>,
         listing: &mut Listing<'t>,
     ) -> Result<(), AllocError>
         requires walk { IsWalk self }
         requires depth { depth ≤ suc (length (units_in self)) }
-        requires room { length listing.old.leaves + length (member_leaves (units_in self) depth of.now (member.now ∷ [])) ≤ 65536 }
-        ensures listed { OnOk result (listing.new ≡ listed listing.old (member_leaves (units_in self.entry) depth of.now (member.now ∷ []))) }
-        ensures ways { OnOk result (AreWays (member_leaves (units_in self.entry) depth of.now (member.now ∷ []))) }
+        requires known { IsMember (units_in self) member.now }
+        requires room { length listing.old.leaves + length (member_leaves (units_in self) depth of.now (member.now.declared ∷ [])) ≤ 65536 }
+        ensures listed { OnOk result (listing.new ≡ listed listing.old (member_leaves (units_in self.entry) depth of.now (member.now.declared ∷ []))) }
+        ensures ways { OnOk result (AreWays (member_leaves (units_in self.entry) depth of.now (member.now.declared ∷ []))) }
     {
         let mark = listing.mark();
-        listing.enter(member.name().spelling.letters(), of)?;
+        listing.enter(member.row().name().spelling.letters(), of)?;
         self.list_declared(depth, member, listing)?;
         listing.leave(mark);
         Ok(())
@@ -221,20 +225,19 @@ impl<'a, 't> Walk<'a, 't> {
     pub fn list_declared(
         self,
         depth: usize,
-        row: &'t Row<'a>,
+        member: &'t Member<'a, 't>,
         listing: &mut Listing<'t>,
     ) -> Result<(), AllocError>
         requires walk { IsWalk self }
         requires depth { depth ≤ suc (length (units_in self)) }
-        requires room { length listing.old.leaves + length (declared_leaves (units_in self) depth row.now) ≤ 65536 }
-        ensures listed { OnOk result (listing.new ≡ listed listing.old (declared_leaves (units_in self.entry) depth row.now)) }
-        ensures ways { OnOk result (AreWays (declared_leaves (units_in self.entry) depth row.now)) }
+        requires known { IsMember (units_in self) member.now }
+        requires room { length listing.old.leaves + length (declared_leaves (units_in self) depth member.now.declared) ≤ 65536 }
+        ensures listed { OnOk result (listing.new ≡ listed listing.old (declared_leaves (units_in self.entry) depth member.now.declared)) }
+        ensures ways { OnOk result (AreWays (declared_leaves (units_in self.entry) depth member.now.declared)) }
     {
-        let specification = row.specification();
-        let initial = self.initials.of(self.tables, specification, row.written());
-        let shape = self.tables.shape_of(specification);
-        let base = shape.base;
-        let Some(ranges) = shape.subscripts else {
+        let base = member.base();
+        let initial = member.initial();
+        let Some(ranges) = member.subscripts() else {
             let part = Part {
                 depth,
                 base,
@@ -245,7 +248,7 @@ impl<'a, 't> Walk<'a, 't> {
         let element = Part {
             depth,
             base,
-            initial: self.initials.of_elements(self.tables, specification),
+            initial: member.of_elements(),
         };
         self.list_elements(ranges, FirstValues::of(initial), element, listing)
     }

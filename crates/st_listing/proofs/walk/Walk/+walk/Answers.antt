@@ -1,15 +1,18 @@
-use Rattle.std.proofs.Common.{rules, ◌+◌, ◌-◌, [], ◌∷◌, ap, arith, drop, get_or, length, refl, subst, sym, ◌∙◌}
-use Rattle.std.specs.Option.{option_copied}
+use Rattle.std.proofs.Common.{rules, ◌≡◌, false, ◌+◌, ◌-◌, [], ◌∷◌, ap, arith, drop, get_or, length, refl, subst, sym, ◌∙◌}
+use Rattle.std.specs.Option.{option_copied, option_map}
 use Rattle.std.proofs.lemmas.Result.{on_ok_weaker}
 use Rattle.st_chart_parts.specs.Charts.{leaves_of_parts}
 use Rattle.st_leaves.specs.LeavesIn.{elements_in, plain, subscript_lists}
 use Rattle.st_listing.specs.Listings.{AreWays, listed, outside}
+use Rattle.st_listing.specs.Members.{declared_of}
 use Rattle.st_listing.specs.Walks.{declared_leaves, member_leaves, part_leaves, started_value, unit_leaves, units_in}
-use Rattle.st_types.specs.Types.{shape_of}
+use Rattle.st_types.specs.Compositions.{is_constant}
+use Rattle.st_types.specs.Names.{Declared}
 use Rattle.st_types.specs.declared.base.Base.TheVariants as bases
 use Rattle.st_listing.proofs.ChartListings.{no_chart}
 use Rattle.st_listing.proofs.Listings.{listed_more, ways_by, ways_more}
-use Rattle.st_listing.proofs.Walks.{declared_part_of, element_listed, elementary_listed, elements_within, first_room, left_more, left_room, left_ways, member_listed, member_ways, members_left, next_element, next_element_room, next_element_ways, no_depth, nothing_listed, nothing_ways, part_array, part_elementary, part_of, part_standard, part_unit, part_unknown, room_of, second_room, some_left, unit_none, unit_split}
+use Rattle.st_listing.proofs.MemberLists.{known_at, member_at, members_left, same_at}
+use Rattle.st_listing.proofs.Walks.{declared_part_of, element_listed, elementary_listed, elements_within, first_room, left_more, left_room, left_ways, member_listed, member_ways, next_element, next_element_room, next_element_ways, no_depth, nothing_listed, nothing_ways, part_array, part_elementary, part_of, part_standard, part_unit, part_unknown, room_of, second_room, some_left, unit_none, unit_split}
 use Rattle.st_listing.proofs.walk.Walk.+walk.Goals as goal
 
 pub list_array-of_array-requires-clause-unit : goal.list_array-of_array-requires-clause-unit
@@ -17,17 +20,17 @@ list_array-of_array-requires-clause-unit t c = elements_within (units_in c.args.
 
 pub list_declared-list_part-requires : goal.list_declared-list_part-requires
 list_declared-list_part-requires t c =
-    let same = declared_part_of (units_in c.args.self) c.args.depth c.args.row.now (option_copied c.of-initial.result) _ (c.shape.view_is ∙ c.shape_of-shape.ensures ∙ ap (shape_of (units_in c.args.self)) c.specification-specification.ensures) (ap option_copied c.in_default.is) (c.of-initial.ensures c.args.row.now (sym c.specification-specification.ensures) (sym c.written.ensures)) in
-    (omega (arith, c.decreases), (c.requires.walk, (c.requires.depth, room_of c.args.listing.now (declared_leaves (units_in c.args.self) c.args.depth c.args.row.now) _ same c.requires.room)))
+    let same = declared_part_of (units_in c.args.self) c.args.depth c.args.member.now.declared (option_copied c.initial-initial.result) c.args.member.now.shape c.base-base.result c.requires.known.shape (sym c.subscripts.ensures ∙ ap (option_map (λ ranges. ranges.now)) c.in_default.is) c.base-base.ensures (c.initial-initial.ensures ∙ c.requires.known.initial) in
+    (omega (arith, c.decreases), (c.requires.walk, (c.requires.depth, room_of c.args.listing.now (declared_leaves (units_in c.args.self) c.args.depth c.args.member.now.declared) _ same c.requires.room)))
 
 pub list_declared-returns-in_default-clause-listed : goal.list_declared-returns-in_default-clause-listed
 list_declared-returns-in_default-clause-listed t c =
-    let same = declared_part_of (units_in c.args.self) c.args.depth c.args.row.now (option_copied c.of-initial.result) _ (c.shape.view_is ∙ c.shape_of-shape.ensures ∙ ap (shape_of (units_in c.args.self)) c.specification-specification.ensures) (ap option_copied c.in_default.is) (c.of-initial.ensures c.args.row.now (sym c.specification-specification.ensures) (sym c.written.ensures)) in
+    let same = declared_part_of (units_in c.args.self) c.args.depth c.args.member.now.declared (option_copied c.initial-initial.result) c.args.member.now.shape c.base-base.result c.requires.known.shape (sym c.subscripts.ensures ∙ ap (option_map (λ ranges. ranges.now)) c.in_default.is) c.base-base.ensures (c.initial-initial.ensures ∙ c.requires.known.initial) in
     on_ok_weaker c.list_part.result (λ h. h ∙ ap (listed c.args.listing.now) (sym same)) c.list_part.ensures.listed
 
 pub list_declared-returns-in_default-clause-ways : goal.list_declared-returns-in_default-clause-ways
 list_declared-returns-in_default-clause-ways t c =
-    let same = declared_part_of (units_in c.args.self) c.args.depth c.args.row.now (option_copied c.of-initial.result) _ (c.shape.view_is ∙ c.shape_of-shape.ensures ∙ ap (shape_of (units_in c.args.self)) c.specification-specification.ensures) (ap option_copied c.in_default.is) (c.of-initial.ensures c.args.row.now (sym c.specification-specification.ensures) (sym c.written.ensures)) in
+    let same = declared_part_of (units_in c.args.self) c.args.depth c.args.member.now.declared (option_copied c.initial-initial.result) c.args.member.now.shape c.base-base.result c.requires.known.shape (sym c.subscripts.ensures ∙ ap (option_map (λ ranges. ranges.now)) c.in_default.is) c.base-base.ensures (c.initial-initial.ensures ∙ c.requires.known.initial) in
     on_ok_weaker c.list_part.result (λ h. subst AreWays (sym same) h) c.list_part.ensures.ways
 
 pub list_element-returns-clause-listed : goal.list_element-returns-clause-listed
@@ -57,30 +60,35 @@ list_elements-elements-preserved t c =
 
 pub list_member-returns-clause-listed : goal.list_member-returns-clause-listed
 list_member-returns-clause-listed t c =
-    member_listed (units_in c.args.self) c.args.depth c.args.of.now c.letters.result.now c.args.member.now c.args.listing.now c.enter.new.self c.list_declared.new.listing c.leave.new.self c.name.ensures.variable (c.letters.ensures.bytes ∙ ap (λ name. name.spelling) c.name.ensures.name) c.in_ok-enter.ensures
+    let variable = subst (λ (v : Declared). is_constant v.kind ≡ false) c.row.ensures c.name.ensures.variable in
+    let named = c.letters.ensures.bytes ∙ ap (λ name. name.spelling) (c.name.ensures.name ∙ ap (λ (v : Declared). v.name) c.row.ensures) in
+    member_listed (units_in c.args.self) c.args.depth c.args.of.now c.letters.result.now c.args.member.now.declared c.args.listing.now c.enter.new.self c.list_declared.new.listing c.leave.new.self variable named c.in_ok-enter.ensures
     c.in_ok-list_declared.ensures.listed (c.leave.ensures ∙ ap (outside c.list_declared.new.listing) c.mark-mark.ensures)
 
 pub list_member-returns-clause-ways : goal.list_member-returns-clause-ways
 list_member-returns-clause-ways t c =
-    member_ways (units_in c.args.self) c.args.depth c.args.of.now c.letters.result.now c.args.member.now c.name.ensures.variable (c.letters.ensures.bytes ∙ ap (λ name. name.spelling) c.name.ensures.name) c.letters.ensures.word c.in_ok-list_declared.ensures.ways
+    let variable = subst (λ (v : Declared). is_constant v.kind ≡ false) c.row.ensures c.name.ensures.variable in
+    let named = c.letters.ensures.bytes ∙ ap (λ name. name.spelling) (c.name.ensures.name ∙ ap (λ (v : Declared). v.name) c.row.ensures) in
+    member_ways (units_in c.args.self) c.args.depth c.args.of.now c.letters.result.now c.args.member.now.declared variable named c.letters.ensures.word c.in_ok-list_declared.ensures.ways
 
 pub list_members-list_member-requires : goal.list_members-list_member-requires
 list_members-list_member-requires t c =
     let units = units_in c.args.self in
-    let split = members_left units c.args.depth c.args.of.now c.args.members.now c.members.member-index c.member-item.result c.members-test.true (sym c.member-item.is) in
-    let room = left_room c.args.listing.now c.members.listing (member_leaves units c.args.depth c.args.of.now (c.member-item.result ∷ []))
-    (member_leaves units c.args.depth c.args.of.now (drop (c.members.member-index + 1) c.args.members.now)) (member_leaves units c.args.depth c.args.of.now (drop c.members.member-index c.args.members.now))
-    (member_leaves units c.args.depth c.args.of.now c.args.members.now) split c.members.invariant.left c.requires.room in
-    search (rules, room)
+    let split = members_left units c.args.depth c.args.of.now c.args.members.now c.members.member-index c.member-item.result c.members-test.true c.member-item.is in
+    let room = left_room c.args.listing.now c.members.listing (member_leaves units c.args.depth c.args.of.now (c.member-item.result.declared ∷ []))
+    (member_leaves units c.args.depth c.args.of.now (declared_of (drop (c.members.member-index + 1) c.args.members.now))) (member_leaves units c.args.depth c.args.of.now (declared_of (drop c.members.member-index c.args.members.now)))
+    (member_leaves units c.args.depth c.args.of.now (declared_of c.args.members.now)) split c.members.invariant.left c.requires.room in
+    let known = member_at units c.args.members.now c.members.member-index c.member-item.result c.members-test.true c.member-item.is c.requires.known in
+    search (rules, room, known)
 
 pub list_members-members-preserved : goal.list_members-members-preserved
 list_members-members-preserved t c =
     let units = units_in c.args.self in
-    let part = member_leaves units c.args.depth c.args.of.now (c.member-item.result ∷ []) in
-    let rest = member_leaves units c.args.depth c.args.of.now (drop (c.members.member-index + 1) c.args.members.now) in
-    let left = member_leaves units c.args.depth c.args.of.now (drop c.members.member-index c.args.members.now) in
-    let whole = member_leaves units c.args.depth c.args.of.now c.args.members.now in
-    let split = members_left units c.args.depth c.args.of.now c.args.members.now c.members.member-index c.member-item.result c.members-test.true (sym c.member-item.is) in record {
+    let part = member_leaves units c.args.depth c.args.of.now (c.member-item.result.declared ∷ []) in
+    let rest = member_leaves units c.args.depth c.args.of.now (declared_of (drop (c.members.member-index + 1) c.args.members.now)) in
+    let left = member_leaves units c.args.depth c.args.of.now (declared_of (drop c.members.member-index c.args.members.now)) in
+    let whole = member_leaves units c.args.depth c.args.of.now (declared_of c.args.members.now) in
+    let split = members_left units c.args.depth c.args.of.now c.args.members.now c.members.member-index c.member-item.result c.members-test.true c.member-item.is in record {
       left = left_more c.args.listing.now c.members.listing c.list_member.new.listing part rest left whole split c.in_ok-list_member.ensures.listed c.members.invariant.left;
       ways = left_ways part rest left whole split c.in_ok-list_member.ensures.ways c.members.invariant.ways;
     }
@@ -186,36 +194,36 @@ list_unit-returns-then-unit-len-clause-ways t c =
 pub list_unit-list_members-requires : goal.list_unit-list_members-requires
 list_unit-list_members-requires t c =
     let units = units_in c.args.self in
-    let members = member_leaves units c.args.depth c.as_slice-name.result.now c.as_slice.result.now in
+    let members = member_leaves units c.args.depth c.as_slice-name.result.now (declared_of c.as_slice.result.now) in
     let chart = leaves_of_parts c.as_slice-name.result.now (get_or c.args.self.charts.now c.args.unit no_chart) in
-    let split = unit_split units c.args.self.names.now c.args.self.rows.now c.args.self.charts.now c.args.depth c.args.unit c.as_slice-name.result.now c.index-self-unit.result c.as_slice.result.now c.index-self-unit-2.result
-    (get_or c.args.self.charts.now c.args.unit no_chart) no_chart (omega (arith, c.len.ensures, c.if-unit-len.false)) c.requires.walk.names c.requires.walk.rows c.requires.walk.charts c.requires.depth c.as_slice-name.ensures c.as_slice.ensures refl in (omega (arith, c.decreases), (c.requires.walk, (c.requires.depth, first_room c.args.listing.now members chart _ split c.requires.room)))
+    let split = unit_split units c.args.self.names.now c.args.self.charts.now c.args.depth c.args.unit c.as_slice-name.result.now c.index-self-unit.result (declared_of c.as_slice.result.now)
+    (get_or c.args.self.charts.now c.args.unit no_chart) no_chart (omega (arith, c.len.ensures, c.if-unit-len.false)) c.requires.walk.names (same_at units c.args.self.members.now c.args.unit c.as_slice.result.now c.index-self-unit-2.result c.requires.walk.members (omega (arith, c.len.ensures, c.if-unit-len.false)) c.as_slice.ensures) c.requires.walk.charts c.requires.depth c.as_slice-name.ensures refl in (omega (arith, c.decreases), (c.requires.walk, (c.requires.depth, (known_at units c.args.self.members.now c.args.unit c.as_slice.result.now c.index-self-unit-2.result c.requires.walk.members (omega (arith, c.len.ensures, c.if-unit-len.false)) c.as_slice.ensures, first_room c.args.listing.now members chart _ split c.requires.room))))
 
 pub list_unit-list_chart-requires : goal.list_unit-list_chart-requires
 list_unit-list_chart-requires t c =
     let units = units_in c.args.self in
-    let members = member_leaves units c.args.depth c.as_slice-name.result.now c.as_slice.result.now in
+    let members = member_leaves units c.args.depth c.as_slice-name.result.now (declared_of c.as_slice.result.now) in
     let parts = get_or c.args.self.charts.now c.args.unit c.index-self-unit-3.result in
     let chart = leaves_of_parts c.as_slice-name.result.now parts in
-    let split = unit_split units c.args.self.names.now c.args.self.rows.now c.args.self.charts.now c.args.depth c.args.unit c.as_slice-name.result.now c.index-self-unit.result c.as_slice.result.now c.index-self-unit-2.result
-    parts c.index-self-unit-3.result (omega (arith, c.len.ensures, c.if-unit-len.false)) c.requires.walk.names c.requires.walk.rows c.requires.walk.charts c.requires.depth c.as_slice-name.ensures c.as_slice.ensures refl in record { room = second_room c.args.listing.now c.list_members.new.listing members chart _ split c.in_ok-list_members.ensures.listed c.requires.room }
+    let split = unit_split units c.args.self.names.now c.args.self.charts.now c.args.depth c.args.unit c.as_slice-name.result.now c.index-self-unit.result (declared_of c.as_slice.result.now)
+    parts c.index-self-unit-3.result (omega (arith, c.len.ensures, c.if-unit-len.false)) c.requires.walk.names (same_at units c.args.self.members.now c.args.unit c.as_slice.result.now c.index-self-unit-2.result c.requires.walk.members (omega (arith, c.len.ensures, c.if-unit-len.false)) c.as_slice.ensures) c.requires.walk.charts c.requires.depth c.as_slice-name.ensures refl in record { room = second_room c.args.listing.now c.list_members.new.listing members chart _ split c.in_ok-list_members.ensures.listed c.requires.room }
 
 pub list_unit-returns-clause-listed : goal.list_unit-returns-clause-listed
 list_unit-returns-clause-listed t c =
     let units = units_in c.args.self in
-    let members = member_leaves units c.args.depth c.as_slice-name.result.now c.as_slice.result.now in
+    let members = member_leaves units c.args.depth c.as_slice-name.result.now (declared_of c.as_slice.result.now) in
     let parts = get_or c.args.self.charts.now c.args.unit c.index-self-unit-3.result in
     let chart = leaves_of_parts c.as_slice-name.result.now parts in
-    let split = unit_split units c.args.self.names.now c.args.self.rows.now c.args.self.charts.now c.args.depth c.args.unit c.as_slice-name.result.now c.index-self-unit.result c.as_slice.result.now c.index-self-unit-2.result
-    parts c.index-self-unit-3.result (omega (arith, c.len.ensures, c.if-unit-len.false)) c.requires.walk.names c.requires.walk.rows c.requires.walk.charts c.requires.depth c.as_slice-name.ensures c.as_slice.ensures refl in
+    let split = unit_split units c.args.self.names.now c.args.self.charts.now c.args.depth c.args.unit c.as_slice-name.result.now c.index-self-unit.result (declared_of c.as_slice.result.now)
+    parts c.index-self-unit-3.result (omega (arith, c.len.ensures, c.if-unit-len.false)) c.requires.walk.names (same_at units c.args.self.members.now c.args.unit c.as_slice.result.now c.index-self-unit-2.result c.requires.walk.members (omega (arith, c.len.ensures, c.if-unit-len.false)) c.as_slice.ensures) c.requires.walk.charts c.requires.depth c.as_slice-name.ensures refl in
     on_ok_weaker c.list_chart.result (λ h. listed_more c.args.listing.now c.list_members.new.listing c.list_chart.new.self members chart (unit_leaves units c.args.depth c.args.unit) split c.in_ok-list_members.ensures.listed h) c.list_chart.ensures.listed
 
 pub list_unit-returns-clause-ways : goal.list_unit-returns-clause-ways
 list_unit-returns-clause-ways t c =
     let units = units_in c.args.self in
-    let members = member_leaves units c.args.depth c.as_slice-name.result.now c.as_slice.result.now in
+    let members = member_leaves units c.args.depth c.as_slice-name.result.now (declared_of c.as_slice.result.now) in
     let parts = get_or c.args.self.charts.now c.args.unit c.index-self-unit-3.result in
     let chart = leaves_of_parts c.as_slice-name.result.now parts in
-    let split = unit_split units c.args.self.names.now c.args.self.rows.now c.args.self.charts.now c.args.depth c.args.unit c.as_slice-name.result.now c.index-self-unit.result c.as_slice.result.now c.index-self-unit-2.result
-    parts c.index-self-unit-3.result (omega (arith, c.len.ensures, c.if-unit-len.false)) c.requires.walk.names c.requires.walk.rows c.requires.walk.charts c.requires.depth c.as_slice-name.ensures c.as_slice.ensures refl in
+    let split = unit_split units c.args.self.names.now c.args.self.charts.now c.args.depth c.args.unit c.as_slice-name.result.now c.index-self-unit.result (declared_of c.as_slice.result.now)
+    parts c.index-self-unit-3.result (omega (arith, c.len.ensures, c.if-unit-len.false)) c.requires.walk.names (same_at units c.args.self.members.now c.args.unit c.as_slice.result.now c.index-self-unit-2.result c.requires.walk.members (omega (arith, c.len.ensures, c.if-unit-len.false)) c.as_slice.ensures) c.requires.walk.charts c.requires.depth c.as_slice-name.ensures refl in
     on_ok_weaker c.list_chart.result (λ h. ways_more members chart (unit_leaves units c.args.depth c.args.unit) split c.in_ok-list_members.ensures.ways h) c.list_chart.ensures.ways

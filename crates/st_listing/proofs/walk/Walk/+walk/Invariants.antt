@@ -1,6 +1,7 @@
 use Rattle.std.proofs.Common.{◌≡◌, ◌+◌, ◌*◌, drop, length}
 use Rattle.st_leaves.specs.LeavesIn.{elements_in, subscript_lists}
 use Rattle.st_listing.specs.Listings.{AreWays, listed}
+use Rattle.st_listing.specs.Members.{declared_of}
 use Rattle.st_listing.specs.Walks.{member_leaves, part_leaves, units_in}
 use Rattle.st_listing.proofs.walk.Walk.+walk.Given as goal
 
@@ -43,8 +44,8 @@ decreases-list_elements-elements l = length l.choices
 -- the members that are left give the whole
 abbrev pub invariant-list_members-members : goal.invariant-list_members-members
 invariant-list_members-members l = record {
-  left : listed l.listing (member_leaves (units_in l.self) l.depth l.of (drop l.member-index l.members))
-      ≡ listed l.fn.listing (member_leaves (units_in l.self) l.depth l.of l.members);
-  ways : AreWays (member_leaves (units_in l.self) l.depth l.of (drop l.member-index l.members))
-      → AreWays (member_leaves (units_in l.self) l.depth l.of l.members);
+  left : listed l.listing (member_leaves (units_in l.self) l.depth l.of (declared_of (drop l.member-index l.members)))
+      ≡ listed l.fn.listing (member_leaves (units_in l.self) l.depth l.of (declared_of l.members));
+  ways : AreWays (member_leaves (units_in l.self) l.depth l.of (declared_of (drop l.member-index l.members)))
+      → AreWays (member_leaves (units_in l.self) l.depth l.of (declared_of l.members));
 }
