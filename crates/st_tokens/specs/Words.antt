@@ -1,7 +1,7 @@
 -- Words (IEC 61131-3:2003, 2.1.2) and reserved words (2.1.3 and annex C).
-use Rattle.std.specs.Prelude.{◌≡◌, ℕ, true, ◌⊎◌, List, [], ◌∷◌, ◌++◌, codes, map, Option, option_map}
+use Rattle.std.specs.Prelude.{◌≡◌, ℕ, Bool, true, false, ◌==◌, ◌⊎◌, List, [], ◌∷◌, ◌++◌, codes, map, Option, option_map}
 use Rattle.std.specs.Char.{to_ascii_lowercase}
-use Rattle.std.specs.List.{find}
+use Rattle.std.specs.List.{filter, find}
 use Rattle.st_values.specs.declared.elem.Elem.{Elem}
 use Rattle.st_values.specs.declared.elem.TheConstants.Elem.{ALL}
 use Rattle.st_values.specs.Words.{is_word, AreWordBytes}
@@ -99,6 +99,11 @@ IsUnclean w = ((prefix back : List ℕ) × (w ≡ prefix ++ (codes "__" ++ back)
 abbrev pub IsReserved : List ℕ → Type 0
 IsReserved w = ((keyword : Keyword) × IsSame w (spelling_of keyword)) ⊎ ((elem : Elem) × IsSame w (name_of elem))
 
+-- whether a word begins with this letter, which is in lower case
+abbrev pub begins_as : ℕ → List ℕ → Bool
+begins_as letter [] = false
+begins_as letter (b ∷ bs) = to_ascii_lowercase b == letter
+
 -- the keyword of the first row whose text this is, ignoring case
 abbrev pub keyword_in : List (Keyword × List ℕ) → List ℕ → Option Keyword
 keyword_in rows w = option_map (λ row. row.0) (find (λ row. is_word row.1 w) rows)
@@ -107,6 +112,18 @@ keyword_in rows w = option_map (λ row. row.0) (find (λ row. is_word row.1 w) r
 unfoldable pub keyword_of : List ℕ → Option Keyword
 keyword_of w = keyword_in (map (λ row. (row.0, row.1.now)) KEYWORDS) w
 
+-- the reserved words with their texts
+unfoldable pub spellings : List (Keyword × List ℕ)
+spellings = map (λ row. (row.0, row.1.now)) KEYWORDS
+
+-- those that begin with this letter, which is in lower case
+unfoldable pub keywords_with : ℕ → List (Keyword × List ℕ)
+keywords_with letter = filter (λ row. begins_as letter row.1) spellings
+
 -- the type whose name this is, ignoring case
 unfoldable pub elem_of : List ℕ → Option Elem
 elem_of w = find (λ elem. is_word (name_of elem) w) ALL
+
+-- the types whose names begin with this letter, which is in lower case
+unfoldable pub elems_with : ℕ → List Elem
+elems_with letter = filter (λ elem. begins_as letter (name_of elem)) ALL

@@ -1,6 +1,6 @@
 //! The reserved words of the language.
 ghost use Rattle.std.specs.Prelude.{◌≡◌, map};
-ghost use Rattle.st_tokens.specs.Words.{keyword_in, keyword_of};
+ghost use Rattle.st_tokens.specs.Words.{keyword_in, keyword_of, keywords_with};
 
 /// A reserved word that isn't the name of an elementary type (IEC 61131-3:2003, 2.1.3 and annex C).
 #[derive(Clone, Copy, PartialEq, Eq)]
@@ -149,11 +149,38 @@ static KEYWORDS: [(Keyword, &[u8]); 68] = [
 
 impl Keyword {
     /// The reserved word that this is, ignoring case.
-    #[tactic(auto, unfolding(crate::specs::Words::keyword_of))]
     pub(crate) fn of(word: &[u8]) -> Option<Keyword>
         ensures { result ≡ keyword_of word.now }
     {
-        keyword_in(&KEYWORDS, word)
+        let first = word.first()?;
+        keyword_in(keywords_with(first.to_ascii_lowercase()), word)
+    }
+}
+
+/// The rows of the words that begin with this letter, which is in lower case.
+fn keywords_with(letter: u8) -> &'static [(Keyword, &'static [u8])]
+    ensures { keywords_with letter ≡ map (λ row. (row.0, row.1.now)) result.now }
+{
+    match letter {
+        b'a' => &KEYWORDS[0..4],
+        b'b' => &KEYWORDS[4..5],
+        b'c' => &KEYWORDS[5..8],
+        b'd' => &KEYWORDS[8..9],
+        b'e' => &KEYWORDS[9..30],
+        b'f' => &KEYWORDS[30..36],
+        b'i' => &KEYWORDS[36..38],
+        b'm' => &KEYWORDS[38..39],
+        b'n' => &KEYWORDS[39..41],
+        b'o' => &KEYWORDS[41..43],
+        b'p' => &KEYWORDS[43..44],
+        b'r' => &KEYWORDS[44..49],
+        b's' => &KEYWORDS[49..51],
+        b't' => &KEYWORDS[51..57],
+        b'u' => &KEYWORDS[57..58],
+        b'v' => &KEYWORDS[58..66],
+        b'w' => &KEYWORDS[66..67],
+        b'x' => &KEYWORDS[67..68],
+        _ => &[],
     }
 }
 
