@@ -1,5 +1,5 @@
 //! Expressions, and the variables and calls in them. The seven lines of operators are one function.
-ghost use Rattle.std.specs.Prelude.{◌≡◌, ◌↔◌, ◌+◌, ◌<◌, ◌≤◌, ℕ, [], IfErr, IfOk, List as Items, Ok};
+ghost use Rattle.std.specs.Prelude.{◌≡◌, ◌↔◌, ◌+◌, ◌<◌, ◌≤◌, ℕ, [], false, IfErr, IfOk, IfSome, List as Items, Ok, true};
 ghost use Rattle.st_expressions.specs.Grammar.{IsExpression, precedence_of};
 ghost use Rattle.st_expressions.specs.Reader as spec;
 ghost use Rattle.st_parser.specs.Grammar.Levels.{IsWithin};
@@ -66,6 +66,21 @@ fn is_operator(ts: &Cursor<'_>, precedence: u8) -> bool
     match operator_at(ts) {
         Some(op) => precedence_of(op) == precedence + 1,
         None => false,
+    }
+}
+
+/// The precedence of the operator that the first token is, where it is above `bound` and at most `loosest`.
+fn precedence_at(ts: &Cursor<'_>, bound: u8, loosest: u8) -> Option<u8>
+    ensures above { IfSome result (λ found. bound < found) }
+    ensures within { IfSome result (λ found. found ≤ loosest) }
+    ensures operator { IfSome result (λ found. spec.has_precedence found (spec.operator_at (kind ts.now)) ≡ true) }
+    ensures none { result ≡ None → (r : ℕ) → bound ≤ r → r < loosest → spec.is_operator r (kind ts.now) ≡ false }
+{
+    let precedence = precedence_of(operator_at(ts)?);
+    if bound < precedence && precedence <= loosest {
+        Some(precedence)
+    } else {
+        None
     }
 }
 
@@ -434,9 +449,9 @@ fn chain(
     Ok(Expression::Chain(position, Boxed::new(alloc, first)?, operations))
 }
 
-/// `operand { operator operand }`, where the operators have this precedence, and the operands the next that binds first
+/// `operand { operator operand }`, where the operators have this precedence, and the operands the next that binds first.
+/// The first operand is read once, and then the operations of each precedence that follow it.
 #[cycle(parser)]
-#[tactic(auto, unfolding(crate::specs::Reader::binary))]
 fn binary(
     alloc: Global,
     ts: &mut Cursor<'_>,
@@ -446,13 +461,15 @@ fn binary(
     requires { precedence ≤ 7 }
     ensures { Takes (spec.binary depth_left (spec.inside_of depth_left) precedence ts.old) result ts.old ts.new }
 {
-    if precedence == 0 {
-        return unary(alloc, ts, depth_left);
-    }
     let position = ts.position();
-    let first = binary(alloc, ts, depth_left, precedence - 1)?;
-    let operations = operations(alloc, ts, depth_left, precedence - 1)?;
-    chain(alloc, position, first, operations)
+    let mut found = unary(alloc, ts, depth_left)?;
+    let mut bound = 0;
+    'levels: while let Some(next) = precedence_at(ts, bound, precedence) {
+        let operations = operations(alloc, ts, depth_left, next - 1)?;
+        found = chain(alloc, position, found, operations)?;
+        bound = next;
+    }
+    Ok(found)
 }
 
 /// `expression`. `depth_left` more levels may be opened.

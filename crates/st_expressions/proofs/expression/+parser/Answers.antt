@@ -1,11 +1,11 @@
-use Rattle.std.proofs.Common.{[], sym, ap, Ok, ◌∙◌, arith}
+use Rattle.std.proofs.Common.{◌<◌, [], sym, ap, Ok, ◌∙◌, arith}
 use Rattle.std.proofs.lemmas.Result.{err_from_is_err_and}
 use Rattle.st_tokens.specs.declared.symbol.Symbol.TheVariants as symbols
 use Rattle.st_parser.specs.Reader.Parsers as parser
 use Rattle.st_parser.proofs.Loops.{left_init, left_step, loop_end, loop_err, listed_first, listed_end, listed_err}
-use Rattle.st_parser.proofs.ParserLemmas.{next_at, takes_made}
+use Rattle.st_parser.proofs.ParserLemmas.{next_at}
 use Rattle.st_expressions.specs.Reader as spec
-use Rattle.st_expressions.proofs.ReaderLemmas.{binary_ok, binary_err, inside_expression, inside_variable}
+use Rattle.st_expressions.proofs.ReaderLemmas.{binary_before, binary_err, binary_first, binary_ok, binary_up_to, inside_expression, inside_variable, refused_up_to}
 use Rattle.st_expressions.proofs.expression.+parser.Goals as goal
 
 pub expressions-returns-in_err-first : goal.expressions-returns-in_err-first
@@ -122,18 +122,52 @@ inside-returns t c = rw (inside_expression c.args.depth_left c.requires) c.binar
 pub target-returns : goal.target-returns
 target-returns t c = rw (inside_variable c.args.depth_left c.requires) c.variable.ensures
 
+pub binary-levels-init : goal.binary-levels-init
+binary-levels-init t c = record {
+  within = omega arith;
+  reads = binary_first c.args.depth_left (spec.inside_of c.args.depth_left) c.args.ts.now ∙ c.in_ok-found.ensures.reads;
+  shorter = c.in_ok-found.ensures.shorter;
+}
+
+pub binary-levels-preserved : goal.binary-levels-preserved
+binary-levels-preserved t c =
+    let above : c.levels.bound < c.in-Some.next = c.in-Some.ensures.above in
+    record {
+      within = c.in-Some.ensures.within;
+      reads = binary_ok c.args.depth_left (spec.inside_of c.args.depth_left) c.in-Some.next c.args.ts.now c.levels.ts c.operations.new.ts c.levels.found c.in_ok-operations.operations
+          (λ none. absurd (omega (arith, above, none)))
+          (binary_before c.args.depth_left (spec.inside_of c.args.depth_left) c.levels.bound c.in-Some.next c.args.ts.now c.levels.ts c.levels.found above c.in-Some.ensures.operator c.levels.invariant.reads)
+          c.in_ok-operations.ensures.reads
+          ∙ ap (λ p. Ok (spec.chain p c.levels.found c.in_ok-operations.operations, c.operations.new.ts)) (sym c.position-position.ensures)
+          ∙ ap (λ x. Ok (x, c.operations.new.ts)) (sym c.in_ok-found-2.ensures.ok);
+      shorter = omega (arith, c.in_ok-operations.ensures.shorter, c.levels.invariant.shorter);
+    }
+
 pub binary-returns-in_err-operations : goal.binary-returns-in_err-operations
 binary-returns-in_err-operations t c =
+    let above : c.levels.bound < c.in-Some.next = c.in-Some.ensures.above in
     let e = err_from_is_err_and c.from_residual-in_err-operations.result c.from_residual-in_err-operations.ensures.1 in
     rw (e.1, e.2) (record {
-      reads = binary_err c.args.depth_left (spec.inside_of c.args.depth_left) c.args.precedence c.args.ts.now c.binary.new.ts c.in_ok-first.first _ c.if-precedence-eq0.false c.in_ok-first.ensures.reads c.in_err-operations.ensures.reads;
+      reads = refused_up_to c.args.depth_left (spec.inside_of c.args.depth_left) c.in-Some.next c.args.precedence c.args.ts.now _ c.in-Some.ensures.within
+          (binary_err c.args.depth_left (spec.inside_of c.args.depth_left) c.in-Some.next c.args.ts.now c.levels.ts c.levels.found _
+          (λ none. absurd (omega (arith, above, none)))
+          (binary_before c.args.depth_left (spec.inside_of c.args.depth_left) c.levels.bound c.in-Some.next c.args.ts.now c.levels.ts c.levels.found above c.in-Some.ensures.operator c.levels.invariant.reads)
+          c.in_err-operations.ensures.reads);
+      shorter = tt;
+    })
+
+pub binary-returns-in_err-found : goal.binary-returns-in_err-found
+binary-returns-in_err-found t c =
+    let e = err_from_is_err_and c.from_residual.result c.from_residual.ensures.1 in
+    rw (e.1, e.2) (record {
+      reads = refused_up_to c.args.depth_left (spec.inside_of c.args.depth_left) 0 c.args.precedence c.args.ts.now _ (omega arith)
+          (rw (binary_first c.args.depth_left (spec.inside_of c.args.depth_left) c.args.ts.now) c.in_err-found.ensures.reads);
       shorter = tt;
     })
 
 pub binary-returns : goal.binary-returns
-binary-returns t c =
-    takes_made _ _ _ _ c.chain.result
-    (binary_ok c.args.depth_left (spec.inside_of c.args.depth_left) c.args.precedence c.args.ts.now c.binary.new.ts c.operations.new.ts c.in_ok-first.first c.in_ok-operations.operations c.if-precedence-eq0.false c.in_ok-first.ensures.reads c.in_ok-operations.ensures.reads
-    ∙ ap (λ p. Ok (spec.chain p c.in_ok-first.first c.in_ok-operations.operations, c.operations.new.ts)) (sym c.position-position.ensures))
-    (omega (arith, c.in_ok-first.ensures.shorter, c.in_ok-operations.ensures.shorter))
-    c.chain.ensures.ok c.chain.ensures.err
+binary-returns t c = record {
+  reads = binary_up_to c.args.depth_left (spec.inside_of c.args.depth_left) c.levels.bound c.args.precedence c.args.ts.now c.levels.ts c.levels.found c.levels.invariant.within
+      (c.precedence_at.ensures.none c.in_default.is) c.levels.invariant.reads;
+  shorter = c.levels.invariant.shorter;
+}

@@ -1,4 +1,4 @@
-use Rattle.std.proofs.Common.{◌+◌, ◌*◌, ◌≤◌, [], length}
+use Rattle.std.proofs.Common.{◌≡◌, ◌+◌, ◌-◌, ◌*◌, ◌<◌, ◌≤◌, [], length, Ok}
 use Rattle.st_parser.specs.Reader.Parsers as parser
 use Rattle.st_tokens.specs.declared.symbol.Symbol.TheVariants as symbols
 use Rattle.st_expressions.specs.Reader as spec
@@ -108,4 +108,15 @@ abbrev pub invariant-operations-items : goal.invariant-operations-items
 invariant-operations-items l = record {
   left : Left (spec.is_operator l.precedence) (spec.operation (spec.binary l.depth_left (spec.inside_of l.depth_left) l.precedence)) [] l.initial.ts l.found l.ts;
   shorter : length l.ts ≤ length l.initial.ts;
+}
+
+abbrev pub decreases-binary-levels : goal.decreases-binary-levels
+decreases-binary-levels l = l.precedence - l.bound
+
+-- what is read so far is all that has operators up to this precedence
+abbrev pub invariant-binary-levels : goal.invariant-binary-levels
+invariant-binary-levels l = record {
+  within : l.bound ≤ l.precedence;
+  reads : spec.binary l.depth_left (spec.inside_of l.depth_left) l.bound l.fn.ts ≡ Ok (l.found, l.ts);
+  shorter : length l.ts < length l.fn.ts;
 }
