@@ -9,10 +9,13 @@ use crate::run::{ACCEPTED, DEVICE_FAILED, NO_MEMORY, NO_PROGRAM, refuse, tell};
 use st_control::check_program;
 use st_devices::Sink;
 use std::alloc::Global;
+use std::mem::forget;
 
 /// Checks a text as the program of the name `main`, ignoring case, and writes one line: `ok` where it is accepted, and else
 /// its refusal, as `refused C3 line 4`. Answers the status: 0 where it is accepted, 1 where it is refused, 5 where there was no
 /// memory, and 4 where the device failed, whatever else holds. The device has not failed before.
+///
+/// It is what a process does last, as [`run_text`](crate::run_text) is: the checked program is left to the system.
 pub fn check_text<W: Sink>(alloc: Global, text: &[u8], main: &[u8], sink: &mut W) -> u8
     requires { W.has_failed sink.old ≡ false }
 
@@ -30,7 +33,10 @@ pub fn check_text<W: Sink>(alloc: Global, text: &[u8], main: &[u8], sink: &mut W
     ensures failed { IsTrue (W.has_failed sink.new) ↔ (result ≡ DEVICE_FAILED) }
 {
     match check_program(alloc, text, main) {
-        Ok(_program) => tell(sink, b"ok\n", ACCEPTED),
+        Ok(program) => {
+            forget(program);
+            tell(sink, b"ok\n", ACCEPTED)
+        }
         Err(refusal) => refuse(alloc, refusal, sink),
     }
 }

@@ -13,6 +13,7 @@ use st_control::{Refusal, check_program};
 use st_devices::Sink;
 use st_layout::Layout;
 use std::alloc::Global;
+use std::mem::forget;
 
 /// Checks a text as the program of the name `main`, ignoring case, and writes a line for each of its leaves, in order: the
 /// place of its value in bytes, the width of the value, its type and its path, as `2 1 BOOL Main.B`; or else one line, its
@@ -20,6 +21,8 @@ use std::alloc::Global;
 ///
 /// All lines are made before the first byte is written. Answers the status: 0 where the text is accepted, 1 where it is
 /// refused, 5 where there was no memory, and 4 where the device failed, whatever else holds. The device has not failed before.
+///
+/// It is what a process does last, as [`run_text`](crate::run_text) is: the program and its leaves are left to the system.
 pub fn layout_text<W: Sink>(alloc: Global, text: &[u8], main: &[u8], sink: &mut W) -> u8
     requires { W.has_failed sink.old ≡ false }
 
@@ -51,5 +54,8 @@ fn lines_of(alloc: Global, text: &[u8], main: &[u8]) -> Result<Vec<u8>, Refusal>
 {
     let program = check_program(alloc, text, main)?;
     let layout = Layout::of(alloc, &program)?;
-    Ok(leaf_lines(alloc, &layout)?)
+    let lines = leaf_lines(alloc, &layout)?;
+    forget(layout);
+    forget(program);
+    Ok(lines)
 }

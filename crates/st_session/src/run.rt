@@ -13,6 +13,7 @@ use st_control::{Controller, Refusal};
 use st_devices::{Sink, Source, write_all};
 use st_layout::Cells;
 use std::alloc::Global;
+use std::mem::forget;
 
 /// All was accepted.
 pub const ACCEPTED: u8 = 0;
@@ -31,6 +32,9 @@ pub const NO_MEMORY: u8 = 5;
 
 /// Loads the program of the name `main` from a text and answers a session's commands over it, or writes the refusal of the
 /// load. Answers the status. The devices have not failed, and `steps` is the step limit of a scan.
+///
+/// It is what a process does last: what was loaded is left to the system, which takes it at once, while to let go of a
+/// large program node by node takes a fifth of its load. Who goes on afterwards calls [`Controller::load`] and [`session`].
 pub fn run_text<R: Source, W: Sink>(
     alloc: Global,
     text: &[u8],
@@ -63,7 +67,11 @@ pub fn run_text<R: Source, W: Sink>(
     ensures failed { IsTrue (R.has_failed source.new || W.has_failed sink.new) ↔ (result ≡ DEVICE_FAILED) }
 {
     match Controller::load(alloc, text, main, steps) {
-        Ok(mut controller) => serve(alloc, &mut controller, source, sink),
+        Ok(mut controller) => {
+            let status = serve(alloc, &mut controller, source, sink);
+            forget(controller);
+            status
+        }
         Err(refusal) => refuse(alloc, refusal, sink),
     }
 }
