@@ -177,7 +177,7 @@ module _ (root : Composition) where
     command_length (invoke line name b inputs outputs) out end =
         omega (arith, call_length inputs outputs (plain (Invoke b (offset_of root name))))
     command_length (enter line name unit body inputs outputs) out end =
-        omega (arith, call_length inputs outputs (plain (Enter unit (offset_of root name))))
+        omega (arith, call_length inputs outputs (plain (Enter (offset_of root name) unit)))
     command_length (exit line) out end = omega arith
     command_length (finish line) out end = omega arith
 

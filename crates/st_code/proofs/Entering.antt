@@ -42,7 +42,7 @@ module _ (w : World) where
   -- the unit's body is the one that the invocation means, and the instance stands among the values
   enters_so : (name : List ℕ) (unit : ℕ) (body : Body) (pc : ℕ) (stack : List ℤ) (values : Values) (left : ℕ)
       → IsBodyOf (called w) (selected_by w.root name) body (w.env.bodies unit) → AreValuesOf w.root values
-      → act w.env w.room (Enter unit (offset_of w.root name)) 0 pc stack values left
+      → act w.env w.room (Enter (offset_of w.root name) unit) 0 pc stack values left
       ≡ entered pc stack (left_by unit (offset_of w.root name) values (ended (body_does name body values left)))
   enters_so name unit body pc stack values left is ok =
       let leaf = offset_of w.root name in
@@ -59,20 +59,20 @@ module _ (w : World) where
 
   -- the run goes on with what the body leaves
   done_run : (name : List ℕ) (unit pc out last : ℕ) (stack : List ℤ) (values : Values) (left : ℕ) (part : Values) (n : ℕ) → AreValuesOf w.root values
-      → slice_get w.code pc ≡ Some (line_of 0 (Enter unit (offset_of w.root name)))
-      → act w.env w.room (Enter unit (offset_of w.root name)) 0 pc stack values left
+      → slice_get w.code pc ≡ Some (line_of 0 (Enter (offset_of w.root name) unit))
+      → act w.env w.room (Enter (offset_of w.root name) unit) 0 pc stack values left
       ≡ entered pc stack (left_by unit (offset_of w.root name) values (done part n))
       → KeepsFrame (selected_by w.root name) (drop (offset_of w.root name) w.env.setting.forced)
       (stretch values (offset_of w.root name) (count (selected_by w.root name))) left part n
       → Runs w (state pc stack values left) (pc + 1) out last stack left (left_by unit (offset_of w.root name) values (done part n))
   done_run name unit pc out last stack values left part n ok h e keeps =
       let kept = part_keeps w.root name (selected_by w.root name) refl w.env.setting.forced values ok left part n keeps in
-      (kept.steps, kept.all, step w (Enter unit (offset_of w.root name)) 0 pc stack values left _ h e)
+      (kept.steps, kept.all, step w (Enter (offset_of w.root name) unit) 0 pc stack values left _ h e)
 
   -- or ends at its fault
   left_run : (name : List ℕ) (unit pc out last : ℕ) (stack : List ℤ) (values : Values) (left : ℕ) (o : Outcome) → AreValuesOf w.root values
-      → slice_get w.code pc ≡ Some (line_of 0 (Enter unit (offset_of w.root name)))
-      → act w.env w.room (Enter unit (offset_of w.root name)) 0 pc stack values left
+      → slice_get w.code pc ≡ Some (line_of 0 (Enter (offset_of w.root name) unit))
+      → act w.env w.room (Enter (offset_of w.root name) unit) 0 pc stack values left
       ≡ entered pc stack (left_by unit (offset_of w.root name) values (ended o))
       → StaysInFrame (selected_by w.root name) (drop (offset_of w.root name) w.env.setting.forced)
       (stretch values (offset_of w.root name) (count (selected_by w.root name))) left o
@@ -80,10 +80,10 @@ module _ (w : World) where
   left_run name unit pc out last stack values left (done part n) ok h e keeps = done_run name unit pc out last stack values left part n ok h e keeps
   left_run name unit pc out last stack values left (exited part n) ok h e keeps = done_run name unit pc out last stack values left part n ok h e keeps
   left_run name unit pc out last stack values left (returned part n) ok h e keeps = done_run name unit pc out last stack values left part n ok h e keeps
-  left_run name unit pc out last stack values left (faulted f) ok h e keeps = halt w (Enter unit (offset_of w.root name)) 0 pc stack values left _ h e
+  left_run name unit pc out last stack values left (faulted f) ok h e keeps = halt w (Enter (offset_of w.root name) unit) 0 pc stack values left _ h e
 
   instance_run : (name : List ℕ) (unit : ℕ) (body : Body) (pc out last : ℕ) (stack : List ℤ) (values : Values) (left : ℕ)
-      → slice_get w.code pc ≡ Some (line_of 0 (Enter unit (offset_of w.root name))) → IsBodyOf (called w) (selected_by w.root name) body (w.env.bodies unit)
+      → slice_get w.code pc ≡ Some (line_of 0 (Enter (offset_of w.root name) unit)) → IsBodyOf (called w) (selected_by w.root name) body (w.env.bodies unit)
       → IsSoundBody w.functions (selected_by w.root name) body → AreValuesOf w.root values
       → Runs w (state pc stack values left) (pc + 1) out last stack left
       (instance_meaning w.root w.env.setting name unit (λ within part i. body_meaning (called w) (selected_by w.root name) within body part i) values left)
@@ -105,7 +105,7 @@ module _ (w : World) where
   enter_run line name unit body inputs outputs pc out last stack has sound is room values left ok =
       let leaf = offset_of w.root name in
       let ci = moves_code w.root inputs in let co = moves_code w.root outputs in
-      let call = plain (Enter unit leaf) in
+      let call = plain (Enter leaf unit) in
       let q = pc + 1 + 1 + length ci in
       let at_call = has_back w.code (pc + 1 + 1) ci (call ++ co) has.1.1 in
       let past : q + (1 + length co) ≡ pc + length (at line Step ++ (at line Step ++ (ci ++ (call ++ co)))) = omega (arith, length-append ci (call ++ co)) in

@@ -20,7 +20,7 @@ use Rattle.st_code.specs.declared.instr.Instr.TheVariants.{Push, Step, Drop, Ent
 module _ (test : InstanceTest) (charts : ChartTest) where
   -- the instance that an instruction enters passes the one test, and the unit whose chart it is about the other
   abbrev Passes : Instr → Type 0
-  Passes (Enter unit leaf) = IsTrue (test unit leaf)
+  Passes (Enter leaf unit) = IsTrue (test unit leaf)
   Passes (Times unit leaf) = IsTrue (charts unit)
   Passes (Ask unit leaf number) = IsTrue (charts unit)
   Passes (Chart unit leaf) = IsTrue (charts unit)
@@ -32,7 +32,7 @@ module _ (test : InstanceTest) (charts : ChartTest) where
   Each (l ∷ ls) = Passes l.instr × Each ls
 
   enters_passing : (i : Instr) → Passes i → EntersWhere test i
-  enters_passing (Enter unit leaf) h = h
+  enters_passing (Enter leaf unit) h = h
   enters_passing _ h = tt
 
   charts_passing : (i : Instr) → Passes i → ChartsWhere charts i

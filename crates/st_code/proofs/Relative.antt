@@ -325,7 +325,7 @@ module _ (values : Values) (first size : ℕ) (fits : first + size ≤ length va
         (counted_alike line left _ _ (λ n. turned_alike env.setting.forced e leaf distance (number_in e counter +ℤ number_in e step) step last counter place stack n))
     act_alike Leave line place (step ∷ last ∷ counter ∷ stack) left = same (place + 1) stack left
     act_alike (Invoke b leaf) line place stack left = invoke_alike env.setting b leaf (place + 1) stack left
-    act_alike (Enter unit leaf) line place stack left = enters_alike env.setting (env.bodies unit) unit leaf place stack left
+    act_alike (Enter leaf unit) line place stack left = enters_alike env.setting (env.bodies unit) unit leaf place stack left
     act_alike (Pick distance) line place stack left =
         when (nat_lt distance (length stack)) _ _ (when (nat_lt (length stack) room) _ _ (same (place + 1) (get_or stack distance (pos 0) ∷ stack) left))
     act_alike (Call unit inputs below) line place stack left =

@@ -14,7 +14,7 @@ use Rattle.st_code.specs.declared.instr.Instr.TheVariants.{Enter}
 
 -- the instance that an instruction enters: the number of its unit, and its first leaf
 abbrev pub entrance_of : Instr → Option (ℕ × ℕ)
-entrance_of (Enter unit leaf) = Some (unit, leaf)
+entrance_of (Enter leaf unit) = Some (unit, leaf)
 entrance_of i = None
 
 -- the test is of a unit's number and the first leaf of an instance of it
@@ -23,7 +23,7 @@ InstanceTest = ℕ → ℕ → Bool
 
 -- if this is an `Enter`, its unit and leaf pass the test
 abbrev pub EntersWhere : InstanceTest → Instr → Type 0
-EntersWhere test (Enter unit leaf) = IsTrue (test unit leaf)
+EntersWhere test (Enter leaf unit) = IsTrue (test unit leaf)
 EntersWhere test i = Unit {0}
 
 -- the unit and the first leaf of the invoked instance pass the test

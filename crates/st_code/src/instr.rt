@@ -66,8 +66,9 @@ pub enum Instr {
     Leave,
     /// Does what one invocation of a standard function block does to its leaves, the first of which is this one.
     Invoke(StandardBlock, u32),
-    /// Runs the body of the unit of this number on the values of an instance, the first leaf of which is this one.
-    Enter(usize, u32),
+    /// Runs the body of a unit on the values of an instance, the first leaf of which is this one; behind it stands the number of
+    /// the unit.
+    Enter(u32, usize),
     /// Puts the number on the stack that stands so far below the top.
     Pick(u32),
     /// Takes so many numbers as the inputs of the function that the unit of this number is, takes so many further ones away, and
@@ -101,7 +102,7 @@ impl Instr {
             Instr::Test(elem, leaf, far) => Instr::Test(elem, first.saturating_add(leaf), far),
             Instr::Next(elem, leaf, far) => Instr::Next(elem, first.saturating_add(leaf), far),
             Instr::Invoke(block, leaf) => Instr::Invoke(block, first.saturating_add(leaf)),
-            Instr::Enter(unit, leaf) => Instr::Enter(unit, first.saturating_add(leaf)),
+            Instr::Enter(leaf, unit) => Instr::Enter(first.saturating_add(leaf), unit),
             Instr::Times(unit, leaf) => Instr::Times(unit, first.saturating_add(leaf)),
             Instr::Ask(unit, leaf, number) => Instr::Ask(unit, first.saturating_add(leaf), number),
             Instr::Chart(unit, leaf) => Instr::Chart(unit, first.saturating_add(leaf)),
@@ -115,7 +116,7 @@ impl Instr {
         ensures { result ≡ entrance_of self.now }
     {
         match *self {
-            Instr::Enter(unit, leaf) => Some((unit, leaf)),
+            Instr::Enter(leaf, unit) => Some((unit, leaf)),
             _ => None,
         }
     }

@@ -112,7 +112,7 @@ module _ (w : Whole) (c : Call) where
   is_entered : (i : Instr) (u : Option Invoked) → entering (offset_of w.variables called_name) u ≡ Some i
       → command_code w.variables (entrance w called_line called_name u called_with) 0 0 ≡ invocation_code w c i
   is_entered i None h = cc
-  is_entered i (Some unit) h = let same : Enter unit.number (offset_of w.variables called_name) ≡ i = cc in ap (invocation_code w c) same
+  is_entered i (Some unit) h = let same : Enter (offset_of w.variables called_name) unit.number ≡ i = cc in ap (invocation_code w c) same
 
   is_run : (i : Instr) (b : Option StandardBlock) → running (offset_of w.variables called_name) b (w.invoked called_name) ≡ Some i
       → command_code w.variables (invocation w called_line called_name b called_with) 0 0 ≡ invocation_code w c i

@@ -10,7 +10,7 @@ use Rattle.st_code.specs.declared.instr.Instr.TheVariants.{Enter, Invoke}
 -- a block of the text, of whose instance this is the first leaf
 abbrev pub entering : ℕ → Option Invoked → Option Instr
 entering first None = None
-entering first (Some unit) = Some (Enter unit.number first)
+entering first (Some unit) = Some (Enter first unit.number)
 
 -- a standard block, or else one of the text
 abbrev pub running : ℕ → Option StandardBlock → Option Invoked → Option Instr

@@ -46,7 +46,7 @@ fn instance(scope: &Scope<'_>, name: &Identifier) -> Option<Instr>
         return Some(Instr::Invoke(block, first));
     }
     let unit = scope.instance(name.spelling.as_slice())?;
-    Some(Instr::Enter(unit, first))
+    Some(Instr::Enter(first, unit))
 }
 
 /// The type of an input or an output of an instance, and how many leaves stand before it.

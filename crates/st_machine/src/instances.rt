@@ -55,7 +55,7 @@ pub(crate) fn enter<M: Memory>(
     let mut place = 0;
     while place < instrs.len() {
         let instr = instrs[place].from_leaf(first);
-        if let Instr::Enter(unit, leaf) = instr {
+        if let Instr::Enter(leaf, unit) = instr {
             left = enter(unit, leaf, units, memory, layout, lower, work, now, left)?;
             place += 1;
             continue;

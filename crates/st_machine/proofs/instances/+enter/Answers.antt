@@ -93,7 +93,7 @@ enter-requires g t c κs within =
     let is : instr ≡ clipped_from first (line_at code place).instr = c.from_leaf-instr.ensures ∙ ap (clipped_from first) (instr_is code c.instrs-instrs.result.now place _ instrs inside) in
     let unit = c.in-Enter.unit in
     let leaf = c.in-Enter.leaf in
-    let entrance : instr ≡ Enter unit leaf = c.in-Enter.is in
+    let entrance : instr ≡ Enter leaf unit = c.in-Enter.is in
     let lower_is : rooms_of c.loop-place.lower ≡ take block.level rooms =
     c.loop-place.invariant.lower ∙ rooms_taken lower upper block.level (omega (arith, halves.front_len, c.level.ensures)) ∙ ap (λ ls. take block.level (rooms_of ls)) (sym halves.value) in
     let fits = g.met.M.Memory.fits leaves c.args.memory.now c.requires.over in (
@@ -144,7 +144,7 @@ returns-in_err-left-clause-leaves g t c =
     let is : instr ≡ clipped_from first (line_at code place).instr = c.from_leaf-instr.ensures ∙ ap (clipped_from first) (instr_is code c.instrs-instrs.result.now place _ instrs inside) in
     let unit = c.in-Enter.unit in
     let leaf = c.in-Enter.leaf in
-    let entrance : instr ≡ Enter unit leaf = c.in-Enter.is in
+    let entrance : instr ≡ Enter leaf unit = c.in-Enter.is in
     let lower_is : rooms_of c.loop-place.lower ≡ take block.level rooms =
     c.loop-place.invariant.lower ∙ rooms_taken lower upper block.level (omega (arith, halves.front_len, c.level.ensures)) ∙ ap (λ ls. take block.level (rooms_of ls)) (sym halves.value) in
     let fits = g.met.M.Memory.fits leaves c.args.memory.now c.requires.over in
@@ -184,7 +184,7 @@ loop-place-preserved-in-Enter g t c =
     let is : instr ≡ clipped_from first (line_at code place).instr = c.from_leaf-instr.ensures ∙ ap (clipped_from first) (instr_is code c.instrs-instrs.result.now place _ instrs inside) in
     let unit = c.in-Enter.unit in
     let leaf = c.in-Enter.leaf in
-    let entrance : instr ≡ Enter unit leaf = c.in-Enter.is in
+    let entrance : instr ≡ Enter leaf unit = c.in-Enter.is in
     let lower_is : rooms_of c.loop-place.lower ≡ take block.level rooms =
     c.loop-place.invariant.lower ∙ rooms_taken lower upper block.level (omega (arith, halves.front_len, c.level.ensures)) ∙ ap (λ ls. take block.level (rooms_of ls)) (sym halves.value) in
     let fits = g.met.M.Memory.fits leaves c.args.memory.now c.requires.over in
