@@ -9,6 +9,7 @@ pub mod Entering
 pub mod InFunction
 pub mod InPlace
 pub mod Invocations
+pub mod Joined
 pub mod Moments
 pub mod Narrow
 pub mod Nearer
