@@ -1,6 +1,7 @@
 //! The stack machine: it runs the code of a program, its function blocks and its functions over a memory, without allocating.
 #![tactic(auto)]
 
+mod acts;
 mod block;
 mod blocks;
 mod calls;
