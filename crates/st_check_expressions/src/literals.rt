@@ -29,7 +29,7 @@ pub fn literal_own(literal: &Constant) -> Option<Elem>
 {
     match literal {
         Constant::Integer(_) => None,
-        Constant::Typed(_, value) => Some(value.elem),
+        Constant::Typed(_, value) => Some(value.get().elem),
         Constant::Duration(_) => Some(Elem::Time),
         Constant::Bool(_, _) => Some(Elem::Bool),
     }
@@ -40,7 +40,7 @@ pub fn is_misstated(literal: &Constant) -> bool
     ensures { result ≡ is_misstated literal.now }
 {
     match literal {
-        Constant::Typed(_, value) => !is_value(*value),
+        Constant::Typed(_, value) => !is_value(value.get()),
         Constant::Duration(duration) => !is_value(duration_value(duration)),
         _ => false,
     }
@@ -53,7 +53,7 @@ fn duration_value(duration: &Duration) -> Value
 {
     Value {
         elem: Elem::Time,
-        bits: duration.milliseconds,
+        bits: duration.milliseconds.get(),
     }
 }
 
@@ -64,7 +64,8 @@ pub fn check_literal(literal: &Constant, at: Position, due: Elem, first: &mut Fi
     match literal {
         Constant::Integer(number) => check_number(number, at, due, first),
         Constant::Typed(position, value) => {
-            check_stated(!is_value(*value), value.elem, *position, at, due, first);
+            let value = value.get();
+            check_stated(!is_value(value), value.elem, *position, at, due, first);
         }
         Constant::Duration(duration) => {
             let is_misstated = !is_value(duration_value(duration));
@@ -107,9 +108,10 @@ fn check_stated(
 fn number_fits(number: &SignedInteger, elem: Elem) -> bool
     ensures { result ≡ in_range elem (number_of number.now) }
 {
+    let magnitude = number.magnitude.get();
     if number.is_negative {
-        number.magnitude == 0 || (elem.is_signed() && number.magnitude <= elem.limit())
+        magnitude == 0 || (elem.is_signed() && magnitude <= elem.limit())
     } else {
-        number.magnitude < elem.limit()
+        magnitude < elem.limit()
     }
 }

@@ -49,7 +49,7 @@ fn check_duration(duration: Option<Duration>, first: &mut FirstFault)
     if let Some(duration) = duration {
         let value = Value {
             elem: Elem::Time,
-            bits: duration.milliseconds,
+            bits: duration.milliseconds.get(),
         };
         first.offer_when(!is_value(value), duration.position, Rule::OutOfRange);
     }

@@ -131,7 +131,7 @@ fn item_size(item: &ArrayElement) -> u128
 {
     match item {
         ArrayElement::Single(_) => 1,
-        ArrayElement::Repeated(_, count, _) => (*count).min(1 << 64),
+        ArrayElement::Repeated(_, count, _) => count.get().min(1 << 64),
     }
 }
 

@@ -14,15 +14,16 @@ fn bound(number: &SignedInteger) -> Option<i128>
     ensures { result ≡ bound_of number.now }
 {
     let limit = Elem::Lint.limit();
-    if number.magnitude < limit {
-        let magnitude = number.magnitude as i128;
+    let distance = number.magnitude.get();
+    if distance < limit {
+        let magnitude = distance as i128;
         Some(if number.is_negative {
             -magnitude
         } else {
             magnitude
         })
-    } else if number.is_negative && number.magnitude == limit {
-        Some(-(number.magnitude as i128))
+    } else if number.is_negative && distance == limit {
+        Some(-(distance as i128))
     } else {
         None
     }

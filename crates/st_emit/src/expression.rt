@@ -1,11 +1,11 @@
 //! The code of expressions and places, from its last instruction to the first.
 ghost use Rattle.std.specs.Option.{is_some};
 ghost use Rattle.std.specs.Prelude.{◌≡◌, ◌++◌, IsTrue, OnOk, None, Some, false, length, reverse};
-ghost use Rattle.st_meaning.specs.Sound.{term_type, types_in};
+ghost use Rattle.st_meaning.specs.Sound.{is_fixed, term_type, types_in};
 ghost use Rattle.st_meaning.specs.Operations.{unary_type};
 ghost use Rattle.st_meaning.specs.Typing.{arguments_from, as_input, call_typed_in, input_at, place_of, prefixed, typed, variable_typed};
 ghost use Rattle.st_meaning.specs.Wholes.{type_of};
-ghost use Rattle.st_code.specs.Code.{parts_code, store_code, term_code, terms_code};
+ghost use Rattle.st_code.specs.Code.{base_of, parts_code, store_code, term_code, terms_code};
 ghost use Rattle.st_emit.specs.Calls.{AreTyped, argument_code, argument_type, arguments_code, behind_argument, passed_in, positionals};
 ghost use Rattle.st_emit.specs.Emits.{Emits, own_types, terms_in};
 ghost use Rattle.st_types.specs.Standard.{standard_of};
@@ -15,7 +15,7 @@ use crate::functions::{emit_behind, input_type, passed_count};
 use crate::index::{emit_added, emit_dimensions, emit_nil, emit_value};
 use crate::literal::{is_comparison, or_lint};
 use crate::own::{own, own_of_front, own_or_lint, positional_count, takes_number};
-use crate::places::{constant_named, locate, stops};
+use crate::places::{Place, constant_named, locate, stops};
 use crate::scope::Scope;
 use crate::steps::emit_step_part;
 use crate::takes::{gives_type, takes, takes_one};
@@ -410,23 +410,22 @@ fn emit_value_of_input(
     Ok(())
 }
 
-/// A store of what stands on the stack to the variable, which has this type.
+/// A store of what stands on the stack to the variable, which stands at this place.
 pub(crate) fn emit_store(
     code: &mut Code,
     scope: &Scope<'_>,
     variable: &Variable,
-    elem: Elem,
+    place: Place,
 ) -> Result<(), AllocError>
-    requires { type_of (whole_of scope.now).variables (place_of (whole_of scope.now) variable.now) ≡ Some elem }
-    ensures { OnOk result (code.new ≡ code.old ++ reverse (store_code (whole_of scope.now).variables elem (place_of (whole_of scope.now) variable.now))) }
+    requires elem { type_of (whole_of scope.now).variables (place_of (whole_of scope.now) variable.now) ≡ Some place.elem }
+    requires base { place.base ≡ base_of (whole_of scope.now).variables (place_of (whole_of scope.now) variable.now) }
+    requires fixed { place.is_fixed ≡ is_fixed (place_of (whole_of scope.now) variable.now) }
+    ensures { OnOk result (code.new ≡ code.old ++ reverse (store_code (whole_of scope.now).variables place.elem (place_of (whole_of scope.now) variable.now))) }
 {
-    let Some(place) = locate(scope, variable) else {
-        return Ok(());
-    };
     if place.is_fixed {
-        code.push(Instr::Put(elem, place.base), 0)?;
+        code.push(Instr::Put(place.elem, place.base), 0)?;
     } else {
-        code.push(Instr::PutAt(elem, place.base), 0)?;
+        code.push(Instr::PutAt(place.elem, place.base), 0)?;
         emit_parts(code, scope, variable)?;
     }
     Ok(())

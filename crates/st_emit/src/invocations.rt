@@ -9,7 +9,7 @@ ghost use Rattle.st_emit.specs.Trees.{whole_of};
 
 use crate::expression::{emit_expression, emit_store};
 use crate::index::emit_nil;
-use crate::places::place_type;
+use crate::places::locate;
 use crate::scope::Scope;
 use st_code::{Code, Instr};
 use st_tree::tree::{Argument, Call, Identifier};
@@ -127,11 +127,11 @@ fn emit_output(
 {
     match argument {
         Argument::Output(name, variable) => {
-            let Some(elem) = place_type(scope, variable.get()) else {
+            let Some(place) = locate(scope, variable.get()) else {
                 return Ok(());
             };
-            emit_store(code, scope, variable.get(), elem)?;
-            emit_pin(code, scope, instance, name, elem)?;
+            emit_store(code, scope, variable.get(), place)?;
+            emit_pin(code, scope, instance, name, place.elem)?;
             Ok(())
         }
         Argument::Positional(_) | Argument::Input(_, _) => Ok(()),

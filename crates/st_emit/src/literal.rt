@@ -14,7 +14,7 @@ pub(crate) fn literal_own(literal: &Constant) -> Option<Elem>
 {
     match literal {
         Constant::Integer(_) => None,
-        Constant::Typed(_, value) => Some(value.elem),
+        Constant::Typed(_, value) => Some(value.get().elem),
         Constant::Duration(_) => Some(Elem::Time),
         Constant::Bool(_, _) => Some(Elem::Bool),
     }

@@ -9,7 +9,7 @@ use crate::cases::emit_case;
 use crate::expression::{emit_expression, emit_store};
 use crate::invocations::emit_invocation;
 use crate::loops::{emit_for, emit_repeat, emit_while};
-use crate::places::place_type;
+use crate::places::locate;
 use crate::scope::Scope;
 use st_code::{Code, Instr};
 use st_tree::tree::{ConditionalPart, Expression, IfStatement, Statement, Variable};
@@ -76,9 +76,9 @@ fn emit_assignment(
 ) -> Result<(), AllocError>
     ensures { OnOk result (code.new ≡ code.old ++ reverse (command_code (whole_of scope.now).variables (assignment_in (whole_of scope.now) variable.now value.now) 0 0)) }
 {
-    if let Some(elem) = place_type(scope, variable) {
-        emit_store(code, scope, variable, elem)?;
-        emit_expression(code, scope, value, elem)?;
+    if let Some(place) = locate(scope, variable) {
+        emit_store(code, scope, variable, place)?;
+        emit_expression(code, scope, value, place.elem)?;
     }
     code.push(Instr::Step, variable.name.position.line)
 }

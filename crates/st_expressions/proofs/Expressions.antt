@@ -8,7 +8,7 @@ use Rattle.st_tree.specs.declared.tree.constant.Constant.TheVariants as constant
 use Rattle.st_tree.specs.declared.tree.expression.Expression.TheVariants as expressions
 use Rattle.st_tree.specs.declared.tree.expression.Part.TheVariants as part_kinds
 use Rattle.st_tree.specs.declared.tree.expression.Argument.TheVariants as argument_kinds
-use Rattle.st_expressions.specs.Grammar.{integer_of, duration_of, operation_of, variable_of, call_of, operator_of, precedence_of, IsNumberFirst, IsSignedInteger, unsigned, plus, minus, IsConstant, integer, typed, duration, truth, falsehood, IsBinary, unary, alone, chain, IsOperations, no_operation, operations, IsOperation, operation, IsUnary, negation, complement, primary, IsPrimary, constant, variable, call, parenthesized, IsVariable, named, IsParts, no_part, parts, IsPart, field, subscripts, IsNextExpressions, no_expression, next_expressions, IsCall, called, IsArguments, no_arguments, arguments, IsNextArguments, no_argument, next_arguments, IsArgument, positional, input, output}
+use Rattle.st_expressions.specs.Grammar.{integer_of, typed_of, duration_of, operation_of, variable_of, call_of, operator_of, precedence_of, IsNumberFirst, IsSignedInteger, unsigned, plus, minus, IsConstant, integer, typed, duration, truth, falsehood, IsBinary, unary, alone, chain, IsOperations, no_operation, operations, IsOperation, operation, IsUnary, negation, complement, primary, IsPrimary, constant, variable, call, parenthesized, IsVariable, named, IsParts, no_part, parts, IsPart, field, subscripts, IsNextExpressions, no_expression, next_expressions, IsCall, called, IsArguments, no_arguments, arguments, IsNextArguments, no_argument, next_arguments, IsArgument, positional, input, output}
 use Rattle.st_parser.specs.Grammar.Levels.{opens, closes}
 use Rattle.st_parser.specs.Grammar.Lists.{IsMany, none, more, IsNext, comma, IsListed, listed}
 use Rattle.st_parser.specs.Reader.Parsers as parser
@@ -57,12 +57,12 @@ module _ (r : ℕ) where
   unfolding spec.signed_integer
   signed_integer_exact = exact_on kind spec.integer_by Always IsSignedInteger Any (At r) (At r) integer_by
 
-  typed_to : (v : _) (p : Position) (ts : List Tok) (x : Constant) (rest : List Tok) → IsPure (constants.Typed p v) ts x rest → IsConstant ((p, token_kinds.Typed v) ∷ ts) x rest
-  typed_to v p ts x rest d = made d (λ y us. IsConstant ((p, token_kinds.Typed v) ∷ ts) y us) typed
+  typed_to : (elem : _) (n : _) (p : Position) (ts : List Tok) (x : Constant) (rest : List Tok) → IsPure (typed_of p elem n) ts x rest → IsConstant ((p, token_kinds.Typed elem n) ∷ ts) x rest
+  typed_to elem n p ts x rest d = made d (λ y us. IsConstant ((p, token_kinds.Typed elem n) ∷ ts) y us) typed
 
-  typed_from : (v : _) (p : Position) (ts : List Tok) (x : Constant) (rest : List Tok) → IsConstant ((p, token_kinds.Typed v) ∷ ts) x rest → IsPure (constants.Typed p v) ts x rest
-  typed_from v p ts x rest typed = done
-  typed_from v p ts x rest (integer d) = absurd (let wrong = integer_begins d in cc)
+  typed_from : (elem : _) (n : _) (p : Position) (ts : List Tok) (x : Constant) (rest : List Tok) → IsConstant ((p, token_kinds.Typed elem n) ∷ ts) x rest → IsPure (typed_of p elem n) ts x rest
+  typed_from elem n p ts x rest typed = done
+  typed_from elem n p ts x rest (integer d) = absurd (let wrong = integer_begins d in cc)
 
   duration_to : (v : _) (p : Position) (ts : List Tok) (x : Constant) (rest : List Tok) → IsPure (constants.Duration (duration_of p v)) ts x rest → IsConstant ((p, token_kinds.Duration v) ∷ ts) x rest
   duration_to v p ts x rest d = made d (λ y us. IsConstant ((p, token_kinds.Duration v) ∷ ts) y us) duration
@@ -87,7 +87,7 @@ module _ (r : ℕ) where
 
   -- a literal that has no rule of its own is a number
   abbrev is_number_first : Option Kind → Bool
-  is_number_first (Some (token_kinds.Typed v)) = false
+  is_number_first (Some (token_kinds.Typed elem n)) = false
   is_number_first (Some (token_kinds.Duration d)) = false
   is_number_first (Some (token_kinds.Keyword keywords.True)) = false
   is_number_first (Some (token_kinds.Keyword keywords.False)) = false
@@ -109,7 +109,7 @@ module _ (r : ℕ) where
       (λ ts x rest p g d. number_from ts x rest (subst (λ u. is_number_first u ≡ true) (sym p.0) h) d) (λ t g. g)
 
   constant_by : (t : Option Kind) → Exact 1 (spec.constant_by t) (λ ts. (kind ts ≡ t) × Always ts) IsConstant Any (At r) (At r)
-  constant_by (Some (token_kinds.Typed v)) = exact_under (exact_token (token_kinds.Typed v) refl {R = IsConstant} (λ p. exact_iff (exact_pure (constants.Typed p v) Always Any (At r)) (typed_to v p) (typed_from v p))) (λ ts p. p.0) (λ t g. g)
+  constant_by (Some (token_kinds.Typed elem n)) = exact_under (exact_token (token_kinds.Typed elem n) refl {R = IsConstant} (λ p. exact_iff (exact_pure (typed_of p elem n) Always Any (At r)) (typed_to elem n p) (typed_from elem n p))) (λ ts p. p.0) (λ t g. g)
   constant_by (Some (token_kinds.Duration v)) = exact_under (exact_token (token_kinds.Duration v) refl {R = IsConstant} (λ p. exact_iff (exact_pure (constants.Duration (duration_of p v)) Always Any (At r)) (duration_to v p) (duration_from v p))) (λ ts p. p.0) (λ t g. g)
   constant_by (Some (token_kinds.Keyword keywords.True)) = exact_under (exact_token (token_kinds.Keyword keywords.True) refl {R = IsConstant} (λ p. exact_iff (exact_pure (constants.Bool p true) Always Any (At r)) (truth_to p) (truth_from p))) (λ ts p. p.0) (λ t g. g)
   constant_by (Some (token_kinds.Keyword keywords.False)) = exact_under (exact_token (token_kinds.Keyword keywords.False) refl {R = IsConstant} (λ p. exact_iff (exact_pure (constants.Bool p false) Always Any (At r)) (falsehood_to p) (falsehood_from p))) (λ ts p. p.0) (λ t g. g)

@@ -89,14 +89,14 @@ integer_begins minus = refl
 
 -- a literal begins so
 abbrev pub begins_constant : Option Kind → Bool
-begins_constant (Some (token_kinds.Typed v)) = true
+begins_constant (Some (token_kinds.Typed elem n)) = true
 begins_constant (Some (token_kinds.Duration d)) = true
 begins_constant (Some (token_kinds.Keyword keywords.True)) = true
 begins_constant (Some (token_kinds.Keyword keywords.False)) = true
 begins_constant t = begins_integer t
 
 from_integer : (t : Option Kind) → begins_integer t ≡ true → begins_constant t ≡ true
-from_integer (Some (token_kinds.Typed v)) h = refl
+from_integer (Some (token_kinds.Typed elem n)) h = refl
 from_integer (Some (token_kinds.Duration d)) h = refl
 from_integer (Some (token_kinds.Keyword keywords.True)) h = refl
 from_integer (Some (token_kinds.Keyword keywords.False)) h = refl

@@ -4,7 +4,7 @@ use Rattle.st_tokens.specs.declared.keyword.Keyword.TheVariants as keywords
 use Rattle.st_tokens.specs.declared.symbol.Symbol.TheVariants as symbols
 use Rattle.st_tokens.specs.declared.token.Kind.TheVariants as token_kinds
 use Rattle.st_tree.specs.declared.operator.BinOp.TheVariants as operators
-use Rattle.st_values.specs.declared.value.Value.{Value}
+use Rattle.st_values.specs.declared.elem.Elem.{Elem}
 use Rattle.st_tree.specs.declared.tree.constant.Constant.TheVariants as constants
 use Rattle.st_tree.specs.declared.tree.expression.Expression.TheVariants as expressions
 use Rattle.st_tree.specs.declared.tree.expression.Operation.{roll-Operation}
@@ -19,6 +19,9 @@ use Rattle.st_parser.specs.Names.{Argument, BinOp, Call, Constant, Duration, Exp
 
 abbrev pub integer_of : Position → Bool → ℕ → SignedInteger
 integer_of p negative n = record { position = p; is_negative = negative; magnitude = n }
+
+abbrev pub typed_of : Position → Elem → ℤ → Constant
+typed_of p elem n = constants.Typed p (record { elem = elem; bits = n })
 
 abbrev pub duration_of : Position → ℤ → Duration
 duration_of p d = record { position = p; milliseconds = d }
@@ -86,7 +89,7 @@ pub data IsSignedInteger : List Tok → SignedInteger → List Tok → Type 0 wh
 -- signed integer | typed literal | duration | TRUE | FALSE
 pub data IsConstant : List Tok → Constant → List Tok → Type 0 where
   integer : {ts rest : List Tok} {i : SignedInteger} → IsSignedInteger ts i rest → IsConstant ts (constants.Integer i) rest
-  typed : {p : Position} {v : Value} {rest : List Tok} → IsConstant ((p, token_kinds.Typed v) ∷ rest) (constants.Typed p v) rest
+  typed : {p : Position} {elem : Elem} {n : ℤ} {rest : List Tok} → IsConstant ((p, token_kinds.Typed elem n) ∷ rest) (typed_of p elem n) rest
   duration : {p : Position} {d : ℤ} {rest : List Tok} → IsConstant ((p, token_kinds.Duration d) ∷ rest) (constants.Duration (duration_of p d)) rest
   truth : {p : Position} {rest : List Tok} → IsConstant ((p, token_kinds.Keyword keywords.True) ∷ rest) (constants.Bool p true) rest
   falsehood : {p : Position} {rest : List Tok} → IsConstant ((p, token_kinds.Keyword keywords.False) ∷ rest) (constants.Bool p false) rest

@@ -8,7 +8,7 @@ use Rattle.st_tree.specs.declared.tree.expression.Expression.TheVariants as expr
 use Rattle.st_tree.specs.declared.tree.expression.Part.TheVariants as part_kinds
 use Rattle.st_tree.specs.declared.tree.expression.Argument.TheVariants as argument_kinds
 use Rattle.st_parser.specs.Reader.Parsers.{Parser, ◌>>=◌, ◌>>◌, pure, refuse, bump, peek, peek_second, here, expect_symbol, is_symbol, enter, identifier, number, many, listed}
-use Rattle.st_expressions.specs.Grammar.{integer_of, duration_of, operation_of, variable_of, call_of, operator_of, precedence_of}
+use Rattle.st_expressions.specs.Grammar.{integer_of, typed_of, duration_of, operation_of, variable_of, call_of, operator_of, precedence_of}
 use Rattle.st_parser.specs.Names.{Argument, BinOp, Call, Constant, Expression, Kind, Operation, Part, Position, SignedInteger, Variable}
 
 -- ---- literals
@@ -30,7 +30,7 @@ unfoldable pub signed_integer : Parser SignedInteger
 signed_integer = peek >>= integer_by
 
 abbrev pub constant_by : Option Kind → Parser Constant
-constant_by (Some (token_kinds.Typed v)) = do p ← bump; pure (constants.Typed p v)
+constant_by (Some (token_kinds.Typed elem n)) = do p ← bump; pure (typed_of p elem n)
 constant_by (Some (token_kinds.Duration d)) = do p ← bump; pure (constants.Duration (duration_of p d))
 constant_by (Some (token_kinds.Keyword keywords.True)) = do p ← bump; pure (constants.Bool p true)
 constant_by (Some (token_kinds.Keyword keywords.False)) = do p ← bump; pure (constants.Bool p false)

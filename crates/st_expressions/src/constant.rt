@@ -5,6 +5,7 @@ ghost use Rattle.st_parser.specs.Reader.Parsers.{Takes};
 use st_parser::{Cursor, ReadFault};
 use st_tokens::{Keyword, Kind, Symbol};
 use st_tree::tree::{Constant, Duration, SignedInteger};
+use st_values::CompactValue;
 
 /// `('+' | '-') number`
 #[tactic(auto, unfolding(crate::specs::Reader::signed))]
@@ -46,7 +47,10 @@ pub fn constant(ts: &mut Cursor<'_>) -> Result<Constant, ReadFault>
     ensures { Takes (spec.constant ts.old) result ts.old ts.new }
 {
     match ts.peek() {
-        Some(Kind::Typed(value)) => Ok(Constant::Typed(ts.bump(), *value)),
+        Some(Kind::Typed(elem, bits)) => {
+            let value = CompactValue::new(*elem, *bits);
+            Ok(Constant::Typed(ts.bump(), value))
+        }
         Some(Kind::Duration(milliseconds)) => {
             let position = ts.bump();
             Ok(Constant::Duration(Duration {

@@ -20,8 +20,8 @@ fn number_in(constant: &Constant) -> i128
 {
     match constant {
         Constant::Integer(number) => integer_of(*number),
-        Constant::Typed(_, value) => value.bits,
-        Constant::Duration(duration) => duration.milliseconds,
+        Constant::Typed(_, value) => value.get().bits,
+        Constant::Duration(duration) => duration.milliseconds.get(),
         Constant::Bool(_, is_true) => i128::from(*is_true),
     }
 }
@@ -30,7 +30,7 @@ fn number_in(constant: &Constant) -> i128
 fn integer_of(number: SignedInteger) -> i128
     ensures { result ≡ integer_of number }
 {
-    let magnitude = number.magnitude.min(1 << 64) as i128;
+    let magnitude = number.magnitude.get().min(1 << 64) as i128;
     if number.is_negative {
         -magnitude
     } else {

@@ -153,8 +153,8 @@ impl<'a> Run<'a> {
     {
         let (count, value) = match item {
             ArrayElement::Single(constant) => (1, Some(constant)),
-            ArrayElement::Repeated(_, count, Some(constant)) => (*count, Some(constant.get())),
-            ArrayElement::Repeated(_, count, None) => (*count, None),
+            ArrayElement::Repeated(_, count, Some(constant)) => (count.get(), Some(constant.get())),
+            ArrayElement::Repeated(_, count, None) => (count.get(), None),
         };
         Run { count, value }
     }

@@ -1,8 +1,10 @@
 -- How long the texts of an array's subscripts are.
-use Rattle.std.proofs.Common.{◌≡◌, ℕ, zero, suc, ◌+◌, ◌<◌, ◌/◌, ◌%◌, ℤ, pos, negsuc, Bool, true, false, nat_eq, cond, List, [], ◌∷◌, ◌++◌, codes, map, length, fold, refl, ap, sym, ◌∙◌, arith, length-append, append-nil, append_assoc}
+use Rattle.std.proofs.Common.{◌≡◌, ℕ, zero, suc, ◌+◌, ◌<◌, ◌/◌, ◌%◌, ℤ, pos, negsuc, Bool, true, false, nat_eq, cond, List, [], ◌∷◌, ◌++◌, codes, map, length, take, get_or, fold, refl, ap, sym, ◌∙◌, arith, add-one, length-append, append-nil, append_assoc}
 use Rattle.std.specs.Fmt.{decimal, digit_glyph, digits, digits_onto, signed_decimal}
 use Rattle.std.specs.List.{flat_map}
+use Rattle.std.proofs.Math.Seq.{take-suc}
 use Rattle.std.proofs.lemmas.List.{map-append}
+use Rattle.std.proofs.lemmas.List.Sums.{fold-append}
 use Rattle.st_sizes.specs.Sizes.{pairs}
 use Rattle.st_sizes.specs.Subscripts.{texts_between}
 use Rattle.st_tree.specs.declared.tree.declaration.Subrange.{Subrange}
@@ -14,6 +16,13 @@ texts_in r = texts_between (number_of r.lower) (number_of r.upper)
 -- of one subscript more
 abbrev pub with_subscript : List ℕ → Subrange → List ℕ
 with_subscript texts r = pairs (pairs texts (1 ∷ [])) (texts_in r)
+
+-- of one subscript more, from the first on
+pub one_more : (rs : List Subrange) (i : ℕ) (r : Subrange) → i < length rs → r ≡ get_or rs i r
+    → with_subscript (fold with_subscript (0 ∷ []) (take i rs)) r ≡ fold with_subscript (0 ∷ []) (take (i + 1) rs)
+one_more rs i r below is =
+    rw add-one (ap (with_subscript (fold with_subscript (0 ∷ []) (take i rs))) is
+    ∙ sym (ap (fold with_subscript (0 ∷ [])) (take-suc rs i r below) ∙ fold-append with_subscript (0 ∷ []) (take i rs) (get_or rs i r ∷ [])))
 
 -- ---- texts before texts
 

@@ -1,17 +1,15 @@
 -- Of the leaves that no operator may write, the flags of steps are those whose paths end with `X`.
-use Rattle.std.proofs.Common.{◌≡◌, ℕ, zero, suc, ◌+◌, ℤ, ◌<◌, Bool, true, false, List, [], ◌∷◌, ◌++◌, codes, drop, length, map, Option, Some, None, if◌then◌else◌, refl, ap, sym, ◌∙◌, subst, arith}
+use Rattle.std.proofs.Common.{◌≡◌, ℕ, ◌+◌, ℤ, ◌<◌, Bool, true, false, List, [], ◌∷◌, ◌++◌, codes, drop, length, Option, Some, None, refl, ap, sym, ◌∙◌, subst, arith}
 use Rattle.std.specs.List.{AllByRecursion as Each, flat_map, list_any}
 use Rattle.std.specs.Char.{to_ascii_uppercase}
 use Rattle.std.proofs.lemmas.List.{length-append, length-map, map-append}
 use Rattle.st_values.specs.Words.{raised}
-use Rattle.st_values.specs.declared.elem.Elem.TheVariants as elems
 use Rattle.st_tree.specs.declared.tree.constant.Constant.{Constant}
 use Rattle.st_tree.specs.declared.tree.declaration.VarKind.{VarKind}
 use Rattle.st_tree.specs.declared.tree.declaration.VarKind.TheVariants as var_kinds
 use Rattle.st_tree.specs.declared.tree.unit.ChartElement.{ChartElement}
 use Rattle.st_tree.specs.declared.tree.unit.Step.{Step}
 use Rattle.st_types.specs.Compositions.{Composition, unknown, elementary, array, composed, standard, Members, none, member}
-use Rattle.st_types.specs.Initials.{zero_of}
 use Rattle.st_types.specs.Names.{steps_in}
 use Rattle.st_types.specs.Standard.{Pin, pins_of}
 use Rattle.st_types.specs.declared.standard.StandardBlock.{StandardBlock}
@@ -19,7 +17,7 @@ use Rattle.st_types.specs.declared.standard.StandardBlock.TheVariants as blocks
 use Rattle.st_leaves.specs.Charts.{is_pulse, stored_by}
 use Rattle.st_leaves.specs.LeavesIn.{Kept, LeafIn, Use, active, all_steps_in, as_input, begun, block_leaves, block_name, chart_in, elapsed, first_written, hidden, input, kept_by, kept_leaf, leaves_in, leaves_of_whole, member_names, members_in, one, pin_leaf, plain, pulsed, starting, state_in, step_in, stored_in, subscript_lists, truth, used_as, whole_chart_in, within}
 use Rattle.st_leaves.specs.LeavesIn as leaves
-use Rattle.st_leaves.specs.Paths.{Path, Selector, field, index, kept, path_text, selector_text}
+use Rattle.st_leaves.specs.Paths.{Selector, field, index, kept, path_text, selector_text}
 use Rattle.st_leaves.specs.Flags.{IsTold, WholesTellFlags, is_open_use, last_of}
 
 abbrev Told : List LeafIn → Type 0

@@ -44,6 +44,6 @@ fn number(written: SignedInteger) -> Number
 {
     Number {
         is_negative: written.is_negative,
-        magnitude: written.magnitude,
+        magnitude: written.magnitude.get(),
     }
 }

@@ -126,7 +126,7 @@ fn number(written: SignedInteger) -> Number
 {
     Number {
         is_negative: written.is_negative,
-        magnitude: written.magnitude,
+        magnitude: written.magnitude.get(),
     }
 }
 

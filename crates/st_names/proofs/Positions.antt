@@ -1,6 +1,7 @@
 -- The first of a name in a list.
-use Rattle.std.proofs.Common.{◌≡◌, ℕ, ◌+◌, ◌<◌, ◌≤◌, Bool, true, false, cond, not, ltb, eqb, List, [], ◌∷◌, ◌++◌, length, Option, Some, None, IfSome, is_some, position, refl, sym, ◌∙◌, ap, arith}
+use Rattle.std.proofs.Common.{◌≡◌, ℕ, ◌+◌, ◌<◌, ◌≤◌, Bool, true, false, cond, not, ltb, eqb, List, [], ◌∷◌, ◌++◌, length, Option, Some, None, IfSome, position, refl, sym, ◌∙◌, ap, arith}
 use Rattle.std.specs.List.{position_or_len}
+use Rattle.std.specs.Option.{unwrap_or}
 use Rattle.std.specs.Str.{bytes_eq, str_to_ascii_lowercase}
 use Rattle.std.proofs.lemmas.Bool.Decides.{nat_tests}
 use Rattle.std.proofs.lemmas.Grind.{common_steps}
@@ -78,30 +79,18 @@ same_first : (names : List (List ℕ)) (a b : List ℕ) → is_same a b ≡ true
 same_first names a b h =
     ap (λ (low : List ℕ). position (λ n. bytes_eq low (str_to_ascii_lowercase n)) names) ((bytes_eq-Decides (str_to_ascii_lowercase a) (str_to_ascii_lowercase b)).0 h)
 
-is_none : (o : Option ℕ) → is_some o ≡ false → o ≡ None
-is_none None h = refl
-is_none (Some i) h = cc
-
-or_else-Some : (o other : Option ℕ) → is_some o ≡ true → o ≡ or_else o other
-or_else-Some None other h = cc
-or_else-Some (Some i) other h = refl
-
 module _ {S : Type 0} (names : List (List ℕ)) (name : List ℕ) (old : IndexMap (List ℕ) ℕ S) (firsts : HasFirsts old names) where
-  -- after a new name is put into the map
-  pub firsts-put : (new : IndexMap (List ℕ) ℕ S) → is_some (get is_same old name) ≡ false → ((q : List ℕ) → get is_same new q ≡ cond (is_same name q) (Some (length names)) (get is_same old q)) → HasFirsts new (names ++ name ∷ [])
-  firsts-put new none put q =
-      put q ∙ (ap (λ (b : Bool). cond b (Some (length names)) (get is_same old q)) (flipped name q) ∙ (by (is_same q name) refl ∙ sym (position-push (λ n. is_word n q) names name)))
+  -- after a name is put into the map, with the number that it has there, or else the next
+  pub firsts-entered : (new : IndexMap (List ℕ) ℕ S) (v : ℕ) → v ≡ unwrap_or (get is_same old name) (length names)
+      → ((q : List ℕ) → get is_same new q ≡ cond (is_same name q) (Some v) (get is_same old q)) → HasFirsts new (names ++ name ∷ [])
+  firsts-entered new v is put q =
+      put q ∙ (ap (λ (b : Bool). cond b (Some v) (get is_same old q)) (flipped name q) ∙ (by (is_same q name) refl ∙ sym (position-push (λ n. is_word n q) names name)))
     where
-      by : (s : Bool) → is_same q name ≡ s → cond s (Some (length names)) (get is_same old q) ≡ or_else (first_of names q) (cond s (Some (length names)) None)
-      by true h =
-          let there : first_of names q ≡ None = same_first names q name h ∙ (sym (firsts name) ∙ is_none (get is_same old name) none) in
-          rw there refl
-      by false h = firsts q ∙ sym (or_else-None (first_of names q))
+      first : (found : Option ℕ) → Some (unwrap_or found (length names)) ≡ or_else found (Some (length names))
+      first None = refl
+      first (Some i) = refl
 
-  -- a name that is there needs no change of the map
-  pub firsts-kept : is_some (get is_same old name) ≡ true → HasFirsts old (names ++ name ∷ [])
-  firsts-kept some q = firsts q ∙ (by (is_same q name) refl ∙ sym (position-push (λ n. is_word n q) names name))
-    where
-      by : (s : Bool) → is_same q name ≡ s → first_of names q ≡ or_else (first_of names q) (cond s (Some (length names)) None)
-      by true h = or_else-Some (first_of names q) (Some (length names)) (ap is_some (same_first names q name h ∙ sym (firsts name)) ∙ some)
-      by false h = sym (or_else-None (first_of names q))
+      by : (s : Bool) → is_same q name ≡ s → cond s (Some v) (get is_same old q) ≡ or_else (first_of names q) (cond s (Some (length names)) None)
+      by true h =
+          ap Some is ∙ (first (get is_same old name) ∙ ap (λ (o : Option ℕ). or_else o (Some (length names))) (firsts name ∙ sym (same_first names q name h)))
+      by false h = firsts q ∙ sym (or_else-None (first_of names q))

@@ -62,6 +62,9 @@ impl<'a> NameTable<'a> {
         ensures number { result ≡ first_of self.now name.now }
         ensures within { IfSome result (λ i. i < length self.now) }
     {
+        if self.names.is_empty() {
+            return None;
+        }
         self.numbers.get(&Spelling::new(name)).copied()
     }
 }
@@ -75,8 +78,6 @@ fn add_first<'a>(
     ensures firsts { OnOk result ((names : List (List ℕ)) → number ≡ length names → HasFirsts numbers.old names → HasFirsts numbers.new (names ++ name.now ∷ [])) }
     ensures err { OnErr result (IsUnchanged numbers.old numbers.new) }
 {
-    if !numbers.contains_key(&Spelling::new(name)) {
-        numbers.insert(Spelling::new(name), number)?;
-    }
+    numbers.entry(Spelling::new(name))?.or_insert(number);
     Ok(())
 }

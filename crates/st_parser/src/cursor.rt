@@ -1,5 +1,5 @@
 //! The tokens of a text that are still to be read.
-ghost use Rattle.std.specs.Prelude.{◌≡◌, ◌<◌, ◌-◌, length, option_copied, IsSome};
+ghost use Rattle.std.specs.Prelude.{◌≡◌, ◌<◌, ◌-◌, ◌^◌, length, option_copied, IsSome};
 ghost use Rattle.st_parser.specs.Grammar.Tokens.{numbered, kind, line, position, next};
 
 use crate::fault::ReadFault;
@@ -11,7 +11,7 @@ use std::marker::Model;
 #[derive(Drop)]
 pub struct Cursor<'a> {
     rest: &'a [Token<'a>],
-    number: usize,
+    number: u32,
 }
 
 impl<'a> Model for Cursor<'a> {
@@ -22,12 +22,13 @@ impl<'a> Model for Cursor<'a> {
 
     ghost view = { λ cursor. numbered cursor.number cursor.rest.now };
 
-    ghost invariant = { λ cursor. cursor.number + length cursor.rest.now < 2 ^ 64 };
+    ghost invariant = { λ cursor. cursor.number + length cursor.rest.now < 2 ^ 32 };
 }
 
 impl<'a> Cursor<'a> {
     /// All tokens of a text.
     pub fn new(rest: &'a [Token<'a>]) -> Cursor<'a>
+        requires { length rest.now < 2 ^ 32 }
         ensures { result ≡ numbered 0 rest.now }
     {
         Cursor { rest, number: 0 }

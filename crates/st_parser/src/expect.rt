@@ -9,6 +9,7 @@ use crate::fault::ReadFault;
 use st_tokens::{Keyword, Kind, Symbol};
 use st_tree::Word;
 use st_tree::tree::{Identifier, Position};
+use st_values::Natural;
 use std::alloc::Global;
 
 impl<'a> Cursor<'a> {
@@ -90,7 +91,7 @@ impl<'a> Cursor<'a> {
 
     /// Takes a number without a sign.
     #[tactic(auto, unfolding(crate::specs::Reader::Parsers::number))]
-    pub fn number(&mut self) -> Result<u128, ReadFault>
+    pub fn number(&mut self) -> Result<Natural, ReadFault>
         ensures { Takes (spec.number self.old) result self.old self.new }
     {
         match self.peek() {

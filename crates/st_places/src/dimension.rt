@@ -37,7 +37,7 @@ pub(crate) fn dimensions_of(
     let mut left = ranges.len();
     'dimensions: while left > 0 {
         left -= 1;
-        let range = ranges[left];
+        let range = &ranges[left];
         items.push(dimension(range, count))?;
         count = product(extent_of(range), count);
     }
@@ -49,9 +49,9 @@ pub(crate) fn dimensions_of(
 }
 
 /// A subscript where two elements are so many leaves apart.
-fn dimension(range: Subrange, stride: u64) -> Dimension
+fn dimension(range: &Subrange, stride: u64) -> Dimension
     requires { stride ≤ 1000000 }
-    ensures { (size : ℕ) (ranges : Items Range) → stride ≡ min (extent ranges * size) 1000000 → IsLimited size range ranges result }
+    ensures { (size : ℕ) (ranges : Items Range) → stride ≡ min (extent ranges * size) 1000000 → IsLimited size range.now ranges result }
 {
     Dimension {
         last: extent_of(range).min(65_536).saturating_sub(1) as u16,
@@ -61,8 +61,8 @@ fn dimension(range: Subrange, stride: u64) -> Dimension
 }
 
 /// How many numbers there are from the lower bound to the upper one. It stops at 1,000,000.
-fn extent_of(range: Subrange) -> u64
-    ensures { result ≡ min (extent_of range) 1000000 }
+fn extent_of(range: &Subrange) -> u64
+    ensures { result ≡ min (extent_of range.now) 1000000 }
 {
     Choices::of_subrange(number(range.lower), number(range.upper)).count
 }
@@ -73,7 +73,7 @@ fn number(written: SignedInteger) -> Number
 {
     Number {
         is_negative: written.is_negative,
-        magnitude: written.magnitude,
+        magnitude: written.magnitude.get(),
     }
 }
 
@@ -81,7 +81,7 @@ fn number(written: SignedInteger) -> Number
 fn low_of(written: SignedInteger) -> i64
     ensures { IsTrue (in_range elems.Lint (number_of written)) → result ≡ number_of written }
 {
-    let magnitude = written.magnitude.min(1 << 63) as i128;
+    let magnitude = written.magnitude.get().min(1 << 63) as i128;
     if written.is_negative {
         -magnitude as i64
     } else {

@@ -51,7 +51,7 @@ fn time_in(duration: Option<Duration>) -> i64
     ensures { result ≡ time_in duration }
 {
     match duration {
-        Some(duration) => wrap(Elem::Time, duration.milliseconds).bits as i64,
+        Some(duration) => wrap(Elem::Time, duration.milliseconds.get()).bits as i64,
         None => 0,
     }
 }

@@ -218,7 +218,7 @@ cases_from : (ts : List Tok) (x : List CaseElement) (rest : List Tok) → AreCas
 cases_from ts x rest (all_cases d m) = seq d (seq (from_cases m) done)
 
 label_test : (t : Option Kind) → begins_constant t ≡ true → begins_label t ≡ true
-label_test (Some (token_kinds.Typed v)) h = refl
+label_test (Some (token_kinds.Typed elem n)) h = refl
 label_test (Some (token_kinds.Duration d)) h = refl
 label_test (Some (token_kinds.Keyword keywords.True)) h = refl
 label_test (Some (token_kinds.Keyword keywords.False)) h = refl
@@ -232,7 +232,7 @@ case_begins ts x rest (case (listed (value d) m) e) = label_test (kind ts) (cons
 case_begins ts x rest (case (listed (range d f) m) e) = label_test (kind ts) (constant_begins d)
 
 label_ends : (t : Option Kind) → begins_label t ≡ true → EndsBlock t
-label_ends (Some (token_kinds.Typed v)) h = (refl, tt)
+label_ends (Some (token_kinds.Typed elem n)) h = (refl, tt)
 label_ends (Some (token_kinds.Duration d)) h = (refl, tt)
 label_ends (Some (token_kinds.Keyword keywords.True)) h = (refl, tt)
 label_ends (Some (token_kinds.Keyword keywords.False)) h = (refl, tt)

@@ -174,7 +174,7 @@ fn priority(ts: &mut Cursor<'_>, depth_left: u8) -> Result<Option<u128>, ReadFau
         ts.expect_symbol(Symbol::Assign)?;
         let number = ts.number()?;
         ts.expect_symbol(Symbol::Close)?;
-        return Ok(Some(number));
+        return Ok(Some(number.get()));
     }
     Ok(None)
 }

@@ -24,7 +24,7 @@ fn begins_label(ts: &Cursor<'_>) -> bool
     ensures { result ≡ spec.begins_label (kind ts.now) }
 {
     match ts.peek() {
-        Some(Kind::Number(_) | Kind::Typed(_) | Kind::Duration(_)) => true,
+        Some(Kind::Number(_) | Kind::Typed(_, _) | Kind::Duration(_)) => true,
         Some(Kind::Keyword(Keyword::True | Keyword::False)) => true,
         Some(Kind::Symbol(Symbol::Plus | Symbol::Minus)) => true,
         _ => false,

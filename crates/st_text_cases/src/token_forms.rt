@@ -2,7 +2,7 @@
 ghost use Rattle.st_values.specs.Words.{AreWordBytes};
 
 use st_tokens::{Keyword, Kind, Spelling, Symbol, SyntaxFault, tokens};
-use st_values::{Elem, Value};
+use st_values::{Elem, Integer, Natural};
 use std::alloc::Global;
 use std::process::Abort;
 use std::test::Fail;
@@ -14,7 +14,7 @@ fn is_same(a: &Kind<'_>, b: &Kind<'_>) -> bool {
         (Kind::Keyword(a), Kind::Keyword(b)) => a == b,
         (Kind::Type(a), Kind::Type(b)) => a == b,
         (Kind::Number(a), Kind::Number(b)) => a == b,
-        (Kind::Typed(a), Kind::Typed(b)) => a == b,
+        (Kind::Typed(a, m), Kind::Typed(b, n)) => a == b && m == n,
         (Kind::Duration(a), Kind::Duration(b)) => a == b,
         (Kind::Symbol(a), Kind::Symbol(b)) => a == b,
         _ => false,
@@ -46,7 +46,15 @@ fn word(bytes: &[u8]) -> Kind<'_>
 }
 
 fn typed<'a>(elem: Elem, bits: i128) -> Kind<'a> {
-    Kind::Typed(Value { elem, bits })
+    Kind::Typed(elem, Integer::new(bits))
+}
+
+fn number<'a>(number: u128) -> Kind<'a> {
+    Kind::Number(Natural::new(number))
+}
+
+fn duration<'a>(milliseconds: i128) -> Kind<'a> {
+    Kind::Duration(Integer::new(milliseconds))
 }
 
 #[test]
@@ -56,16 +64,12 @@ fn each_kind(rt: HostRuntime) -> Result<(), Fail> {
     let expected = [
         word(b"a"),
         Kind::Symbol(Symbol::Assign),
-        Kind::Duration(5_400_000),
-        Kind::Number(255),
+        duration(5_400_000),
+        number(255),
         Kind::Symbol(Symbol::Semicolon),
     ];
     has(&rt, alloc, text, &expected)?;
-    let expected = [
-        Kind::Number(1),
-        Kind::Symbol(Symbol::Range),
-        Kind::Number(4),
-    ];
+    let expected = [number(1), Kind::Symbol(Symbol::Range), number(4)];
     has(&rt, alloc, b"1..4", &expected)?;
     let expected = [
         Kind::Keyword(Keyword::EndIf),
@@ -81,14 +85,14 @@ fn each_kind(rt: HostRuntime) -> Result<(), Fail> {
 fn each_remark(rt: HostRuntime) -> Result<(), Fail> {
     let alloc = rt.alloc();
     // a comment ends at the first `*)`
-    has(&rt, alloc, b"(* (* *) 1", &[Kind::Number(1)])?;
+    has(&rt, alloc, b"(* (* *) 1", &[number(1)])?;
     // single `_` in a duration's numbers, units left out, none held to a range, and other tokens after it
     let text = b"T#1_0s T#1d5ms T#100m5s T#5s*x";
     let expected = [
-        Kind::Duration(10_000),
-        Kind::Duration(86_400_005),
-        Kind::Duration(6_005_000),
-        Kind::Duration(5_000),
+        duration(10_000),
+        duration(86_400_005),
+        duration(6_005_000),
+        duration(5_000),
         Kind::Symbol(Symbol::Times),
         word(b"x"),
     ];
@@ -98,7 +102,7 @@ fn each_remark(rt: HostRuntime) -> Result<(), Fail> {
     let expected = [
         typed(Elem::Byte, 240),
         Kind::Symbol(Symbol::Plus),
-        Kind::Number(1),
+        number(1),
         Kind::Symbol(Symbol::Dot),
         typed(Elem::Word, 8),
         Kind::Type(Elem::Sint),
@@ -129,15 +133,15 @@ fn numbers_of_the_standard(rt: HostRuntime) -> Result<(), Fail> {
     // 2.2.1, table 4
     let text = b"0 123_456 2#1111_1111 2#1110_0000 8#377 8#340 16#FF 16#ff 16#E0";
     let expected = [
-        Kind::Number(0),
-        Kind::Number(123_456),
-        Kind::Number(255),
-        Kind::Number(224),
-        Kind::Number(255),
-        Kind::Number(224),
-        Kind::Number(255),
-        Kind::Number(255),
-        Kind::Number(224),
+        number(0),
+        number(123_456),
+        number(255),
+        number(224),
+        number(255),
+        number(224),
+        number(255),
+        number(255),
+        number(224),
     ];
     has(&rt, rt.alloc(), text, &expected)?;
     let text = b"DINT#5 UINT#16#9AF bool#0 BOOL#1 BOOL#FALSE Bool#true";
@@ -152,8 +156,8 @@ fn numbers_of_the_standard(rt: HostRuntime) -> Result<(), Fail> {
     has(&rt, rt.alloc(), text, &expected)?;
     let text = b"18446744073709551615 18446744073709551616 LINT#-99999999999999999999";
     let expected = [
-        Kind::Number(18_446_744_073_709_551_615),
-        Kind::Number(18_446_744_073_709_551_616),
+        number(18_446_744_073_709_551_615),
+        number(18_446_744_073_709_551_616),
         typed(Elem::Lint, -18_446_744_073_709_551_616),
     ];
     has(&rt, rt.alloc(), text, &expected)
@@ -164,33 +168,33 @@ fn durations_of_the_standard(rt: HostRuntime) -> Result<(), Fail> {
     // 2.2.3.1, table 7
     let text = b"T#14ms T#-14ms T#14.7s T#14.7m T#14.7h t#14.7d t#25h15m TIME#25h_15m time#14.7s";
     let expected = [
-        Kind::Duration(14),
-        Kind::Duration(-14),
-        Kind::Duration(14_700),
-        Kind::Duration(882_000),
-        Kind::Duration(52_920_000),
-        Kind::Duration(1_270_080_000),
-        Kind::Duration(90_900_000),
-        Kind::Duration(90_900_000),
-        Kind::Duration(14_700),
+        duration(14),
+        duration(-14),
+        duration(14_700),
+        duration(882_000),
+        duration(52_920_000),
+        duration(1_270_080_000),
+        duration(90_900_000),
+        duration(90_900_000),
+        duration(14_700),
     ];
     has(&rt, rt.alloc(), text, &expected)?;
     let text = b"t#5d_14h_12m_18s_3ms T#1m..T#2m T#1.000s";
     let expected = [
-        Kind::Duration(483_138_003),
-        Kind::Duration(60_000),
+        duration(483_138_003),
+        duration(60_000),
         Kind::Symbol(Symbol::Range),
-        Kind::Duration(120_000),
-        Kind::Duration(1_000),
+        duration(120_000),
+        duration(1_000),
     ];
     has(&rt, rt.alloc(), text, &expected)?;
     let text =
         b"T#9223372036854775807ms T#9223372036854775808ms T#-9223372036854775808ms T#-9223372036854775809ms";
     let expected = [
-        Kind::Duration(9_223_372_036_854_775_807),
-        Kind::Duration(18_446_744_073_709_551_616),
-        Kind::Duration(-9_223_372_036_854_775_808),
-        Kind::Duration(18_446_744_073_709_551_616),
+        duration(9_223_372_036_854_775_807),
+        duration(18_446_744_073_709_551_616),
+        duration(-9_223_372_036_854_775_808),
+        duration(18_446_744_073_709_551_616),
     ];
     has(&rt, rt.alloc(), text, &expected)
 }

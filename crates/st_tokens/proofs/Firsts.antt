@@ -74,7 +74,7 @@ opener_token (token_kinds.Symbol x) b h = let d = h.no_digit in let w = h.no_wor
 opener_token (token_kinds.Word w) b h = rw (begins_no_digit b h, h) refl
 opener_token (token_kinds.Keyword x) b h = rw (begins_no_digit b h, h) refl
 opener_token (token_kinds.Type elem) b h = rw (begins_no_digit b h, h) refl
-opener_token (token_kinds.Typed v) b h = rw (begins_no_digit b h, h) refl
+opener_token (token_kinds.Typed elem n) b h = rw (begins_no_digit b h, h) refl
 opener_token (token_kinds.Duration ms) b h = rw (begins_no_digit b h, h) refl
 
 -- each form has a first byte, with which tokens begin
@@ -132,7 +132,7 @@ pub record Literal (prefix : List ℕ) (kind : Kind) : Type 0 where
   pub named : IsSame name (name_of elem)
   pub no_time : elem ≡ elems.Time → ⊥
   pub reads : literal_read (class_of elem) true literal ≡ Some number
-  pub kind_is : kind ≡ token_kinds.Typed (value elem (capped_signed number))
+  pub kind_is : kind ≡ token_kinds.Typed elem (capped_signed number)
 
 -- a duration
 pub record Lasting (prefix : List ℕ) (kind : Kind) : Type 0 where

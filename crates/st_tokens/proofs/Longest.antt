@@ -216,10 +216,10 @@ typed_token : (b : ℕ) (bs rest : List ℕ) (kind : Kind) (elem : Elem) → beg
 typed_token b bs rest kind elem w t d i h =
     let m = mapped (typed_found elem) (literal_at (class_of elem) (tail_of (b ∷ bs))) (kind, rest) h in
     let f = literal_found (class_of elem) (tail_of (b ∷ bs)) m.0.1 m.0.0 m.1 in
-    let kind_is : token_kinds.Typed (value elem (capped_signed f.value)) ≡ kind =
-    ap (λ (n : ℤ). token_kinds.Typed (value elem n)) (sym f.same) ∙ ap (λ (p : Kind × List ℕ). p.0) m.2 in
+    let kind_is : token_kinds.Typed elem (capped_signed f.value) ≡ kind =
+    ap (λ (n : ℤ). token_kinds.Typed elem n) (sym f.same) ∙ ap (λ (p : Kind × List ℕ). p.0) m.2 in
     let rest_is : m.0.1 ≡ rest = ap (λ (p : Kind × List ℕ). p.1) m.2 in
-    subst (λ k. TokenFound (b ∷ bs) k rest) kind_is (subst (λ zs. TokenFound (b ∷ bs) (token_kinds.Typed (value elem (capped_signed f.value))) zs) rest_is (
+    subst (λ k. TokenFound (b ∷ bs) k rest) kind_is (subst (λ zs. TokenFound (b ∷ bs) (token_kinds.Typed elem (capped_signed f.value)) zs) rest_is (
       run (b ∷ bs) ++ 35 ∷ f.prefix,
       record {
         longest = record {
@@ -413,7 +413,7 @@ literal_is_only b bs prefix rest kind h alive p =
     let found = literal_only (class_of p.elem) (tail_of (b ∷ bs)) p.literal rest p.number (no_duration_class p.elem p.no_time) k.tail_is p.reads (record { ends = allowed; no_hash = alive }) in
     let i = elem_found (run (b ∷ bs)) p.elem named in
     rw (t, d) (ap (λ (o : Option Elem). option_and_then (λ elem. option_map (typed_found elem) (literal_at (class_of elem) (tail_of (b ∷ bs)))) o) i
-    ∙ ap (option_map (typed_found p.elem)) found ∙ pair_some (token_kinds.Typed (value p.elem (capped_signed p.number))) kind rest (sym p.kind_is))
+    ∙ ap (option_map (typed_found p.elem)) found ∙ pair_some (token_kinds.Typed p.elem (capped_signed p.number)) kind rest (sym p.kind_is))
 
 -- a token that is a duration is read
 lasting_is_only : (b : ℕ) (bs prefix rest : List ℕ) (kind : Kind) → IsToken (b ∷ bs) prefix rest kind → ((back : List ℕ) → rest ≡ 35 ∷ back → ⊥) → (p : Lasting prefix kind)

@@ -40,7 +40,7 @@ pub data HasForm : List ℕ → Kind → Type 0 where
   number : {digits : List ℕ} (n : ℕ) → number_read digits ≡ Some n → HasForm digits (token_kinds.Number (capped n))
   -- a typed literal: the name of a type but TIME, `#`, and a literal of that type (2.2.1)
   typed : (name literal : List ℕ) (elem : Elem) (n : ℤ) → IsSame name (name_of elem) → elem ≢ elems.Time
-      → literal_read (class_of elem) true literal ≡ Some n → HasForm (name ++ byte "#" ∷ literal) (token_kinds.Typed (value elem (capped_signed n)))
+      → literal_read (class_of elem) true literal ≡ Some n → HasForm (name ++ byte "#" ∷ literal) (token_kinds.Typed elem (capped_signed n))
   -- a duration: `T#` or `TIME#`, an optional `-`, and parts (2.2.3.1)
   duration : (name literal : List ℕ) (ms : ℤ) → IsDurationWord name
       → signed_interval_read literal ≡ Some ms → HasForm (name ++ byte "#" ∷ literal) (token_kinds.Duration (time_of ms))

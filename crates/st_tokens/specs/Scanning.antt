@@ -87,7 +87,7 @@ literal_at BitString text = signed_at text
 literal_at Duration text = None
 
 abbrev pub typed_found : Elem → ℤ × List ℕ → Kind × List ℕ
-typed_found elem found = (token_kinds.Typed (value elem found.0), found.1)
+typed_found elem found = (token_kinds.Typed elem found.0, found.1)
 
 -- a typed literal, after its type and `#`
 unfoldable pub typed_at : List ℕ → List ℕ → Option (Kind × List ℕ)

@@ -26,7 +26,7 @@ abbrev pub IsRefused : Kind → List ℕ → Type 0
 IsRefused (token_kinds.Word w) rest = IsUnclean w ⊎ (IsSame w (codes "T") × BeginsHash rest)
 IsRefused (token_kinds.Type elem) rest = (elem ≡ elems.Time) × BeginsHash rest
 IsRefused (token_kinds.Number n) rest = BeginsWord rest
-IsRefused (token_kinds.Typed v) rest = BeginsWord rest
+IsRefused (token_kinds.Typed elem n) rest = BeginsWord rest
 IsRefused (token_kinds.Duration ms) rest = BeginsWord rest
 IsRefused _ rest = ⊥
 

@@ -12,7 +12,7 @@ use crate::run::{begins_word, split_run};
 use crate::symbol::Symbol;
 use crate::token::{Kind, Token};
 use crate::word::{elem_of, is_clean, word_kind};
-use st_values::Value;
+use st_values::{Integer, Natural};
 use std::alloc::Global;
 
 /// The most bytes of a text.
@@ -25,7 +25,7 @@ fn typed_at<'a>(word: &[u8], text: &'a [u8]) -> Option<(Kind<'a>, &'a [u8])>
 {
     let elem = elem_of(word)?;
     let (bits, rest) = literal_at(elem.class(), text)?;
-    Some((Kind::Typed(Value { elem, bits }), rest))
+    Some((Kind::Typed(elem, Integer::new(bits)), rest))
 }
 
 /// Reads the rest of a duration, after its `#`.
@@ -34,7 +34,7 @@ fn duration_at<'a>(text: &'a [u8]) -> Option<(Kind<'a>, &'a [u8])>
     ensures { seen result ≡ duration_at text.now }
 {
     let (bits, rest) = signed_interval_at(text)?;
-    Some((Kind::Duration(time_of(bits)), rest))
+    Some((Kind::Duration(Integer::new(time_of(bits))), rest))
 }
 
 /// Reads the rest of a literal that begins with this word and `#`.
@@ -88,7 +88,7 @@ fn token_at<'a>(text: &'a [u8]) -> Option<(Kind<'a>, &'a [u8])>
     };
     if first.is_ascii_digit() {
         let (number, rest) = number_at(text)?;
-        Some((Kind::Number(number), rest))
+        Some((Kind::Number(Natural::new(number)), rest))
     } else if begins_word(*first) {
         word_at(text)
     } else {
@@ -108,6 +108,7 @@ fn scan<'a>(alloc: Global, text: &'a [u8]) -> Result<Vec<Token<'a>>, SyntaxFault
     requires { length text.now ≤ 2 ^ 20 }
     ensures found { IfOk result (λ found. HasTokens 1 text.now found.items) }
     ensures fault { IfErr result (λ fault. Explains fault text.now) }
+    ensures count { IfOk result (λ found. length found.items ≤ length text.now) }
 {
     let mut found = Vec::new(alloc);
     let mut line = 1;
@@ -146,6 +147,7 @@ fn scan<'a>(alloc: Global, text: &'a [u8]) -> Result<Vec<Token<'a>>, SyntaxFault
 pub fn tokens<'a>(alloc: Global, text: &'a [u8]) -> Result<Vec<Token<'a>>, SyntaxFault>
     ensures found { IfOk result (λ found. HasTokens 1 text.now found.items) }
     ensures fault { IfErr result (λ fault. Explains fault text.now) }
+    ensures count { IfOk result (λ found. length found.items ≤ 2 ^ 20) }
 
     // A text that has tokens, and isn't too long, gets these, unless memory runs out.
     ensures only { (found : Tokens) → length text.now ≤ 2 ^ 20 → HasTokens 1 text.now found

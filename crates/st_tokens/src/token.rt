@@ -2,7 +2,7 @@
 
 use crate::keyword::Keyword;
 use crate::symbol::Symbol;
-use st_values::{Elem, Value};
+use st_values::{Elem, Integer, Natural};
 use std::marker::Model;
 
 /// The bytes of a word as the text has them: letters, digits and `_` alone. They are borrowed from the text, and contracts
@@ -54,11 +54,12 @@ pub enum Kind<'a> {
     /// The name of an elementary type.
     Type(Elem),
     /// A number without a sign. Each above 2^64 - 1 counts as 2^64.
-    Number(u128),
-    /// A typed literal, as `INT#-5`. The number may lie outside its type's range, and each above 2^64 - 1 counts as 2^64.
-    Typed(Value),
+    Number(Natural),
+    /// A typed literal, as `INT#-5`: its type and its number, which may lie outside the type's range. Each above 2^64 - 1 counts
+    /// as 2^64.
+    Typed(Elem, Integer),
     /// A duration in milliseconds. Each outside -2^63 to 2^63 - 1 counts as 2^64.
-    Duration(i128),
+    Duration(Integer),
     /// A symbol.
     Symbol(Symbol),
 }

@@ -2,14 +2,17 @@
 ghost use Rattle.std.specs.Prelude.{◌≡◌, IfOk};
 ghost use Rattle.st_values.specs.Words.{AreWordBytes};
 
-use crate::list::List;
+use smallvec::SmallVec;
 use std::alloc::{AllocError, Global};
 use std::marker::Model;
 
-/// A word: letters, digits and `_` alone. Contracts see it as the list of its bytes.
+/// How many bytes of a word stand in the word itself.
+const INLINE_BYTES: usize = 16;
+
+/// A word: letters, digits and `_` alone. Contracts see it as the list of its bytes. Up to 16 take no memory of their own.
 #[derive(Drop)]
 pub struct Word {
-    bytes: List<u8>,
+    bytes: SmallVec<u8, INLINE_BYTES>,
 }
 
 impl Model for Word {
@@ -21,9 +24,9 @@ impl Model for Word {
 
     ghost coded = { coded_list coded_ℕ };
 
-    ghost view = { λ word. word.bytes };
+    ghost view = { λ word. word.bytes.items };
 
-    ghost invariant = { λ word. AreWordBytes word.bytes };
+    ghost invariant = { λ word. AreWordBytes word.bytes.items };
 }
 
 impl Word {
@@ -32,7 +35,7 @@ impl Word {
         requires { AreWordBytes bytes.now }
         ensures { IfOk result (λ word. word ≡ bytes.now) }
     {
-        let bytes = List::from_slice(alloc, bytes)?;
+        let bytes = SmallVec::from_slice(alloc, bytes)?;
         Ok(Word { bytes })
     }
 

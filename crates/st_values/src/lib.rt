@@ -1,6 +1,7 @@
 //! Values of the elementary types, and their texts (IEC 61131-3:2003, 2.2 and 2.3.1).
 #![tactic(auto)]
 
+mod compact;
 mod duration;
 mod elem;
 mod number;
@@ -9,6 +10,7 @@ mod read;
 mod value;
 mod word;
 
+pub use compact::{CompactValue, Integer, Natural};
 pub use duration::{interval_is_its_parts, read_interval};
 pub use elem::{Class, Elem};
 pub use number::{digits_are_their_number, read_digits};

@@ -29,7 +29,7 @@ label = do
 -- the first token begins a label
 abbrev pub begins_label : Option Kind → Bool
 begins_label (Some (token_kinds.Number n)) = true
-begins_label (Some (token_kinds.Typed v)) = true
+begins_label (Some (token_kinds.Typed elem n)) = true
 begins_label (Some (token_kinds.Duration d)) = true
 begins_label (Some (token_kinds.Keyword keywords.True)) = true
 begins_label (Some (token_kinds.Keyword keywords.False)) = true

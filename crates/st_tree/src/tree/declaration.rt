@@ -3,7 +3,7 @@ use crate::boxed::Boxed;
 use crate::list::List;
 use crate::tree::constant::{Constant, SignedInteger};
 use crate::tree::position::{Identifier, Position};
-use st_values::Elem;
+use st_values::{Elem, Natural};
 
 /// The name of a type.
 #[derive(Drop)]
@@ -46,7 +46,7 @@ pub enum ArrayElement {
     /// One element.
     Single(Constant),
     /// So many elements in a row, of this value or of the one that their type has.
-    Repeated(Position, u128, Option<Boxed<Constant>>),
+    Repeated(Position, Natural, Option<Boxed<Constant>>),
 }
 
 /// Names that are declared together, as variables or as a member.

@@ -4,8 +4,8 @@ use crate::word::Word;
 /// Where a token stands.
 #[derive(Clone, Copy, Debug, PartialEq, Eq)]
 pub struct Position {
-    /// The number of the token in the text. The first is 0.
-    pub number: usize,
+    /// The number of the token in the text. The first is 0, and a text has at most 2^20.
+    pub number: u32,
     /// The line on which it begins. The first is 1.
     pub line: u32,
 }

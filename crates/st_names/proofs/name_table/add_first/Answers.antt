@@ -1,11 +1,15 @@
-use Rattle.std.proofs.Common.{sym, ◌∙◌}
-use Rattle.st_names.proofs.Positions.{firsts-kept, firsts-put}
+use Rattle.std.proofs.Common.{rules, ℕ, ◌∙◌, ap}
+use Rattle.std.specs.Option.{unwrap_or}
+use Rattle.std.specs.Prelude.{Option}
+use Rattle.indexmap.specs.Entry.{map_with_value}
+use Rattle.st_names.proofs.Positions.{firsts-entered}
 use Rattle.st_names.proofs.name_table.add_first.Goals as goal
 
-pub returns-in_ok-insert-clause-firsts : goal.returns-in_ok-insert-clause-firsts
-returns-in_ok-insert-clause-firsts c names number firsts =
-    firsts-put names c.args.name.now c.args.numbers.now firsts c.insert.new.self (rw (← c.new.ensures) (sym c.contains_key.ensures ∙ c.if-not-contains_key.true)) (λ q. rw (← number, ← c.new-then-not-contains_key.ensures) (c.in_ok-insert.ensures.updates.0 q))
-
-pub returns-else-not-contains_key-clause-firsts : goal.returns-else-not-contains_key-clause-firsts
-returns-else-not-contains_key-clause-firsts c names number firsts =
-    firsts-kept names c.args.name.now c.args.numbers.now firsts (rw (← c.new.ensures) (sym c.contains_key.ensures ∙ c.if-not-contains_key.false))
+pub returns-clause-firsts : goal.returns-clause-firsts
+returns-clause-firsts c names number firsts q =
+    let new = map_with_value c.in_ok-numbers.field-0 c.or_insert.result.now in
+    let put = rw c.new.ensures at c.in_ok-numbers.ensures.update.0 c.or_insert.result.now in
+    let value = rw c.new.ensures at c.in_ok-numbers.ensures.value in
+    let entered = firsts-entered names c.args.name.now c.args.numbers.now firsts new c.or_insert.result.now
+    (rw (← number) (c.or_insert.ensures.value ∙ ap (λ (o : Option ℕ). unwrap_or o c.args.number) value)) (λ q. put.0 q) q in
+    search (rules, entered)

@@ -9,4 +9,4 @@ pub returns : goal.returns
 returns c =
     c.of_subrange.ensures.count ∙ ap (λ n. min n 1000000) (count (values_from (value_of c.number-2.result -ℤ value_of c.number.result)) (value_of c.number.result))
     ∙ ap (λ x. min (values_from (x -ℤ value_of c.number.result)) 1000000) c.number-2.ensures
-    ∙ ap (λ x. min (values_from (number_of c.args.range.upper -ℤ x)) 1000000) c.number.ensures
+    ∙ ap (λ x. min (values_from (number_of c.args.range.now.upper -ℤ x)) 1000000) c.number.ensures

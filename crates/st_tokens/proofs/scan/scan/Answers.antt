@@ -1,4 +1,4 @@
-use Rattle.std.proofs.Common.{◌≡◌, ◌+◌, ℕ, List, true, sym, ap, ◌∙◌, subst, arith, drop, take, length, length-drop, get_or, ◌-◌, ◌<◌}
+use Rattle.std.proofs.Common.{◌≡◌, ◌+◌, ℕ, List, true, sym, ap, ◌∙◌, subst, arith, drop, take, length, length-append, length-drop, get_or, ◌-◌, ◌<◌}
 use Rattle.std.specs.Prelude.{Some, None, codes}
 use Rattle.st_values.specs.Words.{begins_with}
 use Rattle.st_tokens.specs.Scanning.{seen, comment_at, token_at}
@@ -14,6 +14,7 @@ loop-rest-preserved-then-is_blank c =
     record {
       lines = blank_within c.loop-rest.line c.from-line.result (length rest) _ _ shorter c.in-len1-up.len_at_least
           (rw c.from-line.ensures (line_end-bound (get_or rest 0 0))) c.loop-rest.invariant.lines;
+      count = omega (arith, shorter, c.loop-rest.invariant.count);
       reads = subst (λ zs. Reads c.args.text.now c.loop-rest.found.items (c.loop-rest.line + c.from-line.result) zs) (sym (take_rest 1 rest))
           (blank_step c.args.text.now rest c.loop-rest.found.items c.loop-rest.line (c.loop-rest.line + c.from-line.result) c.in-len1-up.len_at_least
           c.loop-rest.invariant.reads (sym c.is_blank.ensures ∙ c.if-is_blank.true)
@@ -49,6 +50,7 @@ loop-rest-preserved-then-starts_with c =
     let a = after_comment c in let b = a.shorter.0 in
     record {
       lines = omega arith;
+      count = omega (arith, a.shorter.1, c.loop-rest.invariant.count);
       reads = comment_step c.args.text.now c.loop-rest.rest.now c.in-Some.remaining.now c.loop-rest.found.items c.loop-rest.line c.in-Some.next
           c.loop-rest.invariant.reads a.mark a.found;
     }
@@ -68,6 +70,7 @@ loop-rest-preserved c =
     let shorter = shorter_token c.loop-rest.rest.now c.in-Some-token_at.remaining.now c.in-Some-token_at.kind found in
     record {
       lines = omega arith;
+      count = omega (arith, shorter, ap length c.in_ok-push.ensures.items ∙ length-append c.loop-rest.found.items _, c.loop-rest.invariant.count);
       reads = subst (λ ts. Reads c.args.text.now ts c.loop-rest.line c.in-Some-token_at.remaining.now) (sym c.in_ok-push.ensures.items)
           (token_step c.args.text.now c.loop-rest.rest.now c.in-Some-token_at.remaining.now c.loop-rest.found.items c.loop-rest.line c.in-Some-token_at.kind
           c.in-len1-up.len_at_least c.loop-rest.invariant.reads (sym c.is_blank.ensures ∙ c.if-is_blank.false)
