@@ -40,7 +40,7 @@ impl<'a> PartialEq for Spelling<'a> {
     ghost laws = { Prim.search (comparing, rules) };
 
     fn eq(&self, other: &Spelling<'a>) -> bool {
-        self.bytes.eq_ignore_ascii_case(other.bytes)
+        is_same_name(self.bytes, other.bytes)
     }
 }
 
@@ -62,7 +62,8 @@ impl<'a> Hash for Spelling<'a> {
 pub fn is_same_name(name: &[u8], other: &[u8]) -> bool
     ensures { result ≡ is_word name.now other.now }
 {
-    other.eq_ignore_ascii_case(name)
+    // Most names are written as they are declared.
+    name == other || other.eq_ignore_ascii_case(name)
 }
 
 /// Hashes bytes with no regard to case.

@@ -24,7 +24,7 @@ use st_session::{
 };
 use st_tokens::MAX_TEXT_BYTES;
 use st_words::{Order, Verb, read_words};
-use std::alloc::Global;
+use std::alloc::{AllocError, Global};
 use std::convert::AsStr;
 use std::fs::File;
 use std::io::{self, Read};
@@ -36,6 +36,9 @@ const MAX_READ_BYTES: u64 = MAX_TEXT_BYTES as u64 + 1;
 
 /// The words are at fault.
 const USAGE: u8 = 2;
+
+/// The most bytes of a list that the C library is to keep; its own limit is 32 MiB, with what it adds.
+const KEPT_BYTES: usize = 31 * 1_048_576;
 
 fn main(rt: HostRuntime) -> ExitCode {
     ExitCode::from(run(&rt))
@@ -103,10 +106,21 @@ fn obey<R: Files + Input + Print + Eprint + AllocGlobal>(rt: &R, order: Order<'_
     ensures layout { EndsAsLayout order.entry result }
     ensures run { EndsAsRun order.entry result }
 {
+    keep_freed_memory(rt.alloc());
     match read_source(rt, order.file) {
         Ok(text) => answer(rt, order, text.as_slice()),
         Err(error) => explain_file(rt, order.file, &error),
     }
+}
+
+/// Has the C library keep the memory of lists that are given back, for later lists.
+///
+/// It gives the memory of a long list back to the system, and takes a fresh one for the next, until a list as long as that was given
+/// back: from then on it keeps what is below that length. So this takes `KEPT_BYTES`, never touches them, and gives them back at once.
+/// Where they aren't there, all goes on as before.
+fn keep_freed_memory(alloc: Global) {
+    let room: Result<Vec<u8>, AllocError> = Vec::with_capacity(alloc, KEPT_BYTES);
+    drop(room);
 }
 
 /// Does with the source text what is ordered, and says why it is refused where it is.
