@@ -4,4 +4,5 @@ pub mod Listings
 pub mod Replies
 pub mod Runs
 pub mod Sessions
+pub mod Statuses
 pub mod Turns

@@ -6,6 +6,7 @@ ghost use Rattle.st_control.specs.Texts.{IsCheckedAs, IsProgramOf};
 ghost use Rattle.st_session.specs.Layouts.{ListsAll, ListsPart, OfLayout};
 ghost use Rattle.st_session.specs.Listings.{leaf_lines};
 ghost use Rattle.st_session.specs.Replies.{ended};
+ghost use Rattle.st_session.specs.Statuses.{device_failed, no_memory, no_program};
 
 use crate::listing::leaf_lines;
 use crate::run::{ACCEPTED, DEVICE_FAILED, NO_MEMORY, NO_PROGRAM, refuse, tell};
@@ -27,17 +28,17 @@ pub fn layout_text<W: Sink>(alloc: Global, text: &[u8], main: &[u8], sink: &mut 
     requires { W.has_failed sink.old ≡ false }
 
     // The answer is written.
-    ensures all { result ≢ DEVICE_FAILED → result ≢ NO_MEMORY → OfLayout text.now main.now
+    ensures all { result ≢ device_failed → result ≢ no_memory → OfLayout text.now main.now
         (ListsAll result (W.taken sink.old) (W.taken sink.new)) }
-    ensures memory { result ≡ NO_MEMORY → Appends (W.taken sink.old) (W.taken sink.new) (ended (codes "refused M")) }
+    ensures memory { result ≡ no_memory → Appends (W.taken sink.old) (W.taken sink.new) (ended (codes "refused M")) }
 
     // A text that is too long is refused for that alone, also where there is no memory.
-    ensures long { 2 ^ 20 < length text.now → result ≢ DEVICE_FAILED → (result ≡ NO_PROGRAM)
+    ensures long { 2 ^ 20 < length text.now → result ≢ device_failed → (result ≡ no_program)
         × Appends (W.taken sink.old) (W.taken sink.new) (ended (codes "refused S4 line 1")) }
 
     // The device has failed.
-    ensures part { result ≡ DEVICE_FAILED → OfLayout text.now main.now (ListsPart (W.taken sink.old) (W.taken sink.new)) }
-    ensures failed { IsTrue (W.has_failed sink.new) ↔ (result ≡ DEVICE_FAILED) }
+    ensures part { result ≡ device_failed → OfLayout text.now main.now (ListsPart (W.taken sink.old) (W.taken sink.new)) }
+    ensures failed { IsTrue (W.has_failed sink.new) ↔ (result ≡ device_failed) }
 {
     match lines_of(alloc, text, main) {
         Ok(lines) => tell(sink, lines.as_slice(), ACCEPTED),

@@ -6,6 +6,7 @@ ghost use Rattle.st_control.specs.Loads.{OfLoad};
 ghost use Rattle.st_devices.specs.Pending.{OnBytes, OnReading};
 ghost use Rattle.st_session.specs.Replies.{ended};
 ghost use Rattle.st_session.specs.Runs.{OfProgram, WritesAll, WritesPart, WritesRead, refusal_status};
+ghost use Rattle.st_session.specs.Statuses.{device_failed, no_memory, no_program};
 
 use crate::conversation::{Outcome, session};
 use crate::reply::Reply;
@@ -48,23 +49,23 @@ pub fn run_text<R: Source, W: Sink>(
 
     // The replies to all commands are written, or the refusal of the load; but for want of memory for the session's own
     // buffers nothing is.
-    ensures all { result ≢ DEVICE_FAILED → result ≢ NO_MEMORY → OnBytes (R.rest source.old) (λ bytes.
+    ensures all { result ≢ device_failed → result ≢ no_memory → OnBytes (R.rest source.old) (λ bytes.
         OfLoad text.now main.now steps (WritesAll bytes result (W.taken sink.old) (W.taken sink.new))) }
-    ensures memory { result ≡ NO_MEMORY → OnBytes (R.rest source.old) (λ bytes.
-        OfLoad text.now main.now steps (WritesAll bytes NO_MEMORY (W.taken sink.old) (W.taken sink.new)))
+    ensures memory { result ≡ no_memory → OnBytes (R.rest source.old) (λ bytes.
+        OfLoad text.now main.now steps (WritesAll bytes no_memory (W.taken sink.old) (W.taken sink.new)))
         ⊎ Appends (W.taken sink.old) (W.taken sink.new) [] }
 
     // A text that is too long is refused for that alone, also where there is no memory.
-    ensures long { 2 ^ 20 < length text.now → result ≢ DEVICE_FAILED → (result ≡ NO_PROGRAM)
+    ensures long { 2 ^ 20 < length text.now → result ≢ device_failed → (result ≡ no_program)
         × Appends (W.taken sink.old) (W.taken sink.new) (ended (codes "refused S4 line 1")) }
 
     // A device has failed, and the run ended there. Where it is the source, the text was loaded, and of the commands that were
     // read whole none is lost.
-    ensures part { result ≡ DEVICE_FAILED → OnBytes (R.rest source.old) (λ bytes.
+    ensures part { result ≡ device_failed → OnBytes (R.rest source.old) (λ bytes.
         OfLoad text.now main.now steps (WritesPart bytes (W.taken sink.old) (W.taken sink.new))) }
     ensures read { R.has_failed source.new ≡ true → OnReading (R.rest source.old) (R.rest source.new) (λ bytes rest.
         OfProgram text.now main.now steps (WritesRead bytes rest (W.taken sink.old) (W.taken sink.new))) }
-    ensures failed { IsTrue (R.has_failed source.new || W.has_failed sink.new) ↔ (result ≡ DEVICE_FAILED) }
+    ensures failed { IsTrue (R.has_failed source.new || W.has_failed sink.new) ↔ (result ≡ device_failed) }
 {
     match Controller::load(alloc, text, main, steps) {
         Ok(mut controller) => {
@@ -85,16 +86,16 @@ fn serve<R: Source, W: Sink>(
 ) -> u8
     requires source { R.has_failed source.old ≡ false }
     requires sink { W.has_failed sink.old ≡ false }
-    ensures all { result ≢ DEVICE_FAILED → result ≢ NO_MEMORY → OnBytes (R.rest source.old) (λ bytes.
+    ensures all { result ≢ device_failed → result ≢ no_memory → OnBytes (R.rest source.old) (λ bytes.
         WritesAll bytes result (W.taken sink.old) (W.taken sink.new) (Ok controller.old)) }
-    ensures memory { result ≡ NO_MEMORY → OnBytes (R.rest source.old) (λ bytes.
-        WritesAll bytes NO_MEMORY (W.taken sink.old) (W.taken sink.new) (Ok controller.old))
+    ensures memory { result ≡ no_memory → OnBytes (R.rest source.old) (λ bytes.
+        WritesAll bytes no_memory (W.taken sink.old) (W.taken sink.new) (Ok controller.old))
         ⊎ Appends (W.taken sink.old) (W.taken sink.new) [] }
-    ensures part { result ≡ DEVICE_FAILED → OnBytes (R.rest source.old) (λ bytes.
+    ensures part { result ≡ device_failed → OnBytes (R.rest source.old) (λ bytes.
         WritesPart bytes (W.taken sink.old) (W.taken sink.new) (Ok controller.old)) }
     ensures read { R.has_failed source.new ≡ true → OnReading (R.rest source.old) (R.rest source.new) (λ bytes rest.
         WritesRead bytes rest (W.taken sink.old) (W.taken sink.new) controller.old) }
-    ensures failed { IsTrue (R.has_failed source.new || W.has_failed sink.new) ↔ (result ≡ DEVICE_FAILED) }
+    ensures failed { IsTrue (R.has_failed source.new || W.has_failed sink.new) ↔ (result ≡ device_failed) }
 {
     match session(alloc, controller, source, sink) {
         Outcome::Clean => ACCEPTED,
@@ -108,13 +109,13 @@ fn serve<R: Source, W: Sink>(
 /// too long needs none.
 pub(crate) fn refuse<W: Sink>(alloc: Global, refusal: Refusal, sink: &mut W) -> u8
     requires { W.has_failed sink.old ≡ false }
-    ensures all { result ≢ DEVICE_FAILED → result ≢ NO_MEMORY
+    ensures all { result ≢ device_failed → result ≢ no_memory
         → WritesAll [] result (W.taken sink.old) (W.taken sink.new) (Err refusal) }
-    ensures memory { result ≡ NO_MEMORY → (refusal ≢ too_long)
+    ensures memory { result ≡ no_memory → (refusal ≢ too_long)
         × Appends (W.taken sink.old) (W.taken sink.new) (ended (codes "refused M")) }
-    ensures part { result ≡ DEVICE_FAILED → WritesPart [] (W.taken sink.old) (W.taken sink.new) (Err refusal)
+    ensures part { result ≡ device_failed → WritesPart [] (W.taken sink.old) (W.taken sink.new) (Err refusal)
         ⊎ ((refusal ≢ too_long) × WritesPart [] (W.taken sink.old) (W.taken sink.new) (Err Refusal.M)) }
-    ensures failed { IsTrue (W.has_failed sink.new) ↔ (result ≡ DEVICE_FAILED) }
+    ensures failed { IsTrue (W.has_failed sink.new) ↔ (result ≡ device_failed) }
 {
     if is_too_long(refusal) {
         return tell(sink, b"refused S4 line 1\n", NO_PROGRAM);
@@ -149,11 +150,11 @@ fn status_of(refusal: Refusal) -> u8
 /// Writes a text and answers the status, or that a device failed.
 pub(crate) fn tell<W: Sink>(sink: &mut W, text: &[u8], status: u8) -> u8
     requires works { W.has_failed sink.old ≡ false }
-    requires other { status ≢ DEVICE_FAILED }
-    ensures all { result ≢ DEVICE_FAILED → (result ≡ status) × Appends (W.taken sink.old) (W.taken sink.new) text.now }
-    ensures part { result ≡ DEVICE_FAILED → (count : ℕ)
+    requires other { status ≢ device_failed }
+    ensures all { result ≢ device_failed → (result ≡ status) × Appends (W.taken sink.old) (W.taken sink.new) text.now }
+    ensures part { result ≡ device_failed → (count : ℕ)
         × Appends (W.taken sink.old) (W.taken sink.new) (take count text.now) }
-    ensures failed { IsTrue (W.has_failed sink.new) ↔ (result ≡ DEVICE_FAILED) }
+    ensures failed { IsTrue (W.has_failed sink.new) ↔ (result ≡ device_failed) }
 {
     match write_all(sink, text) {
         Ok(()) => status,
