@@ -37,7 +37,7 @@ number_typed kind cells n h few =
 
 -- ---- records of values of their types
 
-truth_typed : (b : Bool) → IsOfType elems.Bool (truth b)
+pub truth_typed : (b : Bool) → IsOfType elems.Bool (truth b)
 truth_typed true = (refl, refl)
 truth_typed false = (refl, refl)
 

@@ -12,12 +12,12 @@ use st_types::StandardBlock;
 use st_values::Value;
 
 /// How many leaves a block has at most.
-pub const MOST_LEAVES: usize = 7;
+pub const MAX_BLOCK_LEAVES: usize = 7;
 
 /// How many leaves a block has.
 pub fn leaf_count(kind: StandardBlock) -> usize
     ensures value { result ≡ length (types_of kind) }
-    ensures few { result ≤ MOST_LEAVES }
+    ensures few { result ≤ 7 }
 {
     match kind {
         StandardBlock::RTrig | StandardBlock::FTrig | StandardBlock::Sr | StandardBlock::Rs => 3,

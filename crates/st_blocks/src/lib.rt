@@ -12,7 +12,7 @@ mod ton;
 mod trigger;
 
 pub use bistable::Bistable;
-pub use block::{MOST_LEAVES, block_step, leaf_count};
+pub use block::{MAX_BLOCK_LEAVES, block_step, leaf_count};
 pub use counter::Counter;
 pub use laws::{
     blocks_begin_with_their_leaves, blocks_keep_their_types, cells_are_read, counters_move_by_one,

@@ -12,40 +12,24 @@ use Rattle.st_tree.specs.declared.tree.expression.Part.{Part}
 use Rattle.st_tree.specs.declared.tree.expression.Variable.{Variable}
 use Rattle.st_tree.specs.declared.tree.statement.Statement.{Statement, fold-roll-Statement, ind-Statement, map-Statement, roll-Statement}
 use Rattle.st_tree.specs.declared.tree.statement.CaseElement.{CaseElement, fold-roll-CaseElement, map-CaseElement, roll-CaseElement}
-use Rattle.st_tree.specs.declared.tree.statement.CaseStatement.{CaseStatement, fold-CaseStatement, fold-roll-CaseStatement, map-CaseStatement, roll-CaseStatement}
+use Rattle.st_tree.specs.declared.tree.statement.CaseStatement.{CaseStatement, fold-roll-CaseStatement, map-CaseStatement, roll-CaseStatement}
 use Rattle.st_tree.specs.declared.tree.statement.ConditionalPart.{ConditionalPart, fold-roll-ConditionalPart, map-ConditionalPart, roll-ConditionalPart}
-use Rattle.st_tree.specs.declared.tree.statement.ForStatement.{ForStatement, fold-ForStatement, fold-roll-ForStatement, map-ForStatement, roll-ForStatement}
-use Rattle.st_tree.specs.declared.tree.statement.IfStatement.{IfStatement, fold-IfStatement, fold-roll-IfStatement, map-IfStatement, roll-IfStatement}
-use Rattle.st_tree.specs.declared.tree.statement.RepeatStatement.{RepeatStatement, fold-RepeatStatement, fold-roll-RepeatStatement, map-RepeatStatement, roll-RepeatStatement}
-use Rattle.st_tree.specs.declared.tree.statement.WhileStatement.{WhileStatement, fold-WhileStatement, fold-roll-WhileStatement, map-WhileStatement, roll-WhileStatement}
+use Rattle.st_tree.specs.declared.tree.statement.ForStatement.{ForStatement, fold-roll-ForStatement, map-ForStatement, roll-ForStatement}
+use Rattle.st_tree.specs.declared.tree.statement.IfStatement.{IfStatement, fold-roll-IfStatement, map-IfStatement, roll-IfStatement}
+use Rattle.st_tree.specs.declared.tree.statement.RepeatStatement.{RepeatStatement, fold-roll-RepeatStatement, map-RepeatStatement, roll-RepeatStatement}
+use Rattle.st_tree.specs.declared.tree.statement.WhileStatement.{WhileStatement, fold-roll-WhileStatement, map-WhileStatement, roll-WhileStatement}
 use Rattle.st_tree.specs.declared.tree.statement.Statement.TheOpen.{CaseElement-F, CaseStatement-F, ConditionalPart-F, ForStatement-F, IfStatement-F, RepeatStatement-F, Statement-F, WhileStatement-F}
 use Rattle.st_types.specs.OwnTypes.{or_lint}
 use Rattle.st_types.specs.declared.standard.StandardBlock.{StandardBlock}
 use Rattle.st_leaves.specs.Selected.{selected_by}
-use Rattle.st_meaning.specs.Terms.{Parts, whole, field_part, Command, choice, while_loop, repeat_loop, Moves, Branches, more_branches, Cases, more_cases}
-use Rattle.st_meaning.specs.Typing.{Typed, assignment, branch_of, branches_of, call_command, case_command, case_of, cases_of, command_of, commands_of, condition, entrance, for_command, input_moves, input_of, inputs_of, invocation, label_range, output_moves, output_of, outputs_of, pin_of, place_of, step_typed, typed, typed_statement}
+use Rattle.st_meaning.specs.Terms.{Parts, whole, field_part, Command, Moves, Branches, Cases}
+use Rattle.st_meaning.specs.Typing.{Typed, assignment, branch_of, branches_of, call_command, case_of, cases_of, command_of, commands_of, condition, entrance, for_command, input_moves, input_of, inputs_of, invocation, output_moves, output_of, outputs_of, pin_of, place_of, step_typed, typed}
 use Rattle.st_meaning.specs.Wholes.{Invoked, Whole, block_of, type_of}
+use Rattle.st_meaning.proofs.TypedStatements.{case_statement_of, for_of, if_of, repeat_of, while_of}
 use Rattle.st_code.specs.Depth.{branches_depth, cases_depth, command_depth, commands_depth, moves_depth, parts_depth, term_depth}
 use Rattle.st_bodies.specs.Depths.{branch_depth, case_depth, element_depth, expression_depth, for_depth, if_depth, invocation_depth, most, move_cells, move_depth, place_depth, repeat_depth, statement_depth, step_depth, while_depth}
 use Rattle.st_bodies.proofs.ExpressionDepths.{along, expression_deep, place_deep}
 use Rattle.st_bodies.proofs.TypedDepths.{HasDepth, TakeAtMost, place_typed_depth}
-
--- ---- the folds that have no names of their own
-
-abbrev case_statement_of : Whole → CaseStatement → Command
-case_statement_of w x = fold-CaseStatement Command (Elem → Cases → Cases) Command (Branches → Branches) Command Command Command Command (typed_statement w) (λ e t. more_cases (map (label_range t) e.labels) (commands_of e.statements)) (λ s. case_command s.position.line (typed w s.selector) s.cases s.otherwise) (λ b. more_branches (condition w b.condition) (commands_of b.statements)) (λ s. for_command w s.position.line (field_part s.variable.spelling whole) (type_of w.variables (field_part s.variable.spelling whole)) s.first s.last s.step (commands_of s.statements)) (λ s. choice s.position.line (branches_of s.parts) (commands_of s.otherwise)) (λ s. repeat_loop s.position.line (commands_of s.statements) (condition w s.condition)) (λ s. while_loop s.position.line (condition w s.condition) (commands_of s.statements)) x
-
-abbrev for_of : Whole → ForStatement → Command
-for_of w x = fold-ForStatement Command (Elem → Cases → Cases) Command (Branches → Branches) Command Command Command Command (typed_statement w) (λ e t. more_cases (map (label_range t) e.labels) (commands_of e.statements)) (λ s. case_command s.position.line (typed w s.selector) s.cases s.otherwise) (λ b. more_branches (condition w b.condition) (commands_of b.statements)) (λ s. for_command w s.position.line (field_part s.variable.spelling whole) (type_of w.variables (field_part s.variable.spelling whole)) s.first s.last s.step (commands_of s.statements)) (λ s. choice s.position.line (branches_of s.parts) (commands_of s.otherwise)) (λ s. repeat_loop s.position.line (commands_of s.statements) (condition w s.condition)) (λ s. while_loop s.position.line (condition w s.condition) (commands_of s.statements)) x
-
-abbrev if_of : Whole → IfStatement → Command
-if_of w x = fold-IfStatement Command (Elem → Cases → Cases) Command (Branches → Branches) Command Command Command Command (typed_statement w) (λ e t. more_cases (map (label_range t) e.labels) (commands_of e.statements)) (λ s. case_command s.position.line (typed w s.selector) s.cases s.otherwise) (λ b. more_branches (condition w b.condition) (commands_of b.statements)) (λ s. for_command w s.position.line (field_part s.variable.spelling whole) (type_of w.variables (field_part s.variable.spelling whole)) s.first s.last s.step (commands_of s.statements)) (λ s. choice s.position.line (branches_of s.parts) (commands_of s.otherwise)) (λ s. repeat_loop s.position.line (commands_of s.statements) (condition w s.condition)) (λ s. while_loop s.position.line (condition w s.condition) (commands_of s.statements)) x
-
-abbrev repeat_of : Whole → RepeatStatement → Command
-repeat_of w x = fold-RepeatStatement Command (Elem → Cases → Cases) Command (Branches → Branches) Command Command Command Command (typed_statement w) (λ e t. more_cases (map (label_range t) e.labels) (commands_of e.statements)) (λ s. case_command s.position.line (typed w s.selector) s.cases s.otherwise) (λ b. more_branches (condition w b.condition) (commands_of b.statements)) (λ s. for_command w s.position.line (field_part s.variable.spelling whole) (type_of w.variables (field_part s.variable.spelling whole)) s.first s.last s.step (commands_of s.statements)) (λ s. choice s.position.line (branches_of s.parts) (commands_of s.otherwise)) (λ s. repeat_loop s.position.line (commands_of s.statements) (condition w s.condition)) (λ s. while_loop s.position.line (condition w s.condition) (commands_of s.statements)) x
-
-abbrev while_of : Whole → WhileStatement → Command
-while_of w x = fold-WhileStatement Command (Elem → Cases → Cases) Command (Branches → Branches) Command Command Command Command (typed_statement w) (λ e t. more_cases (map (label_range t) e.labels) (commands_of e.statements)) (λ s. case_command s.position.line (typed w s.selector) s.cases s.otherwise) (λ b. more_branches (condition w b.condition) (commands_of b.statements)) (λ s. for_command w s.position.line (field_part s.variable.spelling whole) (type_of w.variables (field_part s.variable.spelling whole)) s.first s.last s.step (commands_of s.statements)) (λ s. choice s.position.line (branches_of s.parts) (commands_of s.otherwise)) (λ s. repeat_loop s.position.line (commands_of s.statements) (condition w s.condition)) (λ s. while_loop s.position.line (condition w s.condition) (commands_of s.statements)) x
 
 -- ---- what needs at most so many cells
 

@@ -1,5 +1,5 @@
 -- What a unit of a checked program contains and calls stands before it in the order.
-use Rattle.std.proofs.Common.{◌≡◌, ℕ, zero, suc, ◌<◌, ◌≤◌, Bool, true, false, if◌then◌else◌, nat_eq, List, [], ◌∷◌, length, get_or, take, get_or-take, Some, refl, sym, ◌∙◌, subst, arith}
+use Rattle.std.proofs.Common.{◌≡◌, ℕ, zero, suc, ◌<◌, ◌≤◌, Bool, true, false, if◌then◌else◌, nat_eq, List, [], ◌∷◌, length, get_or, take, get_or-take, refl, sym, ◌∙◌, subst, arith}
 use Rattle.std.specs.List.{Contains}
 use Rattle.std.proofs.lemmas.Bool.{eqb-false, eqb-true}
 use Rattle.std.proofs.lemmas.List.{get_or_default, length-map, length-take-le}
@@ -8,7 +8,8 @@ use Rattle.st_order.proofs.Orders.{references_are_before}
 use Rattle.st_references.proofs.Units.{made_of_unit}
 use Rattle.st_references.specs.References.{graph_of, references}
 use Rattle.st_check.specs.Programs.{level_in}
-use Rattle.st_types.specs.Names.{Named, unit_at}
+use Rattle.st_types.specs.Names.{Named}
+use Rattle.st_types.proofs.Units.{found_below}
 use Rattle.st_calls.specs.Ranks.{ReferBelow}
 
 -- the level of a number that stands at this place is that of its first place
@@ -36,11 +37,6 @@ level_limit (m ∷ order) n = by (nat_eq m n) (level_limit order n) where
   by : (b : Bool) → level_in order n ≤ length order → (if b then 0 else suc (level_in order n)) ≤ length (m ∷ order)
   by true less = omega arith
   by false less = omega (arith, less)
-
-pub found_below : (units : List Named) (i : ℕ) (u : Named) → unit_at units i ≡ Some u → i < length units
-found_below [] i u found = absurd cc
-found_below (v ∷ vs) zero u found = omega arith
-found_below (v ∷ vs) (suc i) u found = let more = found_below vs i u found in omega (arith, more)
 
 pub refer_below : (units : List Named) (order : List ℕ) → IsOrder (graph_of units) order → ReferBelow units (level_in order)
 refer_below units order ordered number other unit at contains =

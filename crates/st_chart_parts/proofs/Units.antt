@@ -1,9 +1,10 @@
 -- Units by number, and what stands for them in lists for all units.
-use Rattle.std.proofs.Common.{◌≡◌, ℕ, zero, suc, ◌+◌, ◌<◌, List, [], ◌∷◌, ◌++◌, Option, Some, None, length, map, take, get_or, refl, ap, sym, ◌∙◌, arith, option_map}
+use Rattle.std.proofs.Common.{◌≡◌, ℕ, zero, suc, ◌+◌, ◌<◌, List, [], ◌∷◌, ◌++◌, Option, Some, None, length, map, take, get_or, refl, ap, sym, ◌∙◌, option_map}
 use Rattle.std.specs.Option.{option_map_or}
 use Rattle.std.proofs.lemmas.List.{map-append, take_more}
 use Rattle.st_scopes.specs.Declarations.{names_at, names_in}
 use Rattle.st_types.specs.Names.{Named, unit_at}
+use Rattle.st_types.proofs.Units.{there}
 
 the_unit : Named → Option Named → Named
 the_unit other None = other
@@ -35,11 +36,6 @@ unit_item g units all i u d at are = ap (λ ys. get_or ys i d) are ∙ by units 
   by [] n at = absurd (cc)
   by (v ∷ us) zero at = ap g (same_unit v u at)
   by (v ∷ us) (suc n) at = by us n at
-
-pub there : (units : List Named) (i : ℕ) → i < length units → (u : Named) × (unit_at units i ≡ Some u)
-there [] i below = absurd (omega (arith, below))
-there (u ∷ us) zero below = (u, refl)
-there (u ∷ us) (suc i) below = there us i (omega (arith, below))
 
 -- one unit more
 pub units_more : {Y : Type 0} (g : Named → Y) (units : List Named) (all new : List Y) (i : ℕ) (y : Y) → i < length units → all ≡ map g (take i units) → new ≡ all ++ y ∷ []

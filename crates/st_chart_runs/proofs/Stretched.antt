@@ -1,17 +1,16 @@
 -- The leaves of a chart among all, and what is made of them.
-use Rattle.std.proofs.Common.{◌≡◌, ℕ, ◌+◌, ◌<◌, ◌≤◌, ℤ, pos, negsuc, Bool, true, false, List, [], ◌∷◌, ◌++◌, length, get_or, map, drop, Option, Some, None, IsTrue, if◌then◌else◌, w64, FitsSigned, refl, sym, ap, subst, ◌∙◌, arith, length-take, length-drop}
+use Rattle.std.proofs.Common.{◌≡◌, ℕ, ◌+◌, ◌<◌, ◌≤◌, ℤ, Bool, true, false, List, [], ◌∷◌, ◌++◌, length, get_or, map, drop, Option, Some, None, if◌then◌else◌, w64, FitsSigned, refl, sym, ap, subst, ◌∙◌, arith, length-take, length-drop}
 use Rattle.std.specs.List.{AllZip}
 use Rattle.std.specs.Option.{is_some}
 use Rattle.std.proofs.lemmas.Slice.Zip.{AllZip-long}
-use Rattle.st_values.specs.Types.{limit_of}
 use Rattle.st_values.specs.Values.{in_range}
-use Rattle.st_values.proofs.Cases.{is_below}
 use Rattle.st_values.specs.declared.elem.Elem.{Elem}
 use Rattle.st_values.specs.declared.elem.Elem.TheVariants as elems
 use Rattle.st_values.specs.declared.value.Value.{Value}
 use Rattle.st_tree.specs.declared.leaf.Leaf.{Leaf}
 use Rattle.st_blocks.specs.Cells.{IsOfType}
 use Rattle.st_blocks.proofs.TypeLemmas.{cell_typed}
+use Rattle.st_blocks.proofs.RangeLemmas.{is_time}
 use Rattle.st_layout.specs.Memory.{Content, Fits}
 use Rattle.st_layout.proofs.Contents.{value_fits}
 use Rattle.st_meaning.specs.Charts.{moved_on, times_set}
@@ -23,11 +22,6 @@ use Rattle.st_meaning.proofs.Stretches.{stretch_at}
 use Rattle.st_sketches.specs.Views.{IsOf, SketchView}
 use Rattle.st_chart_runs.specs.Leaves.{FitFrom}
 use Rattle.st_chart_runs.specs.Views.{StandsAt, types_of}
-
--- each number of 64 bits is a TIME
-pub is_time : (now : ℤ) → FitsSigned w64 now → IsTrue (in_range elems.Time now)
-is_time (pos n) fits = is_below n (limit_of elems.Time) (omega (arith, fits.sfits))
-is_time (negsuc n) fits = is_below n (limit_of elems.Time) (omega (arith, fits.sfits))
 
 -- ---- some chart with these numbers
 

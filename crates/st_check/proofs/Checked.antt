@@ -4,6 +4,7 @@ use Rattle.st_faults.specs.Faults.{fault}
 use Rattle.st_faults.specs.declared.fault.Rule.TheVariants as rules
 use Rattle.st_tree.specs.declared.tree.unit.Unit.{Unit as Section}
 use Rattle.st_types.specs.Names.{Named, unit_at, units_of}
+use Rattle.st_types.proofs.Units.{there}
 use Rattle.st_check.specs.Answers.{Explains, answer_to}
 use Rattle.st_check.specs.Answers as answers
 use Rattle.st_check.specs.Faults.{IsAccepted, program_named}
@@ -11,7 +12,6 @@ use Rattle.st_check.specs.Programs.{IsOrdered, IsProgram}
 use Rattle.st_check.specs.Recursions.{ExplainsUnits}
 use Rattle.st_check.specs.declared.fault.CheckFault.{CheckFault}
 use Rattle.st_check.specs.declared.fault.CheckFault.TheVariants as check_faults
-use Rattle.st_check.proofs.Cyclic.{there}
 use Rattle.st_check.proofs.Named.{program_is_program, program_is_unit}
 use Rattle.st_check.proofs.Passing.{accepted, explains_all, is_large as large_of, missing, ordered_has_none, too_large}
 

@@ -9,6 +9,7 @@ use Rattle.st_faults.specs.declared.fault.Rule.TheVariants as rules
 use Rattle.st_faults.proofs.Least.{first_kept, none_kept, offer_append}
 use Rattle.st_tree.specs.declared.tree.unit.Unit.{Unit as Section}
 use Rattle.st_types.specs.Names.{Named, unit_at, units_of}
+use Rattle.st_types.proofs.Units.{there}
 use Rattle.st_order.specs.Graphs.{AreCyclic, Reaches}
 use Rattle.st_order.proofs.GraphLemmas.{reaches_row}
 use Rattle.st_order.proofs.Lists.{Contains-cons_cases, Contains-head}
@@ -26,12 +27,6 @@ single x y (suc k, h, e) = absurd (omega (arith, h))
 
 only : {A : Type 0} (x : A) → Contains (x ∷ []) x
 only x = (0, omega arith, refl)
-
--- a unit that there is
-pub there : (units : List Named) (i : ℕ) → i < length units → (u : Named) × (unit_at units i ≡ Some u)
-there [] i below = absurd (omega (arith, below))
-there (u ∷ us) zero below = (u, refl)
-there (u ∷ us) (suc i) below = there us i (omega (arith, below))
 
 -- a unit that reaches another one is there
 pub reaching : (units : List Named) (a b : ℕ) → Reaches (graph_of units) a b → a < length units

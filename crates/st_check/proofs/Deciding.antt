@@ -6,13 +6,14 @@ use Rattle.st_faults.specs.declared.fault.Fault.{Fault}
 use Rattle.st_faults.specs.declared.fault.Rule.TheVariants as rules
 use Rattle.st_tree.specs.declared.tree.unit.Unit.{Unit as Section}
 use Rattle.st_types.specs.Names.{Named, unit_at, units_of}
+use Rattle.st_types.proofs.Units.{there}
 use Rattle.st_order.specs.Graphs.{Graph, Refers, Reaches, direct, onward, references}
 use Rattle.st_order.proofs.GraphLemmas.{reaches_row}
 use Rattle.st_order.proofs.Lists.{Contains-cons_cases, Contains-head, Contains-nil, Contains-tail, same_or_not}
 use Rattle.st_references.specs.References.{graph_of}
 use Rattle.st_check.specs.Faults.{HasNoProgram, IsAccepted, IsFirst, IsUnitFault, program_named}
 use Rattle.st_check.specs.Laws.{IsDecided}
-use Rattle.st_check.proofs.Cyclic.{AreAllCyclic, all_faults, kept_is_first, none_is_none, there}
+use Rattle.st_check.proofs.Cyclic.{AreAllCyclic, all_faults, kept_is_first, none_is_none}
 use Rattle.st_check.proofs.Named.{program_is_unit}
 use Rattle.st_check.proofs.Passing.{accepted, first_of_all, is_large, missing, too_large}
 

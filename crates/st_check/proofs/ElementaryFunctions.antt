@@ -1,13 +1,11 @@
 -- In a text without faults each variable and each constant of a function is one value.
-use Rattle.std.proofs.Common.{◌≡◌, ℕ, zero, suc, ◌<◌, arith, get_or, Bool, true, false, ◌&&◌, ◌||◌, not, if◌then◌else◌, List, [], ◌∷◌, ◌++◌, length, map, Option, Some, None, refl, ap, sym, ◌∙◌, subst}
+use Rattle.std.proofs.Common.{◌≡◌, ℕ, suc, arith, get_or, Bool, true, false, ◌&&◌, ◌||◌, not, if◌then◌else◌, List, [], ◌∷◌, ◌++◌, length, map, Option, Some, None, refl, ap, sym, ◌∙◌, subst}
 use Rattle.std.specs.List.{All, AllByRecursion as Each, Contains, flat_map}
 use Rattle.std.proofs.lemmas.Bool.{and_parts}
 use Rattle.std.proofs.lemmas.Grind.{flat_map-append}
 use Rattle.std.proofs.lemmas.List.{get_or_default, length-map}
 use Rattle.std.proofs.lemmas.List.Elements.{All-from_recursion}
-use Rattle.st_values.specs.Values.{IsValue}
 use Rattle.st_values.specs.declared.elem.Elem.{Elem}
-use Rattle.st_values.specs.declared.elem.Elem.TheVariants as elems
 use Rattle.st_tree.specs.declared.tree.declaration.Declaration.{Declaration}
 use Rattle.st_tree.specs.declared.tree.declaration.Initial.{Initial}
 use Rattle.st_tree.specs.declared.tree.declaration.Initial.TheVariants as initials
@@ -30,11 +28,13 @@ use Rattle.st_types.specs.Scopes.{Scope, scope_of}
 use Rattle.st_types.specs.Types.{Shape, array_shape, is_unknown, is_value, name_stands_for, plain, shape_of, type_named, unknown, without_instance}
 use Rattle.st_types.specs.declared.base.Base.{Base}
 use Rattle.st_types.specs.declared.base.Base.TheVariants as bases
+use Rattle.st_types.proofs.Units.{found_below}
 use Rattle.st_references.specs.References.{contained, specified_names}
 use Rattle.st_references.specs.References as references
 use Rattle.st_references.proofs.Lists.{all_left, all_right}
 use Rattle.st_leaves.proofs.Pairs.{each_append}
 use Rattle.st_leaves.proofs.Wrapped.{wrapped_is_value}
+use Rattle.st_leaves.proofs.Begins.{zero_is_value}
 use Rattle.st_check_units.specs.Declarations.{block_faults, declaration_faults, initial_faults, is_misdeclared, is_output, is_permitted, misdeclared_faults, permitted, specification_faults, specification_fits, specified_faults, type_faults}
 use Rattle.st_check_units.specs.Repeats.{repeated}
 use Rattle.st_check_units.specs.Subscripts.{subrange_faults}
@@ -47,22 +47,6 @@ use Rattle.st_check.proofs.DataTypes.{IsData, IsDataAt, data_in, name_data, spec
 use Rattle.st_check.proofs.UnitsApart.{unit_faultless}
 
 -- ---- one value
-
-zero_is_value : (e : Elem) → IsValue (zero_of e)
-zero_is_value elems.Bool = refl
-zero_is_value elems.Sint = refl
-zero_is_value elems.Int = refl
-zero_is_value elems.Dint = refl
-zero_is_value elems.Lint = refl
-zero_is_value elems.Usint = refl
-zero_is_value elems.Uint = refl
-zero_is_value elems.Udint = refl
-zero_is_value elems.Ulint = refl
-zero_is_value elems.Byte = refl
-zero_is_value elems.Word = refl
-zero_is_value elems.Dword = refl
-zero_is_value elems.Lword = refl
-zero_is_value elems.Time = refl
 
 started_value : (e : Elem) (initial : Option Initial) → IsOneValue (started initial (elementary (zero_of e)))
 started_value e None = record { value = zero_of e; is = refl; valid = zero_is_value e }
@@ -174,11 +158,6 @@ module _ (units : List Named) where
       (declared_value more v fit.0 (all_left (IsDataAt units) first rest both), variables_are_values more vs fit.1 (all_right (IsDataAt units) first rest both))
 
 -- ---- of a checked program
-
-found_below : (units : List Named) (i : ℕ) (u : Named) → unit_at units i ≡ Some u → i < length units
-found_below [] i u found = absurd cc
-found_below (v ∷ vs) zero u found = omega arith
-found_below (v ∷ vs) (suc i) u found = let more = found_below vs i u found in omega (arith, more)
 
 module _ (program : ProgramView) (checked : IsChecked program) where
   abbrev units_in : List Named

@@ -1,20 +1,9 @@
 -- The program of a name.
-use Rattle.std.proofs.Common.{◌≡◌, ℕ, zero, suc, ◌+◌, ◌<◌, List, [], ◌∷◌, length, map, not, Bool, true, Some, cond, get_or, refl, ap, subst}
-use Rattle.std.specs.List.{position, prefix_len}
+use Rattle.std.proofs.Common.{◌≡◌, ℕ, zero, suc, ◌<◌, List, [], ◌∷◌, length, true, Some, get_or, subst}
 use Rattle.std.proofs.lemmas.Bool.{and_parts}
-use Rattle.std.proofs.lemmas.List.{length-map}
 use Rattle.std.proofs.lemmas.List.Quantifiers.{position-Some}
 use Rattle.st_types.specs.Names.{Named, unit_at}
 use Rattle.st_check.specs.Faults.{is_main, is_program, program_named}
-
-module _ {X Y : Type 0} (f : X → Y) (test : Y → Bool) where
-  prefix_len-map : (xs : List X) → prefix_len test (map f xs) ≡ prefix_len (λ x. test (f x)) xs
-  prefix_len-map [] = refl
-  prefix_len-map (x ∷ xs) = ap (λ (n : ℕ). cond (test (f x)) (1 + n) 0) (prefix_len-map xs)
-
--- the first that passes among what is made of others
-pub position-map : {X Y : Type 0} (f : X → Y) (test : Y → Bool) (xs : List X) → position test (map f xs) ≡ position (λ x. test (f x)) xs
-position-map f test xs = rw (prefix_len-map f (λ y. not (test y)) xs, length-map xs f) refl
 
 -- the unit that is read
 pub read : (units : List Named) (i : ℕ) (u d : Named) → unit_at units i ≡ Some u → get_or units i d ≡ u

@@ -1,13 +1,12 @@
 -- Names that stand twice, found in a table of those before.
-use Rattle.std.proofs.Common.{arith, ◌≡◌, ℕ, suc, ◌+◌, List, [], ◌∷◌, ◌++◌, Some, None, Bool, true, false, ◌||◌, not, cond, nat_lt, length, position, refl, ap, sym, ◌∙◌}
-use Rattle.std.specs.List.{list_any, position_or_len}
-use Rattle.std.proofs.lemmas.Bool.Decides.{nat_tests}
+use Rattle.std.proofs.Common.{◌≡◌, ℕ, ◌+◌, List, [], ◌∷◌, ◌++◌, Bool, true, false, ◌||◌, refl, ap, ◌∙◌}
+use Rattle.std.specs.List.{list_any}
 use Rattle.std.specs.Option.{is_some}
-use Rattle.std.specs.Str.{bytes_eq, str_to_ascii_lowercase}
 use Rattle.std.proofs.lemmas.List.Folds.{list_any-append}
-use Rattle.std.proofs.lemmas.Slice.Eq.{bytes_eq-Decides}
 use Rattle.st_names.specs.Tables.{first_of}
+use Rattle.st_names.proofs.Passing.{some_position}
 use Rattle.st_values.specs.Words.{is_word}
+use Rattle.st_values.proofs.SameWords.{is_word_comm}
 use Rattle.st_tree.specs.declared.tree.position.Identifier.{Identifier}
 use Rattle.st_types.specs.Names.{is_among}
 use Rattle.st_check_expressions.specs.Calls.{is_repeated}
@@ -17,40 +16,7 @@ abbrev pub repeats : List (List ℕ) → List Identifier → Bool
 repeats seen [] = false
 repeats seen (n ∷ ns) = is_some (first_of seen n.spelling) || repeats (seen ++ n.spelling ∷ []) ns
 
--- ---- words that are the same, whichever comes first
-
-bytes_eq_comm : (a b : List ℕ) → bytes_eq a b ≡ bytes_eq b a
-bytes_eq_comm a b = by (bytes_eq a b) refl (bytes_eq b a) refl
-  where
-    forth : (x y : List ℕ) → bytes_eq x y ≡ true → bytes_eq y x ≡ true
-    forth x y h = (bytes_eq-Decides y x).1 (sym ((bytes_eq-Decides x y).0 h))
-
-    by : (s : Bool) → bytes_eq a b ≡ s → (t : Bool) → bytes_eq b a ≡ t → s ≡ t
-    by true e true h = refl
-    by false e false h = refl
-    by true e false h = let k = forth a b e in cc
-    by false e true h = let k = forth b a h in cc
-
-is_word_comm : (a b : List ℕ) → is_word a b ≡ is_word b a
-is_word_comm a b = bytes_eq_comm (str_to_ascii_lowercase b) (str_to_ascii_lowercase a)
-
 -- ---- what was seen
-
-some_by : (b : Bool) (i : ℕ) → is_some (cond b (Some i) None) ≡ b
-some_by true i = refl
-some_by false i = refl
-
-within : {A : Type 0} (p : A → Bool) (xs : List A) → nat_lt (position_or_len p xs) (length xs) ≡ list_any p xs
-within p [] = refl
-within p (x ∷ xs) = by (p x) ∙ ap (λ b. p x || b) (within p xs)
-  where
-    by : (b : Bool) → nat_lt (cond (not b) (1 + position_or_len p xs) 0) (suc (length xs)) ≡ (b || nat_lt (position_or_len p xs) (length xs))
-    by true = grind (arith, nat_tests)
-    by false = grind (arith, nat_tests)
-
--- one is found where there is one
-found : {A : Type 0} (p : A → Bool) (xs : List A) → is_some (position p xs) ≡ list_any p xs
-found p xs = some_by (nat_lt (position_or_len p xs) (length xs)) (position_or_len p xs) ∙ within p xs
 
 -- one of these was seen
 abbrev any_seen : List (List ℕ) → List Identifier → Bool
@@ -87,7 +53,7 @@ or_parts false false c d = refl
 repeats_is : (seen : List (List ℕ)) (ns : List Identifier) → repeats seen ns ≡ (any_seen seen ns || is_repeated ns)
 repeats_is seen [] = refl
 repeats_is seen (n ∷ ns) =
-    ap (λ b. b || repeats (seen ++ n.spelling ∷ []) ns) (found (λ s. is_word s n.spelling) seen)
+    ap (λ b. b || repeats (seen ++ n.spelling ∷ []) ns) (some_position (λ s. is_word s n.spelling) seen)
     ∙ ap (λ b. list_any (λ s. is_word s n.spelling) seen || b) (repeats_is (seen ++ n.spelling ∷ []) ns ∙ ap (λ b. b || is_repeated ns) (seen_more seen n.spelling ns))
     ∙ or_parts (list_any (λ s. is_word s n.spelling) seen) (any_seen seen ns) (is_among n.spelling ns) (is_repeated ns)
 

@@ -51,7 +51,7 @@ variables_count [] on = refl
 variables_count (None ∷ names) on = variables_count names (drop 1 on)
 variables_count (Some name ∷ names) on = let e = variables_count names (drop 1 on) in omega (arith, e)
 
-map_reversed : (cells : List ℤ) → map is_nonzero (reverse cells) ≡ reverse (map is_nonzero cells)
+pub map_reversed : (cells : List ℤ) → map is_nonzero (reverse cells) ≡ reverse (map is_nonzero cells)
 map_reversed [] = refl
 map_reversed (c ∷ cells) =
     ap (λ cs. map is_nonzero cs) (reverse-append (c ∷ []) cells) ∙ map-append is_nonzero (reverse cells) (c ∷ []) ∙ ap (λ bs. bs ++ (is_nonzero c ∷ [])) (map_reversed cells)

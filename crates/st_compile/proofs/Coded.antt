@@ -22,7 +22,7 @@ use Rattle.st_meaning.specs.Wholes.{Whole}
 use Rattle.st_places.specs.Laws.{UnitsAreSound}
 use Rattle.st_places.specs.Functions.{optional_starts, starts_at, starts_of}
 use Rattle.st_places.specs.Parts.{TablesView, is_block, is_function, is_small_block, is_small_block_in, is_small_function, is_small_function_in, optional_small_block, optional_small_function, optional_whole, whole_in}
-use Rattle.st_types.proofs.Units.{unit_at-map}
+use Rattle.st_types.proofs.Units.{unit_at-map, found_below}
 use Rattle.st_types.specs.Compositions.{composition_of}
 use Rattle.st_types.specs.Inside.{named_by}
 use Rattle.st_types.specs.Names.{Named, unit_at, units_of}
@@ -154,11 +154,6 @@ read_at program read same n x below is = ap (λ us. unit_at us n) (sym same) ∙
 
 pub read_number : (program : ProgramView) (read : List NamedUnit) → map named_by read ≡ units_of (text_of program) → length read ≡ length (units_of (text_of program))
 read_number program read same = sym (length-map read named_by) ∙ ap length same
-
-found_below : (units : List Named) (i : ℕ) (u : Named) → unit_at units i ≡ Some u → i < length units
-found_below [] i u found = absurd cc
-found_below (v ∷ vs) zero u found = omega arith
-found_below (v ∷ vs) (suc i) u found = let more = found_below vs i u found in omega (arith, more)
 
 -- there is a unit of each number below theirs
 pub unit_below : (units : List Named) (n : ℕ) → n < length units → (u : Named) × (unit_at units n ≡ Some u)

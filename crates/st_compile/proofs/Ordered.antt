@@ -8,14 +8,10 @@ use Rattle.st_check.specs.Programs.{level_in}
 use Rattle.st_order.specs.Graphs.{IsOrder}
 use Rattle.st_references.specs.References.{graph_of, references}
 use Rattle.st_types.specs.Names.{Named, unit_at}
+use Rattle.st_types.proofs.Units.{found_below}
 use Rattle.st_compile.specs.Programs.{made_of, numbered}
 
 -- ---- by their numbers
-
-pub found_below : (units : List Named) (i : ℕ) (u : Named) → unit_at units i ≡ Some u → i < length units
-found_below [] i u found = absurd cc
-found_below (v ∷ vs) zero u found = omega arith
-found_below (v ∷ vs) (suc i) u found = let more = found_below vs i u found in omega (arith, more)
 
 module _ {V : Type 0} (make : ℕ → Named → V) where
   behind_at : (k : ℕ) (us : List Named) (i : ℕ) (u : Named) → unit_at us i ≡ Some u → slice_get (numbered make k us) i ≡ Some (make (k + i) u)

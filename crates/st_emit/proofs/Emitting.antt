@@ -40,6 +40,7 @@ use Rattle.st_meaning.specs.declared.operation.Binary.TheVariants as binaries
 use Rattle.st_meaning.specs.declared.operation.Unary.TheVariants as unaries
 use Rattle.st_code.specs.Code.{Line, added, at, index_code, parts_code, plain, term_code, terms_code}
 use Rattle.st_code.specs.declared.instr.Instr.TheVariants.{Apply, Combine, Index, IndexBelow, Select}
+use Rattle.st_code.proofs.Parts.{named_bounds}
 use Rattle.st_emit.specs.Calls.{AreTyped, arguments_code, gives_type, optional, positionals, standard_typed, takes_number}
 use Rattle.st_emit.specs.Emits.{Emits, Leaves, own_types, terms_in}
 use Rattle.st_emit.specs.Places.{behind_part, behind_parts, dimensions_code, element_code, indexed_by, is_indexed}
@@ -49,7 +50,7 @@ use Rattle.st_emit.specs.Trees.{chain_of, operand_type, parts_in}
 use Rattle.st_places.specs.declared.node.Dimension.{Dimension}
 use Rattle.st_emit.proofs.Owns.{call_stands, standard_is_untyped}
 use Rattle.st_emit.proofs.Trees.{chain_is, chain_more, field_is, left_is, subscripts_are}
-use Rattle.st_emit.proofs.Ways.{behind_more, counted_terms, element_bounds, element_fits, indexed_more, selected_bounds}
+use Rattle.st_emit.proofs.Ways.{behind_more, counted_terms, element_bounds, element_fits, indexed_more}
 
 -- ---- types
 
@@ -468,7 +469,7 @@ typed_counts (elementary v) whole b h = omega arith
 typed_counts (array ranges firsts c) whole b h = absurd (cc)
 typed_counts (composed name ms chart) whole b h = absurd (cc)
 typed_counts (standard s) whole b h = absurd (cc)
-typed_counts c (field_part name ps) b h = omega (arith, typed_counts (selected_by c name) ps (selected_bounds c name b) h, selected_fits c name)
+typed_counts c (field_part name ps) b h = omega (arith, typed_counts (selected_by c name) ps (named_bounds c name b) h, selected_fits c name)
 typed_counts c (element_part line ts ps) b h = by (takes_subscripts c (how_many ts)) h (λ k. typed_counts (element_of c) ps (element_bounds c b) k) where
   by : (x : Bool) → IsTrue (is_some (if x then type_of (element_of c) ps else None)) → (IsTrue (is_some (type_of (element_of c) ps)) → 0 < count (element_of c)) → 0 < count c
   by true k go = omega (arith, go k, element_fits c b)

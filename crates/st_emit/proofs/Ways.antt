@@ -11,7 +11,7 @@ use Rattle.st_tree.specs.declared.tree.position.Identifier.{Identifier}
 use Rattle.st_tree.specs.declared.tree.position.Position.{Position}
 use Rattle.st_types.specs.Compositions.{Composition, unknown, elementary, array, composed, standard, Members, none, member}
 use Rattle.st_types.specs.Standard.{Pin, pin_named, pins_of}
-use Rattle.st_leaves.specs.Bounds.{HasBounds, HaveBounds}
+use Rattle.st_leaves.specs.Bounds.{HasBounds}
 use Rattle.st_leaves.specs.Places.{count, extent}
 use Rattle.st_leaves.specs.Selected.{element_of, member_selected, pin_selected, selected_by, subscripts_of, takes_subscripts}
 use Rattle.st_meaning.specs.Offsets.{HasSmallArrays, HaveSmallArrays, IsSmall, offset_of}
@@ -22,6 +22,7 @@ use Rattle.st_meaning.specs.Terms.{Parts, whole, field_part, element_part, how_m
 use Rattle.st_meaning.specs.Typing.{argument_typed, call_typed_in, operation_typed, part_typed, place_of, typed, typed_part}
 use Rattle.st_meaning.specs.Wholes.{Whole, type_of}
 use Rattle.st_code.specs.Code.{base_of}
+use Rattle.st_code.proofs.Parts.{named_bounds}
 use Rattle.st_emit.specs.Emits.{terms_in}
 use Rattle.std.specs.Prelude.{◌||◌}
 use Rattle.st_emit.specs.Places.{IsStop, IsTaken, behind_part, behind_parts, indexed_by, is_indexed}
@@ -44,24 +45,6 @@ use Rattle.st_emit.specs.Trees.{constant_in, parts_in}
 
 -- ---- members
 
-member_bounds : (ms : Members) (n : List ℕ) → HaveBounds ms → HasBounds (member_selected ms n)
-member_bounds none n h = tt
-member_bounds (member other kind c ms) n h = by (is_word other n) (member_bounds ms n h.1) where
-  by : (b : Bool) → HasBounds (member_selected ms n) → HasBounds (if b then c else member_selected ms n)
-  by true more = h.0
-  by false more = more
-
-pin_bounds : (o : Option Pin) → HasBounds (pin_selected o)
-pin_bounds None = tt
-pin_bounds (Some p) = tt
-
-pub selected_bounds : (c : Composition) (n : List ℕ) → HasBounds c → HasBounds (selected_by c n)
-selected_bounds unknown n h = tt
-selected_bounds (elementary v) n h = tt
-selected_bounds (array ranges firsts c) n h = tt
-selected_bounds (composed name ms chart) n h = member_bounds ms n h
-selected_bounds (standard b) n h = pin_bounds (pin_named (pins_of b) n)
-
 member_arrays : (ms : Members) (n : List ℕ) → HaveSmallArrays ms → HasSmallArrays (member_selected ms n)
 member_arrays none n h = tt
 member_arrays (member other kind c ms) n h = by (is_word other n) (member_arrays ms n h.1) where
@@ -81,7 +64,7 @@ selected_arrays (composed name ms chart) n h = member_arrays ms n h
 selected_arrays (standard b) n h = pin_arrays (pin_named (pins_of b) n)
 
 pub selected_small : (c : Composition) (n : List ℕ) → IsSmall c → IsSmall (selected_by c n)
-selected_small c n h = record { bounds = selected_bounds c n h.bounds; arrays = selected_arrays c n h.arrays; few = omega (arith, selected_fits c n, h.few) }
+selected_small c n h = record { bounds = named_bounds c n h.bounds; arrays = selected_arrays c n h.arrays; few = omega (arith, selected_fits c n, h.few) }
 
 -- ---- elements
 

@@ -1,6 +1,6 @@
 -- Look-ups of leaves by path.
-use Rattle.std.proofs.Common.{ℕ, Bool, true, false, cond, not, ◌≡◌, ◌≢◌, ◌+◌, ◌<◌, ◌↔◌, ltb, List, [], ◌∷◌, ◌++◌, length, map, get_or, Option, Some, None, refl, sym, ◌∙◌, ap, arith, IsSome}
-use Rattle.std.specs.List.{AllPairs, Contains, position, position_or_len, prefix_len}
+use Rattle.std.proofs.Common.{ℕ, Bool, true, false, cond, ◌≡◌, ◌≢◌, ◌+◌, ◌<◌, ◌↔◌, ltb, List, [], ◌∷◌, ◌++◌, length, get_or, Option, Some, None, refl, sym, ◌∙◌, ap, arith, IsSome}
+use Rattle.std.specs.List.{AllPairs, Contains, position, position_or_len}
 use Rattle.std.specs.Str.{bytes_eq}
 use Rattle.indexmap.specs.IndexSet.{insert_key}
 use Rattle.std.proofs.Math.Seq.{get_or-append_seam}
@@ -13,18 +13,11 @@ use Rattle.std.proofs.lemmas.Slice.Eq.{bytes_eq-Decides}
 use Rattle.st_tree.specs.declared.leaf.Leaf.{Leaf}
 use Rattle.st_layout.specs.Layout.{leaf_at, no_leaf, number_of, paths_of}
 use Rattle.st_values.specs.Words.{raised}
+use Rattle.st_types.proofs.Places.{position-map}
 
 not_true : (b : Bool) → b ≢ true → b ≡ false
 not_true true h = absurd (h refl)
 not_true false h = refl
-
-module _ {X Y : Type 0} (f : X → Y) (test : Y → Bool) where
-  prefix_len-map : (xs : List X) → prefix_len test (map f xs) ≡ prefix_len (λ x. test (f x)) xs
-  prefix_len-map [] = refl
-  prefix_len-map (x ∷ xs) = ap (λ (n : ℕ). cond (test (f x)) (1 + n) 0) (prefix_len-map xs)
-
-position-map : {X Y : Type 0} (f : X → Y) (test : Y → Bool) (xs : List X) → position test (map f xs) ≡ position (λ x. test (f x)) xs
-position-map f test xs = rw (prefix_len-map f (λ y. not (test y)) xs, length-map xs f) refl
 
 -- the place of a path in a table of leaves is the number of the leaf
 pub number_is : (leaves : List Leaf) (path : List ℕ) → position (λ leaf. bytes_eq (raised path) leaf.path) leaves ≡ number_of leaves path

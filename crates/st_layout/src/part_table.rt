@@ -1,6 +1,6 @@
-//! Tables of parts, in which the fronts of a path are looked up.
+//! Tables of parts, in which the prefixes of a path are looked up.
 ghost use Rattle.std.specs.Prelude.{◌≡◌, ◌≤◌, ◌<◌, ◌++◌, ◌∷◌, [], IfSome, OnErr, OnOk, length};
-ghost use Rattle.st_layout.specs.Parts.{part_at_front};
+ghost use Rattle.st_layout.specs.Parts.{part_at_prefix};
 ghost use Rattle.st_layout.specs.Renames.{begins_part};
 ghost use Rattle.st_names.specs.Tables.{first_of};
 ghost use Rattle.st_values.specs.Words.{raised};
@@ -13,7 +13,7 @@ use std::marker::Model;
 #[derive(Drop)]
 pub struct PartTable<'a> {
     names: NameTable<'a>,
-    /// Whether a part has so many bytes: a front of another length needn't be looked up.
+    /// Whether a part has so many bytes: a prefix of another length needn't be looked up.
     lengths: [bool; 256],
 }
 
@@ -66,12 +66,12 @@ impl<'a> PartTable<'a> {
         self.names.find(part)
     }
 
-    /// The place of the part that is the front of so many bytes of a path, where the path ends there or goes on with a member
+    /// The place of the part that is the prefix of so many bytes of a path, where the path ends there or goes on with a member
     /// or an element.
-    pub fn front(&self, path: &[u8], end: usize) -> Option<usize>
+    pub fn prefix(&self, path: &[u8], end: usize) -> Option<usize>
         requires short { length path.now ≤ 255 }
         requires within { end ≤ length path.now }
-        ensures place { result ≡ part_at_front self.now path.now end }
+        ensures place { result ≡ part_at_prefix self.now path.now end }
         ensures within { IfSome result (λ i. i < length self.now) }
     {
         if !self.lengths[end] {

@@ -40,7 +40,7 @@ Begins l = IsValue l.initial
 abbrev Begin : List LeafIn → Type 0
 Begin ls = All Begins ls
 
-zero_is_value : (e : Elem) → IsValue (zero_of e)
+pub zero_is_value : (e : Elem) → IsValue (zero_of e)
 zero_is_value elems.Bool = refl
 zero_is_value elems.Sint = refl
 zero_is_value elems.Int = refl

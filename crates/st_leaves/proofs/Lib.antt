@@ -16,6 +16,7 @@ pub mod Places
 pub mod RaisedWords
 pub mod SizesOf
 pub mod Spellings
+pub mod Started
 pub mod StoredApart
 pub mod SubscriptTexts
 pub mod SubscriptsApart

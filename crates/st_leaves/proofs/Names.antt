@@ -1,45 +1,17 @@
 -- The names that a chart stores, put together.
-use Rattle.std.proofs.Common.{arith, ◌≡◌, ℕ, suc, ◌+◌, ◌<◌, take, get_or, List, [], ◌∷◌, ◌++◌, Some, None, Bool, true, false, ◌||◌, ◌&&◌, not, cond, nat_lt, length, refl, ap, sym, ◌∙◌, append-nil, append_assoc}
-use Rattle.std.specs.List.{list_any, position_or_len}
+use Rattle.std.proofs.Common.{◌≡◌, ℕ, ◌+◌, ◌<◌, take, get_or, List, [], ◌∷◌, ◌++◌, Bool, true, false, ◌||◌, ◌&&◌, not, cond, length, refl, ap, sym, ◌∙◌, append-nil, append_assoc}
+use Rattle.std.specs.List.{list_any}
 use Rattle.std.specs.Option.{is_some}
-use Rattle.std.specs.Str.{bytes_eq, str_to_ascii_lowercase}
-use Rattle.std.proofs.lemmas.Bool.Decides.{nat_tests}
 use Rattle.std.proofs.lemmas.List.{take_more}
 use Rattle.std.proofs.lemmas.List.Folds.{list_any-append}
-use Rattle.std.proofs.lemmas.Slice.Eq.{bytes_eq-Decides}
 use Rattle.st_values.specs.Words.{is_word}
+use Rattle.st_values.proofs.SameWords.{is_word_comm}
 use Rattle.st_names.specs.Tables.{first_of}
+use Rattle.st_names.proofs.Passing.{some_position}
 use Rattle.st_tree.specs.declared.tree.unit.Association.{Association}
 use Rattle.st_leaves.specs.Charts.{is_stored, stored_names}
 
 -- ---- a name among others
-
-bytes_eq_comm : (a b : List ℕ) → bytes_eq a b ≡ bytes_eq b a
-bytes_eq_comm a b = by (bytes_eq a b) refl (bytes_eq b a) refl
-  where
-    forth : (x y : List ℕ) → bytes_eq x y ≡ true → bytes_eq y x ≡ true
-    forth x y h = (bytes_eq-Decides y x).1 (sym ((bytes_eq-Decides x y).0 h))
-
-    by : (s : Bool) → bytes_eq a b ≡ s → (t : Bool) → bytes_eq b a ≡ t → s ≡ t
-    by true e true h = refl
-    by false e false h = refl
-    by true e false h = let k = forth a b e in cc
-    by false e true h = let k = forth b a h in cc
-
-pub is_word_comm : (a b : List ℕ) → is_word a b ≡ is_word b a
-is_word_comm a b = bytes_eq_comm (str_to_ascii_lowercase b) (str_to_ascii_lowercase a)
-
-some_by : (b : Bool) (i : ℕ) → is_some (cond b (Some i) None) ≡ b
-some_by true i = refl
-some_by false i = refl
-
-within : {A : Type 0} (p : A → Bool) (xs : List A) → nat_lt (position_or_len p xs) (length xs) ≡ list_any p xs
-within p [] = refl
-within p (x ∷ xs) = by (p x) ∙ ap (λ b. p x || b) (within p xs)
-  where
-    by : (b : Bool) → nat_lt (cond (not b) (1 + position_or_len p xs) 0) (suc (length xs)) ≡ (b || nat_lt (position_or_len p xs) (length xs))
-    by true = grind (arith, nat_tests)
-    by false = grind (arith, nat_tests)
 
 any_word : (name : List ℕ) (names : List (List ℕ)) → list_any (λ n. is_word n name) names ≡ list_any (is_word name) names
 any_word name [] = refl
@@ -47,8 +19,7 @@ any_word name (n ∷ ns) = ap (λ b. b || list_any (λ m. is_word m name) ns) (i
 
 -- a number is found where one of the names is the same
 found : (name : List ℕ) (names : List (List ℕ)) → is_some (first_of names name) ≡ list_any (is_word name) names
-found name names =
-    some_by (nat_lt (position_or_len (λ n. is_word n name) names) (length names)) (position_or_len (λ n. is_word n name) names) ∙ within (λ n. is_word n name) names ∙ any_word name names
+found name names = some_position (λ n. is_word n name) names ∙ any_word name names
 
 -- ---- the same names, in any order
 
@@ -64,7 +35,7 @@ same names others is (a ∷ more) =
     ∙ ap (λ ns. cond (is_stored a && not (list_any (is_word a.name.spelling) others)) (a.name.spelling ∷ stored_names (a.name.spelling ∷ others) more) ns) (same names others is more)
 
 -- a name in front of others, or behind them
-moved : (name : List ℕ) (others more : List (List ℕ)) → SameNames ((name ∷ others) ++ more) (others ++ name ∷ more)
+pub moved : (name : List ℕ) (others more : List (List ℕ)) → SameNames ((name ∷ others) ++ more) (others ++ name ∷ more)
 moved name others more n =
     ap (λ b. is_word n name || b) (list_any-append (is_word n) others more) ∙ or_swap (is_word n name) (list_any (is_word n) others) (list_any (is_word n) more)
     ∙ sym (list_any-append (is_word n) others (name ∷ more)) where

@@ -16,7 +16,7 @@ raised_word (b ∷ bs) are = (raised_byte b are.0, raised_word bs are.1)
 lowered_byte : (b : ℕ) → to_ascii_lowercase (to_ascii_uppercase b) ≡ to_ascii_lowercase b
 lowered_byte b = grind (arith, nat_tests)
 
-lowered : (text : List ℕ) → map to_ascii_lowercase (raised text) ≡ map to_ascii_lowercase text
+pub lowered : (text : List ℕ) → map to_ascii_lowercase (raised text) ≡ map to_ascii_lowercase text
 lowered [] = refl
 lowered (b ∷ bs) = ap (λ c. c ∷ map to_ascii_lowercase (raised bs)) (lowered_byte b) ∙ ap (λ cs. to_ascii_lowercase b ∷ cs) (lowered bs)
 

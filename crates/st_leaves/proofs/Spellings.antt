@@ -13,10 +13,10 @@ use Rattle.st_types.specs.Compositions as compositions
 use Rattle.st_types.specs.Names.{Declared, Named, steps_in}
 use Rattle.st_types.specs.declared.base.Base.{Base}
 use Rattle.st_values.specs.Words.{is_word}
+use Rattle.st_values.proofs.SameWords.{is_word_comm}
 use Rattle.st_leaves.specs.Charts.{action_names, as_declared, stored_by, stored_leaves, stored_names, variable_names}
 use Rattle.st_leaves.specs.LeavesIn.{member_names}
 use Rattle.st_leaves.specs.Limits.{sizes_of}
-use Rattle.st_leaves.proofs.Names.{is_word_comm}
 use Rattle.st_leaves.proofs.Pairs.{Pairwise, pairwise_map, pairwise_weaker}
 use Rattle.st_leaves.proofs.StoredApart.{stored_apart}
 

@@ -3,9 +3,9 @@ use Rattle.std.proofs.Common.{◌≡◌, ℕ, false, ◌&&◌, not, List, [], �
 use Rattle.std.specs.List.{AllByRecursion as Each, list_any}
 use Rattle.std.proofs.lemmas.Bool.{and_parts, cond_both, not-true, or_parts}
 use Rattle.st_values.specs.Words.{is_word}
+use Rattle.st_values.proofs.SameWords.{is_word_comm}
 use Rattle.st_tree.specs.declared.tree.unit.Association.{Association}
 use Rattle.st_leaves.specs.Charts.{is_stored, stored_names}
-use Rattle.st_leaves.proofs.Names.{is_word_comm}
 use Rattle.st_leaves.proofs.Pairs.{Pairwise, each_weaker}
 
 abbrev IsNew : List (List ℕ) → List ℕ → Type 0

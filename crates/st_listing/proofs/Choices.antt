@@ -11,6 +11,7 @@ use Rattle.std.specs.Global.{Global}
 use Rattle.std.proofs.lemmas.List.Elements.{All-cons, All-head, All-nil, All-tail}
 use Rattle.st_sizes.specs.Subscripts.{next, numbers, value_of, values_from}
 use Rattle.st_sizes.specs.declared.subrange.Number.{Number}
+use Rattle.st_sizes.proofs.Texts.{next_is}
 use Rattle.st_tree.specs.declared.tree.declaration.Subrange.{Subrange}
 use Rattle.st_leaves.specs.Leaves.{number_of, numbers_in}
 use Rattle.st_leaves.specs.LeavesIn.{subscript_lists}
@@ -19,11 +20,6 @@ use Rattle.st_listing.specs.Choices.{AreSubscripts, HasNumbers, IsStep, between,
 use Rattle.st_listing.specs.declared.subscripts.Subscripts.TheInside.{Inside}
 
 -- ---- numbers
-
-next_is : (z : ℤ) → next z ≡ z +ℤ pos 1
-next_is (pos n) = omega (arith, ints)
-next_is (negsuc zero) = omega (arith, ints)
-next_is (negsuc (suc n)) = omega (arith, ints)
 
 one_less : (l u : ℤ) → 0 < values_from (u -ℤ l) → values_from (u -ℤ l) ≡ suc (values_from (u -ℤ next l))
 one_less l u some = by (u -ℤ l) (u -ℤ next l) (omega (arith, ints, next_is l)) some where

@@ -4,11 +4,10 @@ use Rattle.std.proofs.lemmas.List.{length-map}
 use Rattle.std.proofs.Math.Nat.{mul-le-mul_left, mul-zero}
 use Rattle.st_tree.specs.declared.tree.declaration.DeclaredType.TheVariants as declared_types
 use Rattle.st_tree.specs.declared.tree.declaration.Initial.{Initial}
-use Rattle.st_tree.specs.declared.tree.declaration.Initial.TheVariants as initials
 use Rattle.st_tree.specs.declared.tree.declaration.Subrange.{Subrange}
 use Rattle.st_sizes.specs.Sizes.{IsSize}
 use Rattle.st_sizes.specs.declared.size.Size.{Size}
-use Rattle.st_types.specs.Compositions.{Composition, array, composed, composition_within, declared_composition, elementary, elements_composition, is_constant, member, members_by, optional_composition, standard, started, subscripted, unit_composition, unknown}
+use Rattle.st_types.specs.Compositions.{Composition, composition_within, declared_composition, elements_composition, is_constant, member, members_by, optional_composition, started, subscripted, unit_composition}
 use Rattle.st_types.specs.Initials.{element_initial, initial_of, unit_element_initial}
 use Rattle.st_types.specs.Names.{Declared, Declares, Named, chart_in, members_of, unit_at, variables_in}
 use Rattle.st_types.specs.Names as names
@@ -23,26 +22,13 @@ use Rattle.st_leaves.specs.Limits.{size_of, sizes_of}
 use Rattle.st_leaves.specs.Places.{chart_count, count, counts, extent}
 use Rattle.st_leaves.proofs.Composed.{leaves_of_bases}
 use Rattle.st_leaves.proofs.Numbers.{leaves_are_counted}
+use Rattle.st_leaves.proofs.Started.{started_count}
 use Rattle.st_program_sizes.specs.Sized.{IsSized, size_at, type_leaves, unit_of}
-
--- with what it begins doesn't matter
-count_started : (initial : Option Initial) (c : Composition) → count (started initial c) ≡ count c
-count_started None c = refl
-count_started (Some (initials.Constant k)) unknown = refl
-count_started (Some (initials.Constant k)) (elementary v) = refl
-count_started (Some (initials.Constant k)) (array ranges firsts c) = refl
-count_started (Some (initials.Constant k)) (composed name ms chart) = refl
-count_started (Some (initials.Constant k)) (standard b) = refl
-count_started (Some (initials.Array position items)) unknown = refl
-count_started (Some (initials.Array position items)) (elementary v) = refl
-count_started (Some (initials.Array position items)) (array ranges firsts c) = refl
-count_started (Some (initials.Array position items)) (composed name ms chart) = refl
-count_started (Some (initials.Array position items)) (standard b) = refl
 
 -- ---- where bases have no more leaves, what is made of them has no more
 
 started_le : (initial : Option Initial) (c d : Composition) → count c ≤ count d → count (started initial c) ≤ count (started initial d)
-started_le initial c d h = subst (λ n. n ≤ count (started initial d)) (sym (count_started initial c)) (subst (λ n. count c ≤ n) (sym (count_started initial d)) h)
+started_le initial c d h = subst (λ n. n ≤ count (started initial d)) (sym (started_count initial c)) (subst (λ n. count c ≤ n) (sym (started_count initial d)) h)
 
 subscripted_le : (ranges : Option (List Subrange)) (c d : Composition) → count c ≤ count d → count (subscripted ranges c) ≤ count (subscripted ranges d)
 subscripted_le None c d h = h
@@ -112,7 +98,7 @@ none_within units depth base initial within none =
     let part = composition_within units depth base in
     let no_leaves : length (leaves_in all) ≡ 0 = sym (length-map (leaves_in all) counted) ∙ ap length (sym (leaves_of_bases units (suc (length units)) base)) ∙ ap length none in
     none_of (leaves_in (started initial part))
-    (omega (arith, (leaves_are_counted (started initial part)).0, count_started initial part, through_more units depth (suc (length units)) within base, (leaves_are_counted all).0, no_leaves))
+    (omega (arith, (leaves_are_counted (started initial part)).0, started_count initial part, through_more units depth (suc (length units)) within base, (leaves_are_counted all).0, no_leaves))
 
 -- a size of no leaves is that of none
 pub no_size : (size : Size) (leaves : List LeafBelow) → IsSize size (sizes_of leaves) → size.leaves ≡ 0 → leaves ≡ []
@@ -145,4 +131,4 @@ none_declared units depth v within none =
     let one = started (element_initial units v.specification) (composition_within units depth shape.base) in
     let none_in_one : count one ≡ 0 = sym (leaves_are_counted one).0 ∙ ap length (none_within units depth shape.base (element_initial units v.specification) within none) in
     none_of (leaves_in (declared_composition units (composition_within units depth) v))
-    (omega (arith, (leaves_are_counted (declared_composition units (composition_within units depth) v)).0, count_started (initial_of units v) (subscripted shape.subscripts one), none_subscripted shape.subscripts one none_in_one))
+    (omega (arith, (leaves_are_counted (declared_composition units (composition_within units depth) v)).0, started_count (initial_of units v) (subscripted shape.subscripts one), none_subscripted shape.subscripts one none_in_one))

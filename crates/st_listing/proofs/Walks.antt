@@ -25,13 +25,14 @@ use Rattle.st_types.specs.declared.standard.StandardBlock.{StandardBlock}
 use Rattle.st_tree.specs.declared.tree.declaration.Specification.{Specification}
 use Rattle.st_tree.specs.declared.tree.declaration.Specification.TheVariants as specifications
 use Rattle.st_types.specs.declared.base.Base.{Base}
+use Rattle.st_types.proofs.Units.{there}
 use Rattle.st_leaves.specs.Charts.{stored_by, stored_of}
 use Rattle.st_leaves.specs.LeavesIn.{LeafIn, block_leaves, elements_in, first_written, leaves_in, member_names, members_in, plain, starting, subscript_lists, used_as, variables_in, within}
 use Rattle.st_leaves.specs.LeavesIn as leaves
 use Rattle.st_leaves.specs.Paths.{field, index, selector_text}
 use Rattle.st_chart_parts.specs.Charts.{ChartView, leaves_of_parts, parts_of}
 use Rattle.st_chart_parts.proofs.UnitCharts.{leaves_are}
-use Rattle.st_chart_parts.proofs.Units.{names_of_unit, there, unit_item}
+use Rattle.st_chart_parts.proofs.Units.{names_of_unit, unit_item}
 use Rattle.st_initials.specs.Lists.{values_of}
 use Rattle.st_scopes.specs.Declarations.{names_at, names_in}
 use Rattle.st_leaves.proofs.Spellings.{variables_are_members}

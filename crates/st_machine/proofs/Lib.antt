@@ -10,7 +10,6 @@ pub mod InFunction
 pub mod InPlace
 pub mod Invocations
 pub mod Joined
-pub mod Moments
 pub mod Narrow
 pub mod Nearer
 pub mod Newest

@@ -9,7 +9,7 @@ ghost use Rattle.st_meaning.specs.Statements.{block_done};
 
 use crate::cells::NO_VALUE;
 use crate::moves::Move;
-use st_blocks::{MOST_LEAVES, block_step, leaf_count};
+use st_blocks::{MAX_BLOCK_LEAVES, block_step, leaf_count};
 use st_chart_runs::{load_values, store_values};
 use st_layout::{Layout, Memory};
 use st_types::StandardBlock;
@@ -30,7 +30,7 @@ pub fn invoke<M: Memory>(
     ensures forced { (M.content layout.now memory.new).forced ≡ (M.content layout.now memory.old).forced }
     ensures does { (room line place left : ℕ) (stack : List ℤ) → act (environment_at now (M.content layout.now memory.old).forced) room (Instr.Invoke block leaf) line place stack (M.content layout.now memory.old).values left ≡ moved result line place stack (M.content layout.now memory.new).values left }
 {
-    let mut cells = [NO_VALUE; MOST_LEAVES];
+    let mut cells = [NO_VALUE; MAX_BLOCK_LEAVES];
     do_block(
         memory,
         layout,

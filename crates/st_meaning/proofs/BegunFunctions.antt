@@ -12,7 +12,7 @@ use Rattle.st_types.specs.Names as names
 use Rattle.st_types.specs.Types.{shape_of}
 use Rattle.st_leaves.specs.LeavesIn.{LeafIn, leaves_in, leaves_of_whole, members_in, used_as, variables_in, within}
 use Rattle.st_leaves.specs.Paths.{Selector, field}
-use Rattle.st_leaves.proofs.Begins.{begin_with_values}
+use Rattle.st_leaves.proofs.Begins.{begin_with_values, zero_is_value}
 use Rattle.st_leaves.proofs.Numbers.{length_is_count}
 use Rattle.st_operators.specs.Laws.{IsOf}
 use Rattle.st_meaning.specs.Laws.{FunctionsDeclareTheirResults}
@@ -22,7 +22,6 @@ use Rattle.st_meaning.specs.Units.{begun, input_in, inputs_in, members_begun, me
 use Rattle.st_meaning.specs.Wholes.{Input}
 use Rattle.st_meaning.proofs.LeafTypes.{elem_at}
 use Rattle.st_meaning.proofs.TypedFunctions.{BeginWithValues}
-use Rattle.st_meaning.proofs.TypedTerms.{zero_is_value}
 
 -- ---- leaves that begin with values
 

@@ -9,8 +9,8 @@ use Rattle.st_values.specs.declared.elem.Elem.{Elem}
 use Rattle.st_values.specs.declared.elem.Elem.TheVariants as elems
 use Rattle.st_values.specs.declared.value.Value.{Value}
 use Rattle.st_values.proofs.Cases.{below, is_below}
-use Rattle.st_leaves.specs.LeavesIn.{truth}
 use Rattle.st_blocks.specs.Cells.{IsOfType}
+use Rattle.st_blocks.proofs.TypeLemmas.{truth_typed}
 use Rattle.st_charts.specs.Charts.{is_entered, is_left, moved, no_step, remembered, step_between, step_in, timed}
 use Rattle.st_charts.specs.Passages.{Passage, Set}
 use Rattle.st_charts.specs.declared.step.StepCell.{StepCell}
@@ -25,10 +25,6 @@ typed_append [] us [] ws h k = k
 typed_append [] us (v ∷ vs) ws h k = absurd h
 typed_append (t ∷ ts) us [] ws h k = absurd h
 typed_append (t ∷ ts) us (v ∷ vs) ws h k = (h.0, typed_append ts us vs ws h.1 k)
-
-truth_typed : (b : Bool) → IsOfType elems.Bool (truth b)
-truth_typed true = (refl, refl)
-truth_typed false = (refl, refl)
 
 -- ---- times
 

@@ -17,7 +17,7 @@ use Rattle.st_types.specs.declared.base.Base.{Base}
 use Rattle.st_types.specs.declared.base.Base.TheVariants as bases
 use Rattle.st_operators.proofs.Results.{wrapped_is}
 use Rattle.st_meaning.specs.Wholes.{constant_among, constant_value}
-use Rattle.st_meaning.proofs.TypedTerms.{zero_is_value}
+use Rattle.st_leaves.proofs.Begins.{zero_is_value}
 
 -- what holds one value begins with one of its type
 abbrev HasValue : Composition → Type 0

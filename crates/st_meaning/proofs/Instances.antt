@@ -14,7 +14,6 @@ use Rattle.st_leaves.specs.LeavesIn.{LeafIn, chart_in, leaves_in, member_names, 
 use Rattle.st_leaves.specs.Paths.{Path, field, is_same_path}
 use Rattle.st_leaves.specs.Places.{IsMember, LeadsTo, count, end, into}
 use Rattle.st_leaves.specs.Selected.{member_selected, pin_selected, selected_by}
-use Rattle.st_leaves.proofs.Names.{is_word_comm}
 use Rattle.st_leaves.proofs.Numbers.{length_is_count, length_is_counts}
 use Rattle.st_leaves.proofs.Places.{places_are_numbers}
 use Rattle.st_operators.specs.Laws.{IsOf}
@@ -25,6 +24,7 @@ use Rattle.st_meaning.specs.Sound.{AreValuesOf, HasOneLeafEach, no_leaf, type_at
 use Rattle.st_meaning.specs.Statements.{stretch, with_stretch}
 use Rattle.st_meaning.proofs.Places.{member_leaf, nothing_leads, select}
 use Rattle.st_meaning.proofs.Stretches.{Stands, before, inside, past, part_fits, part_type, stands, stretch_at, with_before, with_inside, with_length, with_past}
+use Rattle.st_values.proofs.SameWords.{is_word_comm}
 
 -- ---- one leaf each
 

@@ -70,19 +70,19 @@ one_is_value elems.Time = refl
 
 -- ---- the folds that have no names of their own
 
-abbrev case_statement_of : Whole → CaseStatement → Command
+abbrev pub case_statement_of : Whole → CaseStatement → Command
 case_statement_of w x = fold-CaseStatement Command (Elem → Cases → Cases) Command (Branches → Branches) Command Command Command Command (typed_statement w) (λ e t. more_cases (map (label_range t) e.labels) (commands_of e.statements)) (λ s. case_command s.position.line (typed w s.selector) s.cases s.otherwise) (λ b. more_branches (condition w b.condition) (commands_of b.statements)) (λ s. for_command w s.position.line (field_part s.variable.spelling whole) (type_of w.variables (field_part s.variable.spelling whole)) s.first s.last s.step (commands_of s.statements)) (λ s. choice s.position.line (branches_of s.parts) (commands_of s.otherwise)) (λ s. repeat_loop s.position.line (commands_of s.statements) (condition w s.condition)) (λ s. while_loop s.position.line (condition w s.condition) (commands_of s.statements)) x
 
-abbrev for_of : Whole → ForStatement → Command
+abbrev pub for_of : Whole → ForStatement → Command
 for_of w x = fold-ForStatement Command (Elem → Cases → Cases) Command (Branches → Branches) Command Command Command Command (typed_statement w) (λ e t. more_cases (map (label_range t) e.labels) (commands_of e.statements)) (λ s. case_command s.position.line (typed w s.selector) s.cases s.otherwise) (λ b. more_branches (condition w b.condition) (commands_of b.statements)) (λ s. for_command w s.position.line (field_part s.variable.spelling whole) (type_of w.variables (field_part s.variable.spelling whole)) s.first s.last s.step (commands_of s.statements)) (λ s. choice s.position.line (branches_of s.parts) (commands_of s.otherwise)) (λ s. repeat_loop s.position.line (commands_of s.statements) (condition w s.condition)) (λ s. while_loop s.position.line (condition w s.condition) (commands_of s.statements)) x
 
-abbrev if_of : Whole → IfStatement → Command
+abbrev pub if_of : Whole → IfStatement → Command
 if_of w x = fold-IfStatement Command (Elem → Cases → Cases) Command (Branches → Branches) Command Command Command Command (typed_statement w) (λ e t. more_cases (map (label_range t) e.labels) (commands_of e.statements)) (λ s. case_command s.position.line (typed w s.selector) s.cases s.otherwise) (λ b. more_branches (condition w b.condition) (commands_of b.statements)) (λ s. for_command w s.position.line (field_part s.variable.spelling whole) (type_of w.variables (field_part s.variable.spelling whole)) s.first s.last s.step (commands_of s.statements)) (λ s. choice s.position.line (branches_of s.parts) (commands_of s.otherwise)) (λ s. repeat_loop s.position.line (commands_of s.statements) (condition w s.condition)) (λ s. while_loop s.position.line (condition w s.condition) (commands_of s.statements)) x
 
-abbrev repeat_of : Whole → RepeatStatement → Command
+abbrev pub repeat_of : Whole → RepeatStatement → Command
 repeat_of w x = fold-RepeatStatement Command (Elem → Cases → Cases) Command (Branches → Branches) Command Command Command Command (typed_statement w) (λ e t. more_cases (map (label_range t) e.labels) (commands_of e.statements)) (λ s. case_command s.position.line (typed w s.selector) s.cases s.otherwise) (λ b. more_branches (condition w b.condition) (commands_of b.statements)) (λ s. for_command w s.position.line (field_part s.variable.spelling whole) (type_of w.variables (field_part s.variable.spelling whole)) s.first s.last s.step (commands_of s.statements)) (λ s. choice s.position.line (branches_of s.parts) (commands_of s.otherwise)) (λ s. repeat_loop s.position.line (commands_of s.statements) (condition w s.condition)) (λ s. while_loop s.position.line (condition w s.condition) (commands_of s.statements)) x
 
-abbrev while_of : Whole → WhileStatement → Command
+abbrev pub while_of : Whole → WhileStatement → Command
 while_of w x = fold-WhileStatement Command (Elem → Cases → Cases) Command (Branches → Branches) Command Command Command Command (typed_statement w) (λ e t. more_cases (map (label_range t) e.labels) (commands_of e.statements)) (λ s. case_command s.position.line (typed w s.selector) s.cases s.otherwise) (λ b. more_branches (condition w b.condition) (commands_of b.statements)) (λ s. for_command w s.position.line (field_part s.variable.spelling whole) (type_of w.variables (field_part s.variable.spelling whole)) s.first s.last s.step (commands_of s.statements)) (λ s. choice s.position.line (branches_of s.parts) (commands_of s.otherwise)) (λ s. repeat_loop s.position.line (commands_of s.statements) (condition w s.condition)) (λ s. while_loop s.position.line (condition w s.condition) (commands_of s.statements)) x
 
 -- ---- lists

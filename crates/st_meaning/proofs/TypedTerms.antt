@@ -10,7 +10,7 @@ use Rattle.st_tree.specs.declared.operator.BinOp.{BinOp}
 use Rattle.st_tree.specs.declared.operator.BinOp.TheVariants as operators
 use Rattle.st_tree.specs.declared.tree.constant.Constant.{Constant}
 use Rattle.st_types.specs.Compositions.{Composition}
-use Rattle.st_types.specs.Initials.{number_in, zero_of}
+use Rattle.st_types.specs.Initials.{number_in}
 use Rattle.st_types.specs.OwnTypes.{first_own, is_comparison, or_lint}
 use Rattle.st_types.specs.declared.standard.StandardFunction.{StandardFunction}
 use Rattle.st_types.specs.declared.standard.StandardFunction.TheVariants as standard_functions
@@ -26,6 +26,7 @@ use Rattle.st_meaning.specs.declared.operation.Binary.{Binary}
 use Rattle.st_meaning.specs.declared.operation.Binary.TheVariants as binaries
 use Rattle.st_meaning.specs.declared.operation.Unary.{Unary}
 use Rattle.st_meaning.specs.declared.operation.Unary.TheVariants as unaries
+use Rattle.st_leaves.proofs.Begins.{zero_is_value}
 
 -- ---- types
 
@@ -53,22 +54,6 @@ type_placed elems.Time = refl
 
 pub same_type : (d e : Elem) → is_same d e ≡ true → d ≡ e
 same_type d e h = sym (type_placed d) ∙ ap (λ n. get_or all_types n elems.Bool) ((Decides-eqb (place_of d) (place_of e)).0 h) ∙ type_placed e
-
-pub zero_is_value : (e : Elem) → IsValue (zero_of e)
-zero_is_value elems.Bool = refl
-zero_is_value elems.Sint = refl
-zero_is_value elems.Int = refl
-zero_is_value elems.Dint = refl
-zero_is_value elems.Lint = refl
-zero_is_value elems.Usint = refl
-zero_is_value elems.Uint = refl
-zero_is_value elems.Udint = refl
-zero_is_value elems.Ulint = refl
-zero_is_value elems.Byte = refl
-zero_is_value elems.Word = refl
-zero_is_value elems.Dword = refl
-zero_is_value elems.Lword = refl
-zero_is_value elems.Time = refl
 
 -- ---- what is sound
 

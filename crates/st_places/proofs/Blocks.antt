@@ -1,12 +1,11 @@
 -- Which units types are, and under which names units are found.
-use Rattle.std.proofs.Common.{◌≡◌, ℕ, zero, suc, Bool, true, false, List, [], ◌∷◌, ◌++◌, map, length, Option, Some, None, is_some, refl, ap, sym, ◌∙◌, subst, arith, if◌then◌else◌}
-use Rattle.std.specs.Char.{to_ascii_lowercase, to_ascii_uppercase}
+use Rattle.std.proofs.Common.{◌≡◌, ℕ, zero, suc, Bool, true, false, List, [], ◌∷◌, ◌++◌, map, length, Option, Some, None, is_some, refl, ap, sym, ◌∙◌, subst, if◌then◌else◌}
+use Rattle.std.specs.Char.{to_ascii_lowercase}
 use Rattle.std.specs.Option.{option_map}
 use Rattle.std.specs.Str.{bytes_eq}
-use Rattle.std.proofs.lemmas.Bool.Decides.{nat_tests}
 use Rattle.std.proofs.lemmas.List.Folds.{list_any-append}
 use Rattle.st_values.specs.Words.{is_word, raised}
-use Rattle.st_leaves.proofs.RaisedWords.{same_raised}
+use Rattle.st_leaves.proofs.RaisedWords.{same_raised, lowered}
 use Rattle.st_tree.specs.declared.tree.declaration.DeclaredType.TheVariants as declared_types
 use Rattle.st_tree.specs.declared.tree.declaration.Specification.{Specification}
 use Rattle.st_tree.specs.declared.tree.declaration.Specification.TheVariants as specifications
@@ -139,13 +138,6 @@ module _ (units : List Named) where
   own_number i j is = own_optional _ i j (unit_at units i) is
 
 -- ---- the names of units
-
-lowered_byte : (b : ℕ) → to_ascii_lowercase (to_ascii_uppercase b) ≡ to_ascii_lowercase b
-lowered_byte b = grind (arith, nat_tests)
-
-lowered : (text : List ℕ) → map to_ascii_lowercase (raised text) ≡ map to_ascii_lowercase text
-lowered [] = refl
-lowered (b ∷ bs) = ap (λ c. c ∷ map to_ascii_lowercase (raised bs)) (lowered_byte b) ∙ ap (λ cs. to_ascii_lowercase b ∷ cs) (lowered bs)
 
 -- a name in upper case is the same name
 raised_same : (a b : List ℕ) → is_word a (raised b) ≡ is_word a b

@@ -20,9 +20,9 @@ use Rattle.st_types.specs.Types.{elem_of, shape_of}
 use Rattle.st_values.specs.Values.{IsValue}
 use Rattle.st_values.specs.Words.{is_word}
 use Rattle.st_values.specs.declared.elem.Elem.{Elem}
-use Rattle.st_values.specs.declared.elem.Elem.TheVariants as elems
 use Rattle.st_values.specs.declared.value.Value.{Value}
 use Rattle.st_leaves.proofs.Wrapped.{wrapped_is_value}
+use Rattle.st_leaves.proofs.Begins.{zero_is_value}
 use Rattle.st_meaning.specs.Units.{unit_whole}
 use Rattle.st_meaning.specs.Wholes.{constant_among, constant_value}
 use Rattle.st_places.specs.Contents.{AreOf}
@@ -128,22 +128,6 @@ module _ (units : List Named) where
     not_past i parts name k is at none = let there = read i parts name k is at in absurd (cc)
 
   -- ---- values lie in the ranges of their types
-
-  zero_is_value : (e : Elem) → IsValue (zero_of e)
-  zero_is_value elems.Bool = refl
-  zero_is_value elems.Sint = refl
-  zero_is_value elems.Int = refl
-  zero_is_value elems.Dint = refl
-  zero_is_value elems.Lint = refl
-  zero_is_value elems.Usint = refl
-  zero_is_value elems.Uint = refl
-  zero_is_value elems.Udint = refl
-  zero_is_value elems.Ulint = refl
-  zero_is_value elems.Byte = refl
-  zero_is_value elems.Word = refl
-  zero_is_value elems.Dword = refl
-  zero_is_value elems.Lword = refl
-  zero_is_value elems.Time = refl
 
   started_is_value : (initial : Option Initial) (e : Elem) (x : Value) → constant_value (started initial (elementary (zero_of e))) ≡ Some x → IsValue x
   started_is_value None e x is = subst IsValue (same_Some _ x is) (zero_is_value e)

@@ -28,6 +28,7 @@ use Rattle.st_values.specs.declared.elem.Elem.{Elem}
 use Rattle.st_leaves.specs.Places.{count}
 use Rattle.st_leaves.specs.Selected.{element_of, selected_by, value_type}
 use Rattle.st_leaves.proofs.Counted.{written_elem}
+use Rattle.st_leaves.proofs.Started.{started_count}
 use Rattle.st_meaning.specs.Offsets.{offset_of}
 use Rattle.st_meaning.specs.Units.{unit_root}
 use Rattle.st_meaning.specs.Wholes.{block_of}
@@ -42,7 +43,6 @@ use Rattle.st_places.specs.declared.node.Node.{Node}
 use Rattle.st_places.specs.declared.unit.ArrayParts.{ArrayParts}
 use Rattle.st_places.specs.declared.unit.UnitParts.{UnitParts}
 use Rattle.st_places.proofs.Blocks.{known_shape, known_type, no_function}
-use Rattle.st_places.proofs.Counts.{started_count}
 use Rattle.st_places.proofs.Entries.{of_specified}
 use Rattle.st_places.proofs.Roots.{root_is}
 

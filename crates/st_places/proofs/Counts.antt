@@ -2,10 +2,8 @@
 use Rattle.std.proofs.Common.{◌≡◌, ℕ, suc, List, length, Option, Some, None, refl, ap, sym, ◌∙◌, subst, arith, ◌⊎◌, inl, inr}
 use Rattle.std.specs.Prelude.{min}
 use Rattle.std.proofs.lemmas.List.{length-map}
-use Rattle.st_tree.specs.declared.tree.declaration.Initial.{Initial}
-use Rattle.st_tree.specs.declared.tree.declaration.Initial.TheVariants as initials
 use Rattle.st_tree.specs.declared.tree.declaration.Subrange.{Subrange}
-use Rattle.st_types.specs.Compositions.{Composition, unknown, elementary, array, composed, standard, composition_within, started, subscripted}
+use Rattle.st_types.specs.Compositions.{Composition, composition_within, started, subscripted}
 use Rattle.st_types.specs.Initials.{element_initial, initial_of}
 use Rattle.st_types.specs.Names.{Declared, Named}
 use Rattle.st_types.specs.Types.{shape_of}
@@ -20,6 +18,7 @@ use Rattle.st_leaves.specs.Limits.{size_of, sizes_of}
 use Rattle.st_leaves.specs.Places.{count}
 use Rattle.st_leaves.proofs.Composed.{leaves_of_bases}
 use Rattle.st_leaves.proofs.Numbers.{length_is_count}
+use Rattle.st_leaves.proofs.Started.{started_count}
 use Rattle.st_program_sizes.specs.Sized.{IsSized, size_at, type_leaves, unit_of}
 use Rattle.st_sizes.specs.Sizes.{IsSize}
 use Rattle.st_sizes.specs.declared.size.Size.{Size}
@@ -65,21 +64,6 @@ module _ (units : List Named) where
   pub unit_counted : (sizes : List Size) (base : Base) (i : ℕ) {r : ℕ} → unit_of base ≡ Some i → IsSized units sizes base → r ≡ min (size_at sizes i).leaves 1000000
       → r ≡ min (count (inside units base)) 1000000
   unit_counted sizes base i is sized at = capped_again (size_at sizes i).leaves (count (inside units base)) (sized_count units base (size_at sizes i) (sized i is)) at
-
--- ---- what begins with a value
-
-pub started_count : (initial : Option Initial) (c : Composition) → count (started initial c) ≡ count c
-started_count None c = refl
-started_count (Some (initials.Constant k)) unknown = refl
-started_count (Some (initials.Constant k)) (elementary v) = refl
-started_count (Some (initials.Constant k)) (array ranges firsts c) = refl
-started_count (Some (initials.Constant k)) (composed name ms chart) = refl
-started_count (Some (initials.Constant k)) (standard b) = refl
-started_count (Some (initials.Array position items)) unknown = refl
-started_count (Some (initials.Array position items)) (elementary v) = refl
-started_count (Some (initials.Array position items)) (array ranges firsts c) = refl
-started_count (Some (initials.Array position items)) (composed name ms chart) = refl
-started_count (Some (initials.Array position items)) (standard b) = refl
 
 -- ---- declared names
 

@@ -12,6 +12,7 @@ use Rattle.st_types.specs.Names.{Declared, Named, unit_at}
 use Rattle.st_types.specs.Types.{shape_of}
 use Rattle.st_leaves.specs.Places.{count, counts}
 use Rattle.st_leaves.specs.Selected.{member_selected, selected_by}
+use Rattle.st_leaves.proofs.Started.{started_count}
 use Rattle.st_meaning.specs.Offsets.{member_offset, offset_of}
 use Rattle.st_places.specs.Contents.{AreOf, HasSameParts, IsArrayOf, IsContent, IsSelected, IsType, contents_of, member_in}
 use Rattle.st_places.specs.Dimensions.{AreLimited}
@@ -23,7 +24,6 @@ use Rattle.st_places.specs.declared.node.Dimension.{Dimension}
 use Rattle.st_places.specs.declared.node.Node.TheVariants as nodes
 use Rattle.st_places.specs.declared.unit.UnitParts.{UnitParts}
 use Rattle.st_places.proofs.Contents.{missing, same_parts, shape_type, started_array, started_content}
-use Rattle.st_places.proofs.Counts.{started_count}
 use Rattle.st_places.proofs.Lookups.{IsAt, IsFoundAt, found_at, members_of, without_constants}
 
 module _ (units : List Named) where

@@ -9,7 +9,7 @@ ghost use Rattle.st_types.specs.Names.{chart_in, chart_of, steps_in};
 
 use st_leaves::has_pulse;
 use st_names::NameTable;
-use st_sizes::MOST;
+use st_sizes::MAX_COUNT;
 use st_tree::List;
 use st_tree::tree::{Body, ChartElement, Step};
 use st_types::UnitKind;
@@ -74,8 +74,8 @@ impl<'a> Steps<'a> {
         ensures { OnOk result ((steps : Items Section) → HasSteps steps self.old → HasSteps (steps ++ step.now ∷ []) self.new) }
     {
         self.names.push(step.name.spelling.as_slice())?;
-        self.offsets.push(self.next.min(MOST) as u32)?;
-        self.next = self.next.saturating_add(leaves_of(step)).min(MOST);
+        self.offsets.push(self.next.min(MAX_COUNT) as u32)?;
+        self.next = self.next.saturating_add(leaves_of(step)).min(MAX_COUNT);
         Ok(())
     }
 }

@@ -6,7 +6,7 @@ ghost use Rattle.st_program_sizes.specs.Sized.{IsSized, size_at};
 ghost use Rattle.st_types.specs.Names.{Named};
 
 use st_leaves::standard_size;
-use st_sizes::{MOST, Size};
+use st_sizes::{MAX_COUNT, Size};
 use st_types::Base;
 
 /// Of this type, where the table has the sizes of arrays, structures and function blocks by their units. The number stops at
@@ -18,9 +18,9 @@ pub(crate) fn leaves_of(sizes: &[Size], base: Base) -> u64
     match base {
         Base::Unknown => 0,
         Base::Elementary(_) => 1,
-        Base::Standard(block) => standard_size(block).leaves.min(MOST),
+        Base::Standard(block) => standard_size(block).leaves.min(MAX_COUNT),
         Base::Array(unit) | Base::Structure(unit) | Base::Block(unit) => {
-            size_at(sizes, unit).leaves.min(MOST)
+            size_at(sizes, unit).leaves.min(MAX_COUNT)
         }
     }
 }

@@ -9,7 +9,7 @@ ghost use Rattle.st_values.specs.Values.{in_range};
 ghost use Rattle.st_values.specs.declared.elem.Elem.TheVariants as elems;
 
 use crate::node::Dimension;
-use st_sizes::{Choices, MOST, Number};
+use st_sizes::{Choices, MAX_COUNT, Number};
 use st_tree::List;
 use st_tree::tree::{SignedInteger, Subrange};
 use std::alloc::{AllocError, Global};
@@ -93,5 +93,5 @@ fn low_of(written: SignedInteger) -> i64
 fn product(a: u64, b: u64) -> u64
     ensures { (m n : ℕ) → a ≡ min m 1000000 → b ≡ min n 1000000 → result ≡ min (m * n) 1000000 }
 {
-    a.saturating_mul(b).min(MOST)
+    a.saturating_mul(b).min(MAX_COUNT)
 }

@@ -22,7 +22,7 @@ use st_types::UnitKind;
 use std::alloc::{AllocError, Global};
 
 /// The most variables of a function that has code, its result among them.
-const MOST_VARIABLES: usize = 999_999;
+const MAX_VARIABLES: usize = 999_999;
 
 /// A unit as what can be called.
 #[derive(Drop)]
@@ -89,7 +89,7 @@ impl<'a> Functions<'a> {
         ensures { (text : Items Named) → AreFunctions text self.now → AreElementary text → result ≡ optional_small_function text (unit_at text number) }
     {
         let count = self.starts(number).len();
-        0 < count && count <= MOST_VARIABLES
+        0 < count && count <= MAX_VARIABLES
     }
 }
 

@@ -14,7 +14,7 @@ use crate::dimension::dimensions_of;
 use crate::node::Dimension;
 use st_names::NameTable;
 use st_scopes::{Declared, Tables};
-use st_sizes::{MOST, Size};
+use st_sizes::{MAX_COUNT, Size};
 use st_tree::List;
 use st_tree::tree::{Function, Specification};
 use st_types::Base;
@@ -85,11 +85,11 @@ impl<'a> Members<'a> {
     {
         self.names.push(name)?;
         self.items.push(Member {
-            offset: self.count.min(MOST) as u32,
+            offset: self.count.min(MAX_COUNT) as u32,
             base: parts.base,
             dimensions: parts.dimensions,
         })?;
-        self.count = self.count.saturating_add(parts.count).min(MOST);
+        self.count = self.count.saturating_add(parts.count).min(MAX_COUNT);
         Ok(())
     }
 }

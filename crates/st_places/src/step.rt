@@ -11,7 +11,7 @@ ghost use Rattle.st_types.specs.Names.{Named, unit_at};
 
 use crate::content::parts_of;
 use crate::unit::UnitParts;
-use st_sizes::MOST;
+use st_sizes::MAX_COUNT;
 use st_tree::tree::ChartElement;
 
 /// The elements of the chart of the unit of this number.
@@ -29,7 +29,7 @@ pub(crate) fn chart_leaf(units: &[UnitParts<'_>], unit: usize) -> u32
     ensures { (text : Items Named) → AreOf text units.now → count (whole_part text (unit_at text unit)) ≤ 999999 → result ≡ chart_offset (whole_part text (unit_at text unit)) }
 {
     match parts_of(units, unit) {
-        Some(parts) => parts.members.count.min(MOST) as u32,
+        Some(parts) => parts.members.count.min(MAX_COUNT) as u32,
         None => 0,
     }
 }

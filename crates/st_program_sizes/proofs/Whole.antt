@@ -1,5 +1,5 @@
 -- The size of what has a unit as its type.
-use Rattle.std.proofs.Common.{◌≡◌, ℕ, zero, suc, ◌<◌, List, [], ◌∷◌, ◌++◌, length, Some, None, Result, Ok, Err, IfOk, refl, ap, sym, ◌∙◌, subst, arith, option_map}
+use Rattle.std.proofs.Common.{◌≡◌, ℕ, ◌<◌, List, [], ◌++◌, length, Some, None, Result, Ok, Err, IfOk, refl, ap, sym, ◌∙◌, subst, option_map}
 use Rattle.std.specs.List.{flat_map}
 use Rattle.std.specs.Option.{option_map_or}
 use Rattle.std.proofs.lemmas.List.{append-nil, map-append}
@@ -17,6 +17,7 @@ use Rattle.st_types.specs.Names as names
 use Rattle.st_types.specs.Types.{Elements, elements_in}
 use Rattle.st_types.specs.declared.base.Base.TheVariants as bases
 use Rattle.st_types.specs.declared.unit.NamedUnit.{NamedUnit}
+use Rattle.st_types.proofs.Units.{there}
 use Rattle.st_program_sizes.specs.Sized.{made_leaves, own_leaves, type_leaves}
 
 module _ (units : List Named) where
@@ -43,12 +44,6 @@ module _ (units : List Named) where
   pub array_sized : (i : ℕ) (e : Elements) (size : Size) → elements_in units (bases.Array i) ≡ Some e
       → IsSize size (sizes_of (array_leaves e.subscripts (type_leaves units e.element))) → IsSize size (sizes_of (own_leaves units i))
   array_sized i e size is sized = subst (λ elements. IsSize size (sizes_of (made_leaves units elements (unit_at units i)))) (sym is) sized
-
--- each number below that of units is one of a unit
-pub there : (units : List Named) (i : ℕ) → i < length units → (u : Named) × (unit_at units i ≡ Some u)
-there [] i below = absurd (omega (arith, below))
-there (u ∷ us) zero below = (u, refl)
-there (u ∷ us) (suc i) below = there us i (omega (arith, below))
 
 -- of what is no array
 pub whole_sized : {E : Type 0} (units : List Named) (i : ℕ) (size : Result Size E) → i < length units → elements_in units (bases.Array i) ≡ None

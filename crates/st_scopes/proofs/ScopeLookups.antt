@@ -1,5 +1,5 @@
 -- What names stand for in the scope of a unit.
-use Rattle.std.proofs.Common.{◌≡◌, ℕ, zero, suc, ◌<◌, Bool, false, List, [], ◌∷◌, length, get_or, map, Option, Some, None, is_some, refl, sym, ◌∙◌, ap, subst, arith, ◌⊎◌, inl, inr}
+use Rattle.std.proofs.Common.{◌≡◌, ℕ, zero, suc, ◌<◌, Bool, false, List, [], ◌∷◌, length, get_or, map, Option, Some, None, is_some, refl, sym, ◌∙◌, ap, subst, ◌⊎◌, inl, inr}
 use Rattle.std.specs.List.{slice_get}
 use Rattle.std.proofs.lemmas.List.{length-map}
 use Rattle.std.specs.Option.{option_map, option_map_or}
@@ -25,6 +25,7 @@ use Rattle.st_types.specs.declared.base.Base.TheVariants as bases
 use Rattle.st_types.specs.declared.standard.Standard.{Standard}
 use Rattle.st_values.specs.Words.{is_word}
 use Rattle.st_types.proofs.Places.{list_any-map, position-any}
+use Rattle.st_types.proofs.Units.{there}
 
 -- ---- names in charts
 
@@ -54,11 +55,6 @@ pub told_at : {X : Type 0} (f : Declares → X) (units : List Named) (i : ℕ) �
 told_at f [] i = refl
 told_at f (u ∷ us) zero = refl
 told_at f (u ∷ us) (suc i) = told_at f us i
-
-there : (units : List Named) (i : ℕ) → i < length units → (u : Named) × (unit_at units i ≡ Some u)
-there [] i below = absurd (omega (arith, below))
-there (u ∷ us) zero below = (u, refl)
-there (u ∷ us) (suc i) below = there us i (omega (arith, below))
 
 pub member_at : (units : List Named) (unit : Option Named) (name : List ℕ) → optional_member units unit name ≡ optional_unit_member units (option_map (λ (u : Named). u.declares) unit) name
 member_at units None name = refl

@@ -88,7 +88,7 @@ pub count : (n : ℕ) (z : ℤ) → length (map text_len (numbers n z)) ≡ n
 count zero z = refl
 count (suc n) z = ap suc (count n (next z))
 
-next_is : (z : ℤ) → next z ≡ z +ℤ pos 1
+pub next_is : (z : ℤ) → next z ≡ z +ℤ pos 1
 next_is (pos n) = omega (arith, ints)
 next_is (negsuc zero) = omega (arith, ints)
 next_is (negsuc (suc n)) = omega (arith, ints)

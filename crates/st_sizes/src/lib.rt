@@ -4,5 +4,5 @@
 mod size;
 mod subrange;
 
-pub use size::{Choices, MOST, Size};
+pub use size::{Choices, MAX_COUNT, Size};
 pub use subrange::Number;

@@ -3,7 +3,7 @@ ghost use Rattle.std.specs.Prelude.{◌≡◌, ◌*◌, ◌+◌, ◌++◌, ◌�
 ghost use Rattle.st_sizes.specs.Sizes.{AreChoices, IsSize, LeafSize, below, copies, leaf, longest_path, pairs};
 
 /// Each count stops here. It is above the limits of a program.
-pub const MOST: u64 = 1_000_000;
+pub const MAX_COUNT: u64 = 1_000_000;
 
 /// How many leaves there are, how many bytes they take, and how many bytes the longest of their paths has. Each stops at
 /// 1,000,000.
@@ -124,7 +124,7 @@ impl Choices {
 pub(crate) fn at_most(count: u64) -> u64
     ensures { result ≡ min count 1000000 }
 {
-    if count < MOST { count } else { MOST }
+    if count < MAX_COUNT { count } else { MAX_COUNT }
 }
 
 pub(crate) fn larger(a: u64, b: u64) -> u64

@@ -4,7 +4,7 @@ ghost use Rattle.std.specs.Fmt.{decimal, signed_decimal};
 ghost use Rattle.st_sizes.specs.Sizes.{AreChoices};
 ghost use Rattle.st_sizes.specs.Subscripts.{texts_between, value_of, values_from};
 
-use crate::size::{Choices, MOST, larger};
+use crate::size::{Choices, MAX_COUNT, larger};
 
 /// A whole number, by its sign and its magnitude. Both signs of zero mean zero.
 #[derive(Clone, Copy, Debug, PartialEq, Eq)]
@@ -51,10 +51,10 @@ fn count_from(least: u128, greatest: u128) -> u64
         return 0;
     }
     let gap = greatest - least;
-    if gap < u128::from(MOST) {
+    if gap < u128::from(MAX_COUNT) {
         gap as u64 + 1
     } else {
-        MOST
+        MAX_COUNT
     }
 }
 

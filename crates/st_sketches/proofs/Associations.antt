@@ -12,13 +12,11 @@ use Rattle.st_values.specs.Words.{is_word}
 use Rattle.st_tree.specs.declared.tree.unit.Association.{Association}
 use Rattle.st_tree.specs.declared.tree.unit.Step.{Step}
 use Rattle.st_leaves.specs.Charts.{is_stored, stored_names}
+use Rattle.st_leaves.proofs.Names.{SameNames, moved}
 use Rattle.st_meaning.specs.Sketched.{associated_names, associations_of}
-use Rattle.st_sketches.proofs.Lists.{found}
+use Rattle.st_names.proofs.Passing.{some_position}
 
 -- ---- the same names, in any order
-
-abbrev pub SameNames : List (List ℕ) → List (List ℕ) → Type 0
-SameNames names others = (name : List ℕ) → list_any (is_word name) names ≡ list_any (is_word name) others
 
 same : (names others : List (List ℕ)) → SameNames names others → (associations : List Association) → associated_names names associations ≡ associated_names others associations
 same names others is [] = refl
@@ -27,16 +25,6 @@ same names others is (a ∷ more) =
     ∙ ap (λ ns. cond (list_any (is_word a.name.spelling) others) ns (a.name.spelling ∷ associated_names (a.name.spelling ∷ names) more)) (same names others is more)
     ∙ ap (λ ns. cond (list_any (is_word a.name.spelling) others) (associated_names others more) (a.name.spelling ∷ ns))
     (same (a.name.spelling ∷ names) (a.name.spelling ∷ others) (λ name. ap (λ b. is_word name a.name.spelling || b) (is name)) more)
-
--- a name in front of others, or behind them
-moved : (name : List ℕ) (others more : List (List ℕ)) → SameNames ((name ∷ others) ++ more) (others ++ name ∷ more)
-moved name others more n =
-    ap (λ b. is_word n name || b) (list_any-append (is_word n) others more) ∙ or_swap (is_word n name) (list_any (is_word n) others) (list_any (is_word n) more)
-    ∙ sym (list_any-append (is_word n) others (name ∷ more)) where
-      or_swap : (a b c : Bool) → (a || (b || c)) ≡ (b || (a || c))
-      or_swap true true c = refl
-      or_swap true false c = refl
-      or_swap false b c = refl
 
 -- ---- more associations
 
@@ -79,7 +67,7 @@ associated_more names steps s is =
 -- ---- one association
 
 one : (names : List (List ℕ)) (a : Association) (is_there : Bool) → is_some (position (is_word a.name.spelling) names) ≡ is_there → associated_names names (a ∷ []) ≡ cond is_there [] (a.name.spelling ∷ [])
-one names a is_there there = ap (λ b. cond b [] (a.name.spelling ∷ [])) (sym (found (is_word a.name.spelling) names) ∙ there)
+one names a is_there there = ap (λ b. cond b [] (a.name.spelling ∷ [])) (sym (some_position (is_word a.name.spelling) names) ∙ there)
 
 pub is_there : (names : List (List ℕ)) (name : List ℕ) (a : Association) → name ≡ a.name.spelling → is_some (position (is_word name) names) ≡ true → names ≡ names ++ associated_names names (a ∷ [])
 is_there names name a named there =

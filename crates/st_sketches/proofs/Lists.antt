@@ -1,11 +1,12 @@
 -- Lists of a chart's parts, one element more at a time.
-use Rattle.std.proofs.Common.{◌≡◌, ℕ, suc, ◌+◌, ◌<◌, Bool, true, false, cond, nat_lt, not, ◌||◌, Option, Some, None, List, [], ◌∷◌, ◌++◌, length, map, take, get_or, refl, ap, sym, ◌∙◌, arith, append-nil}
+use Rattle.std.proofs.Common.{◌≡◌, ℕ, ◌+◌, ◌<◌, Bool, true, false, cond, nat_lt, not, ◌||◌, Option, Some, None, List, [], ◌∷◌, ◌++◌, length, map, take, get_or, refl, ap, sym, ◌∙◌, arith, append-nil}
 use Rattle.std.specs.List.{All, flat_map, list_any, position, position_or_len}
 use Rattle.std.specs.Option.{is_some}
 use Rattle.std.proofs.lemmas.Bool.Decides.{nat_tests}
 use Rattle.std.proofs.lemmas.Grind.{flat_map-append}
 use Rattle.std.proofs.lemmas.List.{map-append, take_more}
 use Rattle.std.proofs.lemmas.List.Elements.{All-append, All-nil}
+use Rattle.st_names.proofs.Passing.{passes_within, some_position}
 
 -- ---- one element more
 
@@ -30,22 +31,6 @@ mapped_more f g xs i x a now new b within at one so_far added made =
     ∙ ap (map g) (sym (flat_one f xs i x a within at one))
 
 -- ---- places in lists
-
-within : {A : Type 0} (p : A → Bool) (xs : List A) → nat_lt (position_or_len p xs) (length xs) ≡ list_any p xs
-within p [] = refl
-within p (x ∷ xs) = by (p x) ∙ ap (λ b. p x || b) (within p xs)
-  where
-    by : (b : Bool) → nat_lt (cond (not b) (1 + position_or_len p xs) 0) (suc (length xs)) ≡ (b || nat_lt (position_or_len p xs) (length xs))
-    by true = grind (arith, nat_tests)
-    by false = grind (arith, nat_tests)
-
-some_by : (b : Bool) (i : ℕ) → is_some (cond b (Some i) None) ≡ b
-some_by true i = refl
-some_by false i = refl
-
--- a place is found where one passes
-pub found : {A : Type 0} (p : A → Bool) (xs : List A) → is_some (position p xs) ≡ list_any p xs
-found p xs = some_by (nat_lt (position_or_len p xs) (length xs)) (position_or_len p xs) ∙ within p xs
 
 -- and it is the first such place
 pub found_at : {A : Type 0} (p : A → Bool) (xs : List A) (i : ℕ) → position p xs ≡ Some i → position_or_len p xs ≡ i
@@ -81,11 +66,11 @@ none_passes p (x ∷ xs) none =
     let more = none_passes p xs fails.1 in ap (λ b. cond (not b) (1 + position_or_len p xs) 0) fails.0 ∙ grind (arith, more)
 
 pub found_nowhere : {A : Type 0} (p : A → Bool) (xs : List A) → position p xs ≡ None → position_or_len p xs ≡ length xs
-found_nowhere p xs is = none_passes p xs (sym (found p xs) ∙ ap is_some is)
+found_nowhere p xs is = none_passes p xs (sym (some_position p xs) ∙ ap is_some is)
 
 -- where one passes
 pub any_below : {A : Type 0} (p : A → Bool) (xs : List A) → list_any p xs ≡ true → position_or_len p xs < length xs
-any_below p xs any = let t : nat_lt (position_or_len p xs) (length xs) ≡ true = within p xs ∙ any in grind (arith, nat_tests, t)
+any_below p xs any = let t : nat_lt (position_or_len p xs) (length xs) ≡ true = passes_within p xs ∙ any in grind (arith, nat_tests, t)
 
 -- ---- what holds of each
 

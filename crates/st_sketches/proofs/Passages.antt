@@ -3,10 +3,10 @@ use Rattle.std.proofs.Common.{◌≡◌, ℕ, suc, ◌+◌, ◌<◌, Bool, Optio
 use Rattle.std.specs.List.{All, position}
 use Rattle.std.proofs.lemmas.List.Elements.{All-cons, All-map, All-nil}
 use Rattle.st_values.specs.Words.{is_word}
+use Rattle.st_values.proofs.SameWords.{is_word_comm}
 use Rattle.st_names.specs.Tables.{first_of}
 use Rattle.st_tree.specs.declared.tree.position.Identifier.{Identifier}
 use Rattle.st_tree.specs.declared.tree.unit.Transition.{Transition as Tree}
-use Rattle.st_leaves.proofs.Names.{is_word_comm}
 use Rattle.st_charts.specs.Passages.{Passage, passage_of, passages_of}
 use Rattle.st_charts.specs.declared.table.Transition.{Transition}
 use Rattle.st_meaning.specs.Sketched.{number_listed, numbers_among, passage_in}

@@ -18,7 +18,7 @@ use std::alloc::{AllocError, Global};
 use std::marker::Model;
 
 /// How many steps a chart has at most, and how many names. What has more counts as what there is no memory for.
-const MOST: usize = 1 << 29;
+const MAX_COUNT: usize = 1 << 29;
 
 /// A chart as numbers.
 #[derive(Drop)]
@@ -177,7 +177,7 @@ fn counted(count: usize) -> Result<u32, AllocError>
     ensures count { IfOk result (λ number. number ≡ count) }
     ensures few { IfOk result (λ number. number ≤ 2 ^ 29) }
 {
-    if count <= MOST {
+    if count <= MAX_COUNT {
         Ok(count as u32)
     } else {
         Err(AllocError)

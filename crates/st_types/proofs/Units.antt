@@ -13,3 +13,15 @@ pub unit_at-past : (units : List Named) (i : ℕ) → length units ≤ i → uni
 unit_at-past [] i past = refl
 unit_at-past (u ∷ us) zero past = absurd (omega (arith, past))
 unit_at-past (u ∷ us) (suc i) past = unit_at-past us i (omega (arith, past))
+
+-- there is a unit of each number below theirs
+pub there : (units : List Named) (i : ℕ) → i < length units → (u : Named) × (unit_at units i ≡ Some u)
+there [] i below = absurd (omega (arith, below))
+there (u ∷ us) zero below = (u, refl)
+there (u ∷ us) (suc i) below = there us i (omega (arith, below))
+
+-- and a unit that is found has such a number
+pub found_below : (units : List Named) (i : ℕ) (u : Named) → unit_at units i ≡ Some u → i < length units
+found_below [] i u found = absurd cc
+found_below (v ∷ vs) zero u found = omega arith
+found_below (v ∷ vs) (suc i) u found = let more = found_below vs i u found in omega (arith, more)

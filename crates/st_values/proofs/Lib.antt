@@ -8,5 +8,6 @@ pub mod Grammar
 pub mod Laid
 pub mod NumberLemmas
 pub mod RoundTrip
+pub mod SameWords
 pub mod SignLemmas
 pub mod WordLemmas

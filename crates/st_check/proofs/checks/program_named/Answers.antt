@@ -3,8 +3,8 @@ use Rattle.std.specs.List.{position}
 use Rattle.std.proofs.lemmas.Iterator.{YieldsList-from_slice}
 use Rattle.std.proofs.lemmas.Iterator.Search.{position_from_yields_List}
 use Rattle.st_types.specs.Inside.{named_by}
+use Rattle.st_types.proofs.Places.{position-map}
 use Rattle.st_check.specs.Faults.{is_main}
-use Rattle.st_check.proofs.Named.{position-map}
 use Rattle.st_check.proofs.checks.program_named.Goals as goal
 
 -- `position` gives the place of the first unit that passes

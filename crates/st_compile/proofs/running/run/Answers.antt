@@ -2,10 +2,10 @@ use Rattle.std.proofs.Common.{Err, ap, subst, sym, w64, ◌∙◌}
 use Rattle.std.proofs.lemmas.Int.{to_z-of_z}
 use Rattle.st_check.specs.Programs.{IsChecked, leaves_of_program}
 use Rattle.st_compile.proofs.Known.{Known}
-use Rattle.st_compile.proofs.Moments.{is_time}
 use Rattle.st_compile.proofs.Runs.{its_run, result_done, result_faulted, room_kept}
 use Rattle.st_compile.proofs.SmallFunctions.{functions_small}
 use Rattle.st_compile.proofs.running.run.Goals as goal
+use Rattle.st_blocks.proofs.RangeLemmas.{is_time}
 
 pub run_fused-requires-clause-runs : goal.run_fused-requires-clause-runs
 run_fused-requires-clause-runs g c =

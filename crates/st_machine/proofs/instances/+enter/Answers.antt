@@ -19,7 +19,6 @@ use Rattle.st_machine.specs.declared.stacks.Room.{Room}
 use Rattle.st_machine.specs.Running.{environment_at, moved, stop_of}
 use Rattle.st_machine.specs.declared.moves.Move.{Move}
 use Rattle.st_machine.proofs.Arrivals.{instrs_of}
-use Rattle.st_machine.proofs.Moments.{is_time}
 use Rattle.st_machine.proofs.Rooms.{room_at, rooms_many, rooms_taken}
 use Rattle.st_machine.proofs.Rooms.{room_of as level_room}
 use Rattle.st_machine.proofs.Stays.{Stays, stays_unless}
@@ -27,6 +26,7 @@ use Rattle.st_machine.proofs.Ends.{weight}
 use Rattle.st_machine.proofs.Way.{beyond_code, clipped_place, few_in_code, instr_is, weight_clipped, within_code}
 use Rattle.st_machine.proofs.Within.{all_done, called, called_leads, called_stops, chart_leads, chart_work, finds_all, inner, inner_leads, inner_stops, is_at, is_block, run_begins, turn_leads, turn_stops, way_clipped}
 use Rattle.st_machine.proofs.instances.+enter.Goals as goal
+use Rattle.st_blocks.proofs.RangeLemmas.{is_time}
 
 pub loop-place-init : goal.loop-place-init
 loop-place-init g t c =

@@ -1,8 +1,8 @@
 use Rattle.std.proofs.Common.{◌+◌, ap, get_or, refl}
 use Rattle.st_types.specs.Compositions.{composition_of}
+use Rattle.st_types.proofs.Units.{there}
 use Rattle.st_leaves.specs.LeavesIn.{leaves_of_whole}
 use Rattle.st_chart_parts.specs.Charts.{leaves_of_parts}
-use Rattle.st_chart_parts.proofs.Units.{there}
 use Rattle.st_listing.specs.Members.{declared_of}
 use Rattle.st_listing.specs.Walks.{units_in, variable_leaves}
 use Rattle.st_listing.proofs.ChartListings.{no_chart}
