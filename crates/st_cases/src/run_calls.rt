@@ -92,7 +92,7 @@ END_PROGRAM
 |: scan Main.I => Main.A Main.B Main.D Main.E
 | 0 1 => 2 1 2 5
 | 1 2 => 5 1 2 9
-# names in any case, and variables with the names of functions
+# names ignoring case, and variables with the names of functions
 FUNCTION Twice : INT VAR_INPUT X : INT; END_VAR VAR Thrice : INT; END_VAR
 THRICE := tHRICE(x);
 twice := Thrice - X;

@@ -214,7 +214,7 @@ END_PROGRAM
 | 4 FALSE => TRUE  T#4ms
 | 6 TRUE  => FALSE T#0ms
 | 7 FALSE => TRUE  T#0ms
-# names in any case, and names that are those of blocks and functions
+# names ignoring case, and names that are those of blocks and functions
 PROGRAM Main VAR_INPUT go : BOOL; END_VAR VAR TON : ton; ABS : Ctu; Sr : sR; r_trig : R_Trig; lamp : BOOL; END_VAR
 Ton(in := GO, pt := t#20ms);
 abs(Cu := TON.q, pv := 1);
