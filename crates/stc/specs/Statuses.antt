@@ -10,21 +10,25 @@ use Rattle.st_control.specs.Texts.{OfCheck}
 use Rattle.st_session.specs.Checks.{check_status}
 use Rattle.st_session.specs.Layouts.{OfLayout, layout_status}
 use Rattle.st_session.specs.Runs.{HasStatus}
+use Rattle.st_session.specs.Statuses.{device_failed, no_memory}
 use Rattle.st_words.specs.Words.{AreInOrder, HasLimit, IsOrder, chosen_by, faults_of, limit_of}
 use Rattle.st_words.specs.declared.words.Order.{Order}
 use Rattle.st_words.specs.declared.words.Verb.TheVariants.{Check, Layout, Run}
 
--- 5 where memory ran out, 0 where help or the version was asked for, and 2 where the words are at fault; or 4 where what the
--- user is to read couldn't be written
+-- the words are at fault
+abbrev pub usage : ℕ
+usage = 2
+
+-- 0 where help or the version was asked for; or what the user is to read couldn't be written
 abbrev pub EndsBy : ErrorKind → ℕ → Type 0
-EndsBy error_kinds.OutOfMemory status = status ≡ 5
-EndsBy error_kinds.DisplayHelp status = (status ≡ 0) ⊎ (status ≡ 4)
-EndsBy error_kinds.DisplayVersion status = (status ≡ 0) ⊎ (status ≡ 4)
-EndsBy other status = (status ≡ 2) ⊎ (status ≡ 4)
+EndsBy error_kinds.OutOfMemory status = status ≡ no_memory
+EndsBy error_kinds.DisplayHelp status = (status ≡ 0) ⊎ (status ≡ device_failed)
+EndsBy error_kinds.DisplayVersion status = (status ≡ 0) ⊎ (status ≡ device_failed)
+EndsBy other status = (status ≡ usage) ⊎ (status ≡ device_failed)
 
 -- memory ran out, or the status is that of one of the faults
 abbrev pub EndsByOneOf : Kinds → ℕ → Type 0
-EndsByOneOf faults status = (status ≡ 5) ⊎ ((fault : ErrorKind) × IsAmong fault faults × EndsBy fault status)
+EndsByOneOf faults status = (status ≡ no_memory) ⊎ ((fault : ErrorKind) × IsAmong fault faults × EndsBy fault status)
 
 -- the text is checked as the program of this name, and the status is that of the answer
 abbrev pub EndsAsChecked : List ℕ → List ℕ → ℕ → Type 0
@@ -41,25 +45,25 @@ EndsAsLoaded text main limit status = OfLoad text main limit (λ loaded. (bytes 
 -- where the order is to check: memory ran out, or the file couldn't be read or a device failed, or some text is checked as the
 -- order says
 abbrev pub EndsAsCheck : Order → ℕ → Type 0
-EndsAsCheck order status = order.verb ≡ Check → status ≢ 4 → status ≢ 5 → (text : List ℕ) × EndsAsChecked text order.main.now status
+EndsAsCheck order status = order.verb ≡ Check → status ≢ device_failed → status ≢ no_memory → (text : List ℕ) × EndsAsChecked text order.main.now status
 
 -- where the order is to lay out: memory ran out, or the file couldn't be read or a device failed, or some text is laid out as the
 -- order says
 abbrev pub EndsAsLayout : Order → ℕ → Type 0
-EndsAsLayout order status = order.verb ≡ Layout → status ≢ 4 → status ≢ 5 → (text : List ℕ) × EndsAsLaidOut text order.main.now status
+EndsAsLayout order status = order.verb ≡ Layout → status ≢ device_failed → status ≢ no_memory → (text : List ℕ) × EndsAsLaidOut text order.main.now status
 
 -- where the order is to run: memory ran out, or the file couldn't be read or a device failed, or some text is loaded as the
 -- order says, and of the commands of some bytes the status is theirs
 abbrev pub EndsAsRun : Order → ℕ → Type 0
-EndsAsRun order status = order.verb ≡ Run → status ≢ 4 → status ≢ 5 → (text : List ℕ) × EndsAsLoaded text order.main.now order.steps status
+EndsAsRun order status = order.verb ≡ Run → status ≢ device_failed → status ≢ no_memory → (text : List ℕ) × EndsAsLoaded text order.main.now order.steps status
 
 -- the status of these words: that of one of their faults, of a K outside its range, or of the order that they give
 pub record EndsByWords (words : List Text) (status : ℕ) : Type 0 where
   pub fault : faults_of words ≢ [] → EndsByOneOf (faults_of words) status
   pub limit : faults_of words ≡ [] → ¬ HasLimit (limit_of (chosen_by words)) → EndsByOneOf (error_kinds.ValueValidation ∷ []) status
-  pub order : AreInOrder words → status ≢ 5 → (given : Order) × IsOrder given (chosen_by words) × EndsAsCheck given status × EndsAsLayout given status × EndsAsRun given status
+  pub order : AreInOrder words → status ≢ no_memory → (given : Order) × IsOrder given (chosen_by words) × EndsAsCheck given status × EndsAsLayout given status × EndsAsRun given status
 
--- 5 where memory ran out, and else the status of another error
+-- where memory ran out, and where another error came
 abbrev pub error_status : IoErrorKind → ℕ → ℕ
-error_status io_error_kinds.OutOfMemory other = 5
+error_status io_error_kinds.OutOfMemory other = no_memory
 error_status kind other = other

@@ -12,7 +12,8 @@ ghost use Rattle.st_session.specs.Checks.{TellsAll, TellsPart};
 ghost use Rattle.st_session.specs.Layouts.{ListsAll, ListsPart, OfLayout};
 ghost use Rattle.st_session.specs.Replies.{ended};
 ghost use Rattle.st_session.specs.Runs.{OfProgram, WritesAll, WritesPart, WritesRead};
-ghost use Rattle.stc.specs.Statuses.{EndsAsCheck, EndsAsChecked, EndsAsLaidOut, EndsAsLayout, EndsAsLoaded, EndsAsRun, EndsBy, EndsByWords, error_status};
+ghost use Rattle.st_session.specs.Statuses.{device_failed, no_memory, no_program};
+ghost use Rattle.stc.specs.Statuses.{EndsAsCheck, EndsAsChecked, EndsAsLaidOut, EndsAsLayout, EndsAsLoaded, EndsAsRun, EndsBy, EndsByWords, error_status, usage};
 
 mod refused;
 
@@ -48,7 +49,7 @@ fn main(rt: HostRuntime) -> ExitCode {
 ///
 /// No clause knows the words that it was started with. So of some words the status is theirs.
 fn run<R: Env + Files + Input + Print + Eprint + AllocGlobal>(rt: &R) -> u8
-    ensures { (result ≡ NO_MEMORY) ⊎ (result ≡ USAGE) ⊎ ((words : List Text) × EndsByWords words result) }
+    ensures { (result ≡ no_memory) ⊎ (result ≡ usage) ⊎ ((words : List Text) × EndsByWords words result) }
 {
     match given_words(rt) {
         Ok(words) => obey_words(rt, words.as_slice()),
@@ -58,7 +59,7 @@ fn run<R: Env + Files + Input + Print + Eprint + AllocGlobal>(rt: &R) -> u8
 
 /// Says that a word can't be read, where there is memory, and answers the status.
 fn explain_words<R: Eprint>(rt: &R, error: &io::Error) -> u8
-    ensures { result ≡ error_status (error_kind error.now) USAGE }
+    ensures { result ≡ error_status (error_kind error.now) usage }
 {
     if error.kind() == io::ErrorKind::OutOfMemory {
         return NO_MEMORY;
@@ -125,11 +126,11 @@ fn keep_freed_memory(alloc: Global) {
 
 /// Does with the source text what is ordered, and says why it is refused where it is.
 fn answer<R: Input + Print + Eprint + AllocGlobal>(rt: &R, order: Order<'_>, text: &[u8]) -> u8
-    ensures check_status { order.entry.verb ≡ Verb.Check → result ≢ DEVICE_FAILED → result ≢ NO_MEMORY
+    ensures check_status { order.entry.verb ≡ Verb.Check → result ≢ device_failed → result ≢ no_memory
         → EndsAsChecked text.now order.entry.main.now result }
-    ensures layout_status { order.entry.verb ≡ Verb.Layout → result ≢ DEVICE_FAILED → result ≢ NO_MEMORY
+    ensures layout_status { order.entry.verb ≡ Verb.Layout → result ≢ device_failed → result ≢ no_memory
         → EndsAsLaidOut text.now order.entry.main.now result }
-    ensures run_status { order.entry.verb ≡ Verb.Run → result ≢ DEVICE_FAILED → result ≢ NO_MEMORY
+    ensures run_status { order.entry.verb ≡ Verb.Run → result ≢ device_failed → result ≢ no_memory
         → EndsAsLoaded text.now order.entry.main.now order.entry.steps result }
 {
     let status = serve(rt, order, text);
@@ -143,7 +144,7 @@ fn answer<R: Input + Print + Eprint + AllocGlobal>(rt: &R, order: Order<'_>, tex
 
 /// Says that the file can't be read, where there is memory, and answers the status.
 fn explain_file<R: Eprint>(rt: &R, file: &str, error: &io::Error) -> u8
-    ensures { result ≡ error_status (error_kind error.now) DEVICE_FAILED }
+    ensures { result ≡ error_status (error_kind error.now) device_failed }
 {
     if error.kind() == io::ErrorKind::OutOfMemory {
         return NO_MEMORY;
@@ -170,11 +171,11 @@ fn read_text<R: Read + Drop>(alloc: Global, reader: R) -> io::Result<Vec<u8>>
 ///
 /// No clause knows the bytes of standard input. So of some commands the status is theirs.
 fn serve<R: Input + Print + AllocGlobal>(rt: &R, order: Order<'_>, text: &[u8]) -> u8
-    ensures check_status { order.entry.verb ≡ Verb.Check → result ≢ DEVICE_FAILED → result ≢ NO_MEMORY
+    ensures check_status { order.entry.verb ≡ Verb.Check → result ≢ device_failed → result ≢ no_memory
         → EndsAsChecked text.now order.entry.main.now result }
-    ensures layout_status { order.entry.verb ≡ Verb.Layout → result ≢ DEVICE_FAILED → result ≢ NO_MEMORY
+    ensures layout_status { order.entry.verb ≡ Verb.Layout → result ≢ device_failed → result ≢ no_memory
         → EndsAsLaidOut text.now order.entry.main.now result }
-    ensures run_status { order.entry.verb ≡ Verb.Run → result ≢ DEVICE_FAILED → result ≢ NO_MEMORY
+    ensures run_status { order.entry.verb ≡ Verb.Run → result ≢ device_failed → result ≢ no_memory
         → EndsAsLoaded text.now order.entry.main.now order.entry.steps result }
 {
     let mut source = FromReader::new(rt.reader());
@@ -197,36 +198,36 @@ fn obey_text<R: Source, W: Sink>(
     requires sink { W.has_failed sink.old ≡ false }
 
     // What the check answers is written, or a beginning of it where the device failed. Nothing is read.
-    ensures check_all { order.entry.verb ≡ Verb.Check → result ≢ DEVICE_FAILED → result ≢ NO_MEMORY
+    ensures check_all { order.entry.verb ≡ Verb.Check → result ≢ device_failed → result ≢ no_memory
         → OfCheck text.now order.entry.main.now (TellsAll result (W.taken sink.old) (W.taken sink.new)) }
-    ensures check_memory { order.entry.verb ≡ Verb.Check → result ≡ NO_MEMORY
+    ensures check_memory { order.entry.verb ≡ Verb.Check → result ≡ no_memory
         → Appends (W.taken sink.old) (W.taken sink.new) (ended (codes "refused M")) }
-    ensures check_part { order.entry.verb ≡ Verb.Check → result ≡ DEVICE_FAILED
+    ensures check_part { order.entry.verb ≡ Verb.Check → result ≡ device_failed
         → OfCheck text.now order.entry.main.now (TellsPart (W.taken sink.old) (W.taken sink.new)) }
     ensures check_source { order.entry.verb ≡ Verb.Check → source.new ≡ source.old }
 
     // The lines of all leaves are written, or the refusal, or a beginning of that where the device failed. Nothing is read.
-    ensures layout_all { order.entry.verb ≡ Verb.Layout → result ≢ DEVICE_FAILED → result ≢ NO_MEMORY
+    ensures layout_all { order.entry.verb ≡ Verb.Layout → result ≢ device_failed → result ≢ no_memory
         → OfLayout text.now order.entry.main.now (ListsAll result (W.taken sink.old) (W.taken sink.new)) }
-    ensures layout_memory { order.entry.verb ≡ Verb.Layout → result ≡ NO_MEMORY
+    ensures layout_memory { order.entry.verb ≡ Verb.Layout → result ≡ no_memory
         → Appends (W.taken sink.old) (W.taken sink.new) (ended (codes "refused M")) }
-    ensures layout_part { order.entry.verb ≡ Verb.Layout → result ≡ DEVICE_FAILED
+    ensures layout_part { order.entry.verb ≡ Verb.Layout → result ≡ device_failed
         → OfLayout text.now order.entry.main.now (ListsPart (W.taken sink.old) (W.taken sink.new)) }
     ensures layout_source { order.entry.verb ≡ Verb.Layout → source.new ≡ source.old }
 
     // The replies to all commands are written, or the refusal of the load; but for want of memory for the session's own
     // buffers nothing is.
-    ensures run_all { order.entry.verb ≡ Verb.Run → result ≢ DEVICE_FAILED → result ≢ NO_MEMORY
+    ensures run_all { order.entry.verb ≡ Verb.Run → result ≢ device_failed → result ≢ no_memory
         → OnBytes (R.rest source.old) (λ bytes. OfLoad text.now order.entry.main.now order.entry.steps
         (WritesAll bytes result (W.taken sink.old) (W.taken sink.new))) }
-    ensures run_memory { order.entry.verb ≡ Verb.Run → result ≡ NO_MEMORY
+    ensures run_memory { order.entry.verb ≡ Verb.Run → result ≡ no_memory
         → OnBytes (R.rest source.old) (λ bytes. OfLoad text.now order.entry.main.now order.entry.steps
-        (WritesAll bytes NO_MEMORY (W.taken sink.old) (W.taken sink.new)))
+        (WritesAll bytes no_memory (W.taken sink.old) (W.taken sink.new)))
         ⊎ Appends (W.taken sink.old) (W.taken sink.new) [] }
 
     // A device has failed, and the run ended there. Where it is the source, the text was loaded, and of the commands that were
     // read whole none is lost.
-    ensures run_part { order.entry.verb ≡ Verb.Run → result ≡ DEVICE_FAILED
+    ensures run_part { order.entry.verb ≡ Verb.Run → result ≡ device_failed
         → OnBytes (R.rest source.old) (λ bytes. OfLoad text.now order.entry.main.now order.entry.steps
         (WritesPart bytes (W.taken sink.old) (W.taken sink.new))) }
     ensures run_read { order.entry.verb ≡ Verb.Run → R.has_failed source.new ≡ true
@@ -234,9 +235,9 @@ fn obey_text<R: Source, W: Sink>(
         order.entry.steps (WritesRead bytes rest (W.taken sink.old) (W.taken sink.new))) }
 
     // A text that is too long is refused for that alone, also where there is no memory.
-    ensures long { 2 ^ 20 < length text.now → result ≢ DEVICE_FAILED → (result ≡ NO_PROGRAM)
+    ensures long { 2 ^ 20 < length text.now → result ≢ device_failed → (result ≡ no_program)
         × Appends (W.taken sink.old) (W.taken sink.new) (ended (codes "refused S4 line 1")) }
-    ensures failed { IsTrue (R.has_failed source.new || W.has_failed sink.new) ↔ (result ≡ DEVICE_FAILED) }
+    ensures failed { IsTrue (R.has_failed source.new || W.has_failed sink.new) ↔ (result ≡ device_failed) }
 {
     let main = order.main.as_bytes();
     match order.verb {
