@@ -16,7 +16,7 @@ use Rattle.st_parser.specs.Reader.Parsers.{Parser, and_then, many}
 use Rattle.st_expressions.specs.Reader as spec
 use Rattle.st_expressions.specs.Reader.{Inside, begins_part}
 use Rattle.st_parser.specs.Grammar.Tokens.{Tok, kind, next, position}
-use Rattle.st_parser.proofs.Exact.{Relation, Exact, Always, Any, Then, seq, IsOne, one, IsPure, done, IsWord, a_word, IsNumber, a_number, exact_bind, exact_bind_if, exact_as, exact_iff, exact_last, exact_under, exact_pure, made, exact_refuse, exact_on, IsFirst, exact_token, exact_token_if, exact_enter, AfterOpening, exact_symbol, symbol_is, exact_identifier, exact_number, exact_before, Ends, exact_many, exact_listed}
+use Rattle.st_parser.proofs.Exact.{Relation, Exact, Always, Any, Then, seq, IsOne, one, IsPure, done, IsWord, a_word, IsNumber, a_number, exact_bind, exact_bind_if, exact_as, exact_iff, exact_last, exact_under, exact_pure, made, exact_refuse, exact_on, IsFirst, exact_token, exact_token_if, exact_enter, AfterOpening, exact_symbol, symbol_is, Before, exact_identifier_before, exact_identifier, exact_number, exact_before, Ends, exact_many, exact_listed}
 use Rattle.st_expressions.proofs.Follows.{Stops, stops_less, stops_at, stops_part, stops_operator, precedence_is, begins_integer, integer_begins, begins_constant, constant_begins, primary_begins, argument_begins, part_begins, operation_begins, binary_word, Ending}
 use Rattle.st_parser.proofs.Levels.{At, past, Leads, leads}
 use Rattle.st_parser.specs.Names.{Argument, BinOp, Call, Constant, Expression, Identifier, Kind, Operation, Part, Position, SignedInteger, Variable}
@@ -219,37 +219,37 @@ no_name u ending never (t ∷ v ∷ ts) n x rest first second g d =
 
 module _ (r : ℕ) (i : Inside) (e : ExactInside (suc r) i) where
   abbrev IsInput : Relation Argument
-  IsInput = Then IsWord (λ n. Then (IsOne (token_kinds.Symbol symbols.Assign)) (λ q. Then (IsBinary 7) (λ x. IsPure (argument_kinds.Input n x))))
+  IsInput = Then (Before IsWord (token_kinds.Symbol symbols.Assign)) (λ n. Then (IsBinary 7) (λ x. IsPure (argument_kinds.Input n x)))
 
   input_to : (ts : List Tok) (x : Argument) (rest : List Tok) → IsInput ts x rest → IsArgument ts x rest
-  input_to ts x rest (seq a_word (seq one (seq d p))) = made p (λ y us. IsArgument ts y us) (input d)
+  input_to ts x rest (seq (seq a_word (seq one done)) (seq d p)) = made p (λ y us. IsArgument ts y us) (input d)
 
   input_from : (n : List ℕ) (ts : List Tok) (x : Argument) (rest : List Tok) → kind ts ≡ Some (token_kinds.Word n) → kind (next ts) ≡ Some (token_kinds.Symbol symbols.Assign) → Closes (kind rest) → IsArgument ts x rest → IsInput ts x rest
   input_from n ts x rest first second g (positional {x = y} d) = absurd (no_name (token_kinds.Symbol symbols.Assign) (tt, refl) (λ u. u) ts n y rest first second g d)
-  input_from n ts x rest first second g (input d) = seq a_word (seq one (seq d done))
+  input_from n ts x rest first second g (input d) = seq (seq a_word (seq one done)) (seq d done)
   input_from n ts x rest first second g (output d) = absurd (cc)
 
   input_exact : (n : List ℕ) → Exact 1 (spec.input i) (λ ts. (kind (next ts) ≡ Some (token_kinds.Symbol symbols.Assign)) × ((kind ts ≡ Some (token_kinds.Word n)) × Always ts)) IsArgument Closes (At r) (At r)
   unfolding spec.input
   input_exact n = exact_as
-      (exact_bind (exact_identifier r) (λ m. exact_bind (exact_symbol symbols.Assign r refl) (λ q. exact_last e.0 (λ x. argument_kinds.Input m x)) (λ q mid rest y d g. tt)) (λ m mid rest y d g. tt))
+      (exact_bind (exact_identifier_before symbols.Assign r refl) (λ m. exact_last e.0 (λ x. argument_kinds.Input m x)) (λ m mid rest y d g. tt))
       (λ ts p. tt) (λ ts x rest p d. input_to ts x rest d) (λ ts x rest p g d. input_from n ts x rest p.1.0 p.0 g d) (λ t g. closes_stops 7 t g)
 
   abbrev IsOutput : Relation Argument
-  IsOutput = Then IsWord (λ n. Then (IsOne (token_kinds.Symbol symbols.Output)) (λ q. Then IsVariable (λ x. IsPure (argument_kinds.Output n x))))
+  IsOutput = Then (Before IsWord (token_kinds.Symbol symbols.Output)) (λ n. Then IsVariable (λ x. IsPure (argument_kinds.Output n x)))
 
   output_to : (ts : List Tok) (x : Argument) (rest : List Tok) → IsOutput ts x rest → IsArgument ts x rest
-  output_to ts x rest (seq a_word (seq one (seq d p))) = made p (λ y us. IsArgument ts y us) (output d)
+  output_to ts x rest (seq (seq a_word (seq one done)) (seq d p)) = made p (λ y us. IsArgument ts y us) (output d)
 
   output_from : (n : List ℕ) (ts : List Tok) (x : Argument) (rest : List Tok) → kind ts ≡ Some (token_kinds.Word n) → kind (next ts) ≡ Some (token_kinds.Symbol symbols.Output) → Closes (kind rest) → IsArgument ts x rest → IsOutput ts x rest
   output_from n ts x rest first second g (positional {x = y} d) = absurd (no_name (token_kinds.Symbol symbols.Output) (tt, refl) (λ u. u) ts n y rest first second g d)
-  output_from n ts x rest first second g (output d) = seq a_word (seq one (seq d done))
+  output_from n ts x rest first second g (output d) = seq (seq a_word (seq one done)) (seq d done)
   output_from n ts x rest first second g (input d) = absurd (cc)
 
   output_exact : (n : List ℕ) → Exact 1 (spec.output i) (λ ts. (kind (next ts) ≡ Some (token_kinds.Symbol symbols.Output)) × ((kind ts ≡ Some (token_kinds.Word n)) × Always ts)) IsArgument Closes (At r) (At r)
   unfolding spec.output
   output_exact n = exact_as
-      (exact_bind (exact_identifier r) (λ m. exact_bind (exact_symbol symbols.Output r refl) (λ q. exact_last e.1 (λ x. argument_kinds.Output m x)) (λ q mid rest y d g. tt)) (λ m mid rest y d g. tt))
+      (exact_bind (exact_identifier_before symbols.Output r refl) (λ m. exact_last e.1 (λ x. argument_kinds.Output m x)) (λ m mid rest y d g. tt))
       (λ ts p. tt) (λ ts x rest p d. output_to ts x rest d) (λ ts x rest p g d. output_from n ts x rest p.1.0 p.0 g d) (λ t g. closes_stops 0 t g)
 
   -- the first two tokens don't name a parameter

@@ -7,7 +7,7 @@ use Rattle.st_tree.specs.declared.tree.constant.Constant.TheVariants as constant
 use Rattle.st_tree.specs.declared.tree.expression.Expression.TheVariants as expressions
 use Rattle.st_tree.specs.declared.tree.expression.Part.TheVariants as part_kinds
 use Rattle.st_tree.specs.declared.tree.expression.Argument.TheVariants as argument_kinds
-use Rattle.st_parser.specs.Reader.Parsers.{Parser, ◌>>=◌, ◌>>◌, pure, refuse, bump, peek, peek_second, here, expect_symbol, is_symbol, enter, identifier, number, many, listed}
+use Rattle.st_parser.specs.Reader.Parsers.{Parser, ◌>>=◌, ◌>>◌, pure, refuse, bump, peek, peek_second, here, expect_symbol, is_symbol, enter, identifier, identifier_before, number, many, listed}
 use Rattle.st_expressions.specs.Grammar.{integer_of, typed_of, duration_of, operation_of, variable_of, call_of, operator_of, precedence_of}
 use Rattle.st_parser.specs.Names.{Argument, BinOp, Call, Constant, Expression, Kind, Operation, Part, Position, SignedInteger, Variable}
 
@@ -81,15 +81,13 @@ variable depth_left inside = do
 
 unfoldable pub input : Inside → Parser Argument
 input inside = do
-  name ← identifier
-  expect_symbol symbols.Assign
+  name ← identifier_before symbols.Assign
   x ← inside.expression
   pure (argument_kinds.Input name x)
 
 unfoldable pub output : Inside → Parser Argument
 output inside = do
-  name ← identifier
-  expect_symbol symbols.Output
+  name ← identifier_before symbols.Output
   x ← inside.variable
   pure (argument_kinds.Output name x)
 

@@ -119,6 +119,20 @@ fn inside(alloc: Global, ts: &mut Cursor<'_>, depth_left: u8) -> Result<Expressi
     binary(alloc, ts, depth_left - 1, LOOSEST)
 }
 
+/// An expression inside one more open level, in a box.
+#[cycle(parser)]
+fn boxed_inside(
+    alloc: Global,
+    ts: &mut Cursor<'_>,
+    depth_left: u8,
+) -> Result<Boxed<Expression>, ReadFault>
+    requires { 0 < depth_left }
+    ensures { Takes ((spec.inside_of depth_left).expression ts.old) result ts.old ts.new }
+{
+    let found = inside(alloc, ts, depth_left)?;
+    Ok(Boxed::new(alloc, found)?)
+}
+
 /// A variable inside one more open level.
 #[cycle(parser)]
 fn target(alloc: Global, ts: &mut Cursor<'_>, depth_left: u8) -> Result<Variable, ReadFault>
@@ -205,10 +219,9 @@ fn input(alloc: Global, ts: &mut Cursor<'_>, depth_left: u8) -> Result<Argument,
     requires { 0 < depth_left }
     ensures { Takes (spec.input (spec.inside_of depth_left) ts.old) result ts.old ts.new }
 {
-    let name = ts.identifier(alloc)?;
-    ts.expect_symbol(Symbol::Assign)?;
-    let value = inside(alloc, ts, depth_left)?;
-    Ok(Argument::Input(name, Boxed::new(alloc, value)?))
+    let name = ts.identifier_before(alloc, Symbol::Assign)?;
+    let value = boxed_inside(alloc, ts, depth_left)?;
+    Ok(Argument::Input(name, value))
 }
 
 /// `word '=>' variable`
@@ -218,8 +231,7 @@ fn output(alloc: Global, ts: &mut Cursor<'_>, depth_left: u8) -> Result<Argument
     requires { 0 < depth_left }
     ensures { Takes (spec.output (spec.inside_of depth_left) ts.old) result ts.old ts.new }
 {
-    let name = ts.identifier(alloc)?;
-    ts.expect_symbol(Symbol::Output)?;
+    let name = ts.identifier_before(alloc, Symbol::Output)?;
     let taker = target(alloc, ts, depth_left)?;
     Ok(Argument::Output(name, Boxed::new(alloc, taker)?))
 }
@@ -315,9 +327,9 @@ fn parenthesized(
     ensures { Takes (spec.parenthesized depth_left (spec.inside_of depth_left) ts.old) result ts.old ts.new }
 {
     let position = ts.enter(depth_left)?;
-    let inner = inside(alloc, ts, depth_left)?;
+    let inner = boxed_inside(alloc, ts, depth_left)?;
     ts.expect_symbol(Symbol::Close)?;
-    Ok(Expression::Parenthesized(position, Boxed::new(alloc, inner)?))
+    Ok(Expression::Parenthesized(position, inner))
 }
 
 /// `call | variable`

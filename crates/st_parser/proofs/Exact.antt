@@ -352,6 +352,15 @@ pub exact_before : {A B : Type 0} {c d e : ℕ} {P : Parser A} {T : Parser Posit
     → Exact c (λ ts. and_then (P ts) (λ a us. and_then (T us) (f a))) pre (Then R (λ a. Then (IsOne x) (S a))) G Q Q'''
 exact_before {F = F} x a fits t b = exact_bind a (λ y. exact_bind t (b y) (λ p mid rest z s g. tt)) (λ y mid rest z s g. before_token F fits s)
 
+-- R, and then this token
+abbrev pub Before : {A : Type 0} → Relation A → Kind → Relation A
+Before R x = Then R (λ a. Then (IsOne x) (λ q. IsPure a))
+
+-- a word, and then a symbol that must be there
+pub exact_identifier_before : (x : Symbol) (r : ℕ) → opens (token_kinds.Symbol x) ≡ 0 → Exact 1 (parser.identifier_before x) Always (Before IsWord (token_kinds.Symbol x)) Any (At r) (At (past (closes (token_kinds.Symbol x)) r))
+unfolding parser.identifier_before
+exact_identifier_before x r plain = exact_before (token_kinds.Symbol x) (exact_identifier r) tt (exact_symbol x r plain) (λ n q. exact_pure n Always Any (At (past (closes (token_kinds.Symbol x)) r)))
+
 -- a list ends where its test fails, at a token that may follow an item
 abbrev pub Ends : (Option Kind → Bool) → (Option Kind → Type 0) → Option Kind → Type 0
 Ends test F t = (test t ≡ false) × F t

@@ -89,6 +89,20 @@ impl<'a> Cursor<'a> {
         }
     }
 
+    /// Takes a word that isn't reserved, and this symbol after it.
+    #[tactic(auto, unfolding(crate::specs::Reader::Parsers::identifier_before))]
+    pub fn identifier_before(
+        &mut self,
+        alloc: Global,
+        symbol: Symbol,
+    ) -> Result<Identifier, ReadFault>
+        ensures { Takes (spec.identifier_before symbol self.old) result self.old self.new }
+    {
+        let found = self.identifier(alloc)?;
+        self.expect_symbol(symbol)?;
+        Ok(found)
+    }
+
     /// Takes a number without a sign.
     #[tactic(auto, unfolding(crate::specs::Reader::Parsers::number))]
     pub fn number(&mut self) -> Result<Natural, ReadFault>

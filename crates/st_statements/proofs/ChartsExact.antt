@@ -11,11 +11,12 @@ use Rattle.st_parser.specs.Grammar.Lists.{IsMany, IsListed, listed}
 use Rattle.st_parser.specs.Grammar.Tokens.{Tok, kind}
 use Rattle.st_parser.specs.Reader.Parsers as parser
 use Rattle.st_parser.specs.Reader.Parsers.{Outcome, Parser, and_then, is_symbol, is_word, Deep, Wrong}
-use Rattle.st_parser.proofs.Exact.{Relation, Found, Exact, Always, Any, Then, seq, IsOne, one, IsPure, done, IsWord, a_word, IsNumber, a_number, exact_bind, exact_as, exact_iff, exact_last, exact_under, exact_zero, exact_pure, made, exact_refuse, exact_on, IsFirst, exact_token, exact_token_if, symbol_is, exact_symbol, exact_keyword, exact_open_level, exact_identifier, exact_number, exact_before, Ends, exact_many, exact_listed}
+use Rattle.st_parser.proofs.Exact.{Relation, Found, Exact, Always, Any, Then, seq, IsOne, one, IsPure, done, IsWord, a_word, IsNumber, a_number, exact_bind, exact_as, exact_iff, exact_last, exact_under, exact_zero, exact_pure, made, exact_refuse, exact_on, IsFirst, exact_token, exact_token_if, symbol_is, exact_symbol, exact_keyword, exact_open_level, exact_identifier, Before, exact_identifier_before, exact_number, exact_before, Ends, exact_many, exact_listed}
 use Rattle.st_parser.proofs.Levels.{At, enters, fits_from, within_from}
 use Rattle.st_parser.proofs.Loops.{ok_parts}
 use Rattle.st_expressions.specs.Grammar.{IsBinary, duration_of}
 use Rattle.st_expressions.proofs.Expressions.{expression_exact}
+use Rattle.st_expressions.proofs.Follows.{Stops}
 use Rattle.st_statements.specs.Grammar.Charts.{qualifier_of, association_of, step_of, transition_of, action_of, is_priority, IsQualifier, untimed, timed, IsAssociation, unqualified, qualified, step_rest, IsOptionalName, no_name, a_name, IsPriority, no_priority, priority, IsName, name, IsNames, one_name, names, transition_rest, IsElement, initial_step, plain_step, transition, action, IsChart, chart}
 use Rattle.st_statements.specs.Grammar.Statements.{IsStatements}
 use Rattle.st_statements.specs.Reader.Charts as spec
@@ -103,16 +104,19 @@ a_qualifier_from : (ts : List Tok) (x : Option ActionQualifier) (rest : List Tok
 a_qualifier_from ts x rest h g (a_qualifier d) = seq d done
 a_qualifier_from ts x rest h g no_qualifier = absurd (let wrong = sym h ∙ g in cc)
 
+abbrev BracketedRule : Relation (Option ActionQualifier)
+BracketedRule = Then (IsOne (token_kinds.Symbol symbols.Open)) (λ q. Then IsQualified (λ x. Then (IsOne (token_kinds.Symbol symbols.Close)) (λ z. Then (IsOne (token_kinds.Symbol symbols.Semicolon)) (λ u. IsPure x))))
+
 abbrev AssociationRule : Relation Association
-AssociationRule = Then IsWord (λ n. Then (IsOne (token_kinds.Symbol symbols.Open)) (λ q. Then IsQualified (λ x. Then (IsOne (token_kinds.Symbol symbols.Close)) (λ z. Then (IsOne (token_kinds.Symbol symbols.Semicolon)) (λ u. IsPure (association_of n x))))))
+AssociationRule = Then IsWord (λ n. Then BracketedRule (λ x. IsPure (association_of n x)))
 
 association_to : (ts : List Tok) (x : Association) (rest : List Tok) → AssociationRule ts x rest → IsAssociation ts x rest
-association_to ts x rest (seq a_word (seq one (seq no_qualifier (seq one (seq one p))))) = made p (λ y us. IsAssociation ts y us) unqualified
-association_to ts x rest (seq a_word (seq one (seq (a_qualifier d) (seq one (seq one p))))) = made p (λ y us. IsAssociation ts y us) (qualified d)
+association_to ts x rest (seq a_word (seq (seq one (seq no_qualifier (seq one (seq one done)))) p)) = made p (λ y us. IsAssociation ts y us) unqualified
+association_to ts x rest (seq a_word (seq (seq one (seq (a_qualifier d) (seq one (seq one done)))) p)) = made p (λ y us. IsAssociation ts y us) (qualified d)
 
 association_from : (ts : List Tok) (x : Association) (rest : List Tok) → IsAssociation ts x rest → AssociationRule ts x rest
-association_from ts x rest unqualified = seq a_word (seq one (seq no_qualifier (seq one (seq one done))))
-association_from ts x rest (qualified d) = seq a_word (seq one (seq (a_qualifier d) (seq one (seq one done))))
+association_from ts x rest unqualified = seq a_word (seq (seq one (seq no_qualifier (seq one (seq one done)))) done)
+association_from ts x rest (qualified d) = seq a_word (seq (seq one (seq (a_qualifier d) (seq one (seq one done)))) done)
 
 association_begins : (ts : List Tok) (x : Association) (rest : List Tok) → IsAssociation ts x rest → is_word (kind ts) ≡ true
 association_begins ts x rest unqualified = refl
@@ -140,12 +144,14 @@ module _ (r : ℕ) where
   unfolding spec.qualified
   qualified_exact = exact_on (λ ts. is_symbol symbols.Close (kind ts)) spec.qualified_by Always IsQualified OnlyClose (At r) (At r) qualified_by
 
+  bracketed_exact : Exact 1 (spec.bracketed (suc r)) Always BracketedRule Any (At (suc r)) (At (suc r))
+  unfolding spec.bracketed
+  bracketed_exact = exact_bind (exact_open_level symbols.Open r refl) (λ q. exact_before (token_kinds.Symbol symbols.Close) qualified_exact refl (exact_symbol symbols.Close r refl)
+      (λ x z. exact_bind (exact_symbol symbols.Semicolon (suc r) refl) (λ u. exact_pure x Always Any (At (suc r))) (λ u mid rest y d g. tt))) (λ q mid rest y d g. tt)
+
   association_exact : Exact 1 (spec.association (suc r)) Always IsAssociation Any (At (suc r)) (At (suc r))
   unfolding spec.association
-  association_exact = exact_iff
-      (exact_bind (exact_identifier (suc r)) (λ n. exact_bind (exact_open_level symbols.Open r refl) (λ q. exact_before (token_kinds.Symbol symbols.Close) qualified_exact refl (exact_symbol symbols.Close r refl)
-      (λ x z. exact_bind (exact_symbol symbols.Semicolon (suc r) refl) (λ u. exact_pure (association_of n x) Always Any (At (suc r))) (λ u mid rest y d g. tt))) (λ q mid rest y d g. tt)) (λ n mid rest y d g. tt))
-      association_to association_from
+  association_exact = exact_iff (exact_bind (exact_identifier (suc r)) (λ n. exact_last bracketed_exact (association_of n)) (λ n mid rest y d g. tt)) association_to association_from
 
   associations_exact : Exact 0 (spec.associations (suc r)) Always (IsMany IsAssociation) (Ends is_word Any) (At (suc r)) (At (suc r))
   associations_exact = exact_many is_word (spec.association (suc r)) IsAssociation Any (At (suc r)) (exact_under association_exact (λ ts h. tt) (λ t g. g)) association_begins (λ t h. tt)
@@ -153,25 +159,25 @@ module _ (r : ℕ) where
 -- ---- steps
 
 abbrev StepRule : Position → Bool → Relation ChartElement
-StepRule p b = Then IsWord (λ n. Then (IsOne (token_kinds.Symbol symbols.Colon)) (λ q. Then (IsMany IsAssociation) (λ xs. Then (IsOne (token_kinds.Keyword keywords.EndStep)) (λ z. IsPure (chart_elements.Step (step_of p b n xs))))))
+StepRule p b = Then (Before IsWord (token_kinds.Symbol symbols.Colon)) (λ n. Then (IsMany IsAssociation) (λ xs. Then (IsOne (token_kinds.Keyword keywords.EndStep)) (λ z. IsPure (chart_elements.Step (step_of p b n xs)))))
 
 initial_to : (p : Position) (ts : List Tok) (x : ChartElement) (rest : List Tok) → StepRule p true ts x rest → IsElement ((p, token_kinds.Keyword keywords.InitialStep) ∷ ts) x rest
-initial_to p ts x rest (seq a_word (seq one (seq m (seq one d)))) = made d (λ y us. IsElement ((p, token_kinds.Keyword keywords.InitialStep) ∷ ts) y us) (initial_step (step_rest m))
+initial_to p ts x rest (seq (seq a_word (seq one done)) (seq m (seq one d))) = made d (λ y us. IsElement ((p, token_kinds.Keyword keywords.InitialStep) ∷ ts) y us) (initial_step (step_rest m))
 
 initial_from : (p : Position) (ts : List Tok) (x : ChartElement) (rest : List Tok) → IsElement ((p, token_kinds.Keyword keywords.InitialStep) ∷ ts) x rest → StepRule p true ts x rest
-initial_from p ts x rest (initial_step (step_rest m)) = seq a_word (seq one (seq m (seq one done)))
+initial_from p ts x rest (initial_step (step_rest m)) = seq (seq a_word (seq one done)) (seq m (seq one done))
 
 plain_to : (p : Position) (ts : List Tok) (x : ChartElement) (rest : List Tok) → StepRule p false ts x rest → IsElement ((p, token_kinds.Keyword keywords.Step) ∷ ts) x rest
-plain_to p ts x rest (seq a_word (seq one (seq m (seq one d)))) = made d (λ y us. IsElement ((p, token_kinds.Keyword keywords.Step) ∷ ts) y us) (plain_step (step_rest m))
+plain_to p ts x rest (seq (seq a_word (seq one done)) (seq m (seq one d))) = made d (λ y us. IsElement ((p, token_kinds.Keyword keywords.Step) ∷ ts) y us) (plain_step (step_rest m))
 
 plain_from : (p : Position) (ts : List Tok) (x : ChartElement) (rest : List Tok) → IsElement ((p, token_kinds.Keyword keywords.Step) ∷ ts) x rest → StepRule p false ts x rest
-plain_from p ts x rest (plain_step (step_rest m)) = seq a_word (seq one (seq m (seq one done)))
+plain_from p ts x rest (plain_step (step_rest m)) = seq (seq a_word (seq one done)) (seq m (seq one done))
 
 module _ (r : ℕ) where
-  step_rule : (p : Position) (b : Bool) → Exact 1 (λ ts. and_then (parser.identifier ts) (λ n us. and_then (parser.expect_symbol symbols.Colon us) (λ q vs. and_then (spec.associations (suc r) vs)
-      (λ xs ws. and_then (parser.expect_keyword keywords.EndStep ws) (λ z. parser.pure (chart_elements.Step (step_of p b n xs))))))) Always (StepRule p b) Any (At (suc r)) (At (suc r))
-  step_rule p b = exact_bind (exact_identifier (suc r)) (λ n. exact_bind (exact_symbol symbols.Colon (suc r) refl) (λ q. exact_before (token_kinds.Keyword keywords.EndStep) (associations_exact r) (refl, tt) (exact_keyword keywords.EndStep (suc r) refl)
-      (λ xs z. exact_pure (chart_elements.Step (step_of p b n xs)) Always Any (At (suc r)))) (λ q mid rest y d g. tt)) (λ n mid rest y d g. tt)
+  step_rule : (p : Position) (b : Bool) → Exact 1 (λ ts. and_then (parser.identifier_before symbols.Colon ts) (λ n us. and_then (spec.associations (suc r) us)
+      (λ xs vs. and_then (parser.expect_keyword keywords.EndStep vs) (λ z. parser.pure (chart_elements.Step (step_of p b n xs)))))) Always (StepRule p b) Any (At (suc r)) (At (suc r))
+  step_rule p b = exact_bind (exact_identifier_before symbols.Colon (suc r) refl) (λ n. exact_before (token_kinds.Keyword keywords.EndStep) (associations_exact r) (refl, tt) (exact_keyword keywords.EndStep (suc r) refl)
+      (λ xs z. exact_pure (chart_elements.Step (step_of p b n xs)) Always Any (At (suc r)))) (λ n mid rest y d g. tt)
 
   initial_exact : Exact 1 (spec.step (suc r) true) (IsFirst (token_kinds.Keyword keywords.InitialStep)) IsElement Any (At (suc r)) (At (suc r))
   unfolding spec.step
@@ -279,19 +285,23 @@ one_from ts x rest h (names d m) = absurd (cc)
 abbrev IsConnection : Relation (List Identifier × List Identifier)
 IsConnection = Then (IsOne (token_kinds.Keyword keywords.From)) (λ q. Then IsNames (λ xs. Then (IsOne (token_kinds.Keyword keywords.To)) (λ u. Then IsNames (λ ys. IsPure (xs, ys)))))
 
+-- ';' END_TRANSITION
+abbrev IsEndOfTransition : Relation Position
+IsEndOfTransition = Then (IsOne (token_kinds.Symbol symbols.Semicolon)) (λ y. IsOne (token_kinds.Keyword keywords.EndTransition))
+
 -- ':=' expression ';' END_TRANSITION
 abbrev IsCondition : Relation Expression
-IsCondition = Then (IsOne (token_kinds.Symbol symbols.Assign)) (λ v. Then (IsBinary 7) (λ x. Then (IsOne (token_kinds.Symbol symbols.Semicolon)) (λ y. Then (IsOne (token_kinds.Keyword keywords.EndTransition)) (λ z. IsPure x))))
+IsCondition = Then (IsOne (token_kinds.Symbol symbols.Assign)) (λ v. Then (IsBinary 7) (λ x. Then IsEndOfTransition (λ z. IsPure x)))
 
 abbrev TransitionRule : Position → Relation ChartElement
 TransitionRule p = Then IsOptionalName (λ n. Then IsPriority (λ m. Then IsConnection (λ c. Then IsCondition (λ x. IsPure (chart_elements.Transition (transition_of p n m c.0 c.1 x))))))
 
 transition_to : (p : Position) (ts : List Tok) (x : ChartElement) (rest : List Tok) → TransitionRule p ts x rest → IsElement ((p, token_kinds.Keyword keywords.Transition) ∷ ts) x rest
-transition_to p ts x rest (seq a (seq b (seq (seq one (seq d (seq one (seq e done)))) (seq (seq one (seq f (seq one (seq one done)))) g)))) =
+transition_to p ts x rest (seq a (seq b (seq (seq one (seq d (seq one (seq e done)))) (seq (seq one (seq f (seq (seq one one) done))) g)))) =
     made g (λ y us. IsElement ((p, token_kinds.Keyword keywords.Transition) ∷ ts) y us) (transition (transition_rest a b d e f))
 
 transition_from : (p : Position) (ts : List Tok) (x : ChartElement) (rest : List Tok) → IsElement ((p, token_kinds.Keyword keywords.Transition) ∷ ts) x rest → TransitionRule p ts x rest
-transition_from p ts x rest (transition (transition_rest a b d e f)) = seq a (seq b (seq (seq one (seq d (seq one (seq e done)))) (seq (seq one (seq f (seq one (seq one done)))) done)))
+transition_from p ts x rest (transition (transition_rest a b d e f)) = seq a (seq b (seq (seq one (seq d (seq one (seq e done)))) (seq (seq one (seq f (seq (seq one one) done))) done)))
 
 optional_follow : {S : Option ℕ → List Identifier × List Identifier → Relation ChartElement} (mid rest : List Tok) (y : ChartElement) → Then IsPriority (λ m. Then IsConnection (S m)) mid y rest → Any (kind rest) → NoWord (kind mid)
 optional_follow mid rest y (seq (priority t) d) g = refl
@@ -300,14 +310,17 @@ optional_follow mid rest y (seq no_priority (seq (seq one c) d)) g = refl
 priority_follow : {S : List Identifier × List Identifier → Relation ChartElement} (mid rest : List Tok) (y : ChartElement) → Then IsConnection S mid y rest → NoOpen (kind mid)
 priority_follow mid rest y (seq (seq one c) d) = refl
 
+condition_follow : (x : Expression) (mid rest : List Tok) (y : Expression) → Then IsEndOfTransition (λ z. IsPure x) mid y rest → Any (kind rest) → Stops 7 (kind mid)
+condition_follow x mid rest y (seq (seq one one) d) g = tt
+
 abbrev ActionRule : Position → Relation ChartElement
-ActionRule p = Then IsWord (λ n. Then (IsOne (token_kinds.Symbol symbols.Colon)) (λ q. Then IsStatements (λ ss. Then (IsOne (token_kinds.Keyword keywords.EndAction)) (λ z. IsPure (chart_elements.Action (action_of p n ss))))))
+ActionRule p = Then (Before IsWord (token_kinds.Symbol symbols.Colon)) (λ n. Then IsStatements (λ ss. Then (IsOne (token_kinds.Keyword keywords.EndAction)) (λ z. IsPure (chart_elements.Action (action_of p n ss)))))
 
 action_to : (p : Position) (ts : List Tok) (x : ChartElement) (rest : List Tok) → ActionRule p ts x rest → IsElement ((p, token_kinds.Keyword keywords.Action) ∷ ts) x rest
-action_to p ts x rest (seq a_word (seq one (seq d (seq one m)))) = made m (λ y us. IsElement ((p, token_kinds.Keyword keywords.Action) ∷ ts) y us) (action d)
+action_to p ts x rest (seq (seq a_word (seq one done)) (seq d (seq one m))) = made m (λ y us. IsElement ((p, token_kinds.Keyword keywords.Action) ∷ ts) y us) (action d)
 
 action_from : (p : Position) (ts : List Tok) (x : ChartElement) (rest : List Tok) → IsElement ((p, token_kinds.Keyword keywords.Action) ∷ ts) x rest → ActionRule p ts x rest
-action_from p ts x rest (action d) = seq a_word (seq one (seq d (seq one done)))
+action_from p ts x rest (action d) = seq (seq a_word (seq one done)) (seq d (seq one done))
 
 element_begins : (ts : List Tok) (x : ChartElement) (rest : List Tok) → IsElement ts x rest → begins_element (kind ts) ≡ true
 element_begins ts x rest (initial_step d) = refl
@@ -360,10 +373,14 @@ module _ (r : ℕ) where
   connection_exact = exact_bind (exact_keyword keywords.From (suc r) refl) (λ q. exact_bind names_exact (λ xs. exact_bind (exact_keyword keywords.To (suc r) refl) (λ u. exact_last names_exact (λ ys. (xs, ys)))
       (λ u mid rest y d g. tt)) (λ xs mid rest y d g. tt)) (λ q mid rest y d g. tt)
 
+  end_of_transition_exact : Exact 1 spec.end_of_transition Always IsEndOfTransition Any (At (suc r)) (At (suc r))
+  unfolding spec.end_of_transition
+  end_of_transition_exact = exact_bind (exact_symbol symbols.Semicolon (suc r) refl) (λ y. exact_keyword keywords.EndTransition (suc r) refl) (λ y mid rest z d g. tt)
+
   condition_exact : Exact 1 (spec.condition (suc r)) Always IsCondition Any (At (suc r)) (At (suc r))
   unfolding spec.condition
-  condition_exact = exact_bind (exact_symbol symbols.Assign (suc r) refl) (λ v. exact_before (token_kinds.Symbol symbols.Semicolon) (expression_exact (suc r)) tt (exact_symbol symbols.Semicolon (suc r) refl)
-      (λ x y. exact_bind (exact_keyword keywords.EndTransition (suc r) refl) (λ z. exact_pure x Always Any (At (suc r))) (λ z mid rest y' d g. tt))) (λ v mid rest y d g. tt)
+  condition_exact = exact_bind (exact_symbol symbols.Assign (suc r) refl) (λ v. exact_bind (expression_exact (suc r)) (λ x. exact_bind end_of_transition_exact (λ z. exact_pure x Always Any (At (suc r))) (λ z mid rest y d g. tt)) condition_follow)
+      (λ v mid rest y d g. tt)
 
   transition_exact : Exact 1 (spec.transition (suc r)) (IsFirst (token_kinds.Keyword keywords.Transition)) IsElement Any (At (suc r)) (At (suc r))
   unfolding spec.transition
@@ -375,8 +392,8 @@ module _ (r : ℕ) where
   action_exact : Exact 1 (spec.action (suc r)) (IsFirst (token_kinds.Keyword keywords.Action)) IsElement Any (At (suc r)) (At (suc r))
   unfolding spec.action
   action_exact = exact_token (token_kinds.Keyword keywords.Action) refl {R = IsElement} (λ p. exact_iff
-      (exact_bind (exact_identifier (suc r)) (λ n. exact_bind (exact_symbol symbols.Colon (suc r) refl) (λ q. exact_before (token_kinds.Keyword keywords.EndAction) (statements_exact (suc r)) (refl, tt) (exact_keyword keywords.EndAction (suc r) refl)
-      (λ ss z. exact_pure (chart_elements.Action (action_of p n ss)) Always Any (At (suc r)))) (λ q mid rest y d g. tt)) (λ n mid rest y d g. tt))
+      (exact_bind (exact_identifier_before symbols.Colon (suc r) refl) (λ n. exact_before (token_kinds.Keyword keywords.EndAction) (statements_exact (suc r)) (refl, tt) (exact_keyword keywords.EndAction (suc r) refl)
+      (λ ss z. exact_pure (chart_elements.Action (action_of p n ss)) Always Any (At (suc r)))) (λ n mid rest y d g. tt))
       (action_to p) (action_from p))
 
   element_by : (t : Option Kind) → Exact 1 (spec.element_by (suc r) t) (λ ts. (kind ts ≡ t) × Always ts) IsElement Any (At (suc r)) (At (suc r))

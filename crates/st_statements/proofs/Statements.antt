@@ -4,15 +4,16 @@ use Rattle.std.specs.Prelude.{Option, Some, None}
 use Rattle.st_tokens.specs.declared.keyword.Keyword.TheVariants as keywords
 use Rattle.st_tokens.specs.declared.symbol.Symbol.TheVariants as symbols
 use Rattle.st_tokens.specs.declared.token.Kind.TheVariants as token_kinds
+use Rattle.st_tree.specs.declared.tree.statement.ForStatement.{ForStatement}
 use Rattle.st_tree.specs.declared.tree.statement.Label.TheVariants as labels
 use Rattle.st_tree.specs.declared.tree.statement.Statement.TheVariants as statement_kinds
-use Rattle.st_parser.specs.Names.{CaseElement, ConditionalPart, Constant, Expression, Keyword, Kind, Label, Position, Statement}
+use Rattle.st_parser.specs.Names.{CaseElement, ConditionalPart, Constant, Expression, Keyword, Kind, Label, Position, Statement, Variable}
 use Rattle.st_parser.specs.Grammar.Levels.{opens, closes}
 use Rattle.st_parser.specs.Grammar.Lists.{IsMany, none, more, IsListed, listed}
 use Rattle.st_parser.specs.Grammar.Tokens.{Tok, kind, next}
 use Rattle.st_parser.specs.Reader.Parsers as parser
 use Rattle.st_parser.specs.Reader.Parsers.{Parser, and_then, many, is_symbol, is_keyword}
-use Rattle.st_parser.proofs.Exact.{Relation, Exact, Always, Any, Then, seq, IsOne, one, IsPure, done, IsWord, a_word, exact_bind, exact_as, exact_iff, exact_last, exact_under, exact_zero, exact_pure, made, exact_refuse, exact_on, IsFirst, at_first, exact_token, exact_enter, AfterOpening, symbol_is, keyword_is, exact_symbol, exact_keyword, exact_identifier, exact_before, Ends, exact_many, exact_listed}
+use Rattle.st_parser.proofs.Exact.{Relation, Exact, Always, Any, Then, seq, IsOne, one, IsPure, done, IsWord, a_word, exact_bind, exact_as, exact_iff, exact_last, exact_under, exact_zero, exact_pure, made, exact_refuse, exact_on, IsFirst, at_first, exact_token, exact_enter, AfterOpening, symbol_is, keyword_is, exact_symbol, exact_keyword, Before, exact_identifier_before, exact_before, Ends, exact_many, exact_listed}
 use Rattle.st_parser.proofs.Levels.{At, past}
 use Rattle.st_expressions.specs.Grammar.{IsConstant, IsBinary, IsVariable, named as is_named, no_part, parts, field, subscripts, IsCall, called, no_arguments, arguments}
 use Rattle.st_expressions.specs.Reader.{inside_of}
@@ -90,15 +91,21 @@ invocation_from : (n : List ℕ) (p : Position) (us : List Tok) → (x : Stateme
 invocation_from n p us x rest h (invocation d) = seq d (seq one done)
 invocation_from n p us x rest h (assignment d e) = absurd (named_not h refl d)
 
+abbrev IsAssigned : Relation Expression
+IsAssigned = Then (IsOne (token_kinds.Symbol symbols.Assign)) (λ q. Before (IsBinary 7) (token_kinds.Symbol symbols.Semicolon))
+
 abbrev IsAssignment : Relation Statement
-IsAssignment = Then IsVariable (λ v. Then (IsOne (token_kinds.Symbol symbols.Assign)) (λ q. Then (IsBinary 7) (λ x. Then (IsOne (token_kinds.Symbol symbols.Semicolon)) (λ z. IsPure (statement_kinds.Assignment v x)))))
+IsAssignment = Then IsVariable (λ v. Then IsAssigned (λ x. IsPure (statement_kinds.Assignment v x)))
 
 assignment_to : (ts : List Tok) (x : Statement) (rest : List Tok) → IsAssignment ts x rest → IsStatement ts x rest
-assignment_to ts x rest (seq d (seq one (seq e (seq one m)))) = made m (λ y us. IsStatement ts y us) (assignment d e)
+assignment_to ts x rest (seq d (seq (seq one (seq e (seq one done))) m)) = made m (λ y us. IsStatement ts y us) (assignment d e)
 
 assignment_from : (n : List ℕ) (p : Position) (us : List Tok) → (x : Statement) (rest : List Tok) → is_symbol symbols.Open (kind us) ≡ false → IsStatement ((p, token_kinds.Word n) ∷ us) x rest → IsAssignment ((p, token_kinds.Word n) ∷ us) x rest
-assignment_from n p us x rest h (assignment d e) = seq d (seq one (seq e (seq one done)))
+assignment_from n p us x rest h (assignment d e) = seq d (seq (seq one (seq e (seq one done))) done)
 assignment_from n p us x rest h (invocation d) = absurd (call_not h d)
+
+assignment_follow : (v : Variable) (mid rest : List Tok) (y : Statement) → Then IsAssigned (λ x. IsPure (statement_kinds.Assignment v x)) mid y rest → Any (kind rest) → Stops 0 (kind mid)
+assignment_follow v mid rest y (seq (seq one d) m) g = tt
 
 empty_to : (p : Position) (ts : List Tok) (x : Statement) (rest : List Tok) → IsPure (statement_kinds.Empty p) ts x rest → IsStatement ((p, token_kinds.Symbol symbols.Semicolon) ∷ ts) x rest
 empty_to p ts x rest d = made d (λ y us. IsStatement ((p, token_kinds.Symbol symbols.Semicolon) ∷ ts) y us) empty
@@ -144,13 +151,17 @@ module _ (r : ℕ) where
   unfolding spec.exit_statement
   exit_statement_exact = exact_token (token_kinds.Keyword keywords.Exit) refl {R = IsStatement} (λ p. exact_iff (end_exact (statement_kinds.Exit p)) (exit_statement_to p) (exit_statement_from p))
 
+  assigned_exact : Exact 1 (spec.assigned r) Always IsAssigned Any (At r) (At r)
+  unfolding spec.assigned
+  assigned_exact = exact_bind (exact_symbol symbols.Assign r refl) (λ q. exact_before (token_kinds.Symbol symbols.Semicolon) (expression_exact r) tt (exact_symbol symbols.Semicolon r refl) (λ x z. exact_pure x Always Any (At r)))
+      (λ q mid rest y d g. tt)
+
   named_by : (n : List ℕ) (b : Bool) → Exact 1 (spec.named_by r b) (λ ts. (is_symbol symbols.Open (kind (next ts)) ≡ b) × IsFirst (token_kinds.Word n) ts) IsStatement Any (At r) (At r)
   unfolding spec.invocation spec.assignment
   named_by n true = exact_as (exact_before (token_kinds.Symbol symbols.Semicolon) (call_exact r (inside_of r) (inside_exact r)) tt (exact_symbol symbols.Semicolon r refl) (λ c q. exact_pure (statement_kinds.Call c) Always Any (At r)))
       (λ ts p. symbol_is symbols.Open (kind (next ts)) p.0) (λ ts x rest p d. invocation_to ts x rest d)
       (λ ts x rest p g d. at_first (token_kinds.Word n) (λ us. (x : Statement) (rest : List Tok) → is_symbol symbols.Open (kind (next us)) ≡ true → IsStatement us x rest → IsInvocation us x rest) (invocation_from n) ts p.1 x rest p.0 d) (λ t g. g)
-  named_by n false = exact_as (exact_before (token_kinds.Symbol symbols.Assign) (variable_exact r (inside_of r) (inside_exact r)) tt (exact_symbol symbols.Assign r refl)
-      (λ v q. exact_before (token_kinds.Symbol symbols.Semicolon) (expression_exact r) tt (exact_symbol symbols.Semicolon r refl) (λ x z. exact_pure (statement_kinds.Assignment v x) Always Any (At r))))
+  named_by n false = exact_as (exact_bind (variable_exact r (inside_of r) (inside_exact r)) (λ v. exact_last assigned_exact (λ x. statement_kinds.Assignment v x)) assignment_follow)
       (λ ts p. tt) (λ ts x rest p d. assignment_to ts x rest d)
       (λ ts x rest p g d. at_first (token_kinds.Word n) (λ us. (x : Statement) (rest : List Tok) → is_symbol symbols.Open (kind (next us)) ≡ false → IsStatement us x rest → IsAssignment us x rest) (assignment_from n) ts p.1 x rest p.0 d) (λ t g. g)
 
@@ -240,10 +251,6 @@ label_ends (Some (token_kinds.Number n)) h = (refl, tt)
 label_ends (Some (token_kinds.Symbol symbols.Plus)) h = (refl, tt)
 label_ends (Some (token_kinds.Symbol symbols.Minus)) h = (refl, tt)
 label_ends _ h = absurd (cc)
-
--- this, and a token after it
-abbrev Before : {A : Type 0} → Relation A → Kind → Relation A
-Before R x = Then R (λ a. Then (IsOne x) (λ q. IsPure a))
 
 -- this, the word that closes its level, and ';'
 abbrev Closed : {A : Type 0} → Relation A → Kind → Relation A
@@ -382,14 +389,17 @@ if_statement_from p ts x rest (if_statement a m b) = seq (conditionals a m) (seq
 if_statement_from p ts x rest (assignment d e) = elim d [ ]
 if_statement_from p ts x rest (invocation d) = elim d [ ]
 
+abbrev BodyRule : Relation (List CaseElement × List Statement)
+BodyRule = Then AreCases (λ cs. Then (Closed IsElse (token_kinds.Keyword keywords.EndCase)) (λ ys. IsPure (cs, ys)))
+
 abbrev CaseStatementRule : Position → Relation Statement
-CaseStatementRule p = Then (Before (IsBinary 7) (token_kinds.Keyword keywords.Of)) (λ a. Then AreCases (λ cs. Then (Closed IsElse (token_kinds.Keyword keywords.EndCase)) (λ ys. IsPure (statement_kinds.Case (case_statement_of p a cs ys)))))
+CaseStatementRule p = Then (Before (IsBinary 7) (token_kinds.Keyword keywords.Of)) (λ a. Then BodyRule (λ b. IsPure (statement_kinds.Case (case_statement_of p a b.0 b.1))))
 
 case_statement_to : (p : Position) (ts : List Tok) (x : Statement) (rest : List Tok) → CaseStatementRule p ts x rest → IsStatement ((p, token_kinds.Keyword keywords.Case) ∷ ts) x rest
-case_statement_to p ts x rest (seq (seq a (seq one done)) (seq (all_cases b m) (seq (seq o (seq one (seq one done))) c))) = made c (λ y us. IsStatement ((p, token_kinds.Keyword keywords.Case) ∷ ts) y us) (case_statement a b m o)
+case_statement_to p ts x rest (seq (seq a (seq one done)) (seq (seq (all_cases b m) (seq (seq o (seq one (seq one done))) done)) c)) = made c (λ y us. IsStatement ((p, token_kinds.Keyword keywords.Case) ∷ ts) y us) (case_statement a b m o)
 
 case_statement_from : (p : Position) (ts : List Tok) (x : Statement) (rest : List Tok) → IsStatement ((p, token_kinds.Keyword keywords.Case) ∷ ts) x rest → CaseStatementRule p ts x rest
-case_statement_from p ts x rest (case_statement a b m o) = seq (seq a (seq one done)) (seq (all_cases b m) (seq (seq o (seq one (seq one done))) done))
+case_statement_from p ts x rest (case_statement a b m o) = seq (seq a (seq one done)) (seq (seq (all_cases b m) (seq (seq o (seq one (seq one done))) done)) done)
 case_statement_from p ts x rest (assignment d e) = elim d [ ]
 case_statement_from p ts x rest (invocation d) = elim d [ ]
 
@@ -399,39 +409,49 @@ data IsForRange : List Tok → ForRange → List Tok → Type 0 where
       → IsBy then c ((q, token_kinds.Keyword keywords.Do) ∷ rest) → IsForRange ts (range_of a b c) rest
 
 abbrev LastRule : Relation (Expression × Option Expression)
-LastRule = Then (IsBinary 7) (λ b. Then IsBy (λ c. Then (IsOne (token_kinds.Keyword keywords.Do)) (λ q. IsPure (b, c))))
+LastRule = Then (IsBinary 7) (λ b. Then (Before IsBy (token_kinds.Keyword keywords.Do)) (λ c. IsPure (b, c)))
 
 abbrev RangeRule : Relation ForRange
 RangeRule = Then (Before (IsBinary 7) (token_kinds.Keyword keywords.To)) (λ a. Then LastRule (λ x. IsPure (range_of a x.0 x.1)))
 
 bounds_to : (ts : List Tok) (x : ForRange) (rest : List Tok) → RangeRule ts x rest → IsForRange ts x rest
-bounds_to ts x rest (seq (seq a (seq one done)) (seq (seq b (seq c (seq one done))) m)) = made m (λ y us. IsForRange ts y us) (bounds a b c)
+bounds_to ts x rest (seq (seq a (seq one done)) (seq (seq b (seq (seq c (seq one done)) done)) m)) = made m (λ y us. IsForRange ts y us) (bounds a b c)
 
 bounds_from : (ts : List Tok) (x : ForRange) (rest : List Tok) → IsForRange ts x rest → RangeRule ts x rest
-bounds_from ts x rest (bounds a b c) = seq (seq a (seq one done)) (seq (seq b (seq c (seq one done))) done)
+bounds_from ts x rest (bounds a b c) = seq (seq a (seq one done)) (seq (seq b (seq (seq c (seq one done)) done)) done)
 
-by_follow : {A : Type 0} {f : Option Expression → A} (mid rest : List Tok) (y : A) → Then IsBy (λ c. Then (IsOne (token_kinds.Keyword keywords.Do)) (λ q. IsPure (f c))) mid y rest → Stops 7 (kind mid)
-by_follow mid rest y (seq (by_step d) c) = tt
-by_follow mid rest y (seq no_by (seq one c)) = tt
+by_follow : {A : Type 0} {f : Option Expression → A} (mid rest : List Tok) (y : A) → Then (Before IsBy (token_kinds.Keyword keywords.Do)) (λ c. IsPure (f c)) mid y rest → Stops 7 (kind mid)
+by_follow mid rest y (seq (seq (by_step d) c) m) = tt
+by_follow mid rest y (seq (seq no_by (seq one c)) m) = tt
+
+abbrev HeadRule : Position → Relation ForStatement
+HeadRule p = Then (Before IsWord (token_kinds.Symbol symbols.Assign)) (λ n. Then IsForRange (λ x. IsPure (for_of p n x.first x.last x.step [])))
 
 module _ (r : ℕ) (d : Deeper) (e : ExactDeeper (suc r) d) where
+  closed_step_exact : Exact 0 (spec.closed_step d) Always (Before IsBy (token_kinds.Keyword keywords.Do)) Any (At r) (At r)
+  unfolding spec.closed_step
+  closed_step_exact = exact_before (token_kinds.Keyword keywords.Do) (step_exact r d e) (refl, tt) (exact_keyword keywords.Do r refl) (λ c q. exact_pure c Always Any (At r))
+
   last_exact : Exact 1 (spec.last_and_step d) Always LastRule Any (At r) (At r)
   unfolding spec.last_and_step
-  last_exact = exact_bind e.0 (λ b. exact_before (token_kinds.Keyword keywords.Do) (step_exact r d e) (refl, tt) (exact_keyword keywords.Do r refl) (λ c q. exact_pure (b, c) Always Any (At r)))
-      (λ b mid rest y c g. by_follow {f = λ x. (b, x)} mid rest y c)
+  last_exact = exact_bind e.0 (λ b. exact_last closed_step_exact (λ c. (b, c))) (λ b mid rest y c g. by_follow {f = λ x. (b, x)} mid rest y c)
 
   bounds_exact : Exact 1 (spec.for_range d) Always IsForRange Any (At r) (At r)
   unfolding spec.for_range
   bounds_exact = exact_iff (exact_bind (expression_before_exact r d e keywords.To tt refl) (λ a. exact_last last_exact (λ x. range_of a x.0 x.1)) (λ a mid rest y c g. tt)) bounds_to bounds_from
 
+  for_head_exact : (p : Position) → Exact 1 (spec.for_head p d) Always (HeadRule p) Any (At r) (At r)
+  unfolding spec.for_head
+  for_head_exact p = exact_bind (exact_identifier_before symbols.Assign r refl) (λ n. exact_last bounds_exact (λ x. for_of p n x.first x.last x.step [])) (λ n mid rest y c g. tt)
+
 abbrev ForRule : Position → Relation Statement
-ForRule p = Then IsWord (λ n. Then (IsOne (token_kinds.Symbol symbols.Assign)) (λ q. Then IsForRange (λ x. Then (Closed IsStatements (token_kinds.Keyword keywords.EndFor)) (λ ss. IsPure (statement_kinds.For (for_of p n x.first x.last x.step ss))))))
+ForRule p = Then (HeadRule p) (λ h. Then (Closed IsStatements (token_kinds.Keyword keywords.EndFor)) (λ ss. IsPure (statement_kinds.For (spec.for_with h ss))))
 
 for_statement_to : (p : Position) (ts : List Tok) (x : Statement) (rest : List Tok) → ForRule p ts x rest → IsStatement ((p, token_kinds.Keyword keywords.For) ∷ ts) x rest
-for_statement_to p ts x rest (seq a_word (seq one (seq (bounds a b c) (seq (seq m (seq one (seq one done))) e)))) = made e (λ y us. IsStatement ((p, token_kinds.Keyword keywords.For) ∷ ts) y us) (for_statement a b c m)
+for_statement_to p ts x rest (seq (seq (seq a_word (seq one done)) (seq (bounds a b c) done)) (seq (seq m (seq one (seq one done))) e)) = made e (λ y us. IsStatement ((p, token_kinds.Keyword keywords.For) ∷ ts) y us) (for_statement a b c m)
 
 for_statement_from : (p : Position) (ts : List Tok) (x : Statement) (rest : List Tok) → IsStatement ((p, token_kinds.Keyword keywords.For) ∷ ts) x rest → ForRule p ts x rest
-for_statement_from p ts x rest (for_statement a b c m) = seq a_word (seq one (seq (bounds a b c) (seq (seq m (seq one (seq one done))) done)))
+for_statement_from p ts x rest (for_statement a b c m) = seq (seq (seq a_word (seq one done)) (seq (bounds a b c) done)) (seq (seq m (seq one (seq one done))) done)
 for_statement_from p ts x rest (assignment d e) = elim d [ ]
 for_statement_from p ts x rest (invocation d) = elim d [ ]
 
@@ -464,9 +484,9 @@ if_statement_follow : (p : Position) (xs : List ConditionalPart) (mid rest : Lis
 if_statement_follow p xs mid rest y (seq (seq (otherwise d) c) m) g = (refl, (refl, tt))
 if_statement_follow p xs mid rest y (seq (seq no_else (seq one c)) m) g = (refl, (refl, tt))
 
-case_statement_follow : (p : Position) (a : Expression) (xs : List CaseElement) (mid rest : List Tok) (y : Statement) → Then (Closed IsElse (token_kinds.Keyword keywords.EndCase)) (λ ys. IsPure (statement_kinds.Case (case_statement_of p a xs ys))) mid y rest → Any (kind rest) → Ends begins_label EndsBlock (kind mid)
-case_statement_follow p a xs mid rest y (seq (seq (otherwise d) c) m) g = (refl, (refl, tt))
-case_statement_follow p a xs mid rest y (seq (seq no_else (seq one c)) m) g = (refl, (refl, tt))
+body_follow : (xs : List CaseElement) (mid rest : List Tok) (y : List CaseElement × List Statement) → Then (Closed IsElse (token_kinds.Keyword keywords.EndCase)) (λ ys. IsPure (xs, ys)) mid y rest → Any (kind rest) → Ends begins_label EndsBlock (kind mid)
+body_follow xs mid rest y (seq (seq (otherwise d) c) m) g = (refl, (refl, tt))
+body_follow xs mid rest y (seq (seq no_else (seq one c)) m) g = (refl, (refl, tt))
 
 -- what the reading functions do after the word that opens a level
 module _ (d : Deeper) where
@@ -474,11 +494,10 @@ module _ (d : Deeper) where
   after_if p = λ ts. and_then (spec.conditionals d ts) (λ xs us. and_then (spec.closed_otherwise d keywords.EndIf us) (λ ys. parser.pure (statement_kinds.If (if_of p xs ys))))
 
   abbrev after_case : Position → Parser Statement
-  after_case p = λ ts. and_then (spec.expression_before d keywords.Of ts) (λ a us. and_then (spec.cases d us) (λ cs vs. and_then (spec.closed_otherwise d keywords.EndCase vs) (λ ys. parser.pure (statement_kinds.Case (case_statement_of p a cs ys)))))
+  after_case p = λ ts. and_then (spec.expression_before d keywords.Of ts) (λ a us. and_then (spec.case_body d us) (λ b. parser.pure (statement_kinds.Case (case_statement_of p a b.0 b.1))))
 
   abbrev after_for : Position → Parser Statement
-  after_for p = λ ts. and_then (parser.identifier ts) (λ n us. and_then (parser.expect_symbol symbols.Assign us) (λ q vs. and_then (spec.for_range d vs) (λ x ws. and_then (spec.closed_block d keywords.EndFor ws)
-      (λ ss. parser.pure (statement_kinds.For (for_of p n x.first x.last x.step ss))))))
+  after_for p = λ ts. and_then (spec.for_head p d ts) (λ h us. and_then (spec.closed_block d keywords.EndFor us) (λ ss. parser.pure (statement_kinds.For (spec.for_with h ss))))
 
   abbrev after_while : Position → Parser Statement
   after_while p = λ ts. and_then (spec.expression_before d keywords.Do ts) (λ a us. and_then (spec.closed_block d keywords.EndWhile us) (λ ss. parser.pure (statement_kinds.While (while_of p a ss))))
@@ -492,19 +511,20 @@ module _ (d : Deeper) where
       (exact_bind (conditionals_exact r d e) (λ xs. exact_last (closed_otherwise_exact r d e keywords.EndIf (refl, (refl, tt)) refl) (λ ys. statement_kinds.If (if_of p xs ys))) (if_statement_follow p))
       (if_statement_to p) (if_statement_from p)
 
+  case_body_exact : (r : ℕ) → ExactDeeper (suc r) d → Exact 1 (spec.case_body d) Always BodyRule Any (At r) (At (suc r))
+  unfolding spec.case_body
+  case_body_exact r e = exact_bind (cases_exact r d e) (λ cs. exact_last (closed_otherwise_exact r d e keywords.EndCase (refl, (refl, tt)) refl) (λ ys. (cs, ys))) body_follow
+
   after_case_exact : (r : ℕ) → ExactDeeper r d → AfterOpening 1 r after_case (token_kinds.Keyword keywords.Case) IsStatement Any
   after_case_exact zero e = tt
   after_case_exact (suc r) e = λ p. exact_iff
-      (exact_bind (expression_before_exact r d e keywords.Of tt refl) (λ a. exact_bind (cases_exact r d e)
-      (λ cs. exact_last (closed_otherwise_exact r d e keywords.EndCase (refl, (refl, tt)) refl) (λ ys. statement_kinds.Case (case_statement_of p a cs ys))) (case_statement_follow p a)) (λ a mid rest y c g. tt))
+      (exact_bind (expression_before_exact r d e keywords.Of tt refl) (λ a. exact_last (case_body_exact r e) (λ b. statement_kinds.Case (case_statement_of p a b.0 b.1))) (λ a mid rest y c g. tt))
       (case_statement_to p) (case_statement_from p)
 
   after_for_exact : (r : ℕ) → ExactDeeper r d → AfterOpening 1 r after_for (token_kinds.Keyword keywords.For) IsStatement Any
   after_for_exact zero e = tt
   after_for_exact (suc r) e = λ p. exact_iff
-      (exact_bind (exact_identifier r) (λ n. exact_bind (exact_symbol symbols.Assign r refl) (λ q. exact_bind (bounds_exact r d e)
-      (λ x. exact_last (closed_block_exact r d e keywords.EndFor (refl, tt) refl) (λ ss. statement_kinds.For (for_of p n x.first x.last x.step ss)))
-      (λ x mid rest y c g. tt)) (λ q mid rest y c g. tt)) (λ n mid rest y c g. tt))
+      (exact_bind (for_head_exact r d e p) (λ h. exact_last (closed_block_exact r d e keywords.EndFor (refl, tt) refl) (λ ss. statement_kinds.For (spec.for_with h ss))) (λ h mid rest y c g. tt))
       (for_statement_to p) (for_statement_from p)
 
   after_while_exact : (r : ℕ) → ExactDeeper r d → AfterOpening 1 r after_while (token_kinds.Keyword keywords.While) IsStatement Any

@@ -80,16 +80,29 @@ fn qualified(alloc: Global, ts: &mut Cursor<'_>) -> Result<Option<ActionQualifie
     Ok(Some(qualifier(alloc, ts)?))
 }
 
+/// `'(' [ qualifier ] ')' ';'`
+#[tactic(auto, unfolding(crate::specs::Reader::Charts::bracketed))]
+fn bracketed(
+    alloc: Global,
+    ts: &mut Cursor<'_>,
+    depth_left: u8,
+) -> Result<Option<ActionQualifier>, ReadFault>
+    ensures { Takes (spec.bracketed depth_left ts.old) result ts.old ts.new }
+{
+    ts.open_level(Symbol::Open, depth_left)?;
+    let qualifier = qualified(alloc, ts)?;
+    ts.expect_symbol(Symbol::Close)?;
+    ts.expect_symbol(Symbol::Semicolon)?;
+    Ok(qualifier)
+}
+
 /// `word '(' [ qualifier ] ')' ';'`
 #[tactic(auto, unfolding(crate::specs::Reader::Charts::association))]
 fn association(alloc: Global, ts: &mut Cursor<'_>, depth_left: u8) -> Result<Association, ReadFault>
     ensures { Takes (spec.association depth_left ts.old) result ts.old ts.new }
 {
     let name = ts.identifier(alloc)?;
-    ts.open_level(Symbol::Open, depth_left)?;
-    let qualifier = qualified(alloc, ts)?;
-    ts.expect_symbol(Symbol::Close)?;
-    ts.expect_symbol(Symbol::Semicolon)?;
+    let qualifier = bracketed(alloc, ts, depth_left)?;
     Ok(Association { name, qualifier })
 }
 
@@ -120,8 +133,7 @@ fn step(
     ensures { Takes (spec.step depth_left is_initial ts.old) result ts.old ts.new }
 {
     let position = ts.bump();
-    let name = ts.identifier(alloc)?;
-    ts.expect_symbol(Symbol::Colon)?;
+    let name = ts.identifier_before(alloc, Symbol::Colon)?;
     let associations = associations(alloc, ts, depth_left)?;
     ts.expect_keyword(Keyword::EndStep)?;
     Ok(ChartElement::Step(Step {
@@ -210,6 +222,15 @@ fn connection(
     Ok((from, to))
 }
 
+/// `';' END_TRANSITION`
+#[tactic(auto, unfolding(crate::specs::Reader::Charts::end_of_transition))]
+fn end_of_transition(ts: &mut Cursor<'_>) -> Result<Position, ReadFault>
+    ensures { Takes (spec.end_of_transition ts.old) result ts.old ts.new }
+{
+    ts.expect_symbol(Symbol::Semicolon)?;
+    ts.expect_keyword(Keyword::EndTransition)
+}
+
 /// `':=' expression ';' END_TRANSITION`
 #[tactic(auto, unfolding(crate::specs::Reader::Charts::condition))]
 fn condition(alloc: Global, ts: &mut Cursor<'_>, depth_left: u8) -> Result<Expression, ReadFault>
@@ -217,8 +238,7 @@ fn condition(alloc: Global, ts: &mut Cursor<'_>, depth_left: u8) -> Result<Expre
 {
     ts.expect_symbol(Symbol::Assign)?;
     let condition = expression(alloc, ts, depth_left)?;
-    ts.expect_symbol(Symbol::Semicolon)?;
-    ts.expect_keyword(Keyword::EndTransition)?;
+    end_of_transition(ts)?;
     Ok(condition)
 }
 
@@ -248,8 +268,7 @@ fn action(alloc: Global, ts: &mut Cursor<'_>, depth_left: u8) -> Result<ChartEle
     ensures { Takes (spec.action depth_left ts.old) result ts.old ts.new }
 {
     let position = ts.bump();
-    let name = ts.identifier(alloc)?;
-    ts.expect_symbol(Symbol::Colon)?;
+    let name = ts.identifier_before(alloc, Symbol::Colon)?;
     let statements = statements(alloc, ts, depth_left)?;
     ts.expect_keyword(Keyword::EndAction)?;
     Ok(ChartElement::Action(Action {

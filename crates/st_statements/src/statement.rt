@@ -14,7 +14,7 @@ use st_parser::{Cursor, ReadFault, listed, single};
 use st_tokens::{Keyword, Kind, Symbol};
 use st_tree::tree::{
     CaseElement, CaseStatement, ConditionalPart, Expression, ForStatement, IfStatement, Label,
-    RepeatStatement, Statement, WhileStatement,
+    Position, RepeatStatement, Statement, WhileStatement,
 };
 use st_tree::{Boxed, List};
 use std::alloc::Global;
@@ -96,15 +96,28 @@ fn exit_statement(ts: &mut Cursor<'_>) -> Result<Statement, ReadFault>
     Ok(Statement::Exit(position))
 }
 
+/// `':=' expression ';'`
+#[tactic(auto, unfolding(crate::specs::Reader::Statements::assigned))]
+fn assigned(
+    alloc: Global,
+    ts: &mut Cursor<'_>,
+    depth_left: u8,
+) -> Result<Boxed<Expression>, ReadFault>
+    ensures { Takes (spec.assigned depth_left ts.old) result ts.old ts.new }
+{
+    ts.expect_symbol(Symbol::Assign)?;
+    let value = Boxed::new(alloc, expression(alloc, ts, depth_left)?)?;
+    ts.expect_symbol(Symbol::Semicolon)?;
+    Ok(value)
+}
+
 /// `variable ':=' expression ';'`
 #[tactic(auto, unfolding(crate::specs::Reader::Statements::assignment))]
 fn assignment(alloc: Global, ts: &mut Cursor<'_>, depth_left: u8) -> Result<Statement, ReadFault>
     ensures { Takes (spec.assignment depth_left ts.old) result ts.old ts.new }
 {
     let target = Boxed::new(alloc, variable(alloc, ts, depth_left)?)?;
-    ts.expect_symbol(Symbol::Assign)?;
-    let value = Boxed::new(alloc, expression(alloc, ts, depth_left)?)?;
-    ts.expect_symbol(Symbol::Semicolon)?;
+    let value = assigned(alloc, ts, depth_left)?;
     Ok(Statement::Assignment(target, value))
 }
 
@@ -175,6 +188,21 @@ struct ForRange {
     step: Option<Expression>,
 }
 
+/// `[ BY expression ] DO`
+#[tactic(auto, unfolding(crate::specs::Reader::Statements::closed_step))]
+fn closed_step(
+    alloc: Global,
+    ts: &mut Cursor<'_>,
+    depth_left: u8,
+) -> Result<Option<Expression>, ReadFault>
+    requires { 0 < depth_left }
+    ensures { Takes (spec.closed_step (spec.deeper_of depth_left) ts.old) result ts.old ts.new }
+{
+    let found = step(alloc, ts, depth_left)?;
+    ts.expect_keyword(Keyword::Do)?;
+    Ok(found)
+}
+
 /// `expression [ BY expression ] DO`
 #[tactic(auto, unfolding(crate::specs::Reader::Statements::last_and_step))]
 fn last_and_step(
@@ -186,8 +214,7 @@ fn last_and_step(
     ensures { Takes (spec.last_and_step (spec.deeper_of depth_left) ts.old) result ts.old ts.new }
 {
     let last = inner(alloc, ts, depth_left)?;
-    let step = step(alloc, ts, depth_left)?;
-    ts.expect_keyword(Keyword::Do)?;
+    let step = closed_step(alloc, ts, depth_left)?;
     Ok((last, step))
 }
 
@@ -200,6 +227,29 @@ fn for_range(alloc: Global, ts: &mut Cursor<'_>, depth_left: u8) -> Result<ForRa
     let first = expression_before(alloc, ts, depth_left, Keyword::To)?;
     let (last, step) = last_and_step(alloc, ts, depth_left)?;
     Ok(ForRange { first, last, step })
+}
+
+/// `word ':=' expression TO expression [ BY expression ] DO`: FOR, without its statements
+#[tactic(auto, unfolding(crate::specs::Reader::Statements::for_head))]
+fn for_head(
+    alloc: Global,
+    ts: &mut Cursor<'_>,
+    depth_left: u8,
+    position: Position,
+) -> Result<ForStatement, ReadFault>
+    requires { 0 < depth_left }
+    ensures { Takes (spec.for_head position (spec.deeper_of depth_left) ts.old) result ts.old ts.new }
+{
+    let variable = ts.identifier_before(alloc, Symbol::Assign)?;
+    let range = for_range(alloc, ts, depth_left)?;
+    Ok(ForStatement {
+        position,
+        variable,
+        first: range.first,
+        last: range.last,
+        step: range.step,
+        statements: List::new(alloc),
+    })
 }
 
 /// `expression END_REPEAT ';'`
@@ -374,6 +424,22 @@ fn cases(alloc: Global, ts: &mut Cursor<'_>, depth_left: u8) -> Result<List<Case
     Ok(found)
 }
 
+/// `case { case } [ ELSE statements ] END_CASE ';'`
+#[cycle(parser)]
+#[tactic(auto, unfolding(crate::specs::Reader::Statements::case_body))]
+fn case_body(
+    alloc: Global,
+    ts: &mut Cursor<'_>,
+    depth_left: u8,
+) -> Result<(List<CaseElement>, List<Statement>), ReadFault>
+    requires { 0 < depth_left }
+    ensures { Takes (spec.case_body (spec.deeper_of depth_left) ts.old) result ts.old ts.new }
+{
+    let cases = cases(alloc, ts, depth_left)?;
+    let otherwise = closed_otherwise(alloc, ts, depth_left, Keyword::EndCase)?;
+    Ok((cases, otherwise))
+}
+
 /// `CASE expression OF case { case } [ ELSE statements ] END_CASE ';'`
 #[cycle(parser)]
 #[tactic(auto, unfolding(crate::specs::Reader::Statements::case_statement))]
@@ -386,8 +452,7 @@ fn case_statement(
 {
     let position = ts.enter(depth_left)?;
     let selector = expression_before(alloc, ts, depth_left, Keyword::Of)?;
-    let cases = cases(alloc, ts, depth_left)?;
-    let otherwise = closed_otherwise(alloc, ts, depth_left, Keyword::EndCase)?;
+    let (cases, otherwise) = case_body(alloc, ts, depth_left)?;
     let statement = CaseStatement {
         position,
         selector,
@@ -404,18 +469,8 @@ fn for_statement(alloc: Global, ts: &mut Cursor<'_>, depth_left: u8) -> Result<S
     ensures { Takes (spec.for_statement depth_left (spec.deeper_of depth_left) ts.old) result ts.old ts.new }
 {
     let position = ts.enter(depth_left)?;
-    let variable = ts.identifier(alloc)?;
-    ts.expect_symbol(Symbol::Assign)?;
-    let range = for_range(alloc, ts, depth_left)?;
-    let statements = closed_block(alloc, ts, depth_left, Keyword::EndFor)?;
-    let statement = ForStatement {
-        position,
-        variable,
-        first: range.first,
-        last: range.last,
-        step: range.step,
-        statements,
-    };
+    let mut statement = for_head(alloc, ts, depth_left, position)?;
+    statement.statements = closed_block(alloc, ts, depth_left, Keyword::EndFor)?;
     Ok(Statement::For(Boxed::new(alloc, statement)?))
 }
 

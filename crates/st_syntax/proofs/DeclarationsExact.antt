@@ -14,7 +14,7 @@ use Rattle.st_parser.specs.Grammar.Lists.{IsMany, none, more, IsListed, listed}
 use Rattle.st_parser.specs.Grammar.Tokens.{Tok, kind, next, position}
 use Rattle.st_parser.specs.Reader.Parsers as parser
 use Rattle.st_parser.specs.Reader.Parsers.{Parser, and_then, is_symbol, is_keyword, is_word}
-use Rattle.st_parser.proofs.Exact.{Relation, Exact, Always, Any, Then, seq, IsOne, one, IsPure, done, IsWord, a_word, IsNumber, a_number, exact_bind, exact_as, exact_iff, exact_last, exact_under, exact_zero, exact_pure, made, exact_refuse, exact_on, IsFirst, exact_token, symbol_is, keyword_is, exact_symbol, exact_keyword, exact_open_level, exact_identifier, exact_number, exact_before, Ends, exact_many, exact_listed}
+use Rattle.st_parser.proofs.Exact.{Relation, Exact, Always, Any, Then, seq, IsOne, one, IsPure, done, IsWord, a_word, IsNumber, a_number, exact_bind, exact_as, exact_iff, exact_last, exact_under, exact_zero, exact_pure, made, exact_refuse, exact_on, IsFirst, exact_token, symbol_is, keyword_is, exact_symbol, exact_keyword, exact_open_level, exact_identifier, Before, exact_identifier_before, exact_number, exact_before, Ends, exact_many, exact_listed}
 use Rattle.st_parser.proofs.Levels.{At}
 use Rattle.st_expressions.specs.Grammar.{IsSignedInteger, unsigned, IsConstant, integer}
 use Rattle.st_expressions.proofs.Expressions.{constant_exact, signed_integer_exact}
@@ -248,26 +248,29 @@ module _ (r : ℕ) where
 
 -- ---- declarations
 
+abbrev pub IsTyped : Relation (Specification × Option Initial)
+IsTyped = Then IsSpecification (λ x. Then IsInitialized (λ y. IsPure (x, y)))
+
 abbrev DeclarationRule : Relation Declaration
-DeclarationRule = Then (IsListed IsName) (λ ns. Then (IsOne (token_kinds.Symbol symbols.Colon)) (λ q. Then IsSpecification (λ x. Then IsInitialized (λ y. IsPure (declaration_of ns x y)))))
+DeclarationRule = Then (IsListed IsName) (λ ns. Then (IsOne (token_kinds.Symbol symbols.Colon)) (λ q. Then IsTyped (λ x. IsPure (declaration_of ns x.0 x.1))))
 
 declaration_to : (ts : List Tok) (x : Declaration) (rest : List Tok) → DeclarationRule ts x rest → IsDeclaration ts x rest
-declaration_to ts x rest (seq d (seq one (seq e (seq f m)))) = made m (λ y us. IsDeclaration ts y us) (declaration d e f)
+declaration_to ts x rest (seq d (seq one (seq (seq e (seq f done)) m))) = made m (λ y us. IsDeclaration ts y us) (declaration d e f)
 
 declaration_from : (ts : List Tok) (x : Declaration) (rest : List Tok) → IsDeclaration ts x rest → DeclarationRule ts x rest
-declaration_from ts x rest (declaration d e f) = seq d (seq one (seq e (seq f done)))
+declaration_from ts x rest (declaration d e f) = seq d (seq one (seq (seq e (seq f done)) done))
 
 declaration_begins : (ts : List Tok) (x : Declaration) (rest : List Tok) → IsDeclaration ts x rest → is_word (kind ts) ≡ true
 declaration_begins ts x rest (declaration (listed name m) e f) = refl
 
 abbrev MemberRule : Relation Declaration
-MemberRule = Then IsWord (λ m. Then (IsOne (token_kinds.Symbol symbols.Colon)) (λ q. Then IsSpecification (λ x. Then IsInitialized (λ y. IsPure (declaration_of (m ∷ []) x y)))))
+MemberRule = Then (Before IsWord (token_kinds.Symbol symbols.Colon)) (λ m. Then IsTyped (λ x. IsPure (declaration_of (m ∷ []) x.0 x.1)))
 
 member_to : (ts : List Tok) (x : Declaration) (rest : List Tok) → MemberRule ts x rest → IsMember ts x rest
-member_to ts x rest (seq a_word (seq one (seq e (seq f m)))) = made m (λ y us. IsMember ts y us) (member e f)
+member_to ts x rest (seq (seq a_word (seq one done)) (seq (seq e (seq f done)) m)) = made m (λ y us. IsMember ts y us) (member e f)
 
 member_from : (ts : List Tok) (x : Declaration) (rest : List Tok) → IsMember ts x rest → MemberRule ts x rest
-member_from ts x rest (member e f) = seq a_word (seq one (seq e (seq f done)))
+member_from ts x rest (member e f) = seq (seq a_word (seq one done)) (seq (seq e (seq f done)) done)
 
 pub member_begins : (ts : List Tok) (x : Declaration) (rest : List Tok) → IsMember ts x rest → is_word (kind ts) ≡ true
 member_begins ts x rest (member e f) = refl
@@ -314,18 +317,21 @@ word_head (Some (token_kinds.Word m)) h = (refl, refl)
 word_head _ h = absurd (cc)
 
 module _ (r : ℕ) where
+  pub typed_exact : Exact 1 (spec.typed (suc r)) Always IsTyped Any (At (suc (suc r))) (At (suc (suc r)))
+  unfolding spec.typed
+  typed_exact = exact_bind (specification_exact (suc r)) (λ x. exact_last (initialized_exact r) (λ y. (x, y))) (λ x mid rest y d g. tt)
+
   pub declaration_exact : Exact 1 (spec.declaration (suc r)) Always IsDeclaration Any (At (suc (suc r))) (At (suc (suc r)))
   unfolding spec.declaration
   declaration_exact = exact_iff
       (exact_before (token_kinds.Symbol symbols.Colon) (exact_listed parser.identifier IsName Any (suc (suc r)) (name_exact (suc (suc r))) tt) (refl, tt) (exact_symbol symbols.Colon (suc (suc r)) refl)
-      (λ ns q. exact_bind (specification_exact (suc r)) (λ x. exact_last (initialized_exact r) (declaration_of ns x)) (λ x mid rest y d g. tt)))
+      (λ ns q. exact_last typed_exact (λ x. declaration_of ns x.0 x.1)))
       declaration_to declaration_from
 
   pub member_exact : Exact 1 (spec.member (suc r)) Always IsMember Any (At (suc (suc r))) (At (suc (suc r)))
   unfolding spec.member
   member_exact = exact_iff
-      (exact_bind (exact_identifier (suc (suc r))) (λ m. exact_bind (exact_symbol symbols.Colon (suc (suc r)) refl) (λ q. exact_bind (specification_exact (suc r)) (λ x. exact_last (initialized_exact r) (declaration_of (m ∷ []) x)) (λ x mid rest y d g. tt))
-      (λ q mid rest y d g. tt)) (λ m mid rest y d g. tt))
+      (exact_bind (exact_identifier_before symbols.Colon (suc (suc r)) refl) (λ m. exact_last typed_exact (λ x. declaration_of (m ∷ []) x.0 x.1)) (λ m mid rest y d g. tt))
       member_to member_from
 
   retention_of : (x : VarKind) (t : Option Kind) → is_retention t ≡ true → Exact 0 (λ ts. and_then (parser.bump ts) (λ q. parser.pure x)) (λ ts. (kind ts ≡ t) × Always ts) (IsRetention x) EndsHead (At r) (At r)

@@ -14,7 +14,7 @@ use Rattle.st_parser.specs.Grammar.Lists.{IsMany}
 use Rattle.st_parser.specs.Grammar.Tokens.{Tok, kind}
 use Rattle.st_parser.specs.Reader.Parsers as parser
 use Rattle.st_parser.specs.Reader.Parsers.{Parser, and_then, is_keyword, is_word, Deep}
-use Rattle.st_parser.proofs.Exact.{Relation, Found, Exact, Always, Any, Then, seq, IsOne, one, IsPure, done, IsWord, a_word, exact_bind, exact_as, exact_iff, exact_last, exact_under, exact_zero, exact_pure, made, exact_refuse, exact_on, IsFirst, exact_token, keyword_is, exact_symbol, exact_keyword, exact_identifier, exact_before, Ends, exact_many}
+use Rattle.st_parser.proofs.Exact.{Relation, Found, Exact, Always, Any, Then, seq, IsOne, one, IsPure, done, IsWord, a_word, exact_bind, exact_as, exact_iff, exact_last, exact_under, exact_zero, exact_pure, made, exact_refuse, exact_on, IsFirst, exact_token, keyword_is, exact_symbol, exact_keyword, exact_identifier, Before, exact_identifier_before, exact_before, Ends, exact_many}
 use Rattle.st_parser.proofs.Levels.{At}
 use Rattle.st_parser.proofs.Loops.{ok_parts}
 use Rattle.st_statements.specs.Grammar.Charts.{IsElement, initial_step, plain_step, transition, action, IsChart, chart}
@@ -23,13 +23,13 @@ use Rattle.st_statements.specs.Reader.Charts.{begins_element}
 use Rattle.st_statements.specs.Reader.Statements.{begins_statement}
 use Rattle.st_statements.proofs.ChartsExact.{chart_exact}
 use Rattle.st_statements.proofs.Statements.{EndsBlock, statements_exact, begins_is}
-use Rattle.st_syntax.specs.Grammar.Declarations.{IsSpecification, simple, IsInitialized, IsMember, IsVarBlock}
+use Rattle.st_syntax.specs.Grammar.Declarations.{simple, IsMember, IsVarBlock}
 use Rattle.st_syntax.specs.Grammar.Units.{type_of, function_of, pou_of, IsDeclared, derived, structure, IsTypeDeclaration, type_declaration, IsBody, plain_body, chart_body, IsPou, pou, IsUnit, types, function, function_block, program}
 use Rattle.st_syntax.specs.Reader.Declarations as declarations
 use Rattle.st_syntax.specs.Reader.Declarations.{begins_block}
 use Rattle.st_syntax.specs.Reader.Units as spec
 use Rattle.st_syntax.specs.Reader.Units.{begins_unit}
-use Rattle.st_syntax.proofs.DeclarationsExact.{specification_exact, initialized_exact, member_exact, member_begins, variables_exact}
+use Rattle.st_syntax.proofs.DeclarationsExact.{IsTyped, typed_exact, member_exact, member_begins, variables_exact}
 
 -- ---- types
 
@@ -54,23 +54,23 @@ structure_from p ts x rest (structure e m) = seq (members e m) (seq one (seq one
 structure_from p ts x rest (derived (simple e) f) = elim e [ ]
 
 abbrev DerivedRule : Relation DeclaredType
-DerivedRule = Then IsSpecification (λ x. Then IsInitialized (λ y. IsPure (declared_types.Derived x y)))
+DerivedRule = Then IsTyped (λ x. IsPure (declared_types.Derived x.0 x.1))
 
 derived_to : (ts : List Tok) (x : DeclaredType) (rest : List Tok) → DerivedRule ts x rest → IsDeclared ts x rest
-derived_to ts x rest (seq e (seq f m)) = made m (λ y us. IsDeclared ts y us) (derived e f)
+derived_to ts x rest (seq (seq e (seq f done)) m) = made m (λ y us. IsDeclared ts y us) (derived e f)
 
 derived_from : (ts : List Tok) (x : DeclaredType) (rest : List Tok) → is_keyword keywords.Struct (kind ts) ≡ false → IsDeclared ts x rest → DerivedRule ts x rest
-derived_from ts x rest h (derived e f) = seq e (seq f done)
+derived_from ts x rest h (derived e f) = seq (seq e (seq f done)) done
 derived_from ts x rest h (structure e m) = absurd (cc)
 
 abbrev TypeRule : Relation TypeDeclaration
-TypeRule = Then IsWord (λ n. Then (IsOne (token_kinds.Symbol symbols.Colon)) (λ q. Then IsDeclared (λ x. IsPure (type_of n x))))
+TypeRule = Then (Before IsWord (token_kinds.Symbol symbols.Colon)) (λ n. Then IsDeclared (λ x. IsPure (type_of n x)))
 
 type_to : (ts : List Tok) (x : TypeDeclaration) (rest : List Tok) → TypeRule ts x rest → IsTypeDeclaration ts x rest
-type_to ts x rest (seq a_word (seq one (seq e m))) = made m (λ y us. IsTypeDeclaration ts y us) (type_declaration e)
+type_to ts x rest (seq (seq a_word (seq one done)) (seq e m)) = made m (λ y us. IsTypeDeclaration ts y us) (type_declaration e)
 
 type_from : (ts : List Tok) (x : TypeDeclaration) (rest : List Tok) → IsTypeDeclaration ts x rest → TypeRule ts x rest
-type_from ts x rest (type_declaration e) = seq a_word (seq one (seq e done))
+type_from ts x rest (type_declaration e) = seq (seq a_word (seq one done)) (seq e done)
 
 type_begins : (ts : List Tok) (x : TypeDeclaration) (rest : List Tok) → IsTypeDeclaration ts x rest → is_word (kind ts) ≡ true
 type_begins ts x rest (type_declaration e) = refl
@@ -95,7 +95,7 @@ module _ (r : ℕ) where
   declared_by true = exact_under (exact_token (token_kinds.Keyword keywords.Struct) refl {R = IsDeclared} (λ p. exact_iff
       (exact_before (token_kinds.Keyword keywords.EndStruct) members_exact (refl, tt) (exact_keyword keywords.EndStruct (suc (suc r)) refl) (λ xs q. exact_bind (exact_symbol symbols.Semicolon (suc (suc r)) refl) (λ z. exact_pure (declared_types.Structure p xs) Always Any (At (suc (suc r)))) (λ z mid rest y e g. tt)))
       (structure_to p) (structure_from p))) (λ ts h. keyword_is keywords.Struct (kind ts) h.0) (λ t g. g)
-  declared_by false = exact_as (exact_bind (specification_exact (suc r)) (λ x. exact_last (initialized_exact r) (declared_types.Derived x)) (λ x mid rest y e g. tt)) (λ ts h. tt)
+  declared_by false = exact_as (exact_last (typed_exact r) (λ x. declared_types.Derived x.0 x.1)) (λ ts h. tt)
       (λ ts x rest h e. derived_to ts x rest e) (λ ts x rest h g e. derived_from ts x rest h.0 e) (λ t g. g)
 
   declared_exact : Exact 1 (spec.declared (suc r)) Always IsDeclared Any (At (suc (suc r))) (At (suc (suc r)))
@@ -104,7 +104,7 @@ module _ (r : ℕ) where
 
   type_exact : Exact 1 (spec.type_declaration (suc r)) Always IsTypeDeclaration Any (At (suc (suc r))) (At (suc (suc r)))
   unfolding spec.type_declaration
-  type_exact = exact_iff (exact_bind (exact_identifier (suc (suc r))) (λ n. exact_bind (exact_symbol symbols.Colon (suc (suc r)) refl) (λ q. exact_last declared_exact (type_of n)) (λ q mid rest y e g. tt)) (λ n mid rest y e g. tt)) type_to type_from
+  type_exact = exact_iff (exact_bind (exact_identifier_before symbols.Colon (suc (suc r)) refl) (λ n. exact_last declared_exact (type_of n)) (λ n mid rest y e g. tt)) type_to type_from
 
   types_exact : Exact 1 (spec.types (suc r)) (IsFirst (token_kinds.Keyword keywords.Type)) IsUnit Any (At (suc (suc r))) (At (suc (suc r)))
   unfolding spec.types
@@ -138,13 +138,13 @@ elementary_exact r = record { reads = λ ts x rest t h. reads ts x rest h; deep 
   read an_elem = refl
 
 abbrev FunctionRule : Position → Relation names.Unit
-FunctionRule p = Then IsWord (λ n. Then (IsOne (token_kinds.Symbol symbols.Colon)) (λ q. Then IsElementary (λ e. Then (IsMany IsVarBlock) (λ vs. Then IsStatements (λ ss. Then (IsOne (token_kinds.Keyword keywords.EndFunction)) (λ z. IsPure (unit_kinds.Function (function_of p n e vs ss))))))))
+FunctionRule p = Then (Before IsWord (token_kinds.Symbol symbols.Colon)) (λ n. Then IsElementary (λ e. Then (IsMany IsVarBlock) (λ vs. Then IsStatements (λ ss. Then (IsOne (token_kinds.Keyword keywords.EndFunction)) (λ z. IsPure (unit_kinds.Function (function_of p n e vs ss)))))))
 
 function_to : (p : Position) (ts : List Tok) (x : names.Unit) (rest : List Tok) → FunctionRule p ts x rest → IsUnit ((p, token_kinds.Keyword keywords.Function) ∷ ts) x rest
-function_to p ts x rest (seq a_word (seq one (seq an_elem (seq e (seq f (seq one m)))))) = made m (λ y us. IsUnit ((p, token_kinds.Keyword keywords.Function) ∷ ts) y us) (function e f)
+function_to p ts x rest (seq (seq a_word (seq one done)) (seq an_elem (seq e (seq f (seq one m))))) = made m (λ y us. IsUnit ((p, token_kinds.Keyword keywords.Function) ∷ ts) y us) (function e f)
 
 function_from : (p : Position) (ts : List Tok) (x : names.Unit) (rest : List Tok) → IsUnit ((p, token_kinds.Keyword keywords.Function) ∷ ts) x rest → FunctionRule p ts x rest
-function_from p ts x rest (function e f) = seq a_word (seq one (seq an_elem (seq e (seq f (seq one done)))))
+function_from p ts x rest (function e f) = seq (seq a_word (seq one done)) (seq an_elem (seq e (seq f (seq one done))))
 
 -- the first token of a statement begins no declarations
 statement_no_block : (t : Option Kind) → begins_statement t ≡ true → Ends begins_block Any t
@@ -201,9 +201,9 @@ module _ (r : ℕ) where
   function_exact : Exact 1 (spec.function (suc r)) (IsFirst (token_kinds.Keyword keywords.Function)) IsUnit Any (At (suc (suc r))) (At (suc (suc r)))
   unfolding spec.function
   function_exact = exact_token (token_kinds.Keyword keywords.Function) refl {R = IsUnit} (λ p. exact_iff
-      (exact_bind (exact_identifier (suc (suc r))) (λ n. exact_bind (exact_symbol symbols.Colon (suc (suc r)) refl) (λ q. exact_bind (elementary_exact (suc (suc r))) (λ e. exact_bind (variables_exact r)
+      (exact_bind (exact_identifier_before symbols.Colon (suc (suc r)) refl) (λ n. exact_bind (elementary_exact (suc (suc r))) (λ e. exact_bind (variables_exact r)
       (λ vs. exact_before (token_kinds.Keyword keywords.EndFunction) (statements_exact (suc (suc r))) (refl, tt) (exact_keyword keywords.EndFunction (suc (suc r)) refl) (λ ss z. exact_pure (unit_kinds.Function (function_of p n e vs ss)) Always Any (At (suc (suc r)))))
-      (λ vs mid rest y f g. function_follow mid rest y f)) (λ e mid rest y f g. tt)) (λ q mid rest y f g. tt)) (λ n mid rest y f g. tt))
+      (λ vs mid rest y f g. function_follow mid rest y f)) (λ e mid rest y f g. tt)) (λ n mid rest y f g. tt))
       (function_to p) (function_from p))
 
   body_by : (c : Bool) → Exact 0 (spec.body_by (suc r) c) (λ ts. (begins_element (kind ts) ≡ c) × Always ts) IsBody EndsBody (At (suc (suc r))) (At (suc (suc r)))

@@ -102,7 +102,7 @@ fn simple(alloc: Global, ts: &mut Cursor<'_>) -> Result<Specification, ReadFault
 
 /// `type name | ARRAY '[' subrange { ',' subrange } ']' OF type name`
 #[tactic(auto, unfolding(crate::specs::Reader::Declarations::specification))]
-pub fn specification(alloc: Global, ts: &mut Cursor<'_>) -> Result<Specification, ReadFault>
+fn specification(alloc: Global, ts: &mut Cursor<'_>) -> Result<Specification, ReadFault>
     ensures { Takes (spec.specification in_brackets ts.old) result ts.old ts.new }
 {
     if ts.at_keyword(Keyword::Array) {
@@ -197,7 +197,7 @@ fn initial(alloc: Global, ts: &mut Cursor<'_>) -> Result<Initial, ReadFault>
 
 /// `[ ':=' initial ] ';'`
 #[tactic(auto, unfolding(crate::specs::Reader::Declarations::initialized))]
-pub fn initialized(alloc: Global, ts: &mut Cursor<'_>) -> Result<Option<Boxed<Initial>>, ReadFault>
+fn initialized(alloc: Global, ts: &mut Cursor<'_>) -> Result<Option<Boxed<Initial>>, ReadFault>
     ensures { Takes (spec.initialized in_brackets ts.old) result ts.old ts.new }
 {
     if ts.at_symbol(Symbol::Assign) {
@@ -210,6 +210,19 @@ pub fn initialized(alloc: Global, ts: &mut Cursor<'_>) -> Result<Option<Boxed<In
     Ok(None)
 }
 
+/// `specification [ ':=' initial ] ';'`
+#[tactic(auto, unfolding(crate::specs::Reader::Declarations::typed))]
+pub fn typed(
+    alloc: Global,
+    ts: &mut Cursor<'_>,
+) -> Result<(Specification, Option<Boxed<Initial>>), ReadFault>
+    ensures { Takes (spec.typed in_brackets ts.old) result ts.old ts.new }
+{
+    let specification = specification(alloc, ts)?;
+    let initial = initialized(alloc, ts)?;
+    Ok((specification, initial))
+}
+
 /// `word { ',' word } ':' specification [ ':=' initial ] ';'`
 #[tactic(auto, unfolding(crate::specs::Reader::Declarations::declaration))]
 fn declaration(alloc: Global, ts: &mut Cursor<'_>) -> Result<Declaration, ReadFault>
@@ -217,8 +230,7 @@ fn declaration(alloc: Global, ts: &mut Cursor<'_>) -> Result<Declaration, ReadFa
 {
     let names = words(alloc, ts)?;
     ts.expect_symbol(Symbol::Colon)?;
-    let specification = specification(alloc, ts)?;
-    let initial = initialized(alloc, ts)?;
+    let (specification, initial) = typed(alloc, ts)?;
     Ok(Declaration {
         names,
         specification,
@@ -231,11 +243,9 @@ fn declaration(alloc: Global, ts: &mut Cursor<'_>) -> Result<Declaration, ReadFa
 pub fn member(alloc: Global, ts: &mut Cursor<'_>) -> Result<Declaration, ReadFault>
     ensures { Takes (spec.member in_brackets ts.old) result ts.old ts.new }
 {
-    let name = ts.identifier(alloc)?;
-    ts.expect_symbol(Symbol::Colon)?;
-    let specification = specification(alloc, ts)?;
-    let initial = initialized(alloc, ts)?;
+    let name = ts.identifier_before(alloc, Symbol::Colon)?;
     let names = single(alloc, name)?;
+    let (specification, initial) = typed(alloc, ts)?;
     Ok(Declaration {
         names,
         specification,

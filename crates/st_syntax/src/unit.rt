@@ -5,7 +5,7 @@ ghost use Rattle.st_parser.specs.Reader.Parsers.{MayTake, Takes};
 ghost use Rattle.st_syntax.specs.Reader.Declarations.{in_brackets};
 ghost use Rattle.st_syntax.specs.Reader.Units as spec;
 
-use crate::declaration::{initialized, member, specification, variables};
+use crate::declaration::{member, typed, variables};
 use st_parser::{Cursor, MAX_LEVELS, ReadFault, many, single};
 use st_statements::chart::{begins_element, chart};
 use st_statements::statement::statements;
@@ -31,8 +31,7 @@ fn begins_unit(ts: &Cursor<'_>) -> bool
 fn derived(alloc: Global, ts: &mut Cursor<'_>) -> Result<DeclaredType, ReadFault>
     ensures { Takes (spec.derived in_brackets ts.old) result ts.old ts.new }
 {
-    let specification = specification(alloc, ts)?;
-    let initial = initialized(alloc, ts)?;
+    let (specification, initial) = typed(alloc, ts)?;
     Ok(DeclaredType::Derived(specification, initial))
 }
 
@@ -80,8 +79,7 @@ fn declared(alloc: Global, ts: &mut Cursor<'_>) -> Result<DeclaredType, ReadFaul
 fn type_declaration(alloc: Global, ts: &mut Cursor<'_>) -> Result<TypeDeclaration, ReadFault>
     ensures { Takes (spec.type_declaration in_brackets ts.old) result ts.old ts.new }
 {
-    let name = ts.identifier(alloc)?;
-    ts.expect_symbol(Symbol::Colon)?;
+    let name = ts.identifier_before(alloc, Symbol::Colon)?;
     let declared = declared(alloc, ts)?;
     Ok(TypeDeclaration { name, declared })
 }
@@ -125,8 +123,7 @@ fn function(alloc: Global, ts: &mut Cursor<'_>) -> Result<Unit, ReadFault>
     ensures { Takes (spec.function in_brackets ts.old) result ts.old ts.new }
 {
     let position = ts.bump();
-    let name = ts.identifier(alloc)?;
-    ts.expect_symbol(Symbol::Colon)?;
+    let name = ts.identifier_before(alloc, Symbol::Colon)?;
     let elem = elementary(ts)?;
     let variables = variables(alloc, ts)?;
     let statements = statements(alloc, ts, MAX_LEVELS)?;

@@ -2,8 +2,8 @@
 use Rattle.std.proofs.Common.{◌≡◌, ℕ, List, [], ◌∷◌, refl, sym, ap, ◌∙◌, subst, map, Bool, true, false, arith}
 use Rattle.std.proofs.lemmas.Bool.Decides.{nat_tests}
 use Rattle.std.specs.Char.{to_ascii_lowercase}
-use Rattle.std.specs.List.{filter, find, list_all, list_any}
-use Rattle.std.specs.Prelude.{◌==◌, ◌&&◌, None, Some, codes, option_map, slice_get}
+use Rattle.std.specs.List.{filter, find, list_all, list_any, drop-map, take-map}
+use Rattle.std.specs.Prelude.{◌==◌, ◌&&◌, ◌-◌, None, Some, codes, drop, option_map, slice_get, slice_range, take}
 use Rattle.std.specs.Str.{bytes_eq}
 use Rattle.st_values.specs.Types.{name_of}
 use Rattle.st_values.specs.Words.{is_word}
@@ -45,6 +45,10 @@ keyword_of_spellings w = refl
 of_spellings : (letter : ℕ) (w : List ℕ) → keyword_in (keywords_with letter) w ≡ keyword_in (filter (λ row. begins_as letter row.1) spellings) w
 unfolding keywords_with
 of_spellings letter w = refl
+
+-- the texts of some rows that follow one another
+pub part_of_texts : {R T : Type 0} (text : R → T) (rows part : List R) (a b : ℕ) → part ≡ slice_range rows a b → map text part ≡ slice_range (map text rows) a b
+part_of_texts text rows part a b h = ap (map text) h ∙ sym (ap (take (b - a)) (drop-map text a rows) ∙ take-map text (b - a) (drop a rows))
 
 -- the reserved word is found among those that begin as the word does
 pub keyword_by_letter : (w : List ℕ) (b : ℕ) → Some b ≡ slice_get w 0 → keyword_in (keywords_with (to_ascii_lowercase b)) w ≡ keyword_of w

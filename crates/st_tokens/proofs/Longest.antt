@@ -15,7 +15,7 @@ use Rattle.st_tokens.specs.declared.symbol.Symbol.{Symbol}
 use Rattle.st_tokens.specs.declared.token.Kind.{Kind}
 use Rattle.st_tokens.specs.declared.token.Kind.TheVariants as token_kinds
 use Rattle.st_tokens.specs.Characters.{begins_word, BeginsWord}
-use Rattle.st_tokens.specs.Forms.{HasForm, word, keyword, type_name, number, typed, duration, symbol, IsDurationWord, time_of, value}
+use Rattle.st_tokens.specs.Forms.{HasForm, word, keyword, type_name, number, typed, duration, symbol, IsDurationWord, time_of}
 use Rattle.st_tokens.specs.Scanning.{run, after_run, is_clean, single, double, number_at, signed_interval_at, number_found, literal_at, typed_at, typed_found, duration_at, duration_found, is_duration_word, prefixed_at, word_at, word_kind, kind_by, symbol_or, symbol_at, token_at}
 use Rattle.st_tokens.specs.Symbols.{symbol_text}
 use Rattle.st_tokens.specs.Text.{IsLongest, IsRefused}

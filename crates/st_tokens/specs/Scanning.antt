@@ -16,7 +16,7 @@ use Rattle.st_tokens.specs.declared.symbol.Symbol.TheVariants as symbols
 use Rattle.st_tokens.specs.declared.token.Kind.{Kind}
 use Rattle.st_tokens.specs.declared.token.Kind.TheVariants as token_kinds
 use Rattle.st_tokens.specs.Characters.{begins_word, line_end}
-use Rattle.st_tokens.specs.Forms.{value, time_of}
+use Rattle.st_tokens.specs.Forms.{time_of}
 use Rattle.st_tokens.specs.Words.{keyword_of, elem_of}
 
 -- what the code found, and what stands after it

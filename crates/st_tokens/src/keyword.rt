@@ -1,6 +1,8 @@
 //! The reserved words of the language.
-ghost use Rattle.std.specs.Prelude.{◌≡◌, map};
-ghost use Rattle.st_tokens.specs.Words.{keyword_in, keyword_of, keywords_with};
+ghost use Rattle.std.specs.Prelude.{◌≡◌, ◌≤◌, ℕ, length, map, slice_range, List};
+ghost use Rattle.st_tokens.specs.Words.{keyword_in, keyword_of, keywords_with, spellings};
+
+use std::ops::Range;
 
 /// A reserved word that isn't the name of an elementary type (IEC 61131-3:2003, 2.1.3 and annex C).
 #[derive(Clone, Copy, PartialEq, Eq)]
@@ -157,31 +159,47 @@ impl Keyword {
     }
 }
 
+/// Which rows of the table are those of the words that begin with this letter, which is in lower case.
+fn rows_with(letter: u8) -> Range<usize>
+    ensures in_table { (result.start ≤ result.end) × (result.end ≤ 68) }
+    ensures all_with { keywords_with letter ≡ slice_range spellings result.start result.end }
+{
+    match letter {
+        b'a' => 0..4,
+        b'b' => 4..5,
+        b'c' => 5..8,
+        b'd' => 8..9,
+        b'e' => 9..30,
+        b'f' => 30..36,
+        b'i' => 36..38,
+        b'm' => 38..39,
+        b'n' => 39..41,
+        b'o' => 41..43,
+        b'p' => 43..44,
+        b'r' => 44..49,
+        b's' => 49..51,
+        b't' => 51..57,
+        b'u' => 57..58,
+        b'v' => 58..66,
+        b'w' => 66..67,
+        b'x' => 67..68,
+        _ => 0..0,
+    }
+}
+
+/// These rows of a table.
+fn part<'a>(table: &'a [(Keyword, &'a [u8])], rows: Range<usize>) -> &'a [(Keyword, &'a [u8])]
+    requires { (rows.start ≤ rows.end) × (rows.end ≤ length table.now) }
+    ensures { map (λ row. (row.0, row.1.now)) result.now ≡ slice_range {X = Keyword × List ℕ} (map (λ row. (row.0, row.1.now)) table.now) rows.start rows.end }
+{
+    &table[rows]
+}
+
 /// The rows of the words that begin with this letter, which is in lower case.
 fn keywords_with(letter: u8) -> &'static [(Keyword, &'static [u8])]
     ensures { keywords_with letter ≡ map (λ row. (row.0, row.1.now)) result.now }
 {
-    match letter {
-        b'a' => &KEYWORDS[0..4],
-        b'b' => &KEYWORDS[4..5],
-        b'c' => &KEYWORDS[5..8],
-        b'd' => &KEYWORDS[8..9],
-        b'e' => &KEYWORDS[9..30],
-        b'f' => &KEYWORDS[30..36],
-        b'i' => &KEYWORDS[36..38],
-        b'm' => &KEYWORDS[38..39],
-        b'n' => &KEYWORDS[39..41],
-        b'o' => &KEYWORDS[41..43],
-        b'p' => &KEYWORDS[43..44],
-        b'r' => &KEYWORDS[44..49],
-        b's' => &KEYWORDS[49..51],
-        b't' => &KEYWORDS[51..57],
-        b'u' => &KEYWORDS[57..58],
-        b'v' => &KEYWORDS[58..66],
-        b'w' => &KEYWORDS[66..67],
-        b'x' => &KEYWORDS[67..68],
-        _ => &[],
-    }
+    part(&KEYWORDS, rows_with(letter))
 }
 
 /// The keyword of the first row whose text is this word, ignoring case.

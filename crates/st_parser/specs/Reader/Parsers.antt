@@ -93,6 +93,10 @@ identifier_by _ = refuse
 unfoldable pub identifier : Parser Identifier
 identifier = λ ts. identifier_by (kind ts) ts
 
+-- a word, and this symbol after it
+unfoldable pub identifier_before : Symbol → Parser Identifier
+identifier_before x = do n ← identifier; expect_symbol x; pure n
+
 abbrev pub number_by : Option Kind → Parser ℕ
 number_by (Some (token_kinds.Number n)) = λ ts. Ok (n, next ts)
 number_by _ = refuse

@@ -6,7 +6,7 @@ use Rattle.st_tokens.specs.declared.token.Kind.TheVariants as token_kinds
 use Rattle.st_tree.specs.declared.tree.unit.ChartElement.TheVariants as chart_elements
 use Rattle.st_parser.specs.Names.{ActionQualifier, Association, ChartElement, Duration, Expression, Identifier, Kind, Position}
 use Rattle.st_parser.specs.Grammar.Tokens.{kind, next, position}
-use Rattle.st_parser.specs.Reader.Parsers.{Parser, ◌>>=◌, ◌>>◌, pure, refuse, bump, peek, is_symbol, is_word, expect_symbol, expect_keyword, open_level, enter, identifier, number, many, leading, listed, Wrong}
+use Rattle.st_parser.specs.Reader.Parsers.{Parser, ◌>>=◌, ◌>>◌, pure, refuse, bump, peek, is_symbol, is_word, expect_symbol, expect_keyword, open_level, enter, identifier, identifier_before, number, many, leading, listed, Wrong}
 use Rattle.st_expressions.specs.Grammar.{duration_of}
 use Rattle.st_expressions.specs.Reader.{expression}
 use Rattle.st_statements.specs.Grammar.Charts.{qualifier_of, association_of, step_of, transition_of, action_of, is_priority}
@@ -43,13 +43,19 @@ qualified = do
   t ← peek
   qualified_by (is_symbol symbols.Close t)
 
-unfoldable pub association : ℕ → Parser Association
-association depth_left = do
-  n ← identifier
+-- '(' [ qualifier ] ')' ';'
+unfoldable pub bracketed : ℕ → Parser (Option ActionQualifier)
+bracketed depth_left = do
   open_level symbols.Open depth_left
   q ← qualified
   expect_symbol symbols.Close
   expect_symbol symbols.Semicolon
+  pure q
+
+unfoldable pub association : ℕ → Parser Association
+association depth_left = do
+  n ← identifier
+  q ← bracketed depth_left
   pure (association_of n q)
 
 abbrev pub associations : ℕ → Parser (List Association)
@@ -58,8 +64,7 @@ associations depth_left = many is_word (association depth_left)
 unfoldable pub step : ℕ → Bool → Parser ChartElement
 step depth_left initial = do
   p ← bump
-  n ← identifier
-  expect_symbol symbols.Colon
+  n ← identifier_before symbols.Colon
   xs ← associations depth_left
   expect_keyword keywords.EndStep
   pure (chart_elements.Step (step_of p initial n xs))
@@ -113,12 +118,15 @@ connection depth_left = do
   ys ← names depth_left
   pure (xs, ys)
 
+-- ';' END_TRANSITION
+unfoldable pub end_of_transition : Parser Position
+end_of_transition = expect_symbol symbols.Semicolon >> expect_keyword keywords.EndTransition
+
 unfoldable pub condition : ℕ → Parser Expression
 condition depth_left = do
   expect_symbol symbols.Assign
   x ← expression depth_left
-  expect_symbol symbols.Semicolon
-  expect_keyword keywords.EndTransition
+  end_of_transition
   pure x
 
 unfoldable pub transition : ℕ → Parser ChartElement
@@ -133,8 +141,7 @@ transition depth_left = do
 unfoldable pub action : ℕ → Parser ChartElement
 action depth_left = do
   p ← bump
-  n ← identifier
-  expect_symbol symbols.Colon
+  n ← identifier_before symbols.Colon
   ss ← statements depth_left
   expect_keyword keywords.EndAction
   pure (chart_elements.Action (action_of p n ss))

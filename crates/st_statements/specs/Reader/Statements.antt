@@ -3,10 +3,11 @@ use Rattle.std.specs.Prelude.{ℕ, zero, suc, Bool, true, false, List, [], Optio
 use Rattle.st_tokens.specs.declared.keyword.Keyword.TheVariants as keywords
 use Rattle.st_tokens.specs.declared.symbol.Symbol.TheVariants as symbols
 use Rattle.st_tokens.specs.declared.token.Kind.TheVariants as token_kinds
+use Rattle.st_tree.specs.declared.tree.statement.ForStatement.{ForStatement, out-ForStatement}
 use Rattle.st_tree.specs.declared.tree.statement.Label.TheVariants as labels
 use Rattle.st_tree.specs.declared.tree.statement.Statement.TheVariants as statement_kinds
-use Rattle.st_parser.specs.Names.{CaseElement, ConditionalPart, Constant, Expression, Keyword, Kind, Label, Statement}
-use Rattle.st_parser.specs.Reader.Parsers.{Parser, ◌>>=◌, ◌>>◌, pure, refuse, bump, peek, peek_second, is_symbol, is_keyword, expect_symbol, expect_keyword, enter, identifier, many, leading, listed}
+use Rattle.st_parser.specs.Names.{CaseElement, ConditionalPart, Constant, Expression, Keyword, Kind, Label, Position, Statement}
+use Rattle.st_parser.specs.Reader.Parsers.{Parser, ◌>>=◌, ◌>>◌, pure, refuse, bump, peek, peek_second, is_symbol, is_keyword, expect_symbol, expect_keyword, enter, identifier_before, many, leading, listed}
 use Rattle.st_expressions.specs.Reader.{constant, expression, variable, call, inside_of}
 use Rattle.st_statements.specs.declared.statement.ForRange.{ForRange}
 use Rattle.st_statements.specs.Grammar.Statements.{part_of, case_of, if_of, case_statement_of, for_of, while_of, repeat_of}
@@ -61,12 +62,18 @@ return_statement = do p ← bump; expect_symbol symbols.Semicolon; pure (stateme
 unfoldable pub exit_statement : Parser Statement
 exit_statement = do p ← bump; expect_symbol symbols.Semicolon; pure (statement_kinds.Exit p)
 
-unfoldable pub assignment : ℕ → Parser Statement
-assignment depth_left = do
-  v ← variable depth_left (inside_of depth_left)
+-- ':=' expression ';'
+unfoldable pub assigned : ℕ → Parser Expression
+assigned depth_left = do
   expect_symbol symbols.Assign
   x ← expression depth_left
   expect_symbol symbols.Semicolon
+  pure x
+
+unfoldable pub assignment : ℕ → Parser Statement
+assignment depth_left = do
+  v ← variable depth_left (inside_of depth_left)
+  x ← assigned depth_left
   pure (statement_kinds.Assignment v x)
 
 unfoldable pub invocation : ℕ → Parser Statement
@@ -147,13 +154,19 @@ case deeper = do
 abbrev pub cases : Deeper → Parser (List CaseElement)
 cases deeper = leading (case deeper) begins_label (case deeper)
 
+-- the cases of CASE, and its ELSE
+unfoldable pub case_body : Deeper → Parser (List CaseElement × List Statement)
+case_body deeper = do
+  cs ← cases deeper
+  ys ← closed_otherwise deeper keywords.EndCase
+  pure (cs, ys)
+
 unfoldable pub case_statement : ℕ → Deeper → Parser Statement
 case_statement depth_left deeper = do
   p ← enter depth_left
   x ← expression_before deeper keywords.Of
-  cs ← cases deeper
-  ys ← closed_otherwise deeper keywords.EndCase
-  pure (statement_kinds.Case (case_statement_of p x cs ys))
+  body ← case_body deeper
+  pure (statement_kinds.Case (case_statement_of p x body.0 body.1))
 
 abbrev pub step_by : Deeper → Bool → Parser (Option Expression)
 step_by deeper true = do bump; x ← deeper.expression; pure (Some x)
@@ -168,11 +181,17 @@ step deeper = do
 abbrev pub range_of : Expression → Expression → Option Expression → ForRange
 range_of a b c = record { first = a; last = b; step = c }
 
+-- the step, and DO
+unfoldable pub closed_step : Deeper → Parser (Option Expression)
+closed_step deeper = do
+  c ← step deeper
+  expect_keyword keywords.Do
+  pure c
+
 unfoldable pub last_and_step : Deeper → Parser (Expression × Option Expression)
 last_and_step deeper = do
   b ← deeper.expression
-  c ← step deeper
-  expect_keyword keywords.Do
+  c ← closed_step deeper
   pure (b, c)
 
 unfoldable pub for_range : Deeper → Parser ForRange
@@ -181,14 +200,23 @@ for_range deeper = do
   rest ← last_and_step deeper
   pure (range_of a rest.0 rest.1)
 
+-- FOR, without its statements
+unfoldable pub for_head : Position → Deeper → Parser ForStatement
+for_head p deeper = do
+  n ← identifier_before symbols.Assign
+  x ← for_range deeper
+  pure (for_of p n x.first x.last x.step [])
+
+-- FOR, with these statements
+abbrev pub for_with : ForStatement → List Statement → ForStatement
+for_with h ss = let x = out-ForStatement h in for_of x.position x.variable x.first x.last x.step ss
+
 unfoldable pub for_statement : ℕ → Deeper → Parser Statement
 for_statement depth_left deeper = do
   p ← enter depth_left
-  n ← identifier
-  expect_symbol symbols.Assign
-  x ← for_range deeper
+  h ← for_head p deeper
   ss ← closed_block deeper keywords.EndFor
-  pure (statement_kinds.For (for_of p n x.first x.last x.step ss))
+  pure (statement_kinds.For (for_with h ss))
 
 unfoldable pub while_statement : ℕ → Deeper → Parser Statement
 while_statement depth_left deeper = do

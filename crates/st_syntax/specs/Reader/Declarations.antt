@@ -10,7 +10,7 @@ use Rattle.st_tree.specs.declared.tree.declaration.TypeName.TheVariants as type_
 use Rattle.st_tree.specs.declared.tree.declaration.VarKind.TheVariants as var_kinds
 use Rattle.st_parser.specs.Names.{ArrayElement, Constant, Declaration, Initial, Kind, Position, Specification, Subrange, TypeName, VarBlock, VarKind}
 use Rattle.st_parser.specs.Grammar.Tokens.{kind, next}
-use Rattle.st_parser.specs.Reader.Parsers.{Parser, ◌>>=◌, ◌>>◌, pure, refuse, bump, peek, here, is_symbol, is_keyword, is_word, expect_symbol, expect_keyword, open_level, identifier, number, many, listed}
+use Rattle.st_parser.specs.Reader.Parsers.{Parser, ◌>>=◌, ◌>>◌, pure, refuse, bump, peek, here, is_symbol, is_keyword, is_word, expect_symbol, expect_keyword, open_level, identifier, identifier_before, number, many, listed}
 use Rattle.st_expressions.specs.Reader.{constant, signed_integer}
 use Rattle.st_syntax.specs.Grammar.Declarations.{subrange_of, declaration_of, block_of}
 
@@ -116,21 +116,25 @@ initialized depth_left = do
   t ← peek
   initialized_by depth_left (is_symbol symbols.Assign t)
 
+-- a type, and an initial value
+unfoldable pub typed : ℕ → Parser (Specification × Option Initial)
+typed depth_left = do
+  x ← specification depth_left
+  y ← initialized depth_left
+  pure (x, y)
+
 unfoldable pub declaration : ℕ → Parser Declaration
 declaration depth_left = do
   ns ← listed identifier
   expect_symbol symbols.Colon
-  x ← specification depth_left
-  y ← initialized depth_left
-  pure (declaration_of ns x y)
+  x ← typed depth_left
+  pure (declaration_of ns x.0 x.1)
 
 unfoldable pub member : ℕ → Parser Declaration
 member depth_left = do
-  m ← identifier
-  expect_symbol symbols.Colon
-  x ← specification depth_left
-  y ← initialized depth_left
-  pure (declaration_of (m ∷ []) x y)
+  m ← identifier_before symbols.Colon
+  x ← typed depth_left
+  pure (declaration_of (m ∷ []) x.0 x.1)
 
 -- RETAIN or NON_RETAIN
 abbrev pub is_retention : Option Kind → Bool

@@ -10,17 +10,16 @@ use Rattle.st_tree.specs.declared.tree.unit.Unit.TheVariants as unit_kinds
 use Rattle.st_parser.specs.Names as names
 use Rattle.st_parser.specs.Names.{Body, Declaration, DeclaredType, Keyword, Kind, Pou, TypeDeclaration}
 use Rattle.st_parser.specs.Grammar.Tokens.{kind, next}
-use Rattle.st_parser.specs.Reader.Parsers.{Parser, ◌>>=◌, ◌>>◌, pure, refuse, bump, peek, is_keyword, is_word, expect_symbol, expect_keyword, identifier, many, leading}
+use Rattle.st_parser.specs.Reader.Parsers.{Parser, ◌>>=◌, ◌>>◌, pure, refuse, bump, peek, is_keyword, is_word, expect_symbol, expect_keyword, identifier, identifier_before, many, leading}
 use Rattle.st_statements.specs.Reader.Charts.{begins_element, chart}
 use Rattle.st_statements.specs.Reader.Statements.{statements}
 use Rattle.st_syntax.specs.Grammar.Units.{type_of, function_of, pou_of}
-use Rattle.st_syntax.specs.Reader.Declarations.{specification, initialized, member, variables}
+use Rattle.st_syntax.specs.Reader.Declarations.{typed, member, variables}
 
 unfoldable pub derived : ℕ → Parser DeclaredType
 derived depth_left = do
-  x ← specification depth_left
-  y ← initialized depth_left
-  pure (declared_types.Derived x y)
+  x ← typed depth_left
+  pure (declared_types.Derived x.0 x.1)
 
 abbrev pub members : ℕ → Parser (List Declaration)
 members depth_left = leading (member depth_left) is_word (member depth_left)
@@ -44,8 +43,7 @@ declared depth_left = do
 
 unfoldable pub type_declaration : ℕ → Parser TypeDeclaration
 type_declaration depth_left = do
-  n ← identifier
-  expect_symbol symbols.Colon
+  n ← identifier_before symbols.Colon
   x ← declared depth_left
   pure (type_of n x)
 
@@ -69,8 +67,7 @@ elementary = λ ts. elementary_by (kind ts) ts
 unfoldable pub function : ℕ → Parser names.Unit
 function depth_left = do
   p ← bump
-  n ← identifier
-  expect_symbol symbols.Colon
+  n ← identifier_before symbols.Colon
   e ← elementary
   vs ← variables depth_left
   ss ← statements (suc depth_left)

@@ -8,6 +8,9 @@ use Rattle.st_expressions.proofs.expression.+parser.Given as goal
 abbrev pub decreases-inside : goal.decreases-inside
 decreases-inside l = 40 * l.depth_left
 
+abbrev pub decreases-boxed_inside : goal.decreases-boxed_inside
+decreases-boxed_inside l = 40 * l.depth_left + 1
+
 abbrev pub decreases-target : goal.decreases-target
 decreases-target l = 40 * l.depth_left
 
@@ -27,7 +30,7 @@ abbrev pub decreases-variable : goal.decreases-variable
 decreases-variable l = 40 * l.depth_left + 6
 
 abbrev pub decreases-input : goal.decreases-input
-decreases-input l = 40 * l.depth_left + 1
+decreases-input l = 40 * l.depth_left + 2
 
 abbrev pub decreases-output : goal.decreases-output
 decreases-output l = 40 * l.depth_left + 1
@@ -36,7 +39,7 @@ abbrev pub decreases-positional : goal.decreases-positional
 decreases-positional l = 40 * l.depth_left + 1
 
 abbrev pub decreases-argument : goal.decreases-argument
-decreases-argument l = 40 * l.depth_left + 2
+decreases-argument l = 40 * l.depth_left + 3
 
 abbrev pub decreases-argument_list : goal.decreases-argument_list
 decreases-argument_list l = 40 * l.depth_left + 4
@@ -48,7 +51,7 @@ abbrev pub decreases-call : goal.decreases-call
 decreases-call l = 40 * l.depth_left + 6
 
 abbrev pub decreases-parenthesized : goal.decreases-parenthesized
-decreases-parenthesized l = 40 * l.depth_left + 1
+decreases-parenthesized l = 40 * l.depth_left + 2
 
 abbrev pub decreases-named : goal.decreases-named
 decreases-named l = 40 * l.depth_left + 7

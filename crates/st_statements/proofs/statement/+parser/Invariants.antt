@@ -35,8 +35,11 @@ decreases-case l = 16 * l.depth_left + 1
 abbrev pub decreases-cases : goal.decreases-cases
 decreases-cases l = 16 * l.depth_left + 2
 
+abbrev pub decreases-case_body : goal.decreases-case_body
+decreases-case_body l = 16 * l.depth_left + 3
+
 abbrev pub decreases-case_statement : goal.decreases-case_statement
-decreases-case_statement l = 16 * l.depth_left + 3
+decreases-case_statement l = 16 * l.depth_left + 4
 
 abbrev pub decreases-for_statement : goal.decreases-for_statement
 decreases-for_statement l = 16 * l.depth_left + 2
