@@ -16,24 +16,42 @@ fn call(alloc: Global) -> Result<Expression, Fail> {
     Ok(Expression::Call(Call { name, arguments }))
 }
 
+/// A call of F in a box.
+fn boxed_call(alloc: Global) -> Result<Boxed<Expression>, Fail> {
+    Ok(Boxed::new(alloc, call(alloc)?)?)
+}
+
 #[test]
-fn searches_trees(rt: HostRuntime) -> Result<(), Fail> {
-    let alloc = rt.alloc();
-    let inner = Boxed::new(alloc, call(alloc)?)?;
-    assert!(rt; has_call(inner.get()));
-    assert!(rt; has_call(&Expression::Negate(POSITION, inner)));
-    let inner = Boxed::new(alloc, call(alloc)?)?;
-    assert!(rt; has_call(&inner.into_inner()));
-    assert!(rt; has_exit(&Statement::Exit(POSITION)));
-    assert!(rt; !has_exit(&Statement::Return(POSITION)));
+fn finds_a_call(rt: HostRuntime) -> Result<(), Fail> {
+    let found = boxed_call(rt.alloc())?;
+    assert!(rt; has_call(found.get()));
+    assert!(rt; has_call(&found.into_inner()));
     Ok(())
 }
 
 #[test]
-fn keeps_names_and_lists(rt: HostRuntime) -> Result<(), Fail> {
+fn finds_a_call_in_an_operand(rt: HostRuntime) -> Result<(), Fail> {
+    let operand = boxed_call(rt.alloc())?;
+    assert!(rt; has_call(&Expression::Negate(POSITION, operand)));
+    Ok(())
+}
+
+#[test]
+fn finds_an_exit(rt: HostRuntime) {
+    assert!(rt; has_exit(&Statement::Exit(POSITION)));
+    assert!(rt; !has_exit(&Statement::Return(POSITION)));
+}
+
+#[test]
+fn keeps_names(rt: HostRuntime) -> Result<(), Fail> {
     let name = Name::of(b"Main").ok_or("a short name")?;
     assert_eq!(rt; name.bytes(), b"Main".as_slice());
     assert!(rt; Name::of(&[b'A'; 129]).is_none());
+    Ok(())
+}
+
+#[test]
+fn keeps_lists(rt: HostRuntime) -> Result<(), Fail> {
     let mut list = List::new(rt.alloc());
     assert!(rt; list.is_empty());
     list.push(7u8)?;

@@ -1,12 +1,22 @@
 //! Texts of values against the examples of IEC 61131-3:2003 (2.2.1 and 2.2.3.1) and cases worked out by hand.
 use st_values::{Elem, put_value, read_value, wrap};
+use std::alloc::Global;
+use std::process::Abort;
 
-/// The number that a text is read as, where it is a value of the type.
-fn number_of(elem: Elem, text: &str) -> Option<i128> {
-    match read_value(elem, text.as_bytes()) {
+/// Asserts which number a text is read as, where it is a value of the type.
+fn is_read(rt: &impl Abort, elem: Elem, text: &str, want: Option<i128>) {
+    let found = match read_value(elem, text.as_bytes()) {
         Ok(value) => Some(value.bits),
         Err(_) => None,
-    }
+    };
+    assert_eq!(rt; found, want, "at {text}");
+}
+
+/// Asserts as which text a number of a type is put.
+fn is_put(rt: &impl Abort, alloc: Global, elem: Elem, number: i128, want: &str) {
+    let mut out = Vec::new(alloc);
+    assert!(rt; put_value(wrap(elem, number), &mut out).is_ok());
+    assert_eq!(rt; out.as_slice(), want.as_bytes(), "at {want}");
 }
 
 #[test]
@@ -32,7 +42,7 @@ fn reads_durations(rt: HostRuntime) {
         ("T#9223372036854775807ms", 9_223_372_036_854_775_807),
     ];
     for (text, want) in examples {
-        assert_eq!(rt; number_of(Elem::Time, text), Some(want), "at {text}");
+        is_read(&rt, Elem::Time, text, Some(want));
     }
 }
 
@@ -70,7 +80,7 @@ fn refuses_what_is_no_value(rt: HostRuntime) {
         (Elem::Bool, "2"),
     ];
     for (elem, text) in examples {
-        assert_eq!(rt; number_of(elem, text), None, "at {text}");
+        is_read(&rt, elem, text, None);
     }
 }
 
@@ -100,11 +110,8 @@ fn reads_and_puts(rt: HostRuntime) {
         ),
     ];
     for (elem, text, number, want) in examples {
-        assert_eq!(rt; number_of(elem, text), Some(number), "at {text}");
-        let value = wrap(elem, number);
-        let mut out = Vec::new(rt.alloc());
-        assert!(rt; put_value(value, &mut out).is_ok());
-        assert_eq!(rt; out.as_slice(), want.as_bytes(), "at {text}");
+        is_read(&rt, elem, text, Some(number));
+        is_put(&rt, rt.alloc(), elem, number, want);
     }
 }
 
