@@ -1,2 +1,3 @@
 pub mod DeclaredNames
+pub mod NamesInOrder
 pub mod ScopeLookups
