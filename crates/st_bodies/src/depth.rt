@@ -6,6 +6,7 @@ ghost use Rattle.st_meaning.specs.Sketched.{associations_of};
 ghost use Rattle.st_types.specs.Names.{actions_in, steps_in};
 ghost use Rattle.st_types.specs.Standard.{standard_of};
 
+use st_tree::Boxed;
 use st_tree::tree::{
     Argument, Body, Call, CaseElement, CaseStatement, ChartElement, ConditionalPart, Expression,
     ForStatement, IfStatement, Operation, Part, RepeatStatement, Statement, Variable,
@@ -155,7 +156,7 @@ fn branch_depth(branch: &ConditionalPart, inputs: usize) -> usize
 fn case_depth(statement: &CaseStatement, inputs: usize) -> usize
     ensures { result ≡ min (case_depth inputs statement.now) usize.MAX }
 {
-    expression_depth(&statement.selector, inputs)
+    expression_depth(statement.selector.get(), inputs)
         .max(elements_depth(statement.cases.as_slice(), inputs))
         .max(statements_depth(statement.otherwise.as_slice(), inputs))
 }
@@ -182,8 +183,8 @@ fn element_depth(element: &CaseElement, inputs: usize) -> usize
 fn for_depth(statement: &ForStatement, inputs: usize) -> usize
     ensures { result ≡ min (for_depth inputs statement.now) usize.MAX }
 {
-    expression_depth(&statement.first, inputs)
-        .max(expression_depth(&statement.last, inputs).saturating_add(1))
+    expression_depth(statement.first.get(), inputs)
+        .max(expression_depth(statement.last.get(), inputs).saturating_add(1))
         .max(step_depth(&statement.step, inputs).saturating_add(2))
         .max(statements_depth(statement.statements.as_slice(), inputs).saturating_add(3))
 }
@@ -192,7 +193,7 @@ fn for_depth(statement: &ForStatement, inputs: usize) -> usize
 fn while_depth(statement: &WhileStatement, inputs: usize) -> usize
     ensures { result ≡ min (while_depth inputs statement.now) usize.MAX }
 {
-    expression_depth(&statement.condition, inputs).max(statements_depth(
+    expression_depth(statement.condition.get(), inputs).max(statements_depth(
         statement.statements.as_slice(),
         inputs,
     ))
@@ -202,7 +203,7 @@ fn while_depth(statement: &WhileStatement, inputs: usize) -> usize
 fn repeat_depth(statement: &RepeatStatement, inputs: usize) -> usize
     ensures { result ≡ min (repeat_depth inputs statement.now) usize.MAX }
 {
-    expression_depth(&statement.condition, inputs).max(statements_depth(
+    expression_depth(statement.condition.get(), inputs).max(statements_depth(
         statement.statements.as_slice(),
         inputs,
     ))
@@ -229,12 +230,12 @@ fn move_depth(argument: &Argument, inputs: usize) -> usize
     }
 }
 
-fn step_depth(step: &Option<Expression>, inputs: usize) -> usize
+fn step_depth(step: &Option<Boxed<Expression>>, inputs: usize) -> usize
     ensures { result ≡ min (step_depth inputs step.now) usize.MAX }
 {
     match step {
         None => 1,
-        Some(value) => expression_depth(value, inputs),
+        Some(value) => expression_depth(value.get(), inputs),
     }
 }
 

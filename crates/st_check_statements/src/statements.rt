@@ -1,7 +1,6 @@
 //! Statements (3.3.2).
 ghost use Rattle.std.specs.Prelude.{◌≡◌, map, OnOk};
 ghost use Rattle.std.specs.List.{flat_map};
-ghost use Rattle.std.specs.Option.{option_copied};
 ghost use Rattle.st_faults.specs.Faults.{offer_all};
 ghost use Rattle.st_types.specs.Scopes.{scope_at};
 ghost use Rattle.st_check_statements.specs.Statements.{all_faults, assignment_faults, body_faults, case_faults, condition_faults, element_faults, for_faults, if_faults, inside_for, optional_faults, part_faults, range_faults, repeat_faults, statement_faults, while_faults};
@@ -13,6 +12,7 @@ use crate::labels::check_labels;
 use st_check_expressions::{check_expression, check_target, elem_of, own_type};
 use st_faults::{FirstFault, Rule};
 use st_scopes::Scope;
+use st_tree::Boxed;
 use st_tree::tree::{
     CaseElement, CaseStatement, ConditionalPart, Expression, ForStatement, IfStatement,
     RepeatStatement, Statement, Variable, WhileStatement,
@@ -186,8 +186,9 @@ fn check_case(
 ) -> Result<(), AllocError>
     ensures { OnOk result (first.new ≡ offer_all first.old (case_faults (scope_at scope.now) statement.now around.now)) }
 {
-    check_expression(alloc, scope, &statement.selector, Due::Integer, first)?;
-    let elem = own_type(scope, &statement.selector);
+    let selector = statement.selector.get();
+    check_expression(alloc, scope, selector, Due::Integer, first)?;
+    let elem = own_type(scope, selector);
     check_elements(
         alloc,
         scope,
@@ -252,14 +253,13 @@ fn check_for(
     let variable = &statement.variable;
     check_counter(scope, around.counters, variable, first);
     let due = counter_due(scope, variable);
-    let step = statement.step.as_ref();
     check_range(
         alloc,
         scope,
         due,
-        &statement.first,
-        &statement.last,
-        step,
+        statement.first.get(),
+        statement.last.get(),
+        &statement.step,
         first,
     )?;
     let name = variable.spelling.as_slice();
@@ -304,10 +304,10 @@ fn check_range(
     due: Due,
     start: &Expression,
     end: &Expression,
-    step: Option<&Expression>,
+    step: &Option<Boxed<Expression>>,
     first: &mut FirstFault,
 ) -> Result<(), AllocError>
-    ensures { OnOk result (first.new ≡ offer_all first.old (range_faults (scope_at scope.now) due start.now end.now (option_copied step.entry))) }
+    ensures { OnOk result (first.new ≡ offer_all first.old (range_faults (scope_at scope.now) due start.now end.now step.now)) }
 {
     check_expression(alloc, scope, start, due, first)?;
     check_expression(alloc, scope, end, due, first)?;
@@ -321,13 +321,13 @@ fn check_optional(
     alloc: Global,
     scope: &Scope<'_>,
     due: Due,
-    expression: Option<&Expression>,
+    expression: &Option<Boxed<Expression>>,
     first: &mut FirstFault,
 ) -> Result<(), AllocError>
-    ensures { OnOk result (first.new ≡ offer_all first.old (optional_faults (scope_at scope.now) due (option_copied expression.entry))) }
+    ensures { OnOk result (first.new ≡ offer_all first.old (optional_faults (scope_at scope.now) due expression.now)) }
 {
     if let Some(expression) = expression {
-        check_expression(alloc, scope, expression, due, first)?;
+        check_expression(alloc, scope, expression.get(), due, first)?;
     }
     Ok(())
 }
@@ -344,7 +344,7 @@ fn check_while(
 ) -> Result<(), AllocError>
     ensures { OnOk result (first.new ≡ offer_all first.old (while_faults (scope_at scope.now) statement.now around.now)) }
 {
-    check_condition(alloc, scope, &statement.condition, first)?;
+    check_condition(alloc, scope, statement.condition.get(), first)?;
     let inside = around.inside_loop();
     check_statements(
         alloc,
@@ -376,6 +376,6 @@ fn check_repeat(
         statement.statements.as_slice(),
         first,
     )?;
-    check_condition(alloc, scope, &statement.condition, first)?;
+    check_condition(alloc, scope, statement.condition.get(), first)?;
     Ok(())
 }

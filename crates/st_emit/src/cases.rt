@@ -31,7 +31,7 @@ pub(crate) fn emit_case(
     ensures { OnOk result (code.new ≡ code.old ++ reverse (command_code (whole_of scope.now).variables (case_in (whole_of scope.now) statement.now) (length code.old - out) (length code.old - end))) }
 {
     let start = code.len();
-    let elem = own_or_lint(scope, &statement.selector);
+    let elem = own_or_lint(scope, statement.selector.get());
     emit_statements(code, scope, statement.otherwise.as_slice(), out, end)?;
     code.push(Instr::Drop, 0)?;
     let cases = statement.cases.as_slice();
@@ -41,7 +41,7 @@ pub(crate) fn emit_case(
         let rest = code.len() - start;
         emit_element(code, scope, elem, &cases[i], rest, out, end)?;
     }
-    emit_expression(code, scope, &statement.selector, elem)?;
+    emit_expression(code, scope, statement.selector.get(), elem)?;
     code.push(Instr::Step, statement.position.line)
 }
 

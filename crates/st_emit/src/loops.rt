@@ -10,6 +10,7 @@ use crate::places::place_named;
 use crate::scope::Scope;
 use crate::statements::emit_statements;
 use st_code::{Code, Instr};
+use st_tree::Boxed;
 use st_tree::tree::{Expression, ForStatement, RepeatStatement, Statement, WhileStatement};
 use st_values::Elem;
 use std::alloc::AllocError;
@@ -27,7 +28,15 @@ pub(crate) fn emit_while(
 {
     let line = statement.position.line;
     let body = statement.statements.as_slice();
-    emit_turns(code, scope, line, false, body, &statement.condition, end)?;
+    emit_turns(
+        code,
+        scope,
+        line,
+        false,
+        body,
+        statement.condition.get(),
+        end,
+    )?;
     code.push(Instr::Step, line)?;
     code.push(Instr::Step, line)
 }
@@ -45,7 +54,15 @@ pub(crate) fn emit_repeat(
 {
     let line = statement.position.line;
     let body = statement.statements.as_slice();
-    let past = emit_turns(code, scope, line, true, body, &statement.condition, end)?;
+    let past = emit_turns(
+        code,
+        scope,
+        line,
+        true,
+        body,
+        statement.condition.get(),
+        end,
+    )?;
     code.push(Instr::GoOn(past), 0)?;
     code.push(Instr::Step, line)
 }
@@ -104,8 +121,8 @@ pub(crate) fn emit_for(
         let body = statement.statements.as_slice();
         emit_count(code, scope, line, elem, leaf, body, end)?;
         emit_step(code, scope, &statement.step, elem)?;
-        emit_expression(code, scope, &statement.last, elem)?;
-        emit_expression(code, scope, &statement.first, elem)?;
+        emit_expression(code, scope, statement.last.get(), elem)?;
+        emit_expression(code, scope, statement.first.get(), elem)?;
     }
     code.push(Instr::Step, line)
 }
@@ -139,13 +156,13 @@ fn emit_count(
 fn emit_step(
     code: &mut Code,
     scope: &Scope<'_>,
-    step: &Option<Expression>,
+    step: &Option<Boxed<Expression>>,
     elem: Elem,
 ) -> Result<(), AllocError>
     ensures code { OnOk result (code.new ≡ code.old ++ reverse (term_code (whole_of scope.now).variables (step_typed (whole_of scope.now) step.now elem))) }
 {
     match step {
-        Some(expression) => emit_expression(code, scope, expression, elem),
+        Some(expression) => emit_expression(code, scope, expression.get(), elem),
         None => code.push(Instr::Push(1), 0),
     }
 }

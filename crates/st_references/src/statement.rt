@@ -1,16 +1,16 @@
 //! The calls in statements.
-ghost use Rattle.std.specs.Prelude.{◌≡◌, ◌++◌, map, option_copied, OnOk};
+ghost use Rattle.std.specs.Prelude.{◌≡◌, ◌++◌, map, OnOk};
 ghost use Rattle.std.specs.List.{flat_map};
 ghost use Rattle.st_references.specs.Callers.{called_by};
 ghost use Rattle.st_references.specs.Calls.{all, case_calls, case_element_calls, conditional_calls, for_calls, if_calls, optional_calls, repeat_calls, statement_calls, while_calls};
 
 use crate::caller::Caller;
 use crate::expression::{add_call, add_expression, add_variable};
-use st_tree::List;
 use st_tree::tree::{
     CaseElement, CaseStatement, ConditionalPart, Expression, ForStatement, IfStatement,
     RepeatStatement, Statement, WhileStatement,
 };
+use st_tree::{Boxed, List};
 use std::alloc::AllocError;
 
 /// Adds the functions that are called in statements.
@@ -107,7 +107,7 @@ fn add_case(
 ) -> Result<(), AllocError>
     ensures { OnOk result (row.new ≡ row.old ++ flat_map (called_by caller.now) (case_calls statement.now)) }
 {
-    add_expression(caller, &statement.selector, row)?;
+    add_expression(caller, statement.selector.get(), row)?;
     add_case_elements(caller, statement.cases.as_slice(), row)?;
     add_statements(caller, statement.otherwise.as_slice(), row)
 }
@@ -149,9 +149,9 @@ fn add_for(
 ) -> Result<(), AllocError>
     ensures { OnOk result (row.new ≡ row.old ++ flat_map (called_by caller.now) (for_calls statement.now)) }
 {
-    add_expression(caller, &statement.first, row)?;
-    add_expression(caller, &statement.last, row)?;
-    add_optional(caller, statement.step.as_ref(), row)?;
+    add_expression(caller, statement.first.get(), row)?;
+    add_expression(caller, statement.last.get(), row)?;
+    add_optional(caller, &statement.step, row)?;
     add_statements(caller, statement.statements.as_slice(), row)
 }
 
@@ -165,7 +165,7 @@ fn add_while(
 ) -> Result<(), AllocError>
     ensures { OnOk result (row.new ≡ row.old ++ flat_map (called_by caller.now) (while_calls statement.now)) }
 {
-    add_expression(caller, &statement.condition, row)?;
+    add_expression(caller, statement.condition.get(), row)?;
     add_statements(caller, statement.statements.as_slice(), row)
 }
 
@@ -180,19 +180,19 @@ fn add_repeat(
     ensures { OnOk result (row.new ≡ row.old ++ flat_map (called_by caller.now) (repeat_calls statement.now)) }
 {
     add_statements(caller, statement.statements.as_slice(), row)?;
-    add_expression(caller, &statement.condition, row)
+    add_expression(caller, statement.condition.get(), row)
 }
 
 /// Adds the functions that are called in an expression, where there is one.
 fn add_optional(
     caller: &Caller<'_>,
-    expression: Option<&Expression>,
+    expression: &Option<Boxed<Expression>>,
     row: &mut List<usize>,
 ) -> Result<(), AllocError>
-    ensures { OnOk result (row.new ≡ row.old ++ flat_map (called_by caller.now) (optional_calls (option_copied expression.entry))) }
+    ensures { OnOk result (row.new ≡ row.old ++ flat_map (called_by caller.now) (optional_calls expression.now)) }
 {
     if let Some(expression) = expression {
-        add_expression(caller, expression, row)?;
+        add_expression(caller, expression.get(), row)?;
     }
     Ok(())
 }

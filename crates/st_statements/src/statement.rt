@@ -151,6 +151,18 @@ fn inner(alloc: Global, ts: &mut Cursor<'_>, depth_left: u8) -> Result<Expressio
     expression(alloc, ts, depth_left - 1)
 }
 
+/// The same, in a box.
+fn boxed_inner(
+    alloc: Global,
+    ts: &mut Cursor<'_>,
+    depth_left: u8,
+) -> Result<Boxed<Expression>, ReadFault>
+    requires { 0 < depth_left }
+    ensures { Takes ((spec.deeper_of depth_left).expression ts.old) result ts.old ts.new }
+{
+    Ok(Boxed::new(alloc, inner(alloc, ts, depth_left)?)?)
+}
+
 /// `expression` and the keyword after it, inside one more open level
 #[tactic(auto, unfolding(crate::specs::Reader::Statements::expression_before))]
 fn expression_before(
@@ -167,15 +179,35 @@ fn expression_before(
     Ok(found)
 }
 
+/// The same, in a box.
+#[tactic(auto, unfolding(crate::specs::Reader::Statements::expression_before))]
+fn boxed_before(
+    alloc: Global,
+    ts: &mut Cursor<'_>,
+    depth_left: u8,
+    keyword: Keyword,
+) -> Result<Boxed<Expression>, ReadFault>
+    requires { 0 < depth_left }
+    ensures { Takes (spec.expression_before (spec.deeper_of depth_left) keyword ts.old) result ts.old ts.new }
+{
+    let found = boxed_inner(alloc, ts, depth_left)?;
+    ts.expect_keyword(keyword)?;
+    Ok(found)
+}
+
 /// `[ BY expression ]`
 #[tactic(auto, unfolding(crate::specs::Reader::Statements::step))]
-fn step(alloc: Global, ts: &mut Cursor<'_>, depth_left: u8) -> Result<Option<Expression>, ReadFault>
+fn step(
+    alloc: Global,
+    ts: &mut Cursor<'_>,
+    depth_left: u8,
+) -> Result<Option<Boxed<Expression>>, ReadFault>
     requires { 0 < depth_left }
     ensures { MayTake (spec.step (spec.deeper_of depth_left) ts.old) result ts.old ts.new }
 {
     if ts.at_keyword(Keyword::By) {
         ts.bump();
-        return Ok(Some(inner(alloc, ts, depth_left)?));
+        return Ok(Some(boxed_inner(alloc, ts, depth_left)?));
     }
     Ok(None)
 }
@@ -183,9 +215,9 @@ fn step(alloc: Global, ts: &mut Cursor<'_>, depth_left: u8) -> Result<Option<Exp
 /// The values that a variable of FOR takes.
 #[derive(Drop)]
 struct ForRange {
-    first: Expression,
-    last: Expression,
-    step: Option<Expression>,
+    first: Boxed<Expression>,
+    last: Boxed<Expression>,
+    step: Option<Boxed<Expression>>,
 }
 
 /// `[ BY expression ] DO`
@@ -194,7 +226,7 @@ fn closed_step(
     alloc: Global,
     ts: &mut Cursor<'_>,
     depth_left: u8,
-) -> Result<Option<Expression>, ReadFault>
+) -> Result<Option<Boxed<Expression>>, ReadFault>
     requires { 0 < depth_left }
     ensures { Takes (spec.closed_step (spec.deeper_of depth_left) ts.old) result ts.old ts.new }
 {
@@ -209,11 +241,11 @@ fn last_and_step(
     alloc: Global,
     ts: &mut Cursor<'_>,
     depth_left: u8,
-) -> Result<(Expression, Option<Expression>), ReadFault>
+) -> Result<(Boxed<Expression>, Option<Boxed<Expression>>), ReadFault>
     requires { 0 < depth_left }
     ensures { Takes (spec.last_and_step (spec.deeper_of depth_left) ts.old) result ts.old ts.new }
 {
-    let last = inner(alloc, ts, depth_left)?;
+    let last = boxed_inner(alloc, ts, depth_left)?;
     let step = closed_step(alloc, ts, depth_left)?;
     Ok((last, step))
 }
@@ -224,7 +256,7 @@ fn for_range(alloc: Global, ts: &mut Cursor<'_>, depth_left: u8) -> Result<ForRa
     requires { 0 < depth_left }
     ensures { Takes (spec.for_range (spec.deeper_of depth_left) ts.old) result ts.old ts.new }
 {
-    let first = expression_before(alloc, ts, depth_left, Keyword::To)?;
+    let first = boxed_before(alloc, ts, depth_left, Keyword::To)?;
     let (last, step) = last_and_step(alloc, ts, depth_left)?;
     Ok(ForRange { first, last, step })
 }
@@ -254,11 +286,11 @@ fn for_head(
 
 /// `expression END_REPEAT ';'`
 #[tactic(auto, unfolding(crate::specs::Reader::Statements::until))]
-fn until(alloc: Global, ts: &mut Cursor<'_>, depth_left: u8) -> Result<Expression, ReadFault>
+fn until(alloc: Global, ts: &mut Cursor<'_>, depth_left: u8) -> Result<Boxed<Expression>, ReadFault>
     requires { 0 < depth_left }
     ensures { Takes (spec.until (spec.deeper_of depth_left) ts.old) result ts.old ts.new }
 {
-    let condition = expression_before(alloc, ts, depth_left, Keyword::EndRepeat)?;
+    let condition = boxed_before(alloc, ts, depth_left, Keyword::EndRepeat)?;
     ts.expect_symbol(Symbol::Semicolon)?;
     Ok(condition)
 }
@@ -451,7 +483,7 @@ fn case_statement(
     ensures { Takes (spec.case_statement depth_left (spec.deeper_of depth_left) ts.old) result ts.old ts.new }
 {
     let position = ts.enter(depth_left)?;
-    let selector = expression_before(alloc, ts, depth_left, Keyword::Of)?;
+    let selector = boxed_before(alloc, ts, depth_left, Keyword::Of)?;
     let (cases, otherwise) = case_body(alloc, ts, depth_left)?;
     let statement = CaseStatement {
         position,
@@ -485,7 +517,7 @@ fn while_statement(
     ensures { Takes (spec.while_statement depth_left (spec.deeper_of depth_left) ts.old) result ts.old ts.new }
 {
     let position = ts.enter(depth_left)?;
-    let condition = expression_before(alloc, ts, depth_left, Keyword::Do)?;
+    let condition = boxed_before(alloc, ts, depth_left, Keyword::Do)?;
     let statements = closed_block(alloc, ts, depth_left, Keyword::EndWhile)?;
     let statement = WhileStatement {
         position,

@@ -50,7 +50,7 @@ pub struct CaseStatement {
     /// Where it begins.
     pub position: Position,
     /// After CASE.
-    pub selector: Expression,
+    pub selector: Boxed<Expression>,
     /// After OF, in order.
     pub cases: List<CaseElement>,
     /// After ELSE. Without ELSE there are none.
@@ -66,11 +66,11 @@ pub struct ForStatement {
     /// After FOR.
     pub variable: Identifier,
     /// Its first value, after `:=`.
-    pub first: Expression,
+    pub first: Boxed<Expression>,
     /// Its last value, after TO.
-    pub last: Expression,
+    pub last: Boxed<Expression>,
     /// How far apart two values are. Without BY it is 1.
-    pub step: Option<Expression>,
+    pub step: Option<Boxed<Expression>>,
     /// After DO.
     pub statements: List<Statement>,
 }
@@ -82,7 +82,7 @@ pub struct WhileStatement {
     /// Where it begins.
     pub position: Position,
     /// After WHILE.
-    pub condition: Expression,
+    pub condition: Boxed<Expression>,
     /// After DO.
     pub statements: List<Statement>,
 }
@@ -96,7 +96,7 @@ pub struct RepeatStatement {
     /// After REPEAT.
     pub statements: List<Statement>,
     /// After UNTIL.
-    pub condition: Expression,
+    pub condition: Boxed<Expression>,
 }
 
 /// A condition, and what runs where it is the first that is TRUE.

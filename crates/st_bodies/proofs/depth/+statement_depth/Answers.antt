@@ -18,7 +18,7 @@ branch_depth-returns n c = rw (branch_is c.args.inputs, ← c.as_slice.ensures) 
 
 pub case_depth-returns : goal.case_depth-returns
 case_depth-returns n c =
-    rw (case_is c.args.inputs, ← c.as_slice.ensures, ← c.as_slice-2.ensures)
+    rw (case_is c.args.inputs, ← c.get.ensures, ← c.as_slice.ensures, ← c.as_slice-2.ensures)
     (omega (arith, c.max-2.ensures, c.max.ensures, c.expression_depth.ensures, c.elements_depth.ensures, c.statements_depth.ensures))
 
 pub element_depth-returns : goal.element_depth-returns
@@ -29,11 +29,11 @@ for_depth-returns n c =
     let last = capped_sum _ _ _ _ _ c.expression_depth-2.ensures c.saturating_add.ensures in
     let step = capped_sum _ _ _ _ _ c.step_depth.ensures c.saturating_add-2.ensures in
     let body = capped_sum _ _ _ _ _ c.statements_depth.ensures c.saturating_add-3.ensures in
-    rw (for_is c.args.inputs, ← c.as_slice.ensures)
+    rw (for_is c.args.inputs, ← c.get.ensures, ← c.get-2.ensures, ← c.as_slice.ensures)
     (capped_max _ _ _ _ _ _ (capped_max _ _ _ _ _ _ (capped_max _ _ _ _ _ _ c.expression_depth.ensures last c.max.ensures) step c.max-2.ensures) body c.max-3.ensures)
 
 pub repeat_depth-returns : goal.repeat_depth-returns
-repeat_depth-returns n c = rw (repeat_is c.args.inputs, ← c.as_slice.ensures) (omega (arith, c.max.ensures, c.expression_depth.ensures, c.statements_depth.ensures))
+repeat_depth-returns n c = rw (repeat_is c.args.inputs, ← c.get.ensures, ← c.as_slice.ensures) (omega (arith, c.max.ensures, c.expression_depth.ensures, c.statements_depth.ensures))
 
 pub while_depth-returns : goal.while_depth-returns
-while_depth-returns n c = rw (while_is c.args.inputs, ← c.as_slice.ensures) (omega (arith, c.max.ensures, c.expression_depth.ensures, c.statements_depth.ensures))
+while_depth-returns n c = rw (while_is c.args.inputs, ← c.get.ensures, ← c.as_slice.ensures) (omega (arith, c.max.ensures, c.expression_depth.ensures, c.statements_depth.ensures))

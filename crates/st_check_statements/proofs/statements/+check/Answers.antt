@@ -1,7 +1,7 @@
 use Rattle.std.proofs.Common.{ap}
 use Rattle.st_types.specs.Scopes.{scope_at}
 use Rattle.st_check_statements.specs.Statements.{Around, element_faults, part_faults, statement_faults}
-use Rattle.st_check_statements.proofs.Folds.{case_is, element_is, for_is, if_is, repeat_is}
+use Rattle.st_check_statements.proofs.Folds.{case_is, element_is, for_is, if_is, repeat_is, while_is}
 use Rattle.st_faults.proofs.Offers.{both, known_turn, three}
 use Rattle.st_check_statements.proofs.statements.+check.Goals as goal
 
@@ -26,7 +26,7 @@ check_if-returns t c =
 
 pub check_case-returns : goal.check_case-returns
 check_case-returns t c =
-    rw (case_is, ← c.as_slice.ensures, ← c.as_slice-2.ensures)
+    rw (case_is, ← c.get-selector.ensures, ← c.as_slice.ensures, ← c.as_slice-2.ensures)
     (three _ _ _ _ _ _ _ c.in_ok-check_expression.ensures (rw c.own_type-elem.ensures at c.in_ok-check_elements.ensures) c.in_ok-check_statements.ensures)
 
 pub check_element-returns : goal.check_element-returns
@@ -35,11 +35,15 @@ check_element-returns t c =
 
 pub check_for-returns : goal.check_for-returns
 check_for-returns t c =
-    rw (for_is, ← c.as_slice.ensures)
+    rw (for_is, ← c.get.ensures, ← c.get-2.ensures, ← c.as_slice.ensures)
     (three _ _ _ _ _ _ _ (rw (ap Around.counters c.around.view_is) at c.check_counter.ensures)
-    (rw (c.counter_due-due.ensures, c.as_ref-step.ensures.value) at c.in_ok-check_range.ensures)
+    (rw c.counter_due-due.ensures at c.in_ok-check_range.ensures)
     (rw c.as_slice-name.ensures at c.in_ok-check_inside_for.ensures))
 
 pub check_repeat-returns : goal.check_repeat-returns
 check_repeat-returns t c =
-    rw (repeat_is, ← c.inside_loop-inside.ensures, ← c.as_slice.ensures) (both _ _ _ _ _ c.in_ok-check_statements.ensures c.in_ok-check_condition.ensures)
+    rw (repeat_is, ← c.inside_loop-inside.ensures, ← c.get.ensures, ← c.as_slice.ensures) (both _ _ _ _ _ c.in_ok-check_statements.ensures c.in_ok-check_condition.ensures)
+
+pub check_while-returns : goal.check_while-returns
+check_while-returns t c =
+    rw (while_is, ← c.inside_loop-inside.ensures, ← c.get.ensures, ← c.as_slice.ensures) (both _ _ _ _ _ c.in_ok-check_condition.ensures c.in_ok-check_statements.ensures)
