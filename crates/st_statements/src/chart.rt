@@ -11,11 +11,11 @@ use crate::statement::statements;
 use st_expressions::expression::expression;
 use st_parser::{Cursor, ReadFault, many, single, words};
 use st_tokens::{Keyword, Kind, Symbol};
-use st_tree::List;
 use st_tree::tree::{
     Action, ActionQualifier, Association, ChartElement, Duration, Expression, Identifier, Position,
     Step, Transition,
 };
+use st_tree::{Boxed, List};
 use std::alloc::Global;
 
 /// Whether the first token begins an element of a chart.
@@ -233,11 +233,15 @@ fn end_of_transition(ts: &mut Cursor<'_>) -> Result<Position, ReadFault>
 
 /// `':=' expression ';' END_TRANSITION`
 #[tactic(auto, unfolding(crate::specs::Reader::Charts::condition))]
-fn condition(alloc: Global, ts: &mut Cursor<'_>, depth_left: u8) -> Result<Expression, ReadFault>
+fn condition(
+    alloc: Global,
+    ts: &mut Cursor<'_>,
+    depth_left: u8,
+) -> Result<Boxed<Expression>, ReadFault>
     ensures { Takes (spec.condition depth_left ts.old) result ts.old ts.new }
 {
     ts.expect_symbol(Symbol::Assign)?;
-    let condition = expression(alloc, ts, depth_left)?;
+    let condition = Boxed::new(alloc, expression(alloc, ts, depth_left)?)?;
     end_of_transition(ts)?;
     Ok(condition)
 }
@@ -258,7 +262,7 @@ fn transition(alloc: Global, ts: &mut Cursor<'_>, depth_left: u8) -> Result<Char
         priority,
         from,
         to,
-        condition,
+        condition: condition.into_inner(),
     }))
 }
 

@@ -151,7 +151,7 @@ fn inner(alloc: Global, ts: &mut Cursor<'_>, depth_left: u8) -> Result<Expressio
     expression(alloc, ts, depth_left - 1)
 }
 
-/// The same, in a box.
+/// The same, in a box, which costs less to let go of where what follows is refused.
 fn boxed_inner(
     alloc: Global,
     ts: &mut Cursor<'_>,
@@ -166,22 +166,6 @@ fn boxed_inner(
 /// `expression` and the keyword after it, inside one more open level
 #[tactic(auto, unfolding(crate::specs::Reader::Statements::expression_before))]
 fn expression_before(
-    alloc: Global,
-    ts: &mut Cursor<'_>,
-    depth_left: u8,
-    keyword: Keyword,
-) -> Result<Expression, ReadFault>
-    requires { 0 < depth_left }
-    ensures { Takes (spec.expression_before (spec.deeper_of depth_left) keyword ts.old) result ts.old ts.new }
-{
-    let found = inner(alloc, ts, depth_left)?;
-    ts.expect_keyword(keyword)?;
-    Ok(found)
-}
-
-/// The same, in a box.
-#[tactic(auto, unfolding(crate::specs::Reader::Statements::expression_before))]
-fn boxed_before(
     alloc: Global,
     ts: &mut Cursor<'_>,
     depth_left: u8,
@@ -256,7 +240,7 @@ fn for_range(alloc: Global, ts: &mut Cursor<'_>, depth_left: u8) -> Result<ForRa
     requires { 0 < depth_left }
     ensures { Takes (spec.for_range (spec.deeper_of depth_left) ts.old) result ts.old ts.new }
 {
-    let first = boxed_before(alloc, ts, depth_left, Keyword::To)?;
+    let first = expression_before(alloc, ts, depth_left, Keyword::To)?;
     let (last, step) = last_and_step(alloc, ts, depth_left)?;
     Ok(ForRange { first, last, step })
 }
@@ -290,7 +274,7 @@ fn until(alloc: Global, ts: &mut Cursor<'_>, depth_left: u8) -> Result<Boxed<Exp
     requires { 0 < depth_left }
     ensures { Takes (spec.until (spec.deeper_of depth_left) ts.old) result ts.old ts.new }
 {
-    let condition = boxed_before(alloc, ts, depth_left, Keyword::EndRepeat)?;
+    let condition = expression_before(alloc, ts, depth_left, Keyword::EndRepeat)?;
     ts.expect_symbol(Symbol::Semicolon)?;
     Ok(condition)
 }
@@ -336,7 +320,7 @@ fn conditional(
     let condition = expression_before(alloc, ts, depth_left, Keyword::Then)?;
     let statements = block(alloc, ts, depth_left)?;
     Ok(ConditionalPart {
-        condition,
+        condition: condition.into_inner(),
         statements,
     })
 }
@@ -483,7 +467,7 @@ fn case_statement(
     ensures { Takes (spec.case_statement depth_left (spec.deeper_of depth_left) ts.old) result ts.old ts.new }
 {
     let position = ts.enter(depth_left)?;
-    let selector = boxed_before(alloc, ts, depth_left, Keyword::Of)?;
+    let selector = expression_before(alloc, ts, depth_left, Keyword::Of)?;
     let (cases, otherwise) = case_body(alloc, ts, depth_left)?;
     let statement = CaseStatement {
         position,
@@ -517,7 +501,7 @@ fn while_statement(
     ensures { Takes (spec.while_statement depth_left (spec.deeper_of depth_left) ts.old) result ts.old ts.new }
 {
     let position = ts.enter(depth_left)?;
-    let condition = boxed_before(alloc, ts, depth_left, Keyword::Do)?;
+    let condition = expression_before(alloc, ts, depth_left, Keyword::Do)?;
     let statements = closed_block(alloc, ts, depth_left, Keyword::EndWhile)?;
     let statement = WhileStatement {
         position,

@@ -1,7 +1,7 @@
 //! At most 64 levels are open at once: `(`, `[`, IF, CASE, FOR, WHILE and REPEAT, each alone and all together.
 ghost use Rattle.std.specs.Prelude.{◌<◌, length};
 
-use st_syntax::parse;
+use crate::readings::{is_read, is_refused};
 use st_tokens::SyntaxFault;
 use std::alloc::{AllocError, Global};
 use std::process::Abort;
@@ -106,26 +106,16 @@ fn close_all(text: &mut Vec<u8>, kinds: &[&Level], count: usize) -> Result<(), A
     Ok(())
 }
 
-/// Asserts that a text is one unit.
-fn is_read(rt: &impl Abort, alloc: Global, text: &[u8]) -> Result<(), Fail> {
-    let units = parse(alloc, text)?;
-    assert_eq!(rt; units.len(), 1, "in {text:?}");
-    Ok(())
-}
-
 /// Asserts that a text is refused for the level that opens in this line.
 fn is_too_deep(rt: &impl Abort, alloc: Global, text: &[u8], line: u32) {
-    match parse(alloc, text) {
-        Ok(_) => assert!(rt; false, "in {text:?}"),
-        Err(fault) => assert_eq!(rt; fault, SyntaxFault::TooDeep { line }, "in {text:?}"),
-    }
+    is_refused(rt, alloc, text, SyntaxFault::TooDeep { line });
 }
 
 #[test]
 fn counts_levels_of_expressions(rt: HostRuntime) -> Result<(), Fail> {
     let alloc = rt.alloc();
     for kind in [&PARENTHESES, &CALL, &NAMED_ARGUMENT, &SUBSCRIPT] {
-        is_read(&rt, alloc, &nested(alloc, &[&IF], 0, &[kind], 64)?)?;
+        is_read(&rt, alloc, &nested(alloc, &[&IF], 0, &[kind], 64)?, 1);
         is_too_deep(&rt, alloc, &nested(alloc, &[&IF], 0, &[kind], 65)?, 66);
     }
     Ok(())
@@ -135,7 +125,12 @@ fn counts_levels_of_expressions(rt: HostRuntime) -> Result<(), Fail> {
 fn counts_levels_of_statements(rt: HostRuntime) -> Result<(), Fail> {
     let alloc = rt.alloc();
     for kind in [&IF, &CASE, &FOR, &WHILE, &REPEAT] {
-        is_read(&rt, alloc, &nested(alloc, &[kind], 64, &[&PARENTHESES], 0)?)?;
+        is_read(
+            &rt,
+            alloc,
+            &nested(alloc, &[kind], 64, &[&PARENTHESES], 0)?,
+            1,
+        );
         is_too_deep(
             &rt,
             alloc,
@@ -153,7 +148,7 @@ fn counts_all_levels_together(rt: HostRuntime) -> Result<(), Fail> {
     let expressions = [&PARENTHESES, &CALL, &SUBSCRIPT, &NAMED_ARGUMENT];
     for count in [1, 7, 32, 60, 63] {
         let text = nested(alloc, &statements, count, &expressions, 64 - count)?;
-        is_read(&rt, alloc, &text)?;
+        is_read(&rt, alloc, &text, 1);
         let text = nested(alloc, &statements, count, &expressions, 65 - count)?;
         is_too_deep(&rt, alloc, &text, 66);
     }

@@ -7,6 +7,8 @@
 #[cfg(test)]
 mod level_texts;
 #[cfg(test)]
+mod readings;
+#[cfg(test)]
 mod token_forms;
 #[cfg(test)]
 mod tree_parts;

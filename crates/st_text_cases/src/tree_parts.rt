@@ -1,38 +1,26 @@
 //! Each public call once.
 use st_tree::tree::{Call, Expression, Identifier, Position, Statement, has_call, has_exit};
 use st_tree::{Boxed, List, Name, Word};
-use std::alloc::Global;
+use std::alloc::{AllocError, Global};
 use std::test::Fail;
 
 const POSITION: Position = Position { number: 0, line: 1 };
 
-/// A call of F without arguments.
-fn call(alloc: Global) -> Result<Expression, Fail> {
+/// A call of F without arguments, in a box.
+fn call(alloc: Global) -> Result<Boxed<Expression>, AllocError> {
     let name = Identifier {
         position: POSITION,
         spelling: Word::from_slice(alloc, b"F")?,
     };
     let arguments = List::new(alloc);
-    Ok(Expression::Call(Call { name, arguments }))
-}
-
-/// A call of F in a box.
-fn boxed_call(alloc: Global) -> Result<Boxed<Expression>, Fail> {
-    Ok(Boxed::new(alloc, call(alloc)?)?)
+    Boxed::new(alloc, Expression::Call(Call { name, arguments }))
 }
 
 #[test]
 fn finds_a_call(rt: HostRuntime) -> Result<(), Fail> {
-    let found = boxed_call(rt.alloc())?;
+    let found = call(rt.alloc())?;
     assert!(rt; has_call(found.get()));
-    assert!(rt; has_call(&found.into_inner()));
-    Ok(())
-}
-
-#[test]
-fn finds_a_call_in_an_operand(rt: HostRuntime) -> Result<(), Fail> {
-    let operand = boxed_call(rt.alloc())?;
-    assert!(rt; has_call(&Expression::Negate(POSITION, operand)));
+    assert!(rt; has_call(&Expression::Negate(POSITION, found)));
     Ok(())
 }
 
@@ -47,6 +35,14 @@ fn keeps_names(rt: HostRuntime) -> Result<(), Fail> {
     let name = Name::of(b"Main").ok_or("a short name")?;
     assert_eq!(rt; name.bytes(), b"Main".as_slice());
     assert!(rt; Name::of(&[b'A'; 129]).is_none());
+    Ok(())
+}
+
+#[test]
+fn keeps_boxes(rt: HostRuntime) -> Result<(), Fail> {
+    let boxed = Boxed::new(rt.alloc(), 7u8)?;
+    assert_eq!(rt; boxed.get(), &7);
+    assert_eq!(rt; boxed.into_inner(), 7);
     Ok(())
 }
 

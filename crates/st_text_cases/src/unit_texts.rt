@@ -1,24 +1,9 @@
 //! What no clause says: that memory suffices, which fault comes at which line, and the standard's own examples.
-use st_syntax::parse;
+use crate::readings::{count_units, is_read, is_refused};
 use st_tokens::SyntaxFault;
 use std::alloc::Global;
 use std::process::Abort;
 use std::test::Fail;
-
-/// Asserts that a text is read as this many units.
-fn is_read(rt: &impl Abort, alloc: Global, text: &[u8], count: usize) -> Result<(), Fail> {
-    let found = parse(alloc, text)?;
-    assert_eq!(rt; found.len(), count, "in {text:?}");
-    Ok(())
-}
-
-/// Asserts that a text is refused with this fault.
-fn is_refused(rt: &impl Abort, alloc: Global, text: &[u8], expected: SyntaxFault) {
-    match parse(alloc, text) {
-        Ok(_) => assert!(rt; false, "in {text:?}"),
-        Err(fault) => assert_eq!(rt; fault, expected, "in {text:?}"),
-    }
-}
 
 /// Asserts that a program is read which has these declarations and this body.
 fn body_is_read(
@@ -32,7 +17,8 @@ fn body_is_read(
     text.extend_from_slice(declarations)?;
     text.extend_from_slice(body)?;
     text.extend_from_slice(b" END_PROGRAM")?;
-    is_read(rt, alloc, &text, 1)
+    is_read(rt, alloc, &text, 1);
+    Ok(())
 }
 
 #[test]
@@ -55,11 +41,11 @@ fn earlier_fault_decides(rt: HostRuntime) -> Result<(), Fail> {
 }
 
 #[test]
-fn refuses_each_beginning(rt: HostRuntime) -> Result<(), Fail> {
+fn refuses_each_beginning(rt: HostRuntime) {
     let alloc = rt.alloc();
     let text = b"PROGRAM Main VAR A : INT := 3; B : BOOL; END_VAR A := A + 1; END_PROGRAM";
-    is_read(&rt, alloc, text, 1)?;
-    is_read(&rt, alloc, b"", 0)?;
+    is_read(&rt, alloc, text, 1);
+    is_read(&rt, alloc, b"", 0);
     for end in 1..text.len() {
         let prefix = &text[..end];
         let fault = if prefix.ends_with(b"END_") {
@@ -69,11 +55,10 @@ fn refuses_each_beginning(rt: HostRuntime) -> Result<(), Fail> {
         };
         is_refused(&rt, alloc, prefix, fault);
     }
-    Ok(())
 }
 
 #[test]
-fn fault_at_its_line(rt: HostRuntime) -> Result<(), Fail> {
+fn fault_at_its_line(rt: HostRuntime) {
     let alloc = rt.alloc();
     let cases: [(&[u8], u32); 12] = [
         (b"PROGRAM Main\nVAR A : INT; END_VAR\nA = 5; END_PROGRAM", 3),
@@ -98,16 +83,14 @@ fn fault_at_its_line(rt: HostRuntime) -> Result<(), Fail> {
     for (text, line) in cases {
         is_refused(&rt, alloc, text, SyntaxFault::NotInGrammar { line });
     }
-    Ok(())
 }
 
 #[test]
-fn text_without_tokens(rt: HostRuntime) -> Result<(), Fail> {
+fn text_without_tokens(rt: HostRuntime) {
     let alloc = rt.alloc();
     for text in [&b"1_"[..], b"2#12", b"A__B", b"B_", b"T#1m1h", b"(* open"] {
         is_refused(&rt, alloc, text, SyntaxFault::NoToken { line: 1 });
     }
-    Ok(())
 }
 
 /// Examples of the standard's table 56, with integers for reals and a word for a string.
@@ -181,7 +164,7 @@ fn reads_declarations_of_the_standard(rt: HostRuntime) -> Result<(), Fail> {
   STRUCT RANGE : ANALOG_SIGNAL_RANGE; MIN_SCALE : ANALOG_DATA := -4095 ; MAX_SCALE : ANALOG_DATA := 4095 ; END_STRUCT ;
   FREQ : INT := 50 ; LIST : ARRAY [1..16] OF INT ; END_TYPE
 FUNCTION SIMPLE_FUN : INT VAR_INPUT A, B : INT ; C : INT := 1; END_VAR SIMPLE_FUN := A*B/C; END_FUNCTION";
-    is_read(&rt, alloc, types, 2)?;
+    is_read(&rt, alloc, types, 2);
     let chart = b"INITIAL_STEP START: END_STEP
 STEP S8: ACTION_3(L, t#10s); ACTION_4(); A(N); END_STEP
 TRANSITION FROM START TO S8 := X & Y; END_TRANSITION
@@ -200,7 +183,7 @@ fn longest_text(rt: HostRuntime) -> Result<(), Fail> {
     }
     text.extend_from_slice(b"END_PROGRAM")?;
     text.resize(1_048_576, b' ')?;
-    is_read(&rt, alloc, &text, 1)?;
+    is_read(&rt, alloc, &text, 1);
     text.push(b' ')?;
     is_refused(&rt, alloc, &text, SyntaxFault::TooLong);
     Ok(())
@@ -226,13 +209,17 @@ END_PROGRAM";
 #[test]
 fn refused_memory(rt: HostRuntime) {
     let alloc = rt.alloc();
-    match parse(alloc, EACH_LINE) {
-        Ok(units) => assert_eq!(rt; units.len(), 4),
-        Err(fault) => assert_eq!(rt; fault, SyntaxFault::Memory),
-    }
-    match parse(alloc, EACH_LINE.strip_suffix(b"END_PROGRAM").unwrap_or(b"")) {
-        Ok(_) => assert!(rt; false),
-        Err(SyntaxFault::Memory) => (),
-        Err(fault) => assert_eq!(rt; fault, SyntaxFault::NotInGrammar { line: 12 }),
+    let cases = [
+        (EACH_LINE, Ok(4)),
+        (
+            EACH_LINE.strip_suffix(b"END_PROGRAM").unwrap_or(b""),
+            Err(SyntaxFault::NotInGrammar { line: 12 }),
+        ),
+    ];
+    for (text, expected) in cases {
+        let found = count_units(alloc, text);
+        if found != Err(SyntaxFault::Memory) {
+            assert_eq!(rt; found, expected);
+        }
     }
 }
