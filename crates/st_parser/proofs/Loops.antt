@@ -127,11 +127,16 @@ module _ {A : Type 0} (head : Parser A) (test : Option Kind → Bool) (item : Pa
       → test (kind ts) ≡ true → Refuses (item ts) f → Refuses (leading head test item start) f
   leading_err one found ts f e w t = refuses_too _ _ f (λ r h. leading_is ∙ ap (λ zs. ahead zs (many test item mid)) (sym e) ∙ left_err test item one mid found ts r w t h)
 
+-- the first item is refused
+pub leading_first : {A : Type 0} (head : Parser A) (test : Option Kind → Bool) (item : Parser A) (start : List Tok) (f : ReadFault) → Refuses (head start) f → Refuses (leading head test item start) f
+unfolding leading
+leading_first head test item start f h = refuses_too _ _ f (λ r e. rw e refl) h
+
 -- item { ',' item }
 module _ {A : Type 0} (item : Parser A) (start : List Tok) where
   pub listed_first : (f : ReadFault) → Refuses (item start) f → Refuses (listed item start) f
-  unfolding listed leading
-  listed_first f h = refuses_too _ _ f (λ r e. rw e refl) h
+  unfolding listed
+  listed_first f h = leading_first item (is_symbol symbols.Comma) (next_item item) start f h
 
   pub listed_end : (mid : List Tok) (x : A) → item start ≡ Ok (x, mid) → (one found : List A) (ts : List Tok) → one ≡ [] ++ x ∷ []
       → Left (is_symbol symbols.Comma) (next_item item) one mid found ts → is_symbol symbols.Comma (kind ts) ≡ false → listed item start ≡ Ok (found, ts)
@@ -144,8 +149,8 @@ module _ {A : Type 0} (item : Parser A) (start : List Tok) where
   listed_err mid x first = leading_err item (is_symbol symbols.Comma) (next_item item) start mid x first
 
 -- for each parser that a passed function reads, what is found with what is left is all of its list
-abbrev pub EachLeft : {A : Type 0} → (Bor (List Tok) → Bool → Type 0) → After A → List Tok → List A → List Tok → Type 0
-EachLeft {A} tests post start found ts = (test : Option Kind → Bool) (p : Parser A) → TestsAs test tests → ReadsAs p post → Left test p [] start found ts
+abbrev pub EachLeft : {A : Type 0} → (Bor (List Tok) → Bool → Type 0) → After A → List A → List Tok → List A → List Tok → Type 0
+EachLeft {A} tests post found_before start found ts = (test : Option Kind → Bool) (p : Parser A) → TestsAs test tests → ReadsAs p post → Left test p found_before start found ts
 
 abbrev pub EachNextLeft : {A : Type 0} → After A → List A → List Tok → List A → List Tok → Type 0
 EachNextLeft {A} post found_before start found ts = (p : Parser A) → ReadsAs p post → Left (is_symbol symbols.Comma) (next_item p) found_before start found ts

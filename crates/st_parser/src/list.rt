@@ -42,6 +42,27 @@ pub fn many<
     Ok(found)
 }
 
+/// `item { item }`, as long as the first token passes the test `begins`.
+pub fn at_least_one<
+    T: Drop,
+    B: Fn(&Cursor<'_>) -> bool,
+    F: Fn(Global, &mut Cursor<'_>) -> Result<T, ReadFault>,
+>(alloc: Global, ts: &mut Cursor<'_>, begins: B, item: F) -> Result<List<T>, ReadFault>
+    requires test { IsTest (B.pre begins) }
+    requires item { IsReader (F.pre item) (F.post item) }
+    ensures read { (test : Option names.Kind → Bool) (p : Parser T) → TestsAs test (B.post begins) → ReadsAs p (F.post item) → Reads (spec.leading p test p ts.old) result ts.new }
+    ensures shorter { OnOk result (length ts.new < length ts.old) }
+{
+    let first = item(alloc, ts)?;
+    let mut found = single(alloc, first)?;
+    'items: while begins(ts) {
+        let another = item(alloc, ts)?;
+        found.push(another)?;
+    }
+    found.shrink_to_fit();
+    Ok(found)
+}
+
 /// `item { ',' item }`.
 pub fn listed<T: Drop, F: Fn(Global, &mut Cursor<'_>) -> Result<T, ReadFault>>(
     alloc: Global,

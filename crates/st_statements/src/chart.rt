@@ -9,7 +9,7 @@ ghost use Rattle.st_statements.specs.Reader.Charts as spec;
 
 use crate::statement::statements;
 use st_expressions::expression::expression;
-use st_parser::{Cursor, ReadFault, many, single, words};
+use st_parser::{Cursor, ReadFault, at_least_one, many, single, words};
 use st_tokens::{Keyword, Kind, Symbol};
 use st_tree::tree::{
     Action, ActionQualifier, Association, ChartElement, Duration, Expression, Identifier, Position,
@@ -297,7 +297,6 @@ fn element(alloc: Global, ts: &mut Cursor<'_>, depth_left: u8) -> Result<ChartEl
 }
 
 /// `element { element }`, where `depth_left` more levels may be opened.
-#[tactic(auto, unfolding(st_parser::specs::Reader::Parsers::leading))]
 pub fn chart(
     alloc: Global,
     ts: &mut Cursor<'_>,
@@ -305,14 +304,12 @@ pub fn chart(
 ) -> Result<List<ChartElement>, ReadFault>
     ensures { Takes (spec.chart depth_left ts.old) result ts.old ts.new }
 {
-    let first = element(alloc, ts, depth_left)?;
-    let mut found = single(alloc, first)?;
-    'items: while begins_element(ts) {
-        let item = element(alloc, ts, depth_left)?;
-        found.push(item)?;
-    }
-    found.shrink_to_fit();
-    Ok(found)
+    at_least_one(
+        alloc,
+        ts,
+        begins_element,
+        |alloc: Global, ts: &mut Cursor<'_>| element(alloc, ts, depth_left),
+    )
 }
 
 /// What is read as a chart, up to the last token, is what the grammar has, with at most so many open levels.

@@ -6,7 +6,7 @@ ghost use Rattle.st_syntax.specs.Reader.Declarations.{in_brackets};
 ghost use Rattle.st_syntax.specs.Reader.Units as spec;
 
 use crate::declaration::{member, typed, variables};
-use st_parser::{Cursor, MAX_LEVELS, ReadFault, many, single};
+use st_parser::{Cursor, MAX_LEVELS, ReadFault, at_least_one, many};
 use st_statements::chart::{begins_element, chart};
 use st_statements::statement::statements;
 use st_tokens::{Keyword, Kind, Symbol};
@@ -36,18 +36,10 @@ fn derived(alloc: Global, ts: &mut Cursor<'_>) -> Result<DeclaredType, ReadFault
 }
 
 /// `member { member }`
-#[tactic(auto, unfolding(st_parser::specs::Reader::Parsers::leading))]
 fn members(alloc: Global, ts: &mut Cursor<'_>) -> Result<List<Declaration>, ReadFault>
     ensures { Takes (spec.members in_brackets ts.old) result ts.old ts.new }
 {
-    let first = member(alloc, ts)?;
-    let mut found = single(alloc, first)?;
-    'items: while ts.at_word() {
-        let item = member(alloc, ts)?;
-        found.push(item)?;
-    }
-    found.shrink_to_fit();
-    Ok(found)
+    at_least_one(alloc, ts, |ts: &Cursor<'_>| ts.at_word(), member)
 }
 
 /// `STRUCT member { member } END_STRUCT ';'`

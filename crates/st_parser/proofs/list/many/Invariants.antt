@@ -1,10 +1,10 @@
-use Rattle.std.proofs.Common.{◌≤◌, length}
+use Rattle.std.proofs.Common.{◌≤◌, [], length}
 use Rattle.st_parser.proofs.Loops.{EachLeft}
 use Rattle.st_parser.proofs.list.many.Given as goal
 
 abbrev pub invariant-items : goal.invariant-items
 invariant-items g l = record {
-  left : EachLeft (goal.B-post g l.begins) (goal.F-post g l.item) l.initial.ts l.found l.ts;
+  left : EachLeft (goal.B-post g l.begins) (goal.F-post g l.item) [] l.initial.ts l.found l.ts;
   shorter : length l.ts ≤ length l.initial.ts;
 }
 
