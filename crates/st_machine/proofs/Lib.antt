@@ -21,5 +21,6 @@ pub mod Rooms
 pub mod Stays
 pub mod Stores
 pub mod Turns
+pub mod UnitWorks
 pub mod Way
 pub mod Within

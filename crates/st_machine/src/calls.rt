@@ -13,7 +13,7 @@ use crate::cells::{NO_VALUE, value_in};
 use crate::counting::{go_back, step};
 use crate::distances::{add, index, index_below};
 use crate::function::Function;
-use crate::moves::Move;
+use crate::moves::{Move, place_after};
 use crate::operations::{
     apply, combine, cut, drop_one, leave, pick, push, select, skip_if, skip_unless, within,
 };
@@ -62,17 +62,13 @@ pub(crate) fn call(
             place += 1;
             continue;
         }
-        match perform(&instrs[place], variables, own, &mut left) {
-            Move::On => place += 1,
-            Move::Skip(distance) => place = (place + 1).saturating_add(distance),
-            Move::Back(distance) => place = place.saturating_sub(distance),
-            Move::Stop(kind) => {
+        let to = perform(&instrs[place], variables, own, &mut left);
+        match place_after(to, place) {
+            Ok(other) => place = other,
+            Err(kind) => {
                 let line = function.code().line(place);
-                return Err(Halt {
-                    kind,
-                    line,
-                    unit: Some(number as usize),
-                });
+                let unit = Some(number as usize);
+                return Err(Halt { kind, line, unit });
             }
         }
     }

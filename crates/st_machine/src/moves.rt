@@ -1,4 +1,7 @@
 //! Where an instruction leads.
+ghost use Rattle.std.specs.Prelude.{◌≡◌, ◌+◌, ◌<◌, ◌^◌};
+ghost use Rattle.st_machine.specs.Running.{place_after};
+
 use st_meaning::RunFaultKind;
 
 /// Where an instruction leads.
@@ -12,4 +15,21 @@ pub enum Move {
     Back(usize),
     /// Nowhere: the run ends.
     Stop(RunFaultKind),
+}
+
+/// The place that a move leads to from another one.
+///
+/// # Errors
+/// Where the run ends.
+#[inline(always)]
+pub(crate) fn place_after(to: Move, place: usize) -> Result<usize, RunFaultKind>
+    requires { place + 1 < 2 ^ 64 }
+    ensures { result ≡ place_after to place }
+{
+    match to {
+        Move::On => Ok(place + 1),
+        Move::Skip(distance) => Ok((place + 1).saturating_add(distance)),
+        Move::Back(distance) => Ok(place.saturating_sub(distance)),
+        Move::Stop(kind) => Err(kind),
+    }
 }

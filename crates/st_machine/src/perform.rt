@@ -1,6 +1,7 @@
 //! Doing an instruction.
 ghost use Rattle.std.specs.Prelude.{◌≡◌, ◌≤◌, ℕ, length, IsTrue};
 ghost use Rattle.st_code.specs.Machine.{act};
+ghost use Rattle.st_fused.specs.Fused.{is_own};
 ghost use Rattle.st_layout.specs.Memory.{Content};
 ghost use Rattle.st_machine.specs.Ready.{is_ready};
 ghost use Rattle.st_machine.specs.Running.{environment_at, moved};
@@ -17,7 +18,19 @@ use crate::transfers::{get, get_at, put, put_at};
 use st_code::Instr;
 use st_layout::{Layout, Memory};
 
-/// Does an instruction, which enters no instance, calls no function and is about no chart.
+/// Whether the machine does an instruction by itself: it enters no instance, calls no function, and is about no chart.
+#[inline(always)]
+pub fn is_own(instr: &Instr) -> bool
+    ensures { result ≡ is_own instr.now }
+{
+    match *instr {
+        Instr::Enter(..) | Instr::Call(..) => false,
+        Instr::Times(..) | Instr::Ask(..) | Instr::Chart(..) => false,
+        _ => true,
+    }
+}
+
+/// Does an instruction that the machine does by itself.
 #[inline(always)]
 pub fn perform<M: Memory>(
     instr: &Instr,

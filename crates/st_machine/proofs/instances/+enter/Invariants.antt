@@ -1,4 +1,4 @@
-use Rattle.std.proofs.Common.{◌≡◌, ◌≤◌, length}
+use Rattle.std.proofs.Common.{◌≡◌, ◌≤◌, ◌*◌, ◌+◌, length}
 use Rattle.st_chart_runs.specs.Views.{room_of}
 use Rattle.st_code.specs.Machine.{Reaches, state}
 use Rattle.st_code.specs.Relative.{among, code_from}
@@ -7,13 +7,16 @@ use Rattle.st_machine.specs.Levels.{environment_with, rooms_of}
 use Rattle.st_machine.proofs.Ends.{weight}
 use Rattle.st_machine.proofs.instances.+enter.Given as goal
 
--- each level has as many levels as stand before it
+-- an instance has as many levels as stand before its own
 abbrev pub decreases-enter : goal.decreases-enter
-decreases-enter g l = length l.levels.now
+decreases-enter g l = 2 * length l.levels.now
+
+abbrev pub decreases-do_with_units : goal.decreases-do_with_units
+decreases-do_with_units g l = 2 * length l.levels.now + 1
 
 -- the run is on its way among all values
-abbrev pub invariant-loop-place : goal.invariant-loop-place
-invariant-loop-place g l =
+abbrev pub invariant-enter-loop-place : goal.invariant-enter-loop-place
+invariant-enter-loop-place g l =
     let before = g.M.Memory.content l.layout l.fn.memory in
     let content = g.M.Memory.content l.layout l.memory in
     record {
@@ -28,5 +31,5 @@ invariant-loop-place g l =
           (among before.values l.first (run_by e.said l.number l.first l.now before l.limit)) (state l.place l.stack.0 content.values l.left);
     }
 
-abbrev pub decreases-loop-place : goal.decreases-loop-place
-decreases-loop-place g l = weight (length l.block.code) l.place l.left
+abbrev pub decreases-enter-loop-place : goal.decreases-enter-loop-place
+decreases-enter-loop-place g l = weight (length (code_from l.first l.block.code)) l.place l.left
