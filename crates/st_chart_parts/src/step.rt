@@ -39,7 +39,7 @@ impl<'a> StepPart<'a> {
         }
     }
 
-    /// Its name.
+    /// The step's name, as the program spells it.
     pub fn name(&self) -> &'a Word
         ensures { result.now ≡ self.now.name.spelling }
     {

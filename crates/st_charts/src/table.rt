@@ -36,9 +36,9 @@ pub struct Transition {
 /// An association of a step with a name.
 #[derive(Clone, Copy, Debug, PartialEq, Eq)]
 pub struct Link {
-    /// The step.
+    /// The step's number: a chart's steps are counted from 0.
     pub step: u32,
-    /// The name.
+    /// The number of the action or the variable that it names: those of a chart are counted from 0.
     pub name: u32,
     /// How the step controls it.
     pub qualifier: Qualifier,

@@ -42,7 +42,7 @@ impl Program {
         Program { units, main, order }
     }
 
-    /// The text.
+    /// The units of the text, in order, all of them checked.
     pub fn units(&self) -> &[Unit]
         ensures units { result.now ≡ text_of self.now }
         ensures checked { IsChecked self.now }

@@ -68,7 +68,7 @@ pub fn compile(alloc: Global, program: Program) -> Result<Image, AllocError>
 }
 
 impl Image {
-    /// The program.
+    /// The checked program that the code was made of.
     pub fn program(&self) -> &Program
         ensures { result.now ≡ self.now }
     {

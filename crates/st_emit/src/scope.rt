@@ -64,7 +64,7 @@ impl<'a> Scope<'a> {
         Vec::new(self.alloc)
     }
 
-    /// The variables.
+    /// What the path of a variable of this unit begins with: the unit's variables.
     pub fn root(&self) -> Node
         ensures part { part_in self.now.0 result ≡ (whole_of self.now).variables }
         ensures node { IsNodeOf self.now.0 result }

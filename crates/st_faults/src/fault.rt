@@ -52,9 +52,9 @@ impl Rule {
 /// A rule that is broken at a token.
 #[derive(Clone, Copy, Debug, PartialEq, Eq)]
 pub struct Fault {
-    /// The token.
+    /// Where the token stands that is named as the place of the fault.
     pub position: Position,
-    /// The rule.
+    /// The rule that is broken there.
     pub rule: Rule,
 }
 

@@ -39,7 +39,7 @@ impl<'a> Model for Written<'a> {
 }
 
 impl<'a> Written<'a> {
-    /// Of this value.
+    /// The initial value as a declaration writes it, with the runs of its list.
     pub fn new(alloc: Global, initial: &'a Initial) -> Result<Written<'a>, AllocError>
         ensures { IfOk result (λ written. written ≡ initial.now) }
     {
@@ -47,7 +47,7 @@ impl<'a> Written<'a> {
         Ok(Written { initial, runs })
     }
 
-    /// The value.
+    /// The initial value, as the declaration writes it.
     pub fn initial(&self) -> &'a Initial
         ensures { result.now ≡ self.now }
     {

@@ -50,7 +50,7 @@ impl<'a> Listing<'a> {
         })
     }
 
-    /// The leaves.
+    /// The leaves that were listed, in order.
     pub fn into_leaves(self) -> Vec<Leaf>
         ensures { result.items ≡ self.entry.leaves }
     {

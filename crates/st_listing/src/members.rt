@@ -53,7 +53,7 @@ impl<'a, 't> Member<'a, 't> {
         }
     }
 
-    /// The declared name.
+    /// The name that is declared, with its kind and its type.
     pub fn row(&self) -> &'t Row<'a>
         ensures { result.now ≡ self.now.declared }
     {

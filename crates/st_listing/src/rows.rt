@@ -70,7 +70,7 @@ impl<'a> Row<'a> {
         })
     }
 
-    /// The name.
+    /// The declared name.
     pub fn name(&self) -> &'a Identifier
         ensures name { result.now ≡ self.now.name }
         ensures variable { is_constant self.now.kind ≡ false }

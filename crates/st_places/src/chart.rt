@@ -33,7 +33,7 @@ pub(crate) struct Steps<'a> {
 }
 
 impl<'a> Chart<'a> {
-    /// Of what declares this.
+    /// The chart in what declares this: none has no elements.
     pub fn of(alloc: Global, unit: UnitKind<'a>) -> Result<Chart<'a>, AllocError>
         ensures { IfOk result (λ chart. HasElements (chart_in (declared_by unit.entry)) chart) }
     {

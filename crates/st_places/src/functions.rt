@@ -27,7 +27,7 @@ const MAX_VARIABLES: usize = 999_999;
 /// A unit as what can be called.
 #[derive(Drop)]
 pub(crate) struct Callable<'a> {
-    /// Of a function.
+    /// How it is called, where it is a function.
     pub function: Option<Function<'a>>,
     /// How the variables of a function begin, its result first.
     pub starts: List<Start>,

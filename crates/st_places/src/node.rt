@@ -24,6 +24,6 @@ pub struct Dimension {
     pub last: u16,
     /// How many leaves stand between two elements whose subscripts differ by one.
     pub stride: u32,
-    /// The lower bound.
+    /// The least subscript.
     pub low: i64,
 }

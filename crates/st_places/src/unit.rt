@@ -39,7 +39,7 @@ pub(crate) struct UnitParts<'a> {
     pub members: Members<'a>,
     pub constants: Constants<'a>,
     pub chart: Chart<'a>,
-    /// Of an array type.
+    /// What its elements are, where it is an array type.
     pub elements: Option<ArrayParts>,
     /// Whether it is a function block whose instances have at most 65,536 leaves.
     pub is_small_block: bool,

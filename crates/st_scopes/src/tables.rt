@@ -53,7 +53,7 @@ impl<'a> Tables<'a> {
         Ok(Tables { text, types, names })
     }
 
-    /// The text.
+    /// The units of the text that the tables are of.
     pub fn text(&self) -> &'a [Unit]
         ensures { result.now ≡ self.now }
     {

@@ -40,7 +40,7 @@ impl Reply {
         })
     }
 
-    /// Its bytes.
+    /// The bytes of the reply, to be written as they are.
     pub fn as_slice(&self) -> &[u8]
         ensures { result.now ≡ self.now }
     {

@@ -23,7 +23,7 @@ pub struct Choices {
 }
 
 impl Size {
-    /// Of no leaves.
+    /// The size of what has no leaves.
     pub fn none() -> Size
         ensures { IsSize result [] }
     {

@@ -39,7 +39,7 @@ impl Word {
         Ok(Word { bytes })
     }
 
-    /// The bytes.
+    /// The word's bytes, as they stand in the text.
     pub fn as_slice(&self) -> &[u8]
         ensures { result.now ≡ self.now }
     {

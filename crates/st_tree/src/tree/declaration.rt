@@ -18,7 +18,7 @@ pub enum TypeName {
 pub struct Subrange {
     /// The least subscript.
     pub lower: SignedInteger,
-    /// The greatest.
+    /// The greatest subscript.
     pub upper: SignedInteger,
 }
 
