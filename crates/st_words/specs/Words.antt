@@ -43,9 +43,13 @@ stc_top = record {
   subs = [];
 }
 
+-- with the first subcommand
+abbrev pub checking_app : App
+checking_app = with_subcommand stc_top check_app.top
+
 -- with what says something of a text alone
 abbrev pub text_app : App
-text_app = with_subcommand (with_subcommand stc_top check_app.top) layout_app.top
+text_app = with_subcommand checking_app layout_app.top
 
 -- the whole command line
 abbrev pub stc_app : App

@@ -1,9 +1,9 @@
 //! What the program's words ask for, as `clap` reads them.
 
-ghost use Rattle.std.specs.Prelude.{◌≡◌, ℕ, [], IfErr, IfOk, IfSome, IsNone, OnOk, map, option_map, false};
-ghost use Rattle.clap.specs.Words.{app_of, kind_of, subcommand_rows_of};
+ghost use Rattle.std.specs.Prelude.{◌≡◌, ℕ, [], Some, IfErr, IfOk, IfSome, IsNone, OnOk, map, option_map, false};
+ghost use Rattle.clap.specs.Words.{IsPlainArg, app_of, kind_of, new_rule, rule_of, subcommand_rows_of};
 ghost use Rattle.clap.specs.declared.builder.command.Command.TheViews.{out-Command};
-ghost use Rattle.st_words.specs.Words.{AreInOrder, HasLimit, IsFaultOf, IsLimitOf, IsOrder, IsRunnable, IsStepLimit, check_app, chosen_by, faults_of, file_app, layout_app, run_app, stc_app, text_app, verb_name};
+ghost use Rattle.st_words.specs.Words.{AreInOrder, HasLimit, IsFaultOf, IsLimitOf, IsOrder, IsRunnable, IsStepLimit, check_app, checking_app, chosen_by, faults_of, file_app, layout_app, run_app, stc_app, stc_top, text_app, verb_name};
 
 use clap::error::ErrorKind;
 use clap::{Arg, ArgMatches, Command, Error};
@@ -53,6 +53,17 @@ pub fn read_words<'a, S: AsStr>(alloc: Global, words: &'a [S]) -> Result<Order<'
     ensures memory { IfErr result (λ error. AreInOrder (map S.text words.entry.now) → kind_of error ≡ ErrorKind.OutOfMemory) }
 {
     let mut command = stc_command(alloc)?;
+    order_by(&mut command, words)
+}
+
+/// The order that the words give the command line.
+fn order_by<'a, S: AsStr>(command: &mut Command<'a>, words: &'a [S]) -> Result<Order<'a>, Error>
+    requires { app_of command.old ≡ stc_app }
+    ensures order { IfOk result (λ order. IsOrder order (chosen_by (map S.text words.entry.now))) }
+    ensures faultless { OnOk result (faults_of (map S.text words.entry.now) ≡ []) }
+    ensures fault { IfErr result (IsFaultOf (map S.text words.entry.now)) }
+    ensures memory { IfErr result (λ error. AreInOrder (map S.text words.entry.now) → kind_of error ≡ ErrorKind.OutOfMemory) }
+{
     let matches = command.try_get_matches_from_mut(words)?;
     match order_in(&matches) {
         Some(order) => Ok(order),
@@ -68,7 +79,7 @@ fn stc_command<'a>(alloc: Global) -> Result<Command<'a>, AllocError>
     ensures { IfOk result (λ command. app_of command ≡ stc_app) }
 {
     let run = run_command(alloc)?;
-    text_command(alloc)?.subcommand(run)?.bin_name("stc")
+    text_command(alloc)?.subcommand(run)
 }
 
 /// The program's own settings, and the subcommands that say something of a text alone.
@@ -76,15 +87,29 @@ fn text_command<'a>(alloc: Global) -> Result<Command<'a>, AllocError>
     ensures app { IfOk result (λ command. app_of command ≡ text_app) }
     ensures local { IfOk result (λ command. (out-Command command).has_globals ≡ false) }
 {
-    let check = check_command(alloc)?;
     let layout = layout_command(alloc)?;
+    checking_command(alloc)?.subcommand(layout)
+}
+
+/// The program's own settings, its name, and the subcommand `check`.
+fn checking_command<'a>(alloc: Global) -> Result<Command<'a>, AllocError>
+    ensures app { IfOk result (λ command. app_of command ≡ checking_app) }
+    ensures local { IfOk result (λ command. (out-Command command).has_globals ≡ false) }
+{
+    let check = check_command(alloc)?;
+    bare_command(alloc).subcommand(check)?.bin_name("stc")
+}
+
+/// The program's own settings.
+fn bare_command<'a>(alloc: Global) -> Command<'a>
+    ensures app { app_of result ≡ stc_top }
+    ensures local { (out-Command result).has_globals ≡ false }
+{
     Command::new(alloc, "stc")
         .about("A soft controller for programs in Structured Text.")
         .version(VERSION)
         .subcommand_required(true)
         .disable_help_subcommand(true)
-        .subcommand(check)?
-        .subcommand(layout)
 }
 
 /// `check FILE --program N`
@@ -110,12 +135,11 @@ fn run_command<'a>(alloc: Global) -> Result<Command<'a>, AllocError>
     ensures app { IfOk result (λ command. app_of command ≡ run_app) }
     ensures local { IfOk result (λ command. (out-Command command).has_globals ≡ false) }
 {
-    let steps = Arg::new(alloc, "steps").long("steps").value_name("K").help(
-        "The most steps of one scan, from 1 to 10000000; 100000 where it isn't given",
-    );
     file_command(alloc, "run")?
         .about("Run a session over the program on standard input and output.")
-        .arg(steps)
+        .arg(option(alloc, "steps", "K").help(
+            "The most steps of one scan, from 1 to 10000000; 100000 where it isn't given",
+        ))
 }
 
 /// A subcommand that takes FILE and `--program N`.
@@ -123,15 +147,27 @@ fn file_command<'a>(alloc: Global, name: &'a str) -> Result<Command<'a>, AllocEr
     ensures app { IfOk result (λ command. app_of command ≡ file_app name.entry.now) }
     ensures local { IfOk result (λ command. (out-Command command).has_globals ≡ false) }
 {
-    let file = Arg::new(alloc, "FILE")
-        .help("The source text")
-        .required(true);
-    let program = Arg::new(alloc, "program")
-        .long("program")
-        .value_name("N")
-        .help("The name of the main program")
-        .required(true);
-    Command::new(alloc, name).arg(file)?.arg(program)
+    Command::new(alloc, name)
+        .arg(
+            Arg::new(alloc, "FILE")
+                .help("The source text")
+                .required(true),
+        )?
+        .arg(
+            option(alloc, "program", "N")
+                .help("The name of the main program")
+                .required(true),
+        )
+}
+
+/// The option `--NAME VALUE`, which may be left out.
+fn option<'a>(alloc: Global, name: &'a str, value: &'a str) -> Arg<'a>
+    ensures id { result.id ≡ name.entry }
+    ensures rule { rule_of result ≡ record (new_rule name.entry.now) { long = Some name.entry.now; value_names = 1 } }
+    ensures plain { IsPlainArg result }
+    ensures local { result.global ≡ false }
+{
+    Arg::new(alloc, name).long(name).value_name(value)
 }
 
 /// The order that the subcommand and its matches give.

@@ -6,28 +6,35 @@ use std::test::Fail;
 
 #[test]
 fn reads_an_order(rt: HostRuntime) -> Result<(), Fail> {
-    let order = read_words(rt.alloc(), &["stc", "run", "a.st", "--program", "Main"])?;
-    assert!(rt; order.verb == Verb::Run);
-    assert_eq!(rt; order.file, "a.st");
-    assert_eq!(rt; order.main, "Main");
-    assert_eq!(rt; order.steps, 100_000);
     assert_eq!(rt; DEFAULT_STEPS, 100_000);
-
-    let order = read_words(rt.alloc(), &["stc", "check", "--program", "Main", "a.st"])?;
-    assert!(rt; order.verb == Verb::Check);
-    assert_eq!(rt; order.file, "a.st");
-    assert_eq!(rt; order.main, "Main");
-
-    let order = read_words(rt.alloc(), &["stc", "layout", "a.st", "--program", "Main"])?;
-    assert!(rt; order.verb == Verb::Layout);
-    assert_eq!(rt; order.file, "a.st");
-    assert_eq!(rt; order.main, "Main");
-
-    let words = ["stc", "run", "--steps", "7", "--program=Main", "a.st"];
-    let order = read_words(rt.alloc(), &words)?;
-    assert_eq!(rt; order.file, "a.st");
-    assert_eq!(rt; order.main, "Main");
-    assert_eq!(rt; order.steps, 7);
+    for (words, verb, steps) in [
+        (
+            ["stc", "run", "a.st", "--program", "Main"].as_slice(),
+            Verb::Run,
+            100_000,
+        ),
+        (
+            ["stc", "check", "--program", "Main", "a.st"].as_slice(),
+            Verb::Check,
+            100_000,
+        ),
+        (
+            ["stc", "layout", "a.st", "--program", "Main"].as_slice(),
+            Verb::Layout,
+            100_000,
+        ),
+        (
+            ["stc", "run", "--steps", "7", "--program=Main", "a.st"].as_slice(),
+            Verb::Run,
+            7,
+        ),
+    ] {
+        let order = read_words(rt.alloc(), words)?;
+        assert!(rt; order.verb == verb, "{words:?}");
+        assert_eq!(rt; order.file, "a.st");
+        assert_eq!(rt; order.main, "Main");
+        assert_eq!(rt; order.steps, steps);
+    }
     Ok(())
 }
 
