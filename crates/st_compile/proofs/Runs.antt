@@ -16,7 +16,8 @@ use Rattle.st_machine.specs.Blocks.{AreUnits, EntersBelow, Run, UnitsView, types
 use Rattle.st_machine.specs.Charts.{ChartsAmong}
 use Rattle.st_machine.specs.Functions.{CallsBelow}
 use Rattle.st_machine.specs.Levels.{Rooms, environment_in}
-use Rattle.st_machine.specs.Running.{setting_at, stop_of}
+use Rattle.st_chart_runs.specs.Views.{setting_at}
+use Rattle.st_machine.specs.Running.{stop_of}
 use Rattle.st_machine.specs.declared.run.Halt.{Halt}
 use Rattle.st_machine.specs.declared.stacks.Room.{Room}
 use Rattle.st_meaning.specs.Meaning.{Values}

@@ -1,7 +1,7 @@
 //! Running a program once.
 ghost use Rattle.std.specs.Prelude.{◌≡◌, Err, MatchResult, Ok};
 ghost use Rattle.st_check.specs.Programs.{leaves_of_program};
-ghost use Rattle.st_machine.specs.Running.{setting_at};
+ghost use Rattle.st_chart_runs.specs.Views.{setting_at};
 ghost use Rattle.st_compile.specs.Programs.{HasRoom, scan_result};
 
 use crate::image::Image;

@@ -12,7 +12,7 @@ use Rattle.st_meaning.specs.Wholes.{Whole}
 use Rattle.st_code.specs.Code.{Line, at, base_of, plain, term_code, variables_code}
 use Rattle.st_code.specs.declared.instr.Instr.TheVariants.{Ask, GoOn, Push, Put, SkipUnless, Step}
 use Rattle.st_emit.specs.Charts.{test_code}
-use Rattle.st_emit.proofs.Commands.{before_code, grown}
+use Rattle.st_emit_expressions.proofs.Before.{before_code, grown}
 
 -- ---- variables
 

@@ -1,8 +1,8 @@
 -- The code of statements, made from its last instruction to the first.
-use Rattle.std.proofs.Common.{◌≡◌, ℕ, suc, ◌+◌, ◌-◌, ◌<◌, ◌≤◌, Bool, List, [], ◌∷◌, ◌++◌, length, drop, get_or, reverse, sym, ap, ◌∙◌, rules, arith, append_assoc, length-append, drop-cons}
+use Rattle.std.proofs.Common.{◌≡◌, ℕ, suc, ◌+◌, ◌-◌, ◌<◌, ◌≤◌, Bool, List, [], ◌∷◌, ◌++◌, length, drop, get_or, reverse, sym, ap, ◌∙◌, rules, arith, append_assoc, drop-cons}
 use Rattle.std.specs.Prelude.{slice_set}
 use Rattle.std.proofs.Math.Seq.{set-append_seam}
-use Rattle.std.proofs.lemmas.List.{reverse-append, length-reverse}
+use Rattle.std.proofs.lemmas.List.{reverse-append}
 use Rattle.st_values.specs.declared.elem.Elem.{Elem}
 use Rattle.st_tree.specs.declared.tree.statement.CaseElement.{CaseElement, out-CaseElement, the_lemmas}
 use Rattle.st_tree.specs.declared.tree.statement.CaseStatement.{CaseStatement}
@@ -16,6 +16,7 @@ use Rattle.st_meaning.specs.Typing.{body_of, branch_of, case_of, command_of, con
 use Rattle.st_meaning.specs.Wholes.{Whole}
 use Rattle.st_code.specs.Code.{Line, at, plain, branches_code, case_test, cases_code, command_code, commands_code, count_code, term_code}
 use Rattle.st_code.specs.declared.instr.Instr.TheVariants.{Begin, Drop, GoBack, Leave, Next, Step, Test}
+use Rattle.st_emit_expressions.proofs.Before.{before_code, grown}
 use Rattle.st_emit.specs.Statements.{branches_in, case_code, case_in, cases_in, element_labels, front_code, part_code, repeat_in, skip_instr, turns_code, while_in}
 
 -- ---- the folds at each variant
@@ -36,13 +37,6 @@ element_is : (w : Whole) (e : Elem) (x : CaseElement) (rest : Cases) → case_of
 element_is w e x rest = search (rules, the_lemmas)
 
 -- ---- lists of instructions
-
--- code before code that is there
-pub before_code : (base mid new a b : List Line) → mid ≡ base ++ reverse a → new ≡ mid ++ reverse b → new ≡ base ++ reverse (b ++ a)
-before_code base mid new a b e f = f ∙ ap (λ m. m ++ reverse b) e ∙ append_assoc base (reverse a) (reverse b) ∙ ap (λ r. base ++ r) (sym (reverse-append b a))
-
-pub grown : (base new a : List Line) → new ≡ base ++ reverse a → length new ≡ length base + length a
-grown base new a e = omega (arith, ap length e, length-append base (reverse a), length-reverse a)
 
 set_last : (base big : List Line) (x y : Line) → slice_set (base ++ reverse (big ++ x ∷ [])) (length base) y ≡ base ++ reverse (big ++ y ∷ [])
 set_last base big x y =

@@ -27,8 +27,8 @@ use Rattle.st_code.specs.declared.instr.Instr.{Instr}
 use Rattle.st_code.specs.declared.instr.Instr.TheVariants.{Enter, Invoke, Step}
 use Rattle.st_places.specs.Parts.{TablesView, optional_whole, whole_in}
 use Rattle.st_emit.specs.Instances.{entering, instance_instr, running}
-use Rattle.st_emit.specs.Trees.{whole_of}
-use Rattle.st_emit.proofs.Commands.{before_code}
+use Rattle.st_emit_expressions.specs.Trees.{whole_of}
+use Rattle.st_emit_expressions.proofs.Before.{before_code}
 
 -- ---- arguments
 

@@ -1,10 +1,3 @@
-pub mod Calling
 pub mod ChartCode
 pub mod Commands
-pub mod Destinations
-pub mod Emitting
 pub mod Invoking
-pub mod Owns
-pub mod StepParts
-pub mod Trees
-pub mod Ways

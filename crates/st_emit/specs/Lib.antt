@@ -1,9 +1,3 @@
-pub mod Calls
 pub mod Charts
-pub mod Emits
-pub mod Functions
 pub mod Instances
-pub mod Places
 pub mod Statements
-pub mod Steps
-pub mod Trees

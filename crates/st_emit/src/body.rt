@@ -5,9 +5,9 @@ ghost use Rattle.st_meaning.specs.Typing.{body_of};
 ghost use Rattle.st_code.specs.Code.{body_code};
 ghost use Rattle.st_places.specs.Parts.{whole_in};
 
-use crate::scope::Scope;
 use crate::statements::emit_statements;
 use st_code::Code;
+use st_emit_expressions::Scope;
 use st_places::Tables;
 use st_tree::tree::Statement;
 use std::alloc::{AllocError, Global};

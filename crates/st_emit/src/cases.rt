@@ -4,14 +4,11 @@ ghost use Rattle.st_types.specs.Initials.{value_written};
 ghost use Rattle.st_meaning.specs.Typing.{label_range};
 ghost use Rattle.st_code.specs.Code.{case_test, cell_of, command_code, label_code, plain};
 ghost use Rattle.st_emit.specs.Statements.{case_code, case_in};
-ghost use Rattle.st_emit.specs.Trees.{whole_of};
+ghost use Rattle.st_emit_expressions.specs.Trees.{whole_of};
 
-use crate::expression::emit_expression;
-use crate::index::emit_value;
-use crate::own::own_or_lint;
-use crate::scope::Scope;
 use crate::statements::emit_statements;
 use st_code::{Code, Instr};
+use st_emit_expressions::{Scope, emit_expression, emit_value, own_or_lint};
 use st_initials::value_written;
 use st_tree::tree::{CaseElement, CaseStatement, Constant, Label};
 use st_values::Elem;

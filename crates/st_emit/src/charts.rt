@@ -10,14 +10,11 @@ ghost use Rattle.st_code.specs.Code.{actions_code, base_of, code_of, tests_code,
 ghost use Rattle.st_places.specs.Parts.{whole_in};
 ghost use Rattle.st_sketches.specs.Views.{names_of};
 ghost use Rattle.st_emit.specs.Charts.{action_code, acts_in, test_code, tests_in};
-ghost use Rattle.st_emit.specs.Trees.{whole_of};
+ghost use Rattle.st_emit_expressions.specs.Trees.{whole_of};
 
-use crate::expression::emit_expression;
-use crate::numbers::narrow;
-use crate::places::place_named;
-use crate::scope::Scope;
 use crate::statements::emit_statements;
 use st_code::{Code, Instr};
+use st_emit_expressions::{Scope, emit_expression, narrow, place_named};
 use st_places::Tables;
 use st_sketches::Names;
 use st_tree::tree::{Action, ChartElement, Transition};

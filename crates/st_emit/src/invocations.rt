@@ -3,15 +3,12 @@ ghost use Rattle.std.specs.Prelude.{◌≡◌, ◌∷◌, ◌++◌, IfSome, OnOk
 ghost use Rattle.st_meaning.specs.Typing.{call_command, inputs_of, outputs_of, pin_of, place_typed};
 ghost use Rattle.st_meaning.specs.Wholes.{type_of};
 ghost use Rattle.st_code.specs.Code.{base_of, command_code, moves_code};
-ghost use Rattle.st_emit.specs.Emits.{Emits};
+ghost use Rattle.st_emit_expressions.specs.Emits.{Emits};
 ghost use Rattle.st_emit.specs.Instances.{instance_instr};
-ghost use Rattle.st_emit.specs.Trees.{whole_of};
+ghost use Rattle.st_emit_expressions.specs.Trees.{whole_of};
 
-use crate::expression::{emit_expression, emit_store};
-use crate::index::emit_nil;
-use crate::places::locate;
-use crate::scope::Scope;
 use st_code::{Code, Instr};
+use st_emit_expressions::{Scope, emit_expression, emit_nil, emit_store, locate};
 use st_tree::tree::{Argument, Call, Identifier};
 use st_values::Elem;
 use std::alloc::AllocError;

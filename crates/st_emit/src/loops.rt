@@ -3,13 +3,11 @@ ghost use Rattle.std.specs.Prelude.{◌≡◌, ◌≤◌, ◌+◌, ◌-◌, ◌+
 ghost use Rattle.st_meaning.specs.Typing.{body_of, condition, step_typed};
 ghost use Rattle.st_code.specs.Code.{command_code, commands_code, count_code, term_code};
 ghost use Rattle.st_emit.specs.Statements.{for_in, repeat_in, skip_instr, turns_code, while_in};
-ghost use Rattle.st_emit.specs.Trees.{whole_of};
+ghost use Rattle.st_emit_expressions.specs.Trees.{whole_of};
 
-use crate::expression::emit_expression;
-use crate::places::place_named;
-use crate::scope::Scope;
 use crate::statements::emit_statements;
 use st_code::{Code, Instr};
+use st_emit_expressions::{Scope, emit_expression, place_named};
 use st_tree::Boxed;
 use st_tree::tree::{Expression, ForStatement, RepeatStatement, Statement, WhileStatement};
 use st_values::Elem;

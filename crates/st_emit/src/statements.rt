@@ -3,15 +3,13 @@ ghost use Rattle.std.specs.Prelude.{◌≡◌, ◌≤◌, ◌-◌, ◌++◌, OnO
 ghost use Rattle.st_meaning.specs.Typing.{body_of, command_of};
 ghost use Rattle.st_code.specs.Code.{at, command_code, commands_code, plain};
 ghost use Rattle.st_emit.specs.Statements.{assignment_in, if_in, part_code};
-ghost use Rattle.st_emit.specs.Trees.{whole_of};
+ghost use Rattle.st_emit_expressions.specs.Trees.{whole_of};
 
 use crate::cases::emit_case;
-use crate::expression::{emit_expression, emit_store};
 use crate::invocations::emit_invocation;
 use crate::loops::{emit_for, emit_repeat, emit_while};
-use crate::places::locate;
-use crate::scope::Scope;
 use st_code::{Code, Instr};
+use st_emit_expressions::{Scope, emit_expression, emit_store, locate};
 use st_tree::tree::{ConditionalPart, Expression, IfStatement, Statement, Variable};
 use st_values::Elem;
 use std::alloc::AllocError;

@@ -12,7 +12,7 @@ use Rattle.st_code.specs.Code.{Line}
 use Rattle.st_code.specs.Machine.{Environment, act, stuck}
 use Rattle.st_code.specs.declared.instr.Instr.{Instr}
 use Rattle.st_fused.specs.Fused.{is_of_chart}
-use Rattle.st_machine.specs.Running.{setting_at}
+use Rattle.st_chart_runs.specs.Views.{setting_at}
 
 -- the chart of the unit is known
 abbrev pub is_known : List (Option SketchView) → ChartTest

@@ -3,7 +3,5 @@ pub mod Chains
 pub mod Charts
 pub mod Functions
 pub mod Levels
-pub mod Quick
-pub mod Ready
 pub mod Running
 pub mod Stretches

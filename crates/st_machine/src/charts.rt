@@ -6,9 +6,9 @@ ghost use Rattle.st_code.specs.Machine.{act, goes, state, truth_of};
 ghost use Rattle.st_layout.specs.Memory.{Content};
 ghost use Rattle.st_machine.specs.Charts.{ChartWork, is_known, on_among};
 
-use crate::stack::Stack;
 use st_chart_runs::{Workspace, invoke_chart, is_asked, set_times};
 use st_code::Instr;
+use st_instructions::Stack;
 use st_layout::{Layout, Memory};
 use st_sketches::Sketch;
 

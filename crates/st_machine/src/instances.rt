@@ -10,14 +10,12 @@ ghost use Rattle.st_machine.specs.Running.{followed};
 
 use crate::calls::call;
 use crate::charts::do_chart;
-use crate::moves::place_after;
-use crate::perform::{is_own, perform};
 use crate::run::Halt;
-use crate::stack::Stack;
 use crate::stacks::Level;
 use crate::units::Units;
 use st_chart_runs::Workspace;
 use st_code::Instr;
+use st_instructions::{Stack, is_own, perform, place_after};
 use st_layout::{Layout, Memory};
 
 /// Runs the body of the block of this number on the instance whose first leaf has the other one. There is a level for each one up to

@@ -2,9 +2,8 @@
 ghost use Rattle.std.specs.Prelude.{◌≡◌, [], ◌∷◌, IfOk};
 ghost use Rattle.st_machine.specs.Levels.{rooms_of};
 
-use crate::cells::NO_VALUE;
-use crate::stack::Stack;
 use st_chart_runs::{ChartRoom, Workspace};
+use st_instructions::{NO_VALUE, Stack};
 use st_values::Value;
 use std::alloc::{AllocError, Global};
 use std::marker::Model;

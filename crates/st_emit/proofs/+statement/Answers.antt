@@ -6,8 +6,9 @@ use Rattle.st_tree.specs.declared.tree.statement.IfStatement.{out-IfStatement}
 use Rattle.st_meaning.specs.Typing.{body_of, condition}
 use Rattle.st_code.specs.Code.{at, command_code, commands_code, plain, term_code}
 use Rattle.st_code.specs.declared.instr.Instr.TheVariants.{Drop, GoBack, Leave, Next}
-use Rattle.st_emit.specs.Trees.{whole_of}
-use Rattle.st_emit.proofs.Commands.{branch_step, case_command, case_step, count_done, grown, in_loop, repeat_command, statement_step, turns_done, while_command}
+use Rattle.st_emit_expressions.specs.Trees.{whole_of}
+use Rattle.st_emit_expressions.proofs.Before.{grown}
+use Rattle.st_emit.proofs.Commands.{branch_step, case_command, case_step, count_done, in_loop, repeat_command, statement_step, turns_done, while_command}
 use Rattle.st_emit.proofs.Invoking.{call_code}
 use Rattle.st_emit.proofs.+statement.Goals as goal
 

@@ -5,7 +5,7 @@ use Rattle.st_meaning.specs.Typing.{body_of}
 use Rattle.st_code.specs.Code.{branches_code, cases_code, commands_code, plain}
 use Rattle.st_code.specs.declared.instr.Instr.TheVariants.{Drop}
 use Rattle.st_emit.specs.Statements.{branches_in, cases_in}
-use Rattle.st_emit.specs.Trees.{whole_of}
+use Rattle.st_emit_expressions.specs.Trees.{whole_of}
 use Rattle.st_emit.proofs.+statement.Given as goal
 
 -- the code of the statements from this one on

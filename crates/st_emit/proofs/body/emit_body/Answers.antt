@@ -3,7 +3,7 @@ use Rattle.std.proofs.lemmas.List.{reverse-reverse}
 use Rattle.st_meaning.specs.Typing.{body_of}
 use Rattle.st_code.specs.Code.{commands_code}
 use Rattle.st_places.specs.Parts.{whole_in}
-use Rattle.st_emit.specs.Trees.{whole_of}
+use Rattle.st_emit_expressions.specs.Trees.{whole_of}
 use Rattle.st_emit.proofs.body.emit_body.Goals as goal
 
 pub returns : goal.returns

@@ -2,7 +2,7 @@ use Rattle.std.proofs.Common.{◌≡◌, ◌≤◌, ◌+◌, ◌++◌, drop, len
 use Rattle.st_meaning.specs.Terms.{count_actions}
 use Rattle.st_code.specs.Code.{actions_code}
 use Rattle.st_emit.specs.Charts.{acts_in}
-use Rattle.st_emit.specs.Trees.{whole_of}
+use Rattle.st_emit_expressions.specs.Trees.{whole_of}
 use Rattle.st_emit.proofs.charts.emit_actions.Given as goal
 
 -- the code of the actions from this element on

@@ -3,7 +3,7 @@ use Rattle.std.specs.List.{flat_map}
 use Rattle.st_meaning.specs.Sketched.{transitions_in}
 use Rattle.st_code.specs.Code.{tests_code}
 use Rattle.st_emit.specs.Charts.{tests_in}
-use Rattle.st_emit.specs.Trees.{whole_of}
+use Rattle.st_emit_expressions.specs.Trees.{whole_of}
 use Rattle.st_emit.proofs.charts.emit_tests.Given as goal
 
 -- the code of the conditions from this element on

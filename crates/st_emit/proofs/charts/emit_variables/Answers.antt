@@ -1,5 +1,5 @@
 use Rattle.std.proofs.Common.{◌≡◌, ◌+◌, ◌-◌, arith}
-use Rattle.st_emit.specs.Trees.{whole_of}
+use Rattle.st_emit_expressions.specs.Trees.{whole_of}
 use Rattle.st_emit.proofs.ChartCode.{variable_over, variable_step}
 use Rattle.st_emit.proofs.charts.emit_variables.Goals as goal
 

@@ -1,7 +1,7 @@
 use Rattle.std.proofs.Common.{◌≡◌, ◌≤◌, ◌++◌, drop, length, map, reverse}
 use Rattle.st_meaning.specs.Sketched.{variable_named}
 use Rattle.st_code.specs.Code.{variables_code}
-use Rattle.st_emit.specs.Trees.{whole_of}
+use Rattle.st_emit_expressions.specs.Trees.{whole_of}
 use Rattle.st_emit.proofs.charts.emit_variables.Given as goal
 
 -- the code of the names from this one on

@@ -1,6 +1,6 @@
 use Rattle.std.proofs.Common.{◌-◌, arith}
 use Rattle.st_meaning.specs.Typing.{inputs_of}
-use Rattle.st_emit.specs.Trees.{whole_of}
+use Rattle.st_emit_expressions.specs.Trees.{whole_of}
 use Rattle.st_emit.proofs.Invoking.{inputs_joined, moves_step}
 use Rattle.st_emit.proofs.invocations.emit_inputs.Goals as goal
 

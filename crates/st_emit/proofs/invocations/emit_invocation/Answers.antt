@@ -4,8 +4,8 @@ use Rattle.st_meaning.specs.Typing.{inputs_of, outputs_of}
 use Rattle.st_tree.specs.declared.tree.expression.Argument.{Argument}
 use Rattle.st_code.specs.Code.{Line, at, moves_code, plain}
 use Rattle.st_code.specs.declared.instr.Instr.TheVariants.{Step}
-use Rattle.st_emit.specs.Trees.{whole_of}
-use Rattle.st_emit.proofs.Commands.{before_code}
+use Rattle.st_emit_expressions.specs.Trees.{whole_of}
+use Rattle.st_emit_expressions.proofs.Before.{before_code}
 use Rattle.st_emit.proofs.Invoking.{called, not_called}
 use Rattle.st_emit.proofs.invocations.emit_invocation.Goals as goal
 

@@ -1,7 +1,7 @@
 use Rattle.std.proofs.Common.{◌≡◌, ◌≤◌, ◌++◌, drop, length, reverse}
 use Rattle.st_meaning.specs.Typing.{outputs_of}
 use Rattle.st_code.specs.Code.{moves_code}
-use Rattle.st_emit.specs.Trees.{whole_of}
+use Rattle.st_emit_expressions.specs.Trees.{whole_of}
 use Rattle.st_emit.proofs.invocations.emit_outputs.Given as goal
 
 -- the code of the arguments from this one on

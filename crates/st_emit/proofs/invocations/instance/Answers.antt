@@ -4,7 +4,7 @@ use Rattle.st_leaves.specs.Selected.{selected_by}
 use Rattle.st_meaning.specs.Offsets.{offset_of}
 use Rattle.st_meaning.specs.Wholes.{block_of}
 use Rattle.st_emit.specs.Instances.{entering, instance_instr, running}
-use Rattle.st_emit.specs.Trees.{whole_of}
+use Rattle.st_emit_expressions.specs.Trees.{whole_of}
 use Rattle.st_emit.proofs.Invoking.{nothing_invoked}
 use Rattle.st_emit.proofs.invocations.instance.Goals as goal
 

@@ -4,8 +4,8 @@ use Rattle.st_leaves.specs.Selected.{selected_by}
 use Rattle.st_meaning.specs.Offsets.{IsSmall, offset_of}
 use Rattle.st_meaning.proofs.Stretches.{selected_fits}
 use Rattle.st_places.specs.Parts.{part_in}
-use Rattle.st_emit.specs.Trees.{whole_of}
-use Rattle.st_emit.proofs.Ways.{selected_small}
+use Rattle.st_emit_expressions.specs.Trees.{whole_of}
+use Rattle.st_emit_expressions.proofs.Ways.{selected_small}
 use Rattle.st_emit.proofs.invocations.pin.Goals as goal
 
 pub select-requires-2-clause-small : goal.select-requires-2-clause-small

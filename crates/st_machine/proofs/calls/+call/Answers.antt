@@ -16,7 +16,8 @@ use Rattle.st_code.specs.declared.instr.Instr.{Instr}
 use Rattle.st_code.specs.declared.instr.Instr.TheVariants.{Call, Push}
 use Rattle.st_machine.specs.Functions.{AreFunctions, CallOf, FunctionView, GivesAs, begun_by, cells_on, function_run, given_by}
 use Rattle.st_machine.specs.Levels.{LevelView, Said, environment_with, no_room, rooms_of}
-use Rattle.st_machine.specs.Running.{followed, moved, place_after, stop_of}
+use Rattle.st_instructions.specs.Moves.{moved, place_after}
+use Rattle.st_machine.specs.Running.{followed, stop_of}
 use Rattle.st_machine.specs.declared.run.Halt.{Halt}
 use Rattle.st_machine.specs.declared.stacks.Room.{Room}
 use Rattle.st_machine.proofs.Arrivals.{instrs_of}

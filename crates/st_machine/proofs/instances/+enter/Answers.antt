@@ -15,7 +15,8 @@ use Rattle.st_code.specs.Relative.{among, clipped_from, code_from}
 use Rattle.st_machine.specs.Functions.{function_run}
 use Rattle.st_machine.specs.Blocks.{BlockView, Entrance, UnitWork, run_by}
 use Rattle.st_machine.specs.Levels.{LevelView, environment_with, no_room, rooms_of}
-use Rattle.st_machine.specs.Running.{moved, place_after, stop_of}
+use Rattle.st_instructions.specs.Moves.{moved, place_after}
+use Rattle.st_machine.specs.Running.{stop_of}
 use Rattle.st_machine.specs.declared.stacks.Room.{Room}
 use Rattle.st_machine.proofs.Arrivals.{instrs_of}
 use Rattle.st_machine.proofs.Calling.{given_in_unit, unit_stays}

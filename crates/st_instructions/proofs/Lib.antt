@@ -1,0 +1,7 @@
+pub mod InPlace
+pub mod Invocations
+pub mod Narrow
+pub mod Newest
+pub mod Operands
+pub mod Stores
+pub mod Turns

@@ -1,0 +1,230 @@
+//! The instructions that count steps, and those of FOR.
+ghost use Rattle.std.specs.Prelude.{◌≡◌, ◌∷◌, ◌^◌, ◌+ℤ◌, ◌≤ℤ◌, ◌<ℤ◌, ℕ, ℤ, neg_ℤ, pos, IsTrue, List};
+ghost use Rattle.st_code.specs.declared.instr.Instr.{Instr};
+ghost use Rattle.st_layout.specs.Memory.{Content};
+ghost use Rattle.st_meaning.specs.Statements.{goes_on};
+ghost use Rattle.st_instructions.specs.Ready.{can_begin, can_go_next, can_test, has_three, next_cell, next_of};
+ghost use Rattle.st_instructions.specs.Moves.{Counts, DoesWith, environment_at, moved};
+ghost use Rattle.st_code.specs.Machine.{act, number_in};
+
+use crate::cells::{cell_of, number_in};
+use crate::leaves::store;
+use crate::moves::Move;
+use crate::stack::Stack;
+use st_code::Instr;
+use st_layout::{Layout, Memory};
+use st_meaning::RunFaultKind;
+use st_values::Elem;
+
+/// Does `Step`.
+pub fn step(left: &mut u32) -> Move
+    ensures { Counts Instr.Step result left.old left.new }
+{
+    if *left == 0 {
+        return Move::Stop(RunFaultKind::StepLimit);
+    }
+    *left -= 1;
+    Move::On
+}
+
+/// Does `GoBack`.
+pub fn go_back(left: &mut u32, distance: usize) -> Move
+    ensures { Counts (Instr.GoBack distance) result left.old left.new }
+{
+    if *left == 0 {
+        return Move::Stop(RunFaultKind::StepLimit);
+    }
+    *left -= 1;
+    Move::Back(distance)
+}
+
+/// The step, the last value and the counter of a FOR, as cells.
+#[derive(Clone, Copy)]
+pub(crate) struct Count {
+    pub(crate) step: i64,
+    pub(crate) last: i64,
+    pub(crate) counter: i64,
+}
+
+/// The three cells on top of the stack.
+#[inline]
+pub(crate) fn count_on(stack: &mut Stack) -> Count
+    requires { IsTrue (has_three stack.old.0) }
+    ensures stack { stack.new.0 ≡ stack.old.0 }
+    ensures cells { (rest : List ℤ) × (stack.old.0 ≡ result.step ∷ result.last ∷ result.counter ∷ rest) }
+    ensures room { stack.new.1 ≡ stack.old.1 }
+{
+    let step = stack.pop();
+    let last = stack.pop();
+    let counter = stack.pop();
+    stack.push(counter);
+    stack.push(last);
+    stack.push(step);
+    Count {
+        step,
+        last,
+        counter,
+    }
+}
+
+/// Puts another counter in the place of the one on the stack.
+#[inline]
+pub(crate) fn set_counter(stack: &mut Stack, cell: i64)
+    requires { IsTrue (has_three stack.old.0) }
+    ensures cells { (step last counter : ℤ) (rest : List ℤ) → stack.old.0 ≡ step ∷ last ∷ counter ∷ rest → stack.new.0 ≡ step ∷ last ∷ cell ∷ rest }
+    ensures room { stack.new.1 ≡ stack.old.1 }
+{
+    let step = stack.pop();
+    let last = stack.pop();
+    stack.pop();
+    stack.push(cell);
+    stack.push(last);
+    stack.push(step);
+}
+
+/// Whether a counter hasn't passed the last value.
+#[inline]
+fn goes_on(counter: i128, last: i128, step: i128) -> bool
+    ensures { result ≡ goes_on counter last step }
+{
+    if step >= 0 {
+        counter <= last
+    } else {
+        last <= counter
+    }
+}
+
+/// Whether the counter of a FOR hasn't passed its last value.
+#[inline]
+pub(crate) fn count_goes_on(elem: Elem, count: Count) -> bool
+    ensures { result ≡ goes_on (number_in elem count.counter) (number_in elem count.last) (number_in elem count.step) }
+{
+    let step = number_in(elem, count.step);
+    goes_on(
+        number_in(elem, count.counter),
+        number_in(elem, count.last),
+        step,
+    )
+}
+
+/// The sum of two numbers of cells.
+fn sum(a: i128, b: i128) -> i128
+    requires a_low { neg_ℤ (pos (2 ^ 63)) ≤ℤ a }
+    requires a_high { a <ℤ pos (2 ^ 64) }
+    requires b_low { neg_ℤ (pos (2 ^ 63)) ≤ℤ b }
+    requires b_high { b <ℤ pos (2 ^ 64) }
+    ensures { result ≡ a +ℤ b }
+{
+    a + b
+}
+
+/// The next counter as a cell, where it hasn't passed the last value.
+fn next_of(counter: i128, last: i128, step: i128) -> Option<i64>
+    requires counter_low { neg_ℤ (pos (2 ^ 63)) ≤ℤ counter }
+    requires counter_high { counter <ℤ pos (2 ^ 64) }
+    requires last_low { neg_ℤ (pos (2 ^ 63)) ≤ℤ last }
+    requires last_high { last <ℤ pos (2 ^ 64) }
+    requires step_low { neg_ℤ (pos (2 ^ 63)) ≤ℤ step }
+    requires step_high { step <ℤ pos (2 ^ 64) }
+    ensures { result ≡ next_of counter last step }
+{
+    let next = sum(counter, step);
+    if goes_on(next, last, step) {
+        Some(cell_of(next))
+    } else {
+        None
+    }
+}
+
+/// The next counter of a FOR, where it hasn't passed the last value.
+pub(crate) fn next_counter(elem: Elem, count: Count) -> Option<i64>
+    ensures { result ≡ next_cell elem count.step count.last count.counter }
+{
+    let step = number_in(elem, count.step);
+    next_of(
+        number_in(elem, count.counter),
+        number_in(elem, count.last),
+        step,
+    )
+}
+
+/// Does `Begin`.
+pub fn begin<M: Memory>(
+    memory: &mut M,
+    layout: &Layout,
+    stack: &mut Stack,
+    elem: Elem,
+    leaf: u32,
+) -> Move
+    requires over { M.IsOver layout.now memory.old }
+    requires ready { IsTrue (can_begin elem leaf stack.old.0 (M.content layout.now memory.old).values) }
+    ensures over { M.IsOver layout.now memory.new }
+    ensures forced { (M.content layout.now memory.new).forced ≡ (M.content layout.now memory.old).forced }
+    ensures does { DoesWith (M.content layout.now memory.old).forced (Instr.Begin elem leaf) result stack.old.1 stack.old.0 stack.new.0 (M.content layout.now memory.old).values (M.content layout.now memory.new).values }
+    ensures room { stack.new.1 ≡ stack.old.1 }
+{
+    let step = stack.pop();
+    let last = stack.pop();
+    let counter = stack.pop();
+    stack.push(counter);
+    stack.push(last);
+    stack.push(step);
+    store(memory, layout, elem, leaf, counter);
+    Move::On
+}
+
+/// Does `Test`.
+pub fn test<M: Memory>(
+    memory: &mut M,
+    layout: &Layout,
+    stack: &mut Stack,
+    elem: Elem,
+    leaf: u32,
+    distance: usize,
+) -> Move
+    requires over { M.IsOver layout.now memory.old }
+    requires ready { IsTrue (can_test elem leaf stack.old.0 (M.content layout.now memory.old).values) }
+    ensures over { M.IsOver layout.now memory.new }
+    ensures forced { (M.content layout.now memory.new).forced ≡ (M.content layout.now memory.old).forced }
+    ensures does { DoesWith (M.content layout.now memory.old).forced (Instr.Test elem leaf distance) result stack.old.1 stack.old.0 stack.new.0 (M.content layout.now memory.old).values (M.content layout.now memory.new).values }
+    ensures room { stack.new.1 ≡ stack.old.1 }
+{
+    let count = count_on(stack);
+    if !count_goes_on(elem, count) {
+        return Move::Skip(distance);
+    }
+    store(memory, layout, elem, leaf, count.counter);
+    Move::On
+}
+
+/// Does `Next`.
+pub fn go_next<M: Memory>(
+    memory: &mut M,
+    layout: &Layout,
+    stack: &mut Stack,
+    left: &mut u32,
+    elem: Elem,
+    leaf: u32,
+    distance: usize,
+) -> Move
+    requires over { M.IsOver layout.now memory.old }
+    requires ready { IsTrue (can_go_next elem leaf stack.old.0 (M.content layout.now memory.old).values left.old) }
+    ensures over { M.IsOver layout.now memory.new }
+    ensures forced { (M.content layout.now memory.new).forced ≡ (M.content layout.now memory.old).forced }
+    ensures does { (moment : ℤ) (line place : ℕ) → act (environment_at moment (M.content layout.now memory.old).forced) stack.old.1 (Instr.Next elem leaf distance) line place stack.old.0 (M.content layout.now memory.old).values left.old ≡ moved result line place stack.new.0 (M.content layout.now memory.new).values left.new }
+    ensures room { stack.new.1 ≡ stack.old.1 }
+{
+    if *left == 0 {
+        return Move::Stop(RunFaultKind::StepLimit);
+    }
+    *left -= 1;
+    let count = count_on(stack);
+    match next_counter(elem, count) {
+        Some(cell) => {
+            set_counter(stack, cell);
+            store(memory, layout, elem, leaf, cell);
+            Move::Back(distance)
+        }
+        None => Move::On,
+    }
+}
