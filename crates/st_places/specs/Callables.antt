@@ -69,11 +69,15 @@ callable_function o = option_and_then (λ (c : Callable). c.function) o
 abbrev pub unit_spellings : List Named → List (List ℕ)
 unit_spellings units = map (λ (u : Named). u.name.spelling) units
 
+-- each stands for the unit of its number
+abbrev pub AreCallable : List Named → List Callable → Type 0
+AreCallable units all = (i : ℕ) (c : Callable) → slice_get all i ≡ Some c → IsCallable units i c
+
 -- of all units of a text
 pub record AreFunctions (units : List Named) (all : Functions) : Type 0 where
   pub names : all.names ≡ unit_spellings units
   pub len : length all.units.items ≡ length units
-  pub each : (i : ℕ) (c : Callable) → slice_get all.units.items i ≡ Some c → IsCallable units i c
+  pub each : AreCallable units all.units.items
 
 -- each variable of each function is one value
 abbrev pub AreElementary : List Named → Type 0

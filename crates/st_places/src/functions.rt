@@ -4,7 +4,7 @@ ghost use Rattle.std.specs.List.{slice_get};
 ghost use Rattle.std.specs.Option.{option_copied};
 ghost use Rattle.st_initials.specs.Tables.{AreInitials};
 ghost use Rattle.st_meaning.specs.Units.{function_at, functions_in};
-ghost use Rattle.st_places.specs.Callables.{AreElementary, AreFunctions, IsCallable, callable_function, unit_spellings};
+ghost use Rattle.st_places.specs.Callables.{AreCallable, AreElementary, AreFunctions, IsCallable, callable_function, unit_spellings};
 ghost use Rattle.st_places.specs.Functions.{optional_starts};
 ghost use Rattle.st_places.specs.Parts.{optional_small_function};
 ghost use Rattle.st_types.specs.Inside.{declared_by, declares_at};
@@ -52,11 +52,7 @@ impl<'a> Functions<'a> {
         ensures { IfOk result (λ all. AreFunctions (units_of tables.now) all) }
     {
         let names = names_of(alloc, tables)?;
-        let mut units = Vec::with_capacity(alloc, tables.len())?;
-        'units: for number in 0..tables.len() {
-            let kind = tables.unit(number).kind;
-            units.push(callable_of(alloc, tables, initials, number, kind)?)?;
-        }
+        let units = all_callables(alloc, tables, initials)?;
         Ok(Functions { names, units })
     }
 
@@ -102,6 +98,24 @@ fn names_of<'a>(alloc: Global, tables: &Tables<'a>) -> Result<NameTable<'a>, All
         names.push(unit.name.spelling.as_slice())?;
     }
     Ok(names)
+}
+
+/// All units as what can be called.
+fn all_callables<'a>(
+    alloc: Global,
+    tables: &Tables<'a>,
+    initials: &Initials<'_>,
+) -> Result<Vec<Callable<'a>>, AllocError>
+    requires { AreInitials (units_of tables.now) initials.now }
+    ensures len { IfOk result (λ units. length units.items ≡ length (units_of tables.now)) }
+    ensures each { IfOk result (λ units. AreCallable (units_of tables.now) units.items) }
+{
+    let mut units = Vec::with_capacity(alloc, tables.len())?;
+    'units: for number in 0..tables.len() {
+        let kind = tables.unit(number).kind;
+        units.push(callable_of(alloc, tables, initials, number, kind)?)?;
+    }
+    Ok(units)
 }
 
 /// The unit of this number, which is of this kind.

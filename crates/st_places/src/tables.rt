@@ -10,12 +10,15 @@ ghost use Rattle.st_meaning.specs.Offsets.{IsSmall, chart_offset, offset_of};
 ghost use Rattle.st_meaning.specs.Steps.{chart_within};
 ghost use Rattle.st_meaning.specs.Units.{function_at};
 ghost use Rattle.st_meaning.specs.Wholes.{Input, Invoked, block_of};
+ghost use Rattle.st_order.specs.Graphs.{IsOrder};
+ghost use Rattle.st_places.specs.Callables.{AreFunctions};
 ghost use Rattle.st_places.specs.Charts.{leaf_of_step};
 ghost use Rattle.st_places.specs.Dimensions.{dimensions_in};
 ghost use Rattle.st_places.specs.Functions.{starts_at};
 ghost use Rattle.st_places.specs.Members.{AreUnits};
 ghost use Rattle.st_places.specs.Parts.{IsNodeOf, is_array, is_small_block_in, is_small_function_in, part_in, whole_in};
 ghost use Rattle.st_program_sizes.specs.Sized.{IsSized};
+ghost use Rattle.st_references.specs.References.{graph_of};
 ghost use Rattle.st_types.specs.Compositions.{unknown};
 ghost use Rattle.st_types.specs.Names.{units_of};
 ghost use Rattle.st_types.specs.Types.{type_at};
@@ -74,12 +77,7 @@ impl<'a> Tables<'a> {
     {
         let text = program.units();
         let scopes = Scopes::new(alloc, text)?;
-        let order = program.order();
-        let written = types_written(alloc, &scopes)?;
-        let initials = Initials::new(alloc, &scopes, &written, order)?;
-        let sizes = type_sizes(alloc, &scopes, order)?;
-        let units = all_units(alloc, &scopes, &initials, &sizes)?;
-        let functions = Functions::of(alloc, &scopes, &initials)?;
+        let (units, functions) = parts_of(alloc, &scopes, program.order())?;
         Ok(Tables {
             text,
             units,
@@ -212,6 +210,40 @@ impl<'a> Tables<'a> {
     {
         block_of(&self.units, node)
     }
+}
+
+/// What names stand for in each unit, and the units as what can be called.
+fn parts_of<'a>(
+    alloc: Global,
+    scopes: &Scopes<'a>,
+    order: &[usize],
+) -> Result<(Vec<UnitParts<'a>>, Functions<'a>), AllocError>
+    requires { IsOrder (graph_of (units_of scopes.now)) order.now }
+    ensures len { IfOk result (λ parts. length parts.0.items ≡ length (units_of scopes.now)) }
+    ensures units { IfOk result (λ parts. AreUnits (units_of scopes.now) parts.0.items) }
+    ensures functions { IfOk result (λ parts. AreFunctions (units_of scopes.now) parts.1) }
+{
+    let written = types_written(alloc, scopes)?;
+    let initials = Initials::new(alloc, scopes, &written, order)?;
+    let units = sized_units(alloc, scopes, &initials, order)?;
+    let functions = Functions::of(alloc, scopes, &initials)?;
+    Ok((units, functions))
+}
+
+/// The tables of all units, whose types are sized in this order.
+fn sized_units<'a>(
+    alloc: Global,
+    scopes: &Scopes<'a>,
+    initials: &Initials<'_>,
+    order: &[usize],
+) -> Result<Vec<UnitParts<'a>>, AllocError>
+    requires initials { AreInitials (units_of scopes.now) initials.now }
+    requires order { IsOrder (graph_of (units_of scopes.now)) order.now }
+    ensures len { IfOk result (λ units. length units.items ≡ length (units_of scopes.now)) }
+    ensures units { IfOk result (λ units. AreUnits (units_of scopes.now) units.items) }
+{
+    let sizes = type_sizes(alloc, scopes, order)?;
+    all_units(alloc, scopes, initials, &sizes)
 }
 
 /// The tables of all units.
