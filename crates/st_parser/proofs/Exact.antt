@@ -11,9 +11,9 @@ use Rattle.st_parser.specs.Names.{Identifier, Keyword, Kind, Position, Symbol}
 use Rattle.st_parser.specs.Grammar.Levels.{opens, closes}
 use Rattle.st_parser.specs.Grammar.Lists.{IsMany, none, more, IsNext, comma, IsListed, listed}
 use Rattle.st_parser.specs.Reader.Parsers as parser
-use Rattle.st_parser.specs.Reader.Parsers.{Refusal, Wrong, Deep, Outcome, Parser, and_then, many_from, many, is_symbol}
+use Rattle.st_parser.specs.Reader.Parsers.{Refusal, Wrong, Deep, Outcome, Parser, ahead, and_then, many_from, many, is_symbol}
 use Rattle.st_parser.specs.Grammar.Tokens.{identifier_of, Tok, kind, next, position, same_symbol, same_keyword}
-use Rattle.st_parser.proofs.Loops.{ahead, at_item, at_end, at_err, ahead_ok, ahead_err, ok_parts}
+use Rattle.st_parser.proofs.Loops.{at_item, at_end, at_err, ahead_ok, ahead_err, ok_parts}
 use Rattle.st_parser.proofs.Levels.{At, past, Leads, leads, enters, full}
 
 -- tokens, what they are, and the tokens after it

@@ -1,18 +1,13 @@
 -- Loops that read items as long as the first token passes a test.
-use Rattle.std.proofs.Common.{◌≡◌, ℕ, zero, suc, ◌<◌, List, [], ◌∷◌, ◌++◌, length, refl, sym, ap, ◌∙◌, Bool, true, false, arith, append_assoc, append-nil}
+use Rattle.std.proofs.Common.{◌≡◌, ℕ, zero, suc, ◌<◌, List, [], ◌∷◌, ◌++◌, length, refl, sym, ap, subst, ◌∙◌, Bool, true, false, arith, append_assoc, append-nil}
 use Rattle.std.specs.Borrow.{Bor}
 use Rattle.st_tokens.specs.declared.symbol.Symbol.TheVariants as symbols
-use Rattle.std.specs.Prelude.{Option, Ok, Err}
+use Rattle.std.specs.Prelude.{Option, Result, Ok, Err}
 use Rattle.st_parser.specs.Names.{Kind, ReadFault}
 use Rattle.st_parser.specs.declared.fault.ReadFault.TheVariants as read_faults
 use Rattle.st_parser.specs.Grammar.Tokens.{Tok, kind}
-use Rattle.st_parser.specs.Reader.Parsers.{Refuses, Refusal, Wrong, Deep, Outcome, Parser, and_then, many_from, many, leading, listed, is_symbol, next_item}
+use Rattle.st_parser.specs.Reader.Parsers.{Refuses, Refusal, Wrong, Deep, Outcome, Parser, Reads, ahead, and_then, many_from, many, leading, listed, is_symbol, next_item}
 use Rattle.st_parser.specs.Reader.Functions.{After, ReadsAs, TestsAs}
-
--- what was found before stands before it
-abbrev pub ahead : {A : Type 0} → List A → Outcome (List A) → Outcome (List A)
-ahead xs (Ok y) = Ok (xs ++ y.0, y.1)
-ahead xs (Err r) = Err r
 
 pub ahead_again : {A : Type 0} (xs : List A) (x : A) (o : Outcome (List A)) → ahead (xs ++ x ∷ []) o ≡ ahead xs (ahead (x ∷ []) o)
 ahead_again xs x (Ok y) = ap (λ zs. Ok (zs, y.1)) (append_assoc xs (x ∷ []) y.0)
@@ -41,7 +36,7 @@ module _ {A : Type 0} (test : Option Kind → Bool) (item : Parser A) where
   unfolding many_from
   at_err n ts r t h = rw (t, h) refl
 
-pub ahead_none : {A : Type 0} (o : Outcome (List A)) → ahead [] o ≡ o
+ahead_none : {A : Type 0} (o : Outcome (List A)) → ahead [] o ≡ o
 ahead_none (Ok y) = refl
 ahead_none (Err r) = refl
 
@@ -82,6 +77,10 @@ module _ {A : Type 0} (test : Option Kind → Bool) (item : Parser A) (found_bef
   pub left_err : (found : List A) (ts : List Tok) (r : Refusal) → Left test item found_before start found ts → test (kind ts) ≡ true → item ts ≡ Err r → ahead found_before (many test item start) ≡ Err r
   left_err found ts r w = err_at w.turns found ts r w.enough w.same
 
+-- nothing was found before
+pub reads_alone : {A : Type 0} (found : List A) (o : Outcome (List A)) (r : Result (List A) ReadFault) (rest : List Tok) → found ≡ [] → Reads (ahead found o) r rest → Reads o r rest
+reads_alone found o r rest e h = subst (λ p. Reads p r rest) (ap (λ zs. ahead zs o) e ∙ ahead_none o) h
+
 -- a refusal that is passed on
 pub refuses_too : {A B : Type 0} (o : Outcome A) (p : Outcome B) (f : ReadFault) → ((r : Refusal) → o ≡ Err r → p ≡ Err r) → Refuses o f → Refuses p f
 refuses_too o p read_faults.Memory g h = tt
@@ -114,7 +113,7 @@ module _ {A : Type 0} (head : Parser A) (test : Option Kind → Bool) (item : Pa
   as_ahead (Ok y) = refl
   as_ahead (Err r) = refl
 
-  leading_is : leading head test item start ≡ ahead (x ∷ []) (many test item mid)
+  pub leading_is : leading head test item start ≡ ahead (x ∷ []) (many test item mid)
   unfolding leading
   leading_is = rw first (as_ahead (many test item mid))
 

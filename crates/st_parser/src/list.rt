@@ -33,13 +33,7 @@ pub fn many<
     ensures read { (test : Option names.Kind → Bool) (p : Parser T) → TestsAs test (B.post begins) → ReadsAs p (F.post item) → Reads (spec.many test p ts.old) result ts.new }
     ensures shorter { OnOk result (length ts.new ≤ length ts.old) }
 {
-    let mut found = List::new(alloc);
-    'items: while begins(ts) {
-        let item = item(alloc, ts)?;
-        found.push(item)?;
-    }
-    found.shrink_to_fit();
-    Ok(found)
+    more(alloc, ts, begins, item, List::new(alloc))
 }
 
 /// `item { item }`, as long as the first token passes the test `begins`.
@@ -54,10 +48,30 @@ pub fn at_least_one<
     ensures shorter { OnOk result (length ts.new < length ts.old) }
 {
     let first = item(alloc, ts)?;
-    let mut found = single(alloc, first)?;
+    let found = single(alloc, first)?;
+    more(alloc, ts, begins, item, found)
+}
+
+/// What was found, and `{ item }` after it, as long as the first token passes the test `begins`.
+fn more<
+    T: Drop,
+    B: Fn(&Cursor<'_>) -> bool,
+    F: Fn(Global, &mut Cursor<'_>) -> Result<T, ReadFault>,
+>(
+    alloc: Global,
+    ts: &mut Cursor<'_>,
+    begins: B,
+    item: F,
+    mut found: List<T>,
+) -> Result<List<T>, ReadFault>
+    requires test { IsTest (B.pre begins) }
+    requires item { IsReader (F.pre item) (F.post item) }
+    ensures read { (test : Option names.Kind → Bool) (p : Parser T) → TestsAs test (B.post begins) → ReadsAs p (F.post item) → Reads (spec.ahead found (spec.many test p ts.old)) result ts.new }
+    ensures shorter { OnOk result (length ts.new ≤ length ts.old) }
+{
     'items: while begins(ts) {
-        let another = item(alloc, ts)?;
-        found.push(another)?;
+        let item = item(alloc, ts)?;
+        found.push(item)?;
     }
     found.shrink_to_fit();
     Ok(found)

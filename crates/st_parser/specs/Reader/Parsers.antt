@@ -1,5 +1,5 @@
 -- Parsers: what is read from the first of some tokens on, or why nothing is.
-use Rattle.std.specs.Prelude.{◌≡◌, ◌<◌, ◌≤◌, ℕ, zero, suc, Bool, true, false, if◌then◌else◌, List, [], ◌∷◌, length, Option, Some, Result, Ok, Err, OnOk}
+use Rattle.std.specs.Prelude.{◌≡◌, ◌<◌, ◌≤◌, ℕ, zero, suc, Bool, true, false, if◌then◌else◌, List, [], ◌∷◌, ◌++◌, length, Option, Some, Result, Ok, Err, OnOk}
 use Rattle.st_tokens.specs.declared.symbol.Symbol.TheVariants as symbols
 use Rattle.st_tokens.specs.declared.token.Kind.TheVariants as token_kinds
 use Rattle.st_parser.specs.Names.{Identifier, Keyword, Kind, Position, ReadFault, Symbol}
@@ -114,6 +114,11 @@ many_from test item (suc n) = λ ts. if test (kind ts) then (do x ← item; xs �
 -- { item }, as long as the first token passes the test
 unfoldable pub many : {A : Type 0} → (Option Kind → Bool) → Parser A → Parser (List A)
 many test item = λ ts. many_from test item (suc (length ts)) ts
+
+-- what was found before, and then what is read
+abbrev pub ahead : {A : Type 0} → List A → Outcome (List A) → Outcome (List A)
+ahead found (Ok read) = Ok (found ++ read.0, read.1)
+ahead found (Err r) = Err r
 
 -- ',' item
 unfoldable pub next_item : {A : Type 0} → Parser A → Parser A

@@ -1,6 +1,6 @@
 use Rattle.std.proofs.Common.{◌≤◌, length}
 use Rattle.st_parser.proofs.Loops.{EachLeft}
-use Rattle.st_parser.proofs.list.at_least_one.Given as goal
+use Rattle.st_parser.proofs.list.more.Given as goal
 
 abbrev pub invariant-items : goal.invariant-items
 invariant-items g l = record {
