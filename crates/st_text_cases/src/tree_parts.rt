@@ -2,6 +2,7 @@
 use st_tree::tree::{Call, Expression, Identifier, Position, Statement, has_call, has_exit};
 use st_tree::{Boxed, List, Name, Word};
 use std::alloc::{AllocError, Global};
+use std::process::Abort;
 use std::test::Fail;
 
 const POSITION: Position = Position { number: 0, line: 1 };
@@ -30,10 +31,15 @@ fn finds_an_exit(rt: HostRuntime) {
     assert!(rt; !has_exit(&Statement::Return(POSITION)));
 }
 
+/// Asserts that bytes are these.
+fn are_bytes(rt: &impl Abort, found: &[u8], want: &[u8]) {
+    assert_eq!(rt; found, want);
+}
+
 #[test]
 fn keeps_names(rt: HostRuntime) -> Result<(), Fail> {
     let name = Name::of(b"Main").ok_or("a short name")?;
-    assert_eq!(rt; name.bytes(), b"Main".as_slice());
+    are_bytes(&rt, name.bytes(), b"Main");
     assert!(rt; Name::of(&[b'A'; 129]).is_none());
     Ok(())
 }
@@ -52,6 +58,6 @@ fn keeps_lists(rt: HostRuntime) -> Result<(), Fail> {
     assert!(rt; list.is_empty());
     list.push(7u8)?;
     assert_eq!(rt; list.len(), 1);
-    assert_eq!(rt; list.as_slice(), [7].as_slice());
+    are_bytes(&rt, list.as_slice(), &[7]);
     Ok(())
 }

@@ -1,7 +1,7 @@
 //! What no clause says: that memory suffices, which fault comes at which line, and the standard's own examples.
 use crate::readings::{count_units, is_read, is_refused};
 use st_tokens::SyntaxFault;
-use std::alloc::Global;
+use std::alloc::{AllocError, Global};
 use std::process::Abort;
 use std::test::Fail;
 
@@ -21,22 +21,33 @@ fn body_is_read(
     Ok(())
 }
 
+/// Asserts that a text isn't in the grammar, because of this line.
+fn is_wrong(rt: &impl Abort, alloc: Global, text: &[u8], line: u32) {
+    is_refused(rt, alloc, text, SyntaxFault::NotInGrammar { line });
+}
+
+/// The beginning of a program with so many `(` in it.
+fn opened(
+    alloc: Global,
+    beginning: &[u8],
+    count: usize,
+    end: &[u8],
+) -> Result<Vec<u8>, AllocError> {
+    let mut text = Vec::from_slice(alloc, beginning)?;
+    for _ in 0..count {
+        text.push(b'(')?;
+    }
+    text.extend_from_slice(end)?;
+    Ok(text)
+}
+
 #[test]
 fn earlier_fault_decides(rt: HostRuntime) -> Result<(), Fail> {
     let alloc = rt.alloc();
-    let mut text = Vec::new(alloc);
-    text.extend_from_slice(b"PROGRAM Main\nA :=")?;
-    for _ in 0..64 {
-        text.push(b'(')?;
-    }
-    text.extend_from_slice(b"\nIF")?;
-    is_refused(&rt, alloc, &text, SyntaxFault::NotInGrammar { line: 3 });
-    let mut text = Vec::new(alloc);
-    text.extend_from_slice(b"PROGRAM Main\nA := ) ")?;
-    for _ in 0..65 {
-        text.push(b'(')?;
-    }
-    is_refused(&rt, alloc, &text, SyntaxFault::NotInGrammar { line: 2 });
+    let text = opened(alloc, b"PROGRAM Main\nA :=", 64, b"\nIF")?;
+    is_wrong(&rt, alloc, &text, 3);
+    let text = opened(alloc, b"PROGRAM Main\nA := ) ", 65, b"")?;
+    is_wrong(&rt, alloc, &text, 2);
     Ok(())
 }
 
@@ -60,29 +71,23 @@ fn refuses_each_beginning(rt: HostRuntime) {
 #[test]
 fn fault_at_its_line(rt: HostRuntime) {
     let alloc = rt.alloc();
-    let cases: [(&[u8], u32); 12] = [
-        (b"PROGRAM Main\nVAR A : INT; END_VAR\nA = 5; END_PROGRAM", 3),
-        (b"VAR_GLOBAL\nPROGRAM Main END_PROGRAM", 1),
-        (b"PROGRAM Main\n\n", 2),
-        (b"PROGRAM Main IF A THEN ;\nEND_PROGRAM", 2),
-        (b"PROGRAM Main F(A,\n); END_PROGRAM", 2),
-        (b"PROGRAM Main A := - -\n- 5; END_PROGRAM", 2),
-        (b"PROGRAM Main A := +\nB; END_PROGRAM", 2),
-        (b"PROGRAM Main STEP S: END_STEP\nA := 1; END_PROGRAM", 2),
-        (b"FUNCTION F : T\nEND_FUNCTION", 1),
-        (
-            b"PROGRAM Main TRANSITION\n(LEVEL := 1) FROM A TO B := C; END_TRANSITION END_PROGRAM",
-            2,
-        ),
-        (
-            b"PROGRAM Main VAR_INPUT\nCONSTANT A : INT; END_VAR END_PROGRAM",
-            2,
-        ),
-        (b"TYPE T : STRUCT\nEND_STRUCT; END_TYPE", 2),
-    ];
-    for (text, line) in cases {
-        is_refused(&rt, alloc, text, SyntaxFault::NotInGrammar { line });
-    }
+    let text = b"PROGRAM Main\nVAR A : INT; END_VAR\nA = 5; END_PROGRAM";
+    is_wrong(&rt, alloc, text, 3);
+    is_wrong(&rt, alloc, b"VAR_GLOBAL\nPROGRAM Main END_PROGRAM", 1);
+    is_wrong(&rt, alloc, b"PROGRAM Main\n\n", 2);
+    is_wrong(&rt, alloc, b"PROGRAM Main IF A THEN ;\nEND_PROGRAM", 2);
+    is_wrong(&rt, alloc, b"PROGRAM Main F(A,\n); END_PROGRAM", 2);
+    is_wrong(&rt, alloc, b"PROGRAM Main A := - -\n- 5; END_PROGRAM", 2);
+    is_wrong(&rt, alloc, b"PROGRAM Main A := +\nB; END_PROGRAM", 2);
+    let text = b"PROGRAM Main STEP S: END_STEP\nA := 1; END_PROGRAM";
+    is_wrong(&rt, alloc, text, 2);
+    is_wrong(&rt, alloc, b"FUNCTION F : T\nEND_FUNCTION", 1);
+    let text =
+        b"PROGRAM Main TRANSITION\n(LEVEL := 1) FROM A TO B := C; END_TRANSITION END_PROGRAM";
+    is_wrong(&rt, alloc, text, 2);
+    let text = b"PROGRAM Main VAR_INPUT\nCONSTANT A : INT; END_VAR END_PROGRAM";
+    is_wrong(&rt, alloc, text, 2);
+    is_wrong(&rt, alloc, b"TYPE T : STRUCT\nEND_STRUCT; END_TYPE", 2);
 }
 
 #[test]
