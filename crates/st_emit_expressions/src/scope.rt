@@ -58,7 +58,7 @@ impl<'a> Scope<'a> {
     }
 
     /// A list with nothing in it. It takes no memory.
-    pub fn list<T>(&self) -> Vec<T>
+    pub(crate) fn list<T>(&self) -> Vec<T>
         ensures { result.items ≡ [] }
     {
         Vec::new(self.alloc)
@@ -74,7 +74,7 @@ impl<'a> Scope<'a> {
     }
 
     /// The value of a constant.
-    pub fn constant(&self, name: &[u8]) -> Option<Value>
+    pub(crate) fn constant(&self, name: &[u8]) -> Option<Value>
         ensures value { result ≡ (whole_of self.now).constants name.now }
         ensures in_range { IfSome result (λ value. IsValue value) }
     {
@@ -94,7 +94,7 @@ impl<'a> Scope<'a> {
     }
 
     /// The subscripts of an array, and its elements.
-    pub fn elements(&self, node: Node) -> Option<(&'a [Dimension], Node)>
+    pub(crate) fn elements(&self, node: Node) -> Option<(&'a [Dimension], Node)>
         requires node { IsNodeOf self.now.0 node }
         requires small { IsSmall (part_in self.now.0 node) }
         ensures array { IfSome result (λ found. is_array (part_in self.now.0 node) ≡ true) }
@@ -131,7 +131,7 @@ impl<'a> Scope<'a> {
     }
 
     /// The leaf that says of the step of this name for how long it has been active, where `is_time`, else whether it is.
-    pub fn step(&self, is_time: bool, name: &[u8]) -> Option<u32>
+    pub(crate) fn step(&self, is_time: bool, name: &[u8]) -> Option<u32>
         ensures { result ≡ leaf_of_step (whole_of self.now).variables is_time name.now }
     {
         self.tables.step(self.unit, is_time, name)
@@ -145,7 +145,7 @@ impl<'a> Scope<'a> {
     }
 
     /// The function of the text of this name.
-    pub fn function(&self, name: &[u8]) -> Option<&'a Function<'a>>
+    pub(crate) fn function(&self, name: &[u8]) -> Option<&'a Function<'a>>
         ensures some { IfSome result (λ function. (whole_of self.now).functions name.now ≡ Some function.now) }
         ensures none { result ≡ None → (whole_of self.now).functions name.now ≡ None }
         ensures in_range { IfSome result (λ function. All (λ (input : Input). IsValue input.initial) function.now.inputs) }
