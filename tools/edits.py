@@ -10,6 +10,8 @@ import re
 
 # The beginning of a function, how far it stands from the left, and whether constants may be made by it.
 FUNCTION = re.compile(r"^( *)(?:pub(?:\(\w+\))? )?(const )?fn (\w+)", re.MULTILINE)
+# The beginning of the methods of a type, or of a trait for one.
+IMPL = re.compile(r"^impl(?:<.*?>)? (\w+)\S*( for )?", re.MULTILINE)
 # The circle that a function is of, in the lines before it.
 CIRCLE = re.compile(r"#\[cycle\((\w+)\)\]\n(?: *#.*\n)*\Z")
 # What a check says of a function that isn't proved.
@@ -65,40 +67,48 @@ def read(folder, file):
 
 
 def functions_at(folder, file, old):
-    """The function in which a text of the code stands, as its file and its name, with all of its circle; none where the text isn't
-    there once, or stands in no function, in one of two of the same name, or in one that constants are made by."""
+    """The function in which a text of the code stands, with all of its circle, each as its file, the type whose method it is, and its
+    name; none where the text isn't there once, or stands in no function, in a method of a trait, or in one that constants are made by."""
     text = read(folder, file) if file.startswith("src/") and os.path.isfile(f"{folder}/{file}") else ""
     at = text.find(old)
     before = [it for it in FUNCTION.finditer(text) if it.start() <= at]
     if text.count(old) != 1 or not before:
         return set()
-    indent, makes_constants, name = before[-1].groups()
-    end = re.compile(rf"^{indent}}}$", re.MULTILINE).search(text, before[-1].end())
-    is_only = sum(it[3] == name for it in FUNCTION.finditer(text)) == 1
-    if makes_constants or not is_only or not end or end.start() < at:
+    end = re.compile(rf"^{before[-1][1]}}}$", re.MULTILINE).search(text, before[-1].end())
+    owner = owner_of(text, before[-1])
+    if before[-1][2] or owner is None or not end or end.start() < at:
         return set()
     circle = CIRCLE.search(text[: before[-1].start()])
-    return circle_of(folder, circle[1]) if circle else {(file, name)}
+    return circle_of(folder, circle[1]) if circle else {(file, owner, before[-1][3])}
+
+
+def owner_of(text, function):
+    """The type whose method a function is, which is empty where it is none; nothing where it is that of a trait."""
+    block = [it for it in IMPL.finditer(text, 0, function.start())][-1:] if function[1] else []
+    return "" if not function[1] else block[0][1] if block and not block[0][2] else None
 
 
 def circle_of(folder, name):
-    """The functions of a circle, each as its file and its name."""
+    """The functions of a circle, each as its file, the type whose method it is, and its name."""
     found = set()
     for at, _, files in os.walk(f"{folder}/src"):
         for file in (os.path.relpath(f"{at}/{it}", folder) for it in files):
             text = read(folder, file)
             of_circle = [it for it in FUNCTION.finditer(text) if (circle := CIRCLE.search(text[: it.start()])) and circle[1] == name]
-            found |= {(file, it[3]) for it in of_circle}
+            found |= {(file, owner_of(text, it), it[3]) for it in of_circle}
     return found
 
 
 def is_part(crate, said, function):
-    """Whether a name that a check says is that of a function, or of a closure in it."""
-    file, name = function
+    """Whether a name that a check says is that of a function, or of a closure in it. A method's is that of its type, in whatever file
+    it stands."""
+    file, owner, name = function
+    parts = [it for it in re.split(r"::|\+", said) if it != "fn"]
+    if owner:
+        return parts[0] == crate and (owner, name) in zip(parts, parts[1:])
     modules = file.removeprefix("src/").removesuffix(".rt").split("/")
-    path = [crate, *(it for it in modules if it not in ("lib", "main"))]
-    parts = re.split(r"::|\+", said)
-    return parts[: len(path)] == path and name in parts[len(path) :]
+    path = [crate, *(it for it in modules if it not in ("lib", "main")), name]
+    return parts[: len(path)] == path
 
 
 def together(folder, edits, most):
