@@ -1,6 +1,6 @@
 use Rattle.std.proofs.Common.{sym, ◌∙◌}
 use Rattle.st_syntax.proofs.Top.{found, left_over, refused, one_text, only_memory}
-use Rattle.st_syntax.proofs.parse.Goals as goal
+use Rattle.st_syntax.proofs.text.parse.Goals as goal
 
 pub returns-in-Err-clause-fault : goal.returns-in-Err-clause-fault
 returns-in-Err-clause-fault c = rw c.in_text.ensures (refused c.args.text.now c.in_ok-tokens.tokens.items c.last_line.result c.in-Err.fault
