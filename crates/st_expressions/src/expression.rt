@@ -9,7 +9,7 @@ ghost use Rattle.st_parser.specs.Reader.Parsers as parser;
 ghost use Rattle.st_parser.specs.Reader.Parsers.{MayTake, Takes};
 
 use crate::constant::constant;
-use st_parser::{Cursor, ReadFault, single};
+use st_parser::{Cursor, ReadFault, add, boxed, single};
 use st_tokens::{Keyword, Kind, Symbol};
 use st_tree::tree::{Argument, Call, Expression, Operation, Part, Position, Variable};
 use st_tree::{BinOp, Boxed, List};
@@ -129,17 +129,20 @@ fn boxed_inside(
     requires { 0 < depth_left }
     ensures { Takes ((spec.inside_of depth_left).expression ts.old) result ts.old ts.new }
 {
-    let found = inside(alloc, ts, depth_left)?;
-    Ok(Boxed::new(alloc, found)?)
+    boxed(alloc, inside(alloc, ts, depth_left))
 }
 
-/// A variable inside one more open level.
+/// A variable inside one more open level, in a box.
 #[cycle(parser)]
-fn target(alloc: Global, ts: &mut Cursor<'_>, depth_left: u8) -> Result<Variable, ReadFault>
+fn boxed_target(
+    alloc: Global,
+    ts: &mut Cursor<'_>,
+    depth_left: u8,
+) -> Result<Boxed<Variable>, ReadFault>
     requires { 0 < depth_left }
     ensures { Takes ((spec.inside_of depth_left).variable ts.old) result ts.old ts.new }
 {
-    variable(alloc, ts, depth_left - 1)
+    boxed(alloc, variable(alloc, ts, depth_left - 1))
 }
 
 /// `expression { ',' expression }`, inside a bracket
@@ -152,12 +155,10 @@ fn expressions(
     requires { 0 < depth_left }
     ensures { Takes (parser.listed (spec.inside_of depth_left).expression ts.old) result ts.old ts.new }
 {
-    let first = inside(alloc, ts, depth_left)?;
-    let mut found = single(alloc, first)?;
+    let mut found = single(alloc, inside(alloc, ts, depth_left))?;
     'items: while ts.at_symbol(Symbol::Comma) {
         ts.bump();
-        let item = inside(alloc, ts, depth_left)?;
-        found.push(item)?;
+        add(&mut found, inside(alloc, ts, depth_left))?;
     }
     found.shrink_to_fit();
     Ok(found)
@@ -194,8 +195,7 @@ fn parts(alloc: Global, ts: &mut Cursor<'_>, depth_left: u8) -> Result<List<Part
 {
     let mut found = List::new(alloc);
     'items: while begins_part(ts) {
-        let item = part(alloc, ts, depth_left)?;
-        found.push(item)?;
+        add(&mut found, part(alloc, ts, depth_left))?;
     }
     found.shrink_to_fit();
     Ok(found)
@@ -232,8 +232,8 @@ fn output(alloc: Global, ts: &mut Cursor<'_>, depth_left: u8) -> Result<Argument
     ensures { Takes (spec.output (spec.inside_of depth_left) ts.old) result ts.old ts.new }
 {
     let name = ts.identifier_before(alloc, Symbol::Output)?;
-    let taker = target(alloc, ts, depth_left)?;
-    Ok(Argument::Output(name, Boxed::new(alloc, taker)?))
+    let taker = boxed_target(alloc, ts, depth_left)?;
+    Ok(Argument::Output(name, taker))
 }
 
 /// `expression`, for the parameter at its position
@@ -273,12 +273,10 @@ fn argument_list(
     requires { 0 < depth_left }
     ensures { Takes (parser.listed (spec.argument (spec.inside_of depth_left)) ts.old) result ts.old ts.new }
 {
-    let first = argument(alloc, ts, depth_left)?;
-    let mut found = single(alloc, first)?;
+    let mut found = single(alloc, argument(alloc, ts, depth_left))?;
     'items: while ts.at_symbol(Symbol::Comma) {
         ts.bump();
-        let item = argument(alloc, ts, depth_left)?;
-        found.push(item)?;
+        add(&mut found, argument(alloc, ts, depth_left))?;
     }
     found.shrink_to_fit();
     Ok(found)
@@ -357,42 +355,37 @@ fn primary(alloc: Global, ts: &mut Cursor<'_>, depth_left: u8) -> Result<Express
     }
 }
 
-/// `'-' primary`
+/// `primary`, in a box
 #[cycle(parser)]
-#[tactic(auto, unfolding(crate::specs::Reader::negation))]
-fn negation(alloc: Global, ts: &mut Cursor<'_>, depth_left: u8) -> Result<Expression, ReadFault>
-    ensures { Takes (spec.negation depth_left (spec.inside_of depth_left) ts.old) result ts.old ts.new }
+fn boxed_primary(
+    alloc: Global,
+    ts: &mut Cursor<'_>,
+    depth_left: u8,
+) -> Result<Boxed<Expression>, ReadFault>
+    ensures { Takes (spec.primary depth_left (spec.inside_of depth_left) ts.old) result ts.old ts.new }
 {
-    let position = ts.bump();
-    let operand = primary(alloc, ts, depth_left)?;
-    Ok(Expression::Negate(position, Boxed::new(alloc, operand)?))
-}
-
-/// `NOT primary`
-#[cycle(parser)]
-#[tactic(auto, unfolding(crate::specs::Reader::complement))]
-fn complement(alloc: Global, ts: &mut Cursor<'_>, depth_left: u8) -> Result<Expression, ReadFault>
-    ensures { Takes (spec.complement depth_left (spec.inside_of depth_left) ts.old) result ts.old ts.new }
-{
-    let position = ts.bump();
-    let operand = primary(alloc, ts, depth_left)?;
-    Ok(Expression::Not(position, Boxed::new(alloc, operand)?))
+    boxed(alloc, primary(alloc, ts, depth_left))
 }
 
 /// `[ '-' | NOT ] primary`. A `-` before a number belongs to the number.
 #[cycle(parser)]
-#[tactic(auto, unfolding(crate::specs::Reader::unary))]
+#[tactic(auto, unfolding(crate::specs::Reader::unary, crate::specs::Reader::complement, crate::specs::Reader::negation))]
 fn unary(alloc: Global, ts: &mut Cursor<'_>, depth_left: u8) -> Result<Expression, ReadFault>
     ensures { Takes (spec.unary depth_left (spec.inside_of depth_left) ts.old) result ts.old ts.new }
 {
     match ts.peek() {
-        Some(Kind::Keyword(Keyword::Not)) => complement(alloc, ts, depth_left),
+        Some(Kind::Keyword(Keyword::Not)) => {
+            let position = ts.bump();
+            let operand = boxed_primary(alloc, ts, depth_left)?;
+            Ok(Expression::Not(position, operand))
+        }
         Some(Kind::Symbol(Symbol::Minus)) => {
             if is_before_number(ts) {
-                primary(alloc, ts, depth_left)
-            } else {
-                negation(alloc, ts, depth_left)
+                return primary(alloc, ts, depth_left);
             }
+            let position = ts.bump();
+            let operand = boxed_primary(alloc, ts, depth_left)?;
+            Ok(Expression::Negate(position, operand))
         }
         _ => primary(alloc, ts, depth_left),
     }
@@ -438,8 +431,7 @@ fn operations(
 {
     let mut found = List::new(alloc);
     'items: while is_operator(ts, precedence) {
-        let item = operation(alloc, ts, depth_left, precedence)?;
-        found.push(item)?;
+        add(&mut found, operation(alloc, ts, depth_left, precedence))?;
     }
     found.shrink_to_fit();
     Ok(found)
@@ -484,16 +476,15 @@ fn binary(
     Ok(found)
 }
 
-/// `expression`. `depth_left` more levels may be opened.
-#[tactic(auto, unfolding(crate::specs::Reader::expression))]
+/// `expression`, in a box. `depth_left` more levels may be opened.
 pub fn expression(
     alloc: Global,
     ts: &mut Cursor<'_>,
     depth_left: u8,
-) -> Result<Expression, ReadFault>
+) -> Result<Boxed<Expression>, ReadFault>
     ensures { Takes (spec.expression depth_left ts.old) result ts.old ts.new }
 {
-    binary(alloc, ts, depth_left, LOOSEST)
+    boxed(alloc, binary(alloc, ts, depth_left, LOOSEST))
 }
 
 /// What is read as an expression, up to the last token, is what the grammar has, with at most so many open levels.

@@ -1,12 +1,12 @@
 -- Loops that read items as long as the first token passes a test.
-use Rattle.std.proofs.Common.{◌≡◌, ℕ, zero, suc, ◌<◌, List, [], ◌∷◌, ◌++◌, length, refl, sym, ap, subst, ◌∙◌, Bool, true, false, arith, append_assoc, append-nil}
+use Rattle.std.proofs.Common.{◌≡◌, ℕ, zero, suc, ◌<◌, List, [], ◌∷◌, ◌++◌, length, refl, sym, ap, subst, ◌∙◌, Bool, true, false, arith, append_assoc, append-nil, inl, inr}
 use Rattle.std.specs.Borrow.{Bor}
 use Rattle.st_tokens.specs.declared.symbol.Symbol.TheVariants as symbols
-use Rattle.std.specs.Prelude.{Option, Result, Ok, Err}
+use Rattle.std.specs.Prelude.{IsOkAnd, OnOk, Option, Result, Ok, Err}
 use Rattle.st_parser.specs.Names.{Kind, ReadFault}
 use Rattle.st_parser.specs.declared.fault.ReadFault.TheVariants as read_faults
 use Rattle.st_parser.specs.Grammar.Tokens.{Tok, kind}
-use Rattle.st_parser.specs.Reader.Parsers.{Refuses, Refusal, Wrong, Deep, Outcome, Parser, Reads, ahead, and_then, many_from, many, leading, listed, is_symbol, next_item}
+use Rattle.st_parser.specs.Reader.Parsers.{IsFaultOf, Refuses, Refusal, Wrong, Deep, Outcome, Parser, Reads, ahead, and_then, many_from, many, leading, listed, is_symbol, next_item}
 use Rattle.st_parser.specs.Reader.Functions.{After, ReadsAs, TestsAs}
 
 pub ahead_again : {A : Type 0} (xs : List A) (x : A) (o : Outcome (List A)) → ahead (xs ++ x ∷ []) o ≡ ahead xs (ahead (x ∷ []) o)
@@ -40,6 +40,21 @@ ahead_none : {A : Type 0} (o : Outcome (List A)) → ahead [] o ≡ o
 ahead_none (Ok y) = refl
 ahead_none (Err r) = refl
 
+-- what was read, where it was
+pub read_item : {A : Type 0} {o : Outcome A} (read : Result A ReadFault) {rest : List Tok} {P : A → Type 0} → Reads o read rest → IsOkAnd read P
+    → (x : A) × (o ≡ Ok (x, rest)) × P x
+read_item (Ok x) reads holds = (x, reads, holds)
+read_item (Err f) reads holds = absurd holds
+
+pub of_item : {A Q : Type 0} (read : Result A ReadFault) (P : A → Type 0) → IsOkAnd read P → OnOk read Q → Q
+of_item (Ok x) P holds follows = follows
+of_item (Err f) P holds follows = absurd holds
+
+-- what wasn't read, or wasn't kept
+pub refused_read : {A : Type 0} (o : Outcome A) (read : Result A ReadFault) (rest : List Tok) (f : ReadFault) → IsFaultOf read f → Reads o read rest → Refuses o f
+refused_read o read rest f (inl same) reads = subst (λ r. Reads o r rest) same reads
+refused_read o read rest f (inr memory) reads = rw memory tt
+
 module _ {A : Type 0} (test : Option Kind → Bool) (item : Parser A) (found_before : List A) (start : List Tok) where
   pub left_init : Left test item found_before start found_before start
   unfolding many
@@ -58,6 +73,12 @@ module _ {A : Type 0} (test : Option Kind → Bool) (item : Parser A) (found_bef
   pub left_step : (found : List A) (ts : List Tok) (x : A) (mid : List Tok) → Left test item found_before start found ts
       → test (kind ts) ≡ true → item ts ≡ Ok (x, mid) → length mid < length ts → Left test item found_before start (found ++ x ∷ []) mid
   left_step found ts x mid w = step_at w.turns found ts x mid w.enough w.same
+
+  pub left_added : (found now : List A) (ts mid : List Tok) (read : Result A ReadFault) → Left test item found_before start found ts
+      → test (kind ts) ≡ true → Reads (item ts) read mid → IsOkAnd read (λ x. now ≡ found ++ x ∷ []) → length mid < length ts → Left test item found_before start now mid
+  left_added found now ts mid read w t reads added less =
+      let it = read_item read reads added in
+      rw it.2 (left_step found ts it.0 mid w t it.1 less)
 
   end_at : (n : ℕ) (found : List A) (ts : List Tok) → length ts < n
       → ahead found (many_from test item n ts) ≡ ahead found_before (many test item start)
@@ -108,23 +129,29 @@ pub ahead_err : {A : Type 0} (x : A) (o : Outcome (List A)) (r : Refusal) → ah
 ahead_err x (Ok y) r h = absurd (cc)
 ahead_err x (Err s) r h = cc
 
-module _ {A : Type 0} (head : Parser A) (test : Option Kind → Bool) (item : Parser A) (start mid : List Tok) (x : A) (first : head start ≡ Ok (x, mid)) where
-  as_ahead : (o : Outcome (List A)) → and_then o (λ xs us. Ok (x ∷ xs, us)) ≡ ahead (x ∷ []) o
-  as_ahead (Ok y) = refl
-  as_ahead (Err r) = refl
+as_ahead : {A : Type 0} (x : A) (o : Outcome (List A)) → and_then o (λ xs us. Ok (x ∷ xs, us)) ≡ ahead (x ∷ []) o
+as_ahead x (Ok y) = refl
+as_ahead x (Err r) = refl
 
-  pub leading_is : leading head test item start ≡ ahead (x ∷ []) (many test item mid)
-  unfolding leading
-  leading_is = rw first (as_ahead (many test item mid))
+leading_of : {A : Type 0} (head : Parser A) (test : Option Kind → Bool) (item : Parser A) (start mid : List Tok) (x : A) (one : List A)
+    → head start ≡ Ok (x, mid) → one ≡ x ∷ [] → leading head test item start ≡ ahead one (many test item mid)
+unfolding leading
+leading_of head test item start mid x one first alone = rw (first, alone) (as_ahead x (many test item mid))
 
-  -- a loop after the first item
-  pub leading_end : (one found : List A) (ts : List Tok) → one ≡ [] ++ x ∷ [] → Left test item one mid found ts
-      → test (kind ts) ≡ false → leading head test item start ≡ Ok (found, ts)
-  leading_end one found ts e w t = leading_is ∙ ap (λ zs. ahead zs (many test item mid)) (sym e) ∙ left_end test item one mid found ts w t
+-- a loop after the first item, which was read and is a list by itself
+module _ {A : Type 0} (head : Parser A) (test : Option Kind → Bool) (item : Parser A) (start mid : List Tok) (read : Result A ReadFault)
+    (reads : Reads (head start) read mid) (one : List A) (alone : IsOkAnd read (λ x. one ≡ x ∷ [])) where
+  pub leading_is : leading head test item start ≡ ahead one (many test item mid)
+  leading_is =
+      let it = read_item read reads alone in
+      leading_of head test item start mid it.0 one it.1 it.2
 
-  pub leading_err : (one found : List A) (ts : List Tok) (f : ReadFault) → one ≡ [] ++ x ∷ [] → Left test item one mid found ts
+  pub leading_end : (found : List A) (ts : List Tok) → Left test item one mid found ts → test (kind ts) ≡ false → leading head test item start ≡ Ok (found, ts)
+  leading_end found ts w t = leading_is ∙ left_end test item one mid found ts w t
+
+  pub leading_err : (found : List A) (ts : List Tok) (f : ReadFault) → Left test item one mid found ts
       → test (kind ts) ≡ true → Refuses (item ts) f → Refuses (leading head test item start) f
-  leading_err one found ts f e w t = refuses_too _ _ f (λ r h. leading_is ∙ ap (λ zs. ahead zs (many test item mid)) (sym e) ∙ left_err test item one mid found ts r w t h)
+  leading_err found ts f w t = refuses_too _ _ f (λ r h. leading_is ∙ left_err test item one mid found ts r w t h)
 
 -- the first item is refused
 pub leading_first : {A : Type 0} (head : Parser A) (test : Option Kind → Bool) (item : Parser A) (start : List Tok) (f : ReadFault) → Refuses (head start) f → Refuses (leading head test item start) f
@@ -137,15 +164,16 @@ module _ {A : Type 0} (item : Parser A) (start : List Tok) where
   unfolding listed
   listed_first f h = leading_first item (is_symbol symbols.Comma) (next_item item) start f h
 
-  pub listed_end : (mid : List Tok) (x : A) → item start ≡ Ok (x, mid) → (one found : List A) (ts : List Tok) → one ≡ [] ++ x ∷ []
-      → Left (is_symbol symbols.Comma) (next_item item) one mid found ts → is_symbol symbols.Comma (kind ts) ≡ false → listed item start ≡ Ok (found, ts)
-  unfolding listed
-  listed_end mid x first = leading_end item (is_symbol symbols.Comma) (next_item item) start mid x first
+  module _ (mid : List Tok) (read : Result A ReadFault) (reads : Reads (item start) read mid) (one : List A) (alone : IsOkAnd read (λ x. one ≡ x ∷ [])) where
+    pub listed_end : (found : List A) (ts : List Tok) → Left (is_symbol symbols.Comma) (next_item item) one mid found ts
+        → is_symbol symbols.Comma (kind ts) ≡ false → listed item start ≡ Ok (found, ts)
+    unfolding listed
+    listed_end = leading_end item (is_symbol symbols.Comma) (next_item item) start mid read reads one alone
 
-  pub listed_err : (mid : List Tok) (x : A) → item start ≡ Ok (x, mid) → (one found : List A) (ts : List Tok) (f : ReadFault) → one ≡ [] ++ x ∷ []
-      → Left (is_symbol symbols.Comma) (next_item item) one mid found ts → is_symbol symbols.Comma (kind ts) ≡ true → Refuses (next_item item ts) f → Refuses (listed item start) f
-  unfolding listed
-  listed_err mid x first = leading_err item (is_symbol symbols.Comma) (next_item item) start mid x first
+    pub listed_err : (found : List A) (ts : List Tok) (f : ReadFault) → Left (is_symbol symbols.Comma) (next_item item) one mid found ts
+        → is_symbol symbols.Comma (kind ts) ≡ true → Refuses (next_item item ts) f → Refuses (listed item start) f
+    unfolding listed
+    listed_err = leading_err item (is_symbol symbols.Comma) (next_item item) start mid read reads one alone
 
 -- for each parser that a passed function reads, what is found with what is left is all of its list
 abbrev pub EachLeft : {A : Type 0} → (Bor (List Tok) → Bool → Type 0) → After A → List A → List Tok → List A → List Tok → Type 0

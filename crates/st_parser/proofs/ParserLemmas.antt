@@ -4,8 +4,8 @@ use Rattle.std.specs.Prelude.{Result, Ok, Err, IfOk, IfErr}
 use Rattle.st_parser.specs.Names.{Position, ReadFault, Symbol}
 use Rattle.st_parser.specs.declared.fault.ReadFault.TheVariants as read_faults
 use Rattle.st_parser.specs.Grammar.Tokens.{Tok, kind, position, next}
-use Rattle.st_parser.proofs.Loops.{ok_parts}
-use Rattle.st_parser.specs.Reader.Parsers.{Reads, Outcome, Deep, Parser, Takes, MayTake, is_symbol, enter, open_level, next_item}
+use Rattle.st_parser.proofs.Loops.{ok_parts, refused_read}
+use Rattle.st_parser.specs.Reader.Parsers.{IsFaultOf, Reads, Outcome, Deep, Parser, Takes, MayTake, is_symbol, enter, open_level, next_item}
 
 pub enter_none : (r : ℕ) (ts : List Tok) → r ≡ 0 → enter r ts ≡ Err Deep
 unfolding enter
@@ -22,6 +22,12 @@ pub reads_made : {A : Type 0} (o : Outcome A) (y : A) (new : List Tok) (r : Resu
     → IfOk r (λ x. x ≡ y) → IfErr r (λ f. f ≡ read_faults.Memory) → Reads o r new
 reads_made o y new (Ok x) read same memory = read ∙ ap (λ z. Ok (z, new)) (sym same)
 reads_made o y new (Err f) read same memory = rw memory tt
+
+-- what is kept of what was read is read too
+pub takes_kept : {A : Type 0} (o : Outcome A) (read kept : Result A ReadFault) (old new : List Tok) → IfOk kept (λ x. read ≡ Ok x) → IfErr kept (IsFaultOf read)
+    → Takes o read old new → Takes o kept old new
+takes_kept o read (Ok x) old new same fault takes = rw (sym same) takes
+takes_kept o read (Err f) old new same fault takes = record { reads = refused_read o read new f fault takes.reads; shorter = tt }
 
 -- what enters a level at a symbol takes the symbol
 pub open_level_takes : (x : Symbol) (d : ℕ) (ts new : List Tok) (r : Result Position ReadFault) → is_symbol x (kind ts) ≡ true

@@ -7,7 +7,7 @@ use st_tokens::SyntaxFault;
 use std::alloc::{AllocError, AllocFailed};
 
 /// Why what is due isn't read from the next tokens.
-#[derive(Clone, Copy, Debug, PartialEq, Eq)]
+#[derive(Clone, Copy)]
 pub enum ReadFault {
     /// Memory ran out.
     Memory,

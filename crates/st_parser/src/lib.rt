@@ -10,4 +10,4 @@ mod list;
 pub use cursor::Cursor;
 pub use fault::ReadFault;
 pub use level::MAX_LEVELS;
-pub use list::{at_least_one, listed, many, single, words};
+pub use list::{add, at_least_one, boxed, listed, many, single, words};

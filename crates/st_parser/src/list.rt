@@ -1,32 +1,49 @@
 //! Lists of items, each of which a function reads that is passed.
-ghost use Rattle.std.specs.Prelude.{◌≡◌, ◌<◌, ◌≤◌, Bool, Option, [], ◌∷◌, length, IfErr, IfOk, OnOk};
+ghost use Rattle.std.specs.Prelude.{◌≡◌, ◌<◌, ◌≤◌, Bool, Option, [], ◌∷◌, ◌++◌, length, IfErr, IfOk, IsOkAnd, Ok, OnOk};
 ghost use Rattle.st_parser.specs.Names as names;
 ghost use Rattle.st_parser.specs.Reader.Functions.{IsReader, IsTest, ReadsAs, TestsAs};
 ghost use Rattle.st_parser.specs.Reader.Parsers as spec;
-ghost use Rattle.st_parser.specs.Reader.Parsers.{Parser, Reads, Takes};
+ghost use Rattle.st_parser.specs.Reader.Parsers.{IsFaultOf, Parser, Reads, Takes};
 
 use crate::cursor::Cursor;
 use crate::fault::ReadFault;
 use st_tokens::Symbol;
-use st_tree::List;
 use st_tree::tree::Identifier;
+use st_tree::{Boxed, List};
 use std::alloc::Global;
 
-/// A list of one item.
-pub fn single<T: Drop>(alloc: Global, item: T) -> Result<List<T>, ReadFault>
-    ensures ok { IfOk result (λ list. list ≡ item ∷ []) }
-    ensures err { IfErr result (λ fault. fault ≡ ReadFault.Memory) }
+/// What was read, in a box. It is refused where that was, and for want of memory.
+pub fn boxed<T: Drop>(alloc: Global, read: Result<T, ReadFault>) -> Result<Boxed<T>, ReadFault>
+    ensures ok { IfOk result (λ kept. read ≡ Ok kept) }
+    ensures err { IfErr result (IsFaultOf read) }
+{
+    Ok(Boxed::new(alloc, read?)?)
+}
+
+/// What was read, as the only item of a list. It is refused where that was, and for want of memory.
+pub fn single<T: Drop>(alloc: Global, read: Result<T, ReadFault>) -> Result<List<T>, ReadFault>
+    ensures ok { IfOk result (λ list. IsOkAnd read (λ item. list ≡ item ∷ [])) }
+    ensures err { IfErr result (IsFaultOf read) }
 {
     let mut list = List::new(alloc);
-    list.push(item)?;
+    add(&mut list, read)?;
     Ok(list)
+}
+
+/// Adds what was read to what was found before. It is refused where that was, and for want of memory.
+pub fn add<T: Drop>(found: &mut List<T>, read: Result<T, ReadFault>) -> Result<(), ReadFault>
+    ensures ok { IfOk result (λ _. IsOkAnd read (λ item. found.new ≡ found.old ++ item ∷ [])) }
+    ensures err { IfErr result (IsFaultOf read) }
+{
+    found.push(read?)?;
+    Ok(())
 }
 
 /// `{ item }`, as long as the first token passes the test `begins`.
 pub fn many<
     T: Drop,
-    B: Fn(&Cursor<'_>) -> bool,
-    F: Fn(Global, &mut Cursor<'_>) -> Result<T, ReadFault>,
+    B: FnOnce(&Cursor<'_>) -> bool + Copy,
+    F: FnOnce(Global, &mut Cursor<'_>) -> Result<T, ReadFault> + Copy,
 >(alloc: Global, ts: &mut Cursor<'_>, begins: B, item: F) -> Result<List<T>, ReadFault>
     requires test { IsTest (B.pre begins) }
     requires item { IsReader (F.pre item) (F.post item) }
@@ -39,24 +56,23 @@ pub fn many<
 /// `item { item }`, as long as the first token passes the test `begins`.
 pub fn at_least_one<
     T: Drop,
-    B: Fn(&Cursor<'_>) -> bool,
-    F: Fn(Global, &mut Cursor<'_>) -> Result<T, ReadFault>,
+    B: FnOnce(&Cursor<'_>) -> bool + Copy,
+    F: FnOnce(Global, &mut Cursor<'_>) -> Result<T, ReadFault> + Copy,
 >(alloc: Global, ts: &mut Cursor<'_>, begins: B, item: F) -> Result<List<T>, ReadFault>
     requires test { IsTest (B.pre begins) }
     requires item { IsReader (F.pre item) (F.post item) }
     ensures read { (test : Option names.Kind → Bool) (p : Parser T) → TestsAs test (B.post begins) → ReadsAs p (F.post item) → Reads (spec.leading p test p ts.old) result ts.new }
     ensures shorter { OnOk result (length ts.new < length ts.old) }
 {
-    let first = item(alloc, ts)?;
-    let found = single(alloc, first)?;
+    let found = single(alloc, item(alloc, ts))?;
     more(alloc, ts, begins, item, found)
 }
 
 /// What was found, and `{ item }` after it, as long as the first token passes the test `begins`.
 fn more<
     T: Drop,
-    B: Fn(&Cursor<'_>) -> bool,
-    F: Fn(Global, &mut Cursor<'_>) -> Result<T, ReadFault>,
+    B: FnOnce(&Cursor<'_>) -> bool + Copy,
+    F: FnOnce(Global, &mut Cursor<'_>) -> Result<T, ReadFault> + Copy,
 >(
     alloc: Global,
     ts: &mut Cursor<'_>,
@@ -70,15 +86,14 @@ fn more<
     ensures shorter { OnOk result (length ts.new ≤ length ts.old) }
 {
     'items: while begins(ts) {
-        let item = item(alloc, ts)?;
-        found.push(item)?;
+        add(&mut found, item(alloc, ts))?;
     }
     found.shrink_to_fit();
     Ok(found)
 }
 
 /// `item { ',' item }`.
-pub fn listed<T: Drop, F: Fn(Global, &mut Cursor<'_>) -> Result<T, ReadFault>>(
+pub fn listed<T: Drop, F: FnOnce(Global, &mut Cursor<'_>) -> Result<T, ReadFault> + Copy>(
     alloc: Global,
     ts: &mut Cursor<'_>,
     item: F,
@@ -87,12 +102,10 @@ pub fn listed<T: Drop, F: Fn(Global, &mut Cursor<'_>) -> Result<T, ReadFault>>(
     ensures read { (p : Parser T) → ReadsAs p (F.post item) → Reads (spec.listed p ts.old) result ts.new }
     ensures shorter { OnOk result (length ts.new < length ts.old) }
 {
-    let first = item(alloc, ts)?;
-    let mut found = single(alloc, first)?;
+    let mut found = single(alloc, item(alloc, ts))?;
     'items: while ts.at_symbol(Symbol::Comma) {
         ts.bump();
-        let next = item(alloc, ts)?;
-        found.push(next)?;
+        add(&mut found, item(alloc, ts))?;
     }
     found.shrink_to_fit();
     Ok(found)

@@ -202,8 +202,7 @@ fn names(alloc: Global, ts: &mut Cursor<'_>, depth_left: u8) -> Result<List<Iden
         ts.expect_symbol(Symbol::Close)?;
         return Ok(found);
     }
-    let name = ts.identifier(alloc)?;
-    Ok(single(alloc, name)?)
+    single(alloc, ts.identifier(alloc))
 }
 
 /// `FROM names TO names`
@@ -241,7 +240,7 @@ fn condition(
     ensures { Takes (spec.condition depth_left ts.old) result ts.old ts.new }
 {
     ts.expect_symbol(Symbol::Assign)?;
-    let condition = Boxed::new(alloc, expression(alloc, ts, depth_left)?)?;
+    let condition = expression(alloc, ts, depth_left)?;
     end_of_transition(ts)?;
     Ok(condition)
 }

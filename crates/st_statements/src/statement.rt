@@ -10,7 +10,7 @@ ghost use Rattle.st_statements.specs.Reader.Statements as spec;
 
 use st_expressions::constant::constant;
 use st_expressions::expression::{call, expression, variable};
-use st_parser::{Cursor, ReadFault, listed, single};
+use st_parser::{Cursor, ReadFault, add, boxed, listed, single};
 use st_tokens::{Keyword, Kind, Symbol};
 use st_tree::tree::{
     CaseElement, CaseStatement, ConditionalPart, Expression, ForStatement, IfStatement, Label,
@@ -53,9 +53,8 @@ fn label(alloc: Global, ts: &mut Cursor<'_>) -> Result<Label, ReadFault>
     let first = constant(ts)?;
     if ts.at_symbol(Symbol::Range) {
         ts.bump();
-        let first = Boxed::new(alloc, first)?;
-        let last = Boxed::new(alloc, constant(ts)?)?;
-        return Ok(Label::Range(first, last));
+        let last = boxed(alloc, constant(ts))?;
+        return Ok(Label::Range(Boxed::new(alloc, first)?, last));
     }
     Ok(Label::Value(first))
 }
@@ -65,15 +64,6 @@ fn labels(alloc: Global, ts: &mut Cursor<'_>) -> Result<List<Label>, ReadFault>
     ensures { Takes (parser.listed spec.label ts.old) result ts.old ts.new }
 {
     listed(alloc, ts, label)
-}
-
-/// `';'`
-#[tactic(auto, unfolding(crate::specs::Reader::Statements::empty))]
-fn empty(ts: &mut Cursor<'_>) -> Result<Statement, ReadFault>
-    requires { 0 < length ts.old }
-    ensures { Takes (spec.empty ts.old) result ts.old ts.new }
-{
-    Ok(Statement::Empty(ts.bump()))
 }
 
 /// `RETURN ';'`
@@ -106,7 +96,7 @@ fn assigned(
     ensures { Takes (spec.assigned depth_left ts.old) result ts.old ts.new }
 {
     ts.expect_symbol(Symbol::Assign)?;
-    let value = Boxed::new(alloc, expression(alloc, ts, depth_left)?)?;
+    let value = expression(alloc, ts, depth_left)?;
     ts.expect_symbol(Symbol::Semicolon)?;
     Ok(value)
 }
@@ -116,7 +106,7 @@ fn assigned(
 fn assignment(alloc: Global, ts: &mut Cursor<'_>, depth_left: u8) -> Result<Statement, ReadFault>
     ensures { Takes (spec.assignment depth_left ts.old) result ts.old ts.new }
 {
-    let target = Boxed::new(alloc, variable(alloc, ts, depth_left)?)?;
+    let target = boxed(alloc, variable(alloc, ts, depth_left))?;
     let value = assigned(alloc, ts, depth_left)?;
     Ok(Statement::Assignment(target, value))
 }
@@ -126,7 +116,7 @@ fn assignment(alloc: Global, ts: &mut Cursor<'_>, depth_left: u8) -> Result<Stat
 fn invocation(alloc: Global, ts: &mut Cursor<'_>, depth_left: u8) -> Result<Statement, ReadFault>
     ensures { Takes (spec.invocation depth_left ts.old) result ts.old ts.new }
 {
-    let call = Boxed::new(alloc, call(alloc, ts, depth_left)?)?;
+    let call = boxed(alloc, call(alloc, ts, depth_left))?;
     ts.expect_symbol(Symbol::Semicolon)?;
     Ok(Statement::Call(call))
 }
@@ -144,23 +134,11 @@ fn named(alloc: Global, ts: &mut Cursor<'_>, depth_left: u8) -> Result<Statement
 }
 
 /// An expression inside one more open level.
-fn inner(alloc: Global, ts: &mut Cursor<'_>, depth_left: u8) -> Result<Expression, ReadFault>
+fn inner(alloc: Global, ts: &mut Cursor<'_>, depth_left: u8) -> Result<Boxed<Expression>, ReadFault>
     requires { 0 < depth_left }
     ensures { Takes ((spec.deeper_of depth_left).expression ts.old) result ts.old ts.new }
 {
     expression(alloc, ts, depth_left - 1)
-}
-
-/// The same, in a box, which costs less to let go of where what follows is refused.
-fn boxed_inner(
-    alloc: Global,
-    ts: &mut Cursor<'_>,
-    depth_left: u8,
-) -> Result<Boxed<Expression>, ReadFault>
-    requires { 0 < depth_left }
-    ensures { Takes ((spec.deeper_of depth_left).expression ts.old) result ts.old ts.new }
-{
-    Ok(Boxed::new(alloc, inner(alloc, ts, depth_left)?)?)
 }
 
 /// `expression` and the keyword after it, inside one more open level
@@ -174,7 +152,7 @@ fn expression_before(
     requires { 0 < depth_left }
     ensures { Takes (spec.expression_before (spec.deeper_of depth_left) keyword ts.old) result ts.old ts.new }
 {
-    let found = boxed_inner(alloc, ts, depth_left)?;
+    let found = inner(alloc, ts, depth_left)?;
     ts.expect_keyword(keyword)?;
     Ok(found)
 }
@@ -191,7 +169,7 @@ fn step(
 {
     if ts.at_keyword(Keyword::By) {
         ts.bump();
-        return Ok(Some(boxed_inner(alloc, ts, depth_left)?));
+        return Ok(Some(inner(alloc, ts, depth_left)?));
     }
     Ok(None)
 }
@@ -229,7 +207,7 @@ fn last_and_step(
     requires { 0 < depth_left }
     ensures { Takes (spec.last_and_step (spec.deeper_of depth_left) ts.old) result ts.old ts.new }
 {
-    let last = boxed_inner(alloc, ts, depth_left)?;
+    let last = inner(alloc, ts, depth_left)?;
     let step = closed_step(alloc, ts, depth_left)?;
     Ok((last, step))
 }
@@ -347,11 +325,9 @@ fn conditionals(
     requires { 0 < depth_left }
     ensures { Takes (spec.conditionals (spec.deeper_of depth_left) ts.old) result ts.old ts.new }
 {
-    let first = conditional(alloc, ts, depth_left)?;
-    let mut found = single(alloc, first)?;
+    let mut found = single(alloc, conditional(alloc, ts, depth_left))?;
     'items: while ts.at_keyword(Keyword::Elsif) {
-        let item = elsif(alloc, ts, depth_left)?;
-        found.push(item)?;
+        add(&mut found, elsif(alloc, ts, depth_left))?;
     }
     found.shrink_to_fit();
     Ok(found)
@@ -430,11 +406,9 @@ fn cases(alloc: Global, ts: &mut Cursor<'_>, depth_left: u8) -> Result<List<Case
     requires { 0 < depth_left }
     ensures { Takes (spec.cases (spec.deeper_of depth_left) ts.old) result ts.old ts.new }
 {
-    let first = case(alloc, ts, depth_left)?;
-    let mut found = single(alloc, first)?;
+    let mut found = single(alloc, case(alloc, ts, depth_left))?;
     'items: while begins_label(ts) {
-        let item = case(alloc, ts, depth_left)?;
-        found.push(item)?;
+        add(&mut found, case(alloc, ts, depth_left))?;
     }
     found.shrink_to_fit();
     Ok(found)
@@ -535,13 +509,13 @@ fn repeat_statement(
 
 /// A statement, by its first token.
 #[cycle(parser)]
-#[tactic(auto, unfolding(crate::specs::Reader::Statements::statement))]
+#[tactic(auto, unfolding(crate::specs::Reader::Statements::statement, crate::specs::Reader::Statements::empty))]
 fn statement(alloc: Global, ts: &mut Cursor<'_>, depth_left: u8) -> Result<Statement, ReadFault>
     ensures { Takes (spec.statement depth_left (spec.deeper_of depth_left) ts.old) result ts.old ts.new }
 {
     match ts.peek() {
         Some(Kind::Word(_)) => named(alloc, ts, depth_left),
-        Some(Kind::Symbol(Symbol::Semicolon)) => empty(ts),
+        Some(Kind::Symbol(Symbol::Semicolon)) => Ok(Statement::Empty(ts.bump())),
         Some(Kind::Keyword(Keyword::Return)) => return_statement(ts),
         Some(Kind::Keyword(Keyword::Exit)) => exit_statement(ts),
         Some(Kind::Keyword(Keyword::If)) => if_statement(alloc, ts, depth_left),
@@ -564,8 +538,7 @@ pub fn statements(
 {
     let mut found = List::new(alloc);
     'items: while begins_statement(ts) {
-        let item = statement(alloc, ts, depth_left)?;
-        found.push(item)?;
+        add(&mut found, statement(alloc, ts, depth_left))?;
     }
     found.shrink_to_fit();
     Ok(found)

@@ -2,12 +2,12 @@
 ghost use Rattle.std.specs.Prelude.{◌≡◌, ◌≤◌, length, Ok};
 ghost use Rattle.st_parser.specs.Grammar.Tokens.{kind, next};
 ghost use Rattle.st_parser.specs.Reader.Parsers as parser;
-ghost use Rattle.st_parser.specs.Reader.Parsers.{MayTake, Takes};
+ghost use Rattle.st_parser.specs.Reader.Parsers.{MayTake, Takes, is_word};
 ghost use Rattle.st_syntax.specs.Reader.Declarations as spec;
 ghost use Rattle.st_syntax.specs.Reader.Declarations.{in_brackets};
 
 use st_expressions::constant::{constant, signed_integer};
-use st_parser::{Cursor, MAX_LEVELS, ReadFault, listed, many, single, words};
+use st_parser::{Cursor, MAX_LEVELS, ReadFault, boxed, listed, many, single, words};
 use st_tokens::{Keyword, Kind, Symbol};
 use st_tree::tree::{
     ArrayElement, Constant, Declaration, Initial, Position, Specification, Subrange, TypeName,
@@ -34,6 +34,13 @@ fn begins_block(ts: &Cursor<'_>) -> bool
         Some(Kind::Keyword(Keyword::Var | Keyword::VarInput | Keyword::VarOutput)) => true,
         _ => false,
     }
+}
+
+/// Whether the first token, a word, begins what is declared by a name.
+pub fn begins_declaration(ts: &Cursor<'_>) -> bool
+    ensures { result ≡ is_word (kind ts.now) }
+{
+    ts.at_word()
 }
 
 /// Whether a number and `(` come first.
@@ -88,28 +95,19 @@ fn array(alloc: Global, ts: &mut Cursor<'_>) -> Result<Specification, ReadFault>
     let subscripts = subranges(alloc, ts)?;
     ts.expect_symbol(Symbol::CloseBracket)?;
     ts.expect_keyword(Keyword::Of)?;
-    let element = type_name(alloc, ts)?;
-    Ok(Specification::Array(position, subscripts, Boxed::new(alloc, element)?))
-}
-
-/// `type name`
-#[tactic(auto, unfolding(crate::specs::Reader::Declarations::simple))]
-fn simple(alloc: Global, ts: &mut Cursor<'_>) -> Result<Specification, ReadFault>
-    ensures { Takes (spec.simple ts.old) result ts.old ts.new }
-{
-    Ok(Specification::Simple(type_name(alloc, ts)?))
+    let element = boxed(alloc, type_name(alloc, ts))?;
+    Ok(Specification::Array(position, subscripts, element))
 }
 
 /// `type name | ARRAY '[' subrange { ',' subrange } ']' OF type name`
-#[tactic(auto, unfolding(crate::specs::Reader::Declarations::specification))]
+#[tactic(auto, unfolding(crate::specs::Reader::Declarations::specification, crate::specs::Reader::Declarations::simple))]
 fn specification(alloc: Global, ts: &mut Cursor<'_>) -> Result<Specification, ReadFault>
     ensures { Takes (spec.specification in_brackets ts.old) result ts.old ts.new }
 {
     if ts.at_keyword(Keyword::Array) {
-        array(alloc, ts)
-    } else {
-        simple(alloc, ts)
+        return array(alloc, ts);
     }
+    Ok(Specification::Simple(type_name(alloc, ts)?))
 }
 
 /// `[ literal ]`
@@ -120,8 +118,7 @@ fn repeated_value(alloc: Global, ts: &mut Cursor<'_>) -> Result<Option<Boxed<Con
     if ts.at_symbol(Symbol::Close) {
         return Ok(None);
     }
-    let value = constant(ts)?;
-    Ok(Some(Boxed::new(alloc, value)?))
+    Ok(Some(boxed(alloc, constant(ts))?))
 }
 
 /// `number '(' [ literal ] ')'`
@@ -137,24 +134,15 @@ fn repeated(alloc: Global, ts: &mut Cursor<'_>) -> Result<ArrayElement, ReadFaul
     Ok(ArrayElement::Repeated(position, count, value))
 }
 
-/// `literal`
-#[tactic(auto, unfolding(crate::specs::Reader::Declarations::plain_element))]
-fn plain_element(ts: &mut Cursor<'_>) -> Result<ArrayElement, ReadFault>
-    ensures { Takes (spec.plain_element ts.old) result ts.old ts.new }
-{
-    Ok(ArrayElement::Single(constant(ts)?))
-}
-
 /// `literal | number '(' [ literal ] ')'`
-#[tactic(auto, unfolding(crate::specs::Reader::Declarations::element))]
+#[tactic(auto, unfolding(crate::specs::Reader::Declarations::element, crate::specs::Reader::Declarations::plain_element))]
 fn element(alloc: Global, ts: &mut Cursor<'_>) -> Result<ArrayElement, ReadFault>
     ensures { Takes (spec.element in_brackets ts.old) result ts.old ts.new }
 {
     if is_repeated(ts) {
-        repeated(alloc, ts)
-    } else {
-        plain_element(ts)
+        return repeated(alloc, ts);
     }
+    Ok(ArrayElement::Single(constant(ts)?))
 }
 
 /// `element { ',' element }`
@@ -175,24 +163,15 @@ fn initial_array(alloc: Global, ts: &mut Cursor<'_>) -> Result<Initial, ReadFaul
     Ok(Initial::Array(position, elements))
 }
 
-/// `literal`
-#[tactic(auto, unfolding(crate::specs::Reader::Declarations::initial_constant))]
-fn initial_constant(ts: &mut Cursor<'_>) -> Result<Initial, ReadFault>
-    ensures { Takes (spec.initial_constant ts.old) result ts.old ts.new }
-{
-    Ok(Initial::Constant(constant(ts)?))
-}
-
 /// `literal | '[' element { ',' element } ']'`
-#[tactic(auto, unfolding(crate::specs::Reader::Declarations::initial))]
+#[tactic(auto, unfolding(crate::specs::Reader::Declarations::initial, crate::specs::Reader::Declarations::initial_constant))]
 fn initial(alloc: Global, ts: &mut Cursor<'_>) -> Result<Initial, ReadFault>
     ensures { Takes (spec.initial in_brackets ts.old) result ts.old ts.new }
 {
     if ts.at_symbol(Symbol::OpenBracket) {
-        initial_array(alloc, ts)
-    } else {
-        initial_constant(ts)
+        return initial_array(alloc, ts);
     }
+    Ok(Initial::Constant(constant(ts)?))
 }
 
 /// `[ ':=' initial ] ';'`
@@ -202,9 +181,9 @@ fn initialized(alloc: Global, ts: &mut Cursor<'_>) -> Result<Option<Boxed<Initia
 {
     if ts.at_symbol(Symbol::Assign) {
         ts.bump();
-        let value = initial(alloc, ts)?;
+        let value = boxed(alloc, initial(alloc, ts))?;
         ts.expect_symbol(Symbol::Semicolon)?;
-        return Ok(Some(Boxed::new(alloc, value)?));
+        return Ok(Some(value));
     }
     ts.expect_symbol(Symbol::Semicolon)?;
     Ok(None)
@@ -243,8 +222,7 @@ fn declaration(alloc: Global, ts: &mut Cursor<'_>) -> Result<Declaration, ReadFa
 pub fn member(alloc: Global, ts: &mut Cursor<'_>) -> Result<Declaration, ReadFault>
     ensures { Takes (spec.member in_brackets ts.old) result ts.old ts.new }
 {
-    let name = ts.identifier_before(alloc, Symbol::Colon)?;
-    let names = single(alloc, name)?;
+    let names = single(alloc, ts.identifier_before(alloc, Symbol::Colon))?;
     let (specification, initial) = typed(alloc, ts)?;
     Ok(Declaration {
         names,
@@ -282,7 +260,7 @@ fn retention(ts: &mut Cursor<'_>, var_kind: VarKind) -> VarKind
 fn declarations(alloc: Global, ts: &mut Cursor<'_>) -> Result<List<Declaration>, ReadFault>
     ensures { MayTake (spec.declarations in_brackets ts.old) result ts.old ts.new }
 {
-    many(alloc, ts, |ts: &Cursor<'_>| ts.at_word(), declaration)
+    many(alloc, ts, begins_declaration, declaration)
 }
 
 /// `{ declaration } END_VAR`

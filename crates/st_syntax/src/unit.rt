@@ -5,7 +5,7 @@ ghost use Rattle.st_parser.specs.Reader.Parsers.{MayTake, Takes};
 ghost use Rattle.st_syntax.specs.Reader.Declarations.{in_brackets};
 ghost use Rattle.st_syntax.specs.Reader.Units as spec;
 
-use crate::declaration::{member, typed, variables};
+use crate::declaration::{begins_declaration, member, typed, variables};
 use st_parser::{Cursor, MAX_LEVELS, ReadFault, at_least_one, many};
 use st_statements::chart::{begins_element, chart};
 use st_statements::statement::statements;
@@ -26,20 +26,11 @@ fn begins_unit(ts: &Cursor<'_>) -> bool
     }
 }
 
-/// `specification [ ':=' initial ] ';'`
-#[tactic(auto, unfolding(crate::specs::Reader::Units::derived))]
-fn derived(alloc: Global, ts: &mut Cursor<'_>) -> Result<DeclaredType, ReadFault>
-    ensures { Takes (spec.derived in_brackets ts.old) result ts.old ts.new }
-{
-    let (specification, initial) = typed(alloc, ts)?;
-    Ok(DeclaredType::Derived(specification, initial))
-}
-
 /// `member { member }`
 fn members(alloc: Global, ts: &mut Cursor<'_>) -> Result<List<Declaration>, ReadFault>
     ensures { Takes (spec.members in_brackets ts.old) result ts.old ts.new }
 {
-    at_least_one(alloc, ts, |ts: &Cursor<'_>| ts.at_word(), member)
+    at_least_one(alloc, ts, begins_declaration, member)
 }
 
 /// `STRUCT member { member } END_STRUCT ';'`
@@ -55,15 +46,15 @@ fn structure(alloc: Global, ts: &mut Cursor<'_>) -> Result<DeclaredType, ReadFau
 }
 
 /// `specification [ ':=' initial ] ';' | STRUCT member { member } END_STRUCT ';'`
-#[tactic(auto, unfolding(crate::specs::Reader::Units::declared))]
+#[tactic(auto, unfolding(crate::specs::Reader::Units::declared, crate::specs::Reader::Units::derived))]
 fn declared(alloc: Global, ts: &mut Cursor<'_>) -> Result<DeclaredType, ReadFault>
     ensures { Takes (spec.declared in_brackets ts.old) result ts.old ts.new }
 {
     if ts.at_keyword(Keyword::Struct) {
-        structure(alloc, ts)
-    } else {
-        derived(alloc, ts)
+        return structure(alloc, ts);
     }
+    let (specification, initial) = typed(alloc, ts)?;
+    Ok(DeclaredType::Derived(specification, initial))
 }
 
 /// `word ':' declared`
@@ -80,7 +71,7 @@ fn type_declaration(alloc: Global, ts: &mut Cursor<'_>) -> Result<TypeDeclaratio
 fn type_declarations(alloc: Global, ts: &mut Cursor<'_>) -> Result<List<TypeDeclaration>, ReadFault>
     ensures { MayTake (spec.type_declarations in_brackets ts.old) result ts.old ts.new }
 {
-    many(alloc, ts, |ts: &Cursor<'_>| ts.at_word(), type_declaration)
+    many(alloc, ts, begins_declaration, type_declaration)
 }
 
 /// `TYPE { type declaration } END_TYPE`
@@ -129,32 +120,15 @@ fn function(alloc: Global, ts: &mut Cursor<'_>) -> Result<Unit, ReadFault>
     }))
 }
 
-/// `chart`
-#[tactic(auto, unfolding(crate::specs::Reader::Units::chart_body))]
-fn chart_body(alloc: Global, ts: &mut Cursor<'_>) -> Result<Body, ReadFault>
-    ensures { MayTake (spec.chart_body in_brackets ts.old) result ts.old ts.new }
-{
-    Ok(Body::Chart(chart(alloc, ts, MAX_LEVELS)?))
-}
-
-/// `{ statement }`
-#[tactic(auto, unfolding(crate::specs::Reader::Units::plain_body))]
-fn plain_body(alloc: Global, ts: &mut Cursor<'_>) -> Result<Body, ReadFault>
-    ensures { MayTake (spec.plain_body in_brackets ts.old) result ts.old ts.new }
-{
-    Ok(Body::Statements(statements(alloc, ts, MAX_LEVELS)?))
-}
-
 /// `{ statement } | chart`
-#[tactic(auto, unfolding(crate::specs::Reader::Units::body))]
+#[tactic(auto, unfolding(crate::specs::Reader::Units::body, crate::specs::Reader::Units::chart_body, crate::specs::Reader::Units::plain_body))]
 fn body(alloc: Global, ts: &mut Cursor<'_>) -> Result<Body, ReadFault>
     ensures { MayTake (spec.body in_brackets ts.old) result ts.old ts.new }
 {
     if begins_element(ts) {
-        chart_body(alloc, ts)
-    } else {
-        plain_body(alloc, ts)
+        return Ok(Body::Chart(chart(alloc, ts, MAX_LEVELS)?));
     }
+    Ok(Body::Statements(statements(alloc, ts, MAX_LEVELS)?))
 }
 
 /// `word { variables } body`, between the first word of a function block or a program and `last`.
@@ -175,32 +149,20 @@ fn pou(alloc: Global, ts: &mut Cursor<'_>, last: Keyword) -> Result<Pou, ReadFau
     })
 }
 
-/// `FUNCTION_BLOCK word { variables } body END_FUNCTION_BLOCK`
-#[tactic(auto, unfolding(crate::specs::Reader::Units::function_block))]
-fn function_block(alloc: Global, ts: &mut Cursor<'_>) -> Result<Unit, ReadFault>
-    ensures { Takes (spec.function_block in_brackets ts.old) result ts.old ts.new }
-{
-    Ok(Unit::FunctionBlock(pou(alloc, ts, Keyword::EndFunctionBlock)?))
-}
-
-/// `PROGRAM word { variables } body END_PROGRAM`
-#[tactic(auto, unfolding(crate::specs::Reader::Units::program))]
-fn program(alloc: Global, ts: &mut Cursor<'_>) -> Result<Unit, ReadFault>
-    ensures { Takes (spec.program in_brackets ts.old) result ts.old ts.new }
-{
-    Ok(Unit::Program(pou(alloc, ts, Keyword::EndProgram)?))
-}
-
 /// A unit, by its first token.
-#[tactic(auto, unfolding(crate::specs::Reader::Units::unit_of))]
+#[tactic(auto, unfolding(crate::specs::Reader::Units::unit_of, crate::specs::Reader::Units::function_block, crate::specs::Reader::Units::program))]
 fn unit(alloc: Global, ts: &mut Cursor<'_>) -> Result<Unit, ReadFault>
     ensures { Takes (spec.unit_of in_brackets ts.old) result ts.old ts.new }
 {
     match ts.peek() {
         Some(Kind::Keyword(Keyword::Type)) => types(alloc, ts),
         Some(Kind::Keyword(Keyword::Function)) => function(alloc, ts),
-        Some(Kind::Keyword(Keyword::FunctionBlock)) => function_block(alloc, ts),
-        Some(Kind::Keyword(Keyword::Program)) => program(alloc, ts),
+        Some(Kind::Keyword(Keyword::FunctionBlock)) => {
+            Ok(Unit::FunctionBlock(pou(alloc, ts, Keyword::EndFunctionBlock)?))
+        }
+        Some(Kind::Keyword(Keyword::Program)) => {
+            Ok(Unit::Program(pou(alloc, ts, Keyword::EndProgram)?))
+        }
         _ => Err(ts.unexpected()),
     }
 }

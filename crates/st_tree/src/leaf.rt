@@ -3,7 +3,7 @@ use crate::list::List;
 use st_values::{Elem, Value};
 
 /// What a variable of a running program is for. It is no part of the syntax.
-#[derive(Clone, Copy, Debug, PartialEq, Eq)]
+#[derive(Clone, Copy)]
 pub enum Role {
     /// A variable that an operator may write and force.
     Plain,

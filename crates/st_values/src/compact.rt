@@ -9,7 +9,7 @@ use crate::value::Value;
 use std::marker::Model;
 
 /// A whole number below 2^128, in two halves. Contracts see the number.
-#[derive(Clone, Copy, Debug, PartialEq, Eq)]
+#[derive(Clone, Copy, PartialEq, Eq)]
 pub struct Natural {
     /// How often 2^64 is in the number.
     high: u64,
@@ -49,7 +49,7 @@ impl Natural {
 }
 
 /// A whole number of 128 bits with its sign, in two halves. Contracts see the number.
-#[derive(Clone, Copy, Debug, PartialEq, Eq)]
+#[derive(Clone, Copy, PartialEq, Eq)]
 pub struct Integer {
     /// The number as two's complement.
     bits: Natural,
@@ -91,7 +91,7 @@ impl Integer {
 }
 
 /// A value whose number stands in halves. Contracts see the value.
-#[derive(Clone, Copy, Debug, PartialEq, Eq)]
+#[derive(Clone, Copy)]
 pub struct CompactValue {
     elem: Elem,
     bits: Integer,

@@ -23,7 +23,7 @@ pub enum Elem {
 }
 
 /// How the values of a type are written (2.2).
-#[derive(Clone, Copy, Debug, PartialEq, Eq)]
+#[derive(Clone, Copy)]
 pub enum Class {
     /// `TRUE` and `FALSE`.
     Boolean,

@@ -1,9 +1,9 @@
 //! What the program's words ask for, as `clap` reads them.
 
-ghost use Rattle.std.specs.Prelude.{◌≡◌, ℕ, [], Some, IfErr, IfOk, IfSome, IsNone, OnOk, map, option_map, false};
-ghost use Rattle.clap.specs.Words.{IsPlainArg, app_of, kind_of, new_rule, rule_of, subcommand_rows_of};
+ghost use Rattle.std.specs.Prelude.{◌≡◌, ℕ, [], Some, IfErr, IfOk, IsOkAnd, IfSome, IsNone, OnOk, map, option_map, false};
+ghost use Rattle.clap.specs.Words.{IsPlainArg, app_of, kind_of, new_rule, rule_of, subcommand_rows_of, with_subcommand};
 ghost use Rattle.clap.specs.declared.builder.command.Command.TheViews.{out-Command};
-ghost use Rattle.st_words.specs.Words.{AreInOrder, HasLimit, IsFaultOf, IsLimitOf, IsOrder, IsRunnable, IsStepLimit, check_app, checking_app, chosen_by, faults_of, file_app, layout_app, run_app, stc_app, stc_top, text_app, verb_name};
+ghost use Rattle.st_words.specs.Words.{AreInOrder, HasLimit, IsFaultOf, IsLimitOf, IsOrder, IsRunnable, IsStepLimit, check_app, chosen_by, faults_of, file_app, layout_app, run_app, stc_app, stc_top, verb_name};
 
 use clap::error::ErrorKind;
 use clap::{Arg, ArgMatches, Command, Error};
@@ -20,7 +20,7 @@ pub const DEFAULT_STEPS: u32 = 100_000;
 pub const VERSION: &str = "1.0.0";
 
 /// What is to be done with the source text.
-#[derive(Clone, Copy, Debug, PartialEq, Eq)]
+#[derive(Clone, Copy)]
 pub enum Verb {
     /// Say whether the text is accepted as the main program, or why not.
     Check,
@@ -31,7 +31,7 @@ pub enum Verb {
 }
 
 /// What the words ask for.
-#[derive(Clone, Copy, Debug)]
+#[derive(Clone, Copy)]
 pub struct Order<'a> {
     pub verb: Verb,
     /// The path of the source text.
@@ -78,38 +78,33 @@ fn order_by<'a, S: AsStr>(command: &mut Command<'a>, words: &'a [S]) -> Result<O
 fn stc_command<'a>(alloc: Global) -> Result<Command<'a>, AllocError>
     ensures { IfOk result (λ command. app_of command ≡ stc_app) }
 {
-    let run = run_command(alloc)?;
-    text_command(alloc)?.subcommand(run)
+    let bare = bare_command(alloc)?;
+    let checking = with(bare, check_command(alloc))?;
+    let of_texts = with(checking, layout_command(alloc))?;
+    with(of_texts, run_command(alloc))
 }
 
-/// The program's own settings, and the subcommands that say something of a text alone.
-fn text_command<'a>(alloc: Global) -> Result<Command<'a>, AllocError>
-    ensures app { IfOk result (λ command. app_of command ≡ text_app) }
-    ensures local { IfOk result (λ command. (out-Command command).has_globals ≡ false) }
+/// The command with a subcommand, where that could be made.
+fn with<'a>(
+    command: Command<'a>,
+    subcommand: Result<Command<'a>, AllocError>,
+) -> Result<Command<'a>, AllocError>
+    requires { IfOk subcommand (λ it. (out-Command it).has_globals ≡ false) }
+    ensures { IfOk result (λ new. IsOkAnd subcommand.entry (λ it. app_of new ≡ with_subcommand (app_of command.entry) (app_of it).top)) }
 {
-    let layout = layout_command(alloc)?;
-    checking_command(alloc)?.subcommand(layout)
+    command.subcommand(subcommand?)
 }
 
-/// The program's own settings, its name, and the subcommand `check`.
-fn checking_command<'a>(alloc: Global) -> Result<Command<'a>, AllocError>
-    ensures app { IfOk result (λ command. app_of command ≡ checking_app) }
-    ensures local { IfOk result (λ command. (out-Command command).has_globals ≡ false) }
-{
-    let check = check_command(alloc)?;
-    bare_command(alloc).subcommand(check)?.bin_name("stc")
-}
-
-/// The program's own settings.
-fn bare_command<'a>(alloc: Global) -> Command<'a>
-    ensures app { app_of result ≡ stc_top }
-    ensures local { (out-Command result).has_globals ≡ false }
+/// The program's own settings, and its name.
+fn bare_command<'a>(alloc: Global) -> Result<Command<'a>, AllocError>
+    ensures { IfOk result (λ command. app_of command ≡ stc_top) }
 {
     Command::new(alloc, "stc")
         .about("A soft controller for programs in Structured Text.")
         .version(VERSION)
         .subcommand_required(true)
         .disable_help_subcommand(true)
+        .bin_name("stc")
 }
 
 /// `check FILE --program N`
@@ -117,7 +112,11 @@ fn check_command<'a>(alloc: Global) -> Result<Command<'a>, AllocError>
     ensures app { IfOk result (λ command. app_of command ≡ check_app) }
     ensures local { IfOk result (λ command. (out-Command command).has_globals ≡ false) }
 {
-    Ok(file_command(alloc, "check")?.about("Say whether the program is accepted, or why not."))
+    file_command(
+        alloc,
+        "check",
+        "Say whether the program is accepted, or why not.",
+    )
 }
 
 /// `layout FILE --program N`
@@ -125,9 +124,11 @@ fn layout_command<'a>(alloc: Global) -> Result<Command<'a>, AllocError>
     ensures app { IfOk result (λ command. app_of command ≡ layout_app) }
     ensures local { IfOk result (λ command. (out-Command command).has_globals ≡ false) }
 {
-    Ok(file_command(alloc, "layout")?.about(
+    file_command(
+        alloc,
+        "layout",
         "List the program's leaves, each with its place, its width and its type.",
-    ))
+    )
 }
 
 /// `run FILE --program N [--steps K]`
@@ -135,19 +136,19 @@ fn run_command<'a>(alloc: Global) -> Result<Command<'a>, AllocError>
     ensures app { IfOk result (λ command. app_of command ≡ run_app) }
     ensures local { IfOk result (λ command. (out-Command command).has_globals ≡ false) }
 {
-    file_command(alloc, "run")?
-        .about("Run a session over the program on standard input and output.")
-        .arg(option(alloc, "steps", "K").help(
-            "The most steps of one scan, from 1 to 10000000; 100000 where it isn't given",
-        ))
+    let about = "Run a session over the program on standard input and output.";
+    file_command(alloc, "run", about)?.arg(option(alloc, "steps", "K").help(
+        "The most steps of one scan, from 1 to 10000000; 100000 where it isn't given",
+    ))
 }
 
-/// A subcommand that takes FILE and `--program N`.
-fn file_command<'a>(alloc: Global, name: &'a str) -> Result<Command<'a>, AllocError>
+/// A subcommand that takes FILE and `--program N`, and what is said of it.
+fn file_command<'a>(alloc: Global, name: &'a str, about: &'a str) -> Result<Command<'a>, AllocError>
     ensures app { IfOk result (λ command. app_of command ≡ file_app name.entry.now) }
     ensures local { IfOk result (λ command. (out-Command command).has_globals ≡ false) }
 {
     Command::new(alloc, name)
+        .about(about)
         .arg(
             Arg::new(alloc, "FILE")
                 .help("The source text")

@@ -1,5 +1,5 @@
 -- Parsers: what is read from the first of some tokens on, or why nothing is.
-use Rattle.std.specs.Prelude.{◌≡◌, ◌<◌, ◌≤◌, ℕ, zero, suc, Bool, true, false, if◌then◌else◌, List, [], ◌∷◌, ◌++◌, length, Option, Some, Result, Ok, Err, OnOk}
+use Rattle.std.specs.Prelude.{◌≡◌, ◌⊎◌, ◌<◌, ◌≤◌, ℕ, zero, suc, Bool, true, false, if◌then◌else◌, List, [], ◌∷◌, ◌++◌, length, Option, Some, Result, Ok, Err, OnOk}
 use Rattle.st_tokens.specs.declared.symbol.Symbol.TheVariants as symbols
 use Rattle.st_tokens.specs.declared.token.Kind.TheVariants as token_kinds
 use Rattle.st_parser.specs.Names.{Identifier, Keyword, Kind, Position, ReadFault, Symbol}
@@ -142,6 +142,10 @@ abbrev pub Refuses : {A : Type 0} → Outcome A → ReadFault → Type 0
 Refuses o read_faults.Memory = Unit {0}
 Refuses o (read_faults.NotInGrammar line) = o ≡ Err Wrong
 Refuses o (read_faults.TooDeep line) = o ≡ Err Deep
+
+-- why something wasn't read, or memory ran out since
+abbrev pub IsFaultOf : {A : Type 0} → Result A ReadFault → ReadFault → Type 0
+IsFaultOf read fault = (read ≡ Err fault) ⊎ (fault ≡ read_faults.Memory)
 
 -- the outcome, with these tokens after it, unless memory runs out
 abbrev pub Reads : {A : Type 0} → Outcome A → Result A ReadFault → List Tok → Type 0

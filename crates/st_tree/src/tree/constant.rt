@@ -3,7 +3,7 @@ use crate::tree::position::Position;
 use st_values::{CompactValue, Integer, Natural};
 
 /// A decimal or based number with its sign (2.2.1).
-#[derive(Clone, Copy, Debug, PartialEq, Eq)]
+#[derive(Clone, Copy)]
 pub struct SignedInteger {
     /// Where the sign stands, or the number where it has none.
     pub position: Position,
@@ -14,7 +14,7 @@ pub struct SignedInteger {
 }
 
 /// A duration (2.2.3.1).
-#[derive(Clone, Copy, Debug, PartialEq, Eq)]
+#[derive(Clone, Copy)]
 pub struct Duration {
     pub position: Position,
     /// In milliseconds. Each outside -2^63 to 2^63 - 1 counts as 2^64.
@@ -22,7 +22,7 @@ pub struct Duration {
 }
 
 /// A literal.
-#[derive(Clone, Copy, Debug, PartialEq, Eq)]
+#[derive(Clone, Copy)]
 pub enum Constant {
     /// A number, which has the type that is due.
     Integer(SignedInteger),

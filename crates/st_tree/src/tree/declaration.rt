@@ -14,7 +14,7 @@ pub enum TypeName {
 }
 
 /// The bounds of a subscript. Both belong to it.
-#[derive(Clone, Copy, Debug, PartialEq, Eq)]
+#[derive(Clone, Copy)]
 pub struct Subrange {
     /// The least subscript.
     pub lower: SignedInteger,
@@ -60,7 +60,7 @@ pub struct Declaration {
 }
 
 /// What the variables of a block of declarations are for (2.4.3, table 16).
-#[derive(Clone, Copy, Debug, PartialEq, Eq)]
+#[derive(Clone, Copy)]
 pub enum VarKind {
     /// `VAR`
     Internal,

@@ -2,90 +2,100 @@ use Rattle.std.proofs.Common.{◌<◌, [], sym, ap, Ok, ◌∙◌, arith}
 use Rattle.std.proofs.lemmas.Result.{err_from_is_err_and}
 use Rattle.st_tokens.specs.declared.symbol.Symbol.TheVariants as symbols
 use Rattle.st_parser.specs.Reader.Parsers as parser
-use Rattle.st_parser.proofs.Loops.{left_init, left_step, loop_end, loop_err, listed_first, listed_end, listed_err}
-use Rattle.st_parser.proofs.ParserLemmas.{next_at}
+use Rattle.st_parser.proofs.Loops.{left_added, left_init, loop_end, loop_err, listed_first, listed_end, listed_err, of_item, refused_read}
+use Rattle.st_parser.proofs.ParserLemmas.{next_at, takes_kept}
 use Rattle.st_expressions.specs.Reader as spec
 use Rattle.st_expressions.proofs.ReaderLemmas.{binary_before, binary_err, binary_first, binary_ok, binary_up_to, inside_expression, inside_variable, refused_up_to}
 use Rattle.st_expressions.proofs.expression.+parser.Goals as goal
 
-pub expressions-returns-in_err-first : goal.expressions-returns-in_err-first
-expressions-returns-in_err-first t c =
+pub expressions-returns-in_err-found : goal.expressions-returns-in_err-found
+expressions-returns-in_err-found t c =
     let e = err_from_is_err_and c.from_residual.result c.from_residual.ensures.1 in
-    rw (e.1, e.2) (record { reads = listed_first ((spec.inside_of c.args.depth_left).expression) c.args.ts.now _ c.in_err-first.ensures.reads; shorter = tt })
+    rw (e.1, e.2) (record {
+      reads = listed_first ((spec.inside_of c.args.depth_left).expression) c.args.ts.now _ (refused_read _ c.inside.result c.inside.new.ts _ c.in_err-found.ensures.err c.inside.ensures.reads);
+      shorter = tt;
+    })
 
 pub expressions-items-init : goal.expressions-items-init
 expressions-items-init t c = record { left = left_init (parser.is_symbol symbols.Comma) (parser.next_item ((spec.inside_of c.args.depth_left).expression)) c.in_ok-found.found c.inside.new.ts; shorter = omega arith }
 
-pub expressions-returns-in_err-item : goal.expressions-returns-in_err-item
-expressions-returns-in_err-item t c =
-    let e = err_from_is_err_and c.from_residual-in_err-item.result c.from_residual-in_err-item.ensures.1 in
+pub expressions-returns-in_err-add : goal.expressions-returns-in_err-add
+expressions-returns-in_err-add t c =
+    let e = err_from_is_err_and c.from_residual-in_err-add.result c.from_residual-in_err-add.ensures.1 in
     rw (e.1, e.2) (record {
-      reads = listed_err ((spec.inside_of c.args.depth_left).expression) c.args.ts.now c.inside.new.ts c.in_ok-first.first c.in_ok-first.ensures.reads c.in_ok-found.found c.items.found c.items.ts _ c.in_ok-found.ensures.ok c.items.invariant.left (sym c.at_symbol.ensures ∙ c.items-test.true)
-          (rw (next_at ((spec.inside_of c.args.depth_left).expression) c.items.ts c.bump.new.self c.bump.ensures.rest) c.in_err-item.ensures.reads);
+      reads = listed_err ((spec.inside_of c.args.depth_left).expression) c.args.ts.now c.inside.new.ts c.inside.result c.inside.ensures.reads c.in_ok-found.found c.in_ok-found.ensures.ok c.items.found c.items.ts _ c.items.invariant.left (sym c.at_symbol.ensures ∙ c.items-test.true)
+          (refused_read _ c.inside-in-items.result c.inside-in-items.new.ts _ c.in_err-add.ensures.err (rw (next_at ((spec.inside_of c.args.depth_left).expression) c.items.ts c.bump.new.self c.bump.ensures.rest) c.inside-in-items.ensures.reads));
       shorter = tt;
     })
 
 pub expressions-items-preserved : goal.expressions-items-preserved
 expressions-items-preserved t c =
+    let less = of_item c.inside-in-items.result _ c.in_ok-add.ensures.ok c.inside-in-items.ensures.shorter in
     record {
-      left = rw c.in_ok-push.ensures.ok (left_step (parser.is_symbol symbols.Comma) (parser.next_item ((spec.inside_of c.args.depth_left).expression)) c.in_ok-found.found c.inside.new.ts c.items.found c.items.ts _ _ c.items.invariant.left (sym c.at_symbol.ensures ∙ c.items-test.true)
-          (next_at ((spec.inside_of c.args.depth_left).expression) c.items.ts c.bump.new.self c.bump.ensures.rest ∙ c.in_ok-item.ensures.reads) (omega (arith, c.in_ok-item.ensures.shorter, c.bump.ensures.shorter)));
-      shorter = omega (arith, c.in_ok-item.ensures.shorter, c.bump.ensures.shorter, c.items.invariant.shorter);
+      left = left_added (parser.is_symbol symbols.Comma) (parser.next_item ((spec.inside_of c.args.depth_left).expression)) c.in_ok-found.found c.inside.new.ts c.items.found c.add.new.found c.items.ts c.inside-in-items.new.ts c.inside-in-items.result c.items.invariant.left (sym c.at_symbol.ensures ∙ c.items-test.true)
+          (rw (next_at ((spec.inside_of c.args.depth_left).expression) c.items.ts c.bump.new.self c.bump.ensures.rest) c.inside-in-items.ensures.reads) c.in_ok-add.ensures.ok (omega (arith, less, c.bump.ensures.shorter));
+      shorter = omega (arith, less, c.bump.ensures.shorter, c.items.invariant.shorter);
     }
 
 pub expressions-returns : goal.expressions-returns
 expressions-returns t c = rw c.shrink_to_fit.ensures (record {
-  reads = listed_end ((spec.inside_of c.args.depth_left).expression) c.args.ts.now c.inside.new.ts c.in_ok-first.first c.in_ok-first.ensures.reads c.in_ok-found.found c.items.found c.items.ts c.in_ok-found.ensures.ok c.items.invariant.left (sym c.at_symbol.ensures ∙ c.items-test.false);
-  shorter = omega (arith, c.in_ok-first.ensures.shorter, c.items.invariant.shorter);
+  reads = listed_end ((spec.inside_of c.args.depth_left).expression) c.args.ts.now c.inside.new.ts c.inside.result c.inside.ensures.reads c.in_ok-found.found c.in_ok-found.ensures.ok c.items.found c.items.ts c.items.invariant.left (sym c.at_symbol.ensures ∙ c.items-test.false);
+  shorter = omega (arith, of_item c.inside.result _ c.in_ok-found.ensures.ok c.inside.ensures.shorter, c.items.invariant.shorter);
 })
 
-pub argument_list-returns-in_err-first : goal.argument_list-returns-in_err-first
-argument_list-returns-in_err-first t c =
+pub argument_list-returns-in_err-found : goal.argument_list-returns-in_err-found
+argument_list-returns-in_err-found t c =
     let e = err_from_is_err_and c.from_residual.result c.from_residual.ensures.1 in
-    rw (e.1, e.2) (record { reads = listed_first (spec.argument (spec.inside_of c.args.depth_left)) c.args.ts.now _ c.in_err-first.ensures.reads; shorter = tt })
+    rw (e.1, e.2) (record {
+      reads = listed_first (spec.argument (spec.inside_of c.args.depth_left)) c.args.ts.now _ (refused_read _ c.argument.result c.argument.new.ts _ c.in_err-found.ensures.err c.argument.ensures.reads);
+      shorter = tt;
+    })
 
 pub argument_list-items-init : goal.argument_list-items-init
 argument_list-items-init t c = record { left = left_init (parser.is_symbol symbols.Comma) (parser.next_item (spec.argument (spec.inside_of c.args.depth_left))) c.in_ok-found.found c.argument.new.ts; shorter = omega arith }
 
-pub argument_list-returns-in_err-item : goal.argument_list-returns-in_err-item
-argument_list-returns-in_err-item t c =
-    let e = err_from_is_err_and c.from_residual-in_err-item.result c.from_residual-in_err-item.ensures.1 in
+pub argument_list-returns-in_err-add : goal.argument_list-returns-in_err-add
+argument_list-returns-in_err-add t c =
+    let e = err_from_is_err_and c.from_residual-in_err-add.result c.from_residual-in_err-add.ensures.1 in
     rw (e.1, e.2) (record {
-      reads = listed_err (spec.argument (spec.inside_of c.args.depth_left)) c.args.ts.now c.argument.new.ts c.in_ok-first.first c.in_ok-first.ensures.reads c.in_ok-found.found c.items.found c.items.ts _ c.in_ok-found.ensures.ok c.items.invariant.left (sym c.at_symbol.ensures ∙ c.items-test.true)
-          (rw (next_at (spec.argument (spec.inside_of c.args.depth_left)) c.items.ts c.bump.new.self c.bump.ensures.rest) c.in_err-item.ensures.reads);
+      reads = listed_err (spec.argument (spec.inside_of c.args.depth_left)) c.args.ts.now c.argument.new.ts c.argument.result c.argument.ensures.reads c.in_ok-found.found c.in_ok-found.ensures.ok c.items.found c.items.ts _ c.items.invariant.left (sym c.at_symbol.ensures ∙ c.items-test.true)
+          (refused_read _ c.argument-in-items.result c.argument-in-items.new.ts _ c.in_err-add.ensures.err (rw (next_at (spec.argument (spec.inside_of c.args.depth_left)) c.items.ts c.bump.new.self c.bump.ensures.rest) c.argument-in-items.ensures.reads));
       shorter = tt;
     })
 
 pub argument_list-items-preserved : goal.argument_list-items-preserved
 argument_list-items-preserved t c =
+    let less = of_item c.argument-in-items.result _ c.in_ok-add.ensures.ok c.argument-in-items.ensures.shorter in
     record {
-      left = rw c.in_ok-push.ensures.ok (left_step (parser.is_symbol symbols.Comma) (parser.next_item (spec.argument (spec.inside_of c.args.depth_left))) c.in_ok-found.found c.argument.new.ts c.items.found c.items.ts _ _ c.items.invariant.left (sym c.at_symbol.ensures ∙ c.items-test.true)
-          (next_at (spec.argument (spec.inside_of c.args.depth_left)) c.items.ts c.bump.new.self c.bump.ensures.rest ∙ c.in_ok-item.ensures.reads) (omega (arith, c.in_ok-item.ensures.shorter, c.bump.ensures.shorter)));
-      shorter = omega (arith, c.in_ok-item.ensures.shorter, c.bump.ensures.shorter, c.items.invariant.shorter);
+      left = left_added (parser.is_symbol symbols.Comma) (parser.next_item (spec.argument (spec.inside_of c.args.depth_left))) c.in_ok-found.found c.argument.new.ts c.items.found c.add.new.found c.items.ts c.argument-in-items.new.ts c.argument-in-items.result c.items.invariant.left (sym c.at_symbol.ensures ∙ c.items-test.true)
+          (rw (next_at (spec.argument (spec.inside_of c.args.depth_left)) c.items.ts c.bump.new.self c.bump.ensures.rest) c.argument-in-items.ensures.reads) c.in_ok-add.ensures.ok (omega (arith, less, c.bump.ensures.shorter));
+      shorter = omega (arith, less, c.bump.ensures.shorter, c.items.invariant.shorter);
     }
 
 pub argument_list-returns : goal.argument_list-returns
 argument_list-returns t c = rw c.shrink_to_fit.ensures (record {
-  reads = listed_end (spec.argument (spec.inside_of c.args.depth_left)) c.args.ts.now c.argument.new.ts c.in_ok-first.first c.in_ok-first.ensures.reads c.in_ok-found.found c.items.found c.items.ts c.in_ok-found.ensures.ok c.items.invariant.left (sym c.at_symbol.ensures ∙ c.items-test.false);
-  shorter = omega (arith, c.in_ok-first.ensures.shorter, c.items.invariant.shorter);
+  reads = listed_end (spec.argument (spec.inside_of c.args.depth_left)) c.args.ts.now c.argument.new.ts c.argument.result c.argument.ensures.reads c.in_ok-found.found c.in_ok-found.ensures.ok c.items.found c.items.ts c.items.invariant.left (sym c.at_symbol.ensures ∙ c.items-test.false);
+  shorter = omega (arith, of_item c.argument.result _ c.in_ok-found.ensures.ok c.argument.ensures.shorter, c.items.invariant.shorter);
 })
 
 pub parts-items-init : goal.parts-items-init
 parts-items-init t c = record { left = rw c.new-found.ensures (left_init spec.begins_part (spec.part_of c.args.depth_left (spec.inside_of c.args.depth_left)) [] c.args.ts.now); shorter = omega arith }
 
-pub parts-returns-in_err-item : goal.parts-returns-in_err-item
-parts-returns-in_err-item t c =
+pub parts-returns-in_err-add : goal.parts-returns-in_err-add
+parts-returns-in_err-add t c =
     let e = err_from_is_err_and c.from_residual.result c.from_residual.ensures.1 in
     rw (e.1, e.2) (record {
-      reads = loop_err spec.begins_part (spec.part_of c.args.depth_left (spec.inside_of c.args.depth_left)) c.args.ts.now c.items.found c.items.ts _ c.items.invariant.left (sym c.begins_part.ensures ∙ c.items-test.true) c.in_err-item.ensures.reads;
+      reads = loop_err spec.begins_part (spec.part_of c.args.depth_left (spec.inside_of c.args.depth_left)) c.args.ts.now c.items.found c.items.ts _ c.items.invariant.left (sym c.begins_part.ensures ∙ c.items-test.true) (refused_read _ c.part.result c.part.new.ts _ c.in_err-add.ensures.err c.part.ensures.reads);
       shorter = tt;
     })
 
 pub parts-items-preserved : goal.parts-items-preserved
-parts-items-preserved t c = record {
-  left = rw c.in_ok-push.ensures.ok (left_step spec.begins_part (spec.part_of c.args.depth_left (spec.inside_of c.args.depth_left)) [] c.args.ts.now c.items.found c.items.ts _ _ c.items.invariant.left (sym c.begins_part.ensures ∙ c.items-test.true) c.in_ok-item.ensures.reads (omega (arith, c.in_ok-item.ensures.shorter)));
-  shorter = omega (arith, c.in_ok-item.ensures.shorter, c.items.invariant.shorter);
-}
+parts-items-preserved t c =
+    let less = of_item c.part.result _ c.in_ok-add.ensures.ok c.part.ensures.shorter in
+    record {
+      left = left_added spec.begins_part (spec.part_of c.args.depth_left (spec.inside_of c.args.depth_left)) [] c.args.ts.now c.items.found c.add.new.found c.items.ts c.part.new.ts c.part.result c.items.invariant.left (sym c.begins_part.ensures ∙ c.items-test.true) c.part.ensures.reads c.in_ok-add.ensures.ok less;
+      shorter = omega (arith, less, c.items.invariant.shorter);
+    }
 
 pub parts-returns : goal.parts-returns
 parts-returns t c = rw c.shrink_to_fit.ensures (record {
@@ -96,19 +106,21 @@ parts-returns t c = rw c.shrink_to_fit.ensures (record {
 pub operations-items-init : goal.operations-items-init
 operations-items-init t c = record { left = rw c.new-found.ensures (left_init (spec.is_operator c.args.precedence) (spec.operation (spec.binary c.args.depth_left (spec.inside_of c.args.depth_left) c.args.precedence)) [] c.args.ts.now); shorter = omega arith }
 
-pub operations-returns-in_err-item : goal.operations-returns-in_err-item
-operations-returns-in_err-item t c =
+pub operations-returns-in_err-add : goal.operations-returns-in_err-add
+operations-returns-in_err-add t c =
     let e = err_from_is_err_and c.from_residual.result c.from_residual.ensures.1 in
     rw (e.1, e.2) (record {
-      reads = loop_err (spec.is_operator c.args.precedence) (spec.operation (spec.binary c.args.depth_left (spec.inside_of c.args.depth_left) c.args.precedence)) c.args.ts.now c.items.found c.items.ts _ c.items.invariant.left (sym c.is_operator.ensures ∙ c.items-test.true) c.in_err-item.ensures.reads;
+      reads = loop_err (spec.is_operator c.args.precedence) (spec.operation (spec.binary c.args.depth_left (spec.inside_of c.args.depth_left) c.args.precedence)) c.args.ts.now c.items.found c.items.ts _ c.items.invariant.left (sym c.is_operator.ensures ∙ c.items-test.true) (refused_read _ c.operation.result c.operation.new.ts _ c.in_err-add.ensures.err c.operation.ensures.reads);
       shorter = tt;
     })
 
 pub operations-items-preserved : goal.operations-items-preserved
-operations-items-preserved t c = record {
-  left = rw c.in_ok-push.ensures.ok (left_step (spec.is_operator c.args.precedence) (spec.operation (spec.binary c.args.depth_left (spec.inside_of c.args.depth_left) c.args.precedence)) [] c.args.ts.now c.items.found c.items.ts _ _ c.items.invariant.left (sym c.is_operator.ensures ∙ c.items-test.true) c.in_ok-item.ensures.reads (omega (arith, c.in_ok-item.ensures.shorter)));
-  shorter = omega (arith, c.in_ok-item.ensures.shorter, c.items.invariant.shorter);
-}
+operations-items-preserved t c =
+    let less = of_item c.operation.result _ c.in_ok-add.ensures.ok c.operation.ensures.shorter in
+    record {
+      left = left_added (spec.is_operator c.args.precedence) (spec.operation (spec.binary c.args.depth_left (spec.inside_of c.args.depth_left) c.args.precedence)) [] c.args.ts.now c.items.found c.add.new.found c.items.ts c.operation.new.ts c.operation.result c.items.invariant.left (sym c.is_operator.ensures ∙ c.items-test.true) c.operation.ensures.reads c.in_ok-add.ensures.ok less;
+      shorter = omega (arith, less, c.items.invariant.shorter);
+    }
 
 pub operations-returns : goal.operations-returns
 operations-returns t c = rw c.shrink_to_fit.ensures (record {
@@ -119,8 +131,8 @@ operations-returns t c = rw c.shrink_to_fit.ensures (record {
 pub inside-returns : goal.inside-returns
 inside-returns t c = rw (inside_expression c.args.depth_left c.requires) c.binary.ensures
 
-pub target-returns : goal.target-returns
-target-returns t c = rw (inside_variable c.args.depth_left c.requires) c.variable.ensures
+pub boxed_target-returns : goal.boxed_target-returns
+boxed_target-returns t c = rw (inside_variable c.args.depth_left c.requires) (takes_kept _ c.variable.result c.boxed.result _ _ c.boxed.ensures.ok c.boxed.ensures.err c.variable.ensures)
 
 pub binary-levels-init : goal.binary-levels-init
 binary-levels-init t c = record {
@@ -171,3 +183,9 @@ binary-returns t c = record {
       (c.precedence_at.ensures.none c.in_default.is) c.levels.invariant.reads;
   shorter = c.levels.invariant.shorter;
 }
+
+pub boxed_inside-returns : goal.boxed_inside-returns
+boxed_inside-returns t c = takes_kept _ c.inside.result c.boxed.result _ _ c.boxed.ensures.ok c.boxed.ensures.err c.inside.ensures
+
+pub boxed_primary-returns : goal.boxed_primary-returns
+boxed_primary-returns t c = takes_kept _ c.primary.result c.boxed.result _ _ c.boxed.ensures.ok c.boxed.ensures.err c.primary.ensures

@@ -11,8 +11,8 @@ decreases-inside l = 40 * l.depth_left
 abbrev pub decreases-boxed_inside : goal.decreases-boxed_inside
 decreases-boxed_inside l = 40 * l.depth_left + 1
 
-abbrev pub decreases-target : goal.decreases-target
-decreases-target l = 40 * l.depth_left
+abbrev pub decreases-boxed_target : goal.decreases-boxed_target
+decreases-boxed_target l = 40 * l.depth_left
 
 abbrev pub decreases-expressions : goal.decreases-expressions
 decreases-expressions l = 40 * l.depth_left + 2
@@ -59,23 +59,20 @@ decreases-named l = 40 * l.depth_left + 7
 abbrev pub decreases-primary : goal.decreases-primary
 decreases-primary l = 40 * l.depth_left + 8
 
-abbrev pub decreases-negation : goal.decreases-negation
-decreases-negation l = 40 * l.depth_left + 9
-
-abbrev pub decreases-complement : goal.decreases-complement
-decreases-complement l = 40 * l.depth_left + 9
+abbrev pub decreases-boxed_primary : goal.decreases-boxed_primary
+decreases-boxed_primary l = 40 * l.depth_left + 9
 
 abbrev pub decreases-unary : goal.decreases-unary
-decreases-unary l = 40 * l.depth_left + 10
+decreases-unary l = 40 * l.depth_left + 11
 
 abbrev pub decreases-binary : goal.decreases-binary
-decreases-binary l = 40 * l.depth_left + 3 * l.precedence + 11
+decreases-binary l = 40 * l.depth_left + 3 * l.precedence + 12
 
 abbrev pub decreases-operation : goal.decreases-operation
-decreases-operation l = 40 * l.depth_left + 3 * l.precedence + 12
+decreases-operation l = 40 * l.depth_left + 3 * l.precedence + 13
 
 abbrev pub decreases-operations : goal.decreases-operations
-decreases-operations l = 40 * l.depth_left + 3 * l.precedence + 13
+decreases-operations l = 40 * l.depth_left + 3 * l.precedence + 14
 
 abbrev pub decreases-expressions-items : goal.decreases-expressions-items
 decreases-expressions-items l = length l.ts
