@@ -1,11 +1,10 @@
--- The levels that may still be opened, and what is refused for want of memory.
-use Rattle.std.proofs.Common.{◌≡◌, ℕ, zero, suc, ◌<◌, true, List, [], ◌∷◌, length, refl, sym, ap, subst, ◌∙◌, arith}
+-- The levels that may still be opened, and what is kept of what was read.
+use Rattle.std.proofs.Common.{◌≡◌, ℕ, zero, suc, ◌<◌, true, List, [], ◌∷◌, length, refl, sym, subst, arith}
 use Rattle.std.specs.Prelude.{Result, Ok, Err, IfOk, IfErr}
 use Rattle.st_parser.specs.Names.{Position, ReadFault, Symbol}
-use Rattle.st_parser.specs.declared.fault.ReadFault.TheVariants as read_faults
 use Rattle.st_parser.specs.Grammar.Tokens.{Tok, kind, position, next}
 use Rattle.st_parser.proofs.Loops.{ok_parts, refused_read}
-use Rattle.st_parser.specs.Reader.Parsers.{IsFaultOf, Reads, Outcome, Deep, Parser, Takes, MayTake, is_symbol, enter, open_level, next_item}
+use Rattle.st_parser.specs.Reader.Parsers.{IsFaultOf, Outcome, Deep, Parser, Takes, MayTake, is_symbol, enter, open_level, next_item}
 
 pub enter_none : (r : ℕ) (ts : List Tok) → r ≡ 0 → enter r ts ≡ Err Deep
 unfolding enter
@@ -16,12 +15,6 @@ pub enter_some : (r : ℕ) (ts : List Tok) → (r ≡ 0 → ⊥) → enter r ts 
 unfolding enter
 enter_some zero ts some = absurd (some refl)
 enter_some (suc r) ts some = refl
-
--- what is refused only for want of memory
-pub reads_made : {A : Type 0} (o : Outcome A) (y : A) (new : List Tok) (r : Result A ReadFault) → o ≡ Ok (y, new)
-    → IfOk r (λ x. x ≡ y) → IfErr r (λ f. f ≡ read_faults.Memory) → Reads o r new
-reads_made o y new (Ok x) read same memory = read ∙ ap (λ z. Ok (z, new)) (sym same)
-reads_made o y new (Err f) read same memory = rw memory tt
 
 -- what is kept of what was read is read too
 pub takes_kept : {A : Type 0} (o : Outcome A) (read kept : Result A ReadFault) (old new : List Tok) → IfOk kept (λ x. read ≡ Ok x) → IfErr kept (IsFaultOf read)
@@ -45,9 +38,3 @@ open_level_takes x d (t ∷ ts) new (Err f) h m = record { reads = rw h m.reads;
 pub next_at : {A : Type 0} (item : Parser A) (ts us : List Tok) → us ≡ next ts → next_item item ts ≡ item us
 unfolding next_item
 next_at item ts us e = rw e refl
-
--- the same, where one token or more was taken
-pub takes_made : {A : Type 0} (o : Outcome A) (y : A) (old new : List Tok) (r : Result A ReadFault) → o ≡ Ok (y, new) → length new < length old
-    → IfOk r (λ x. x ≡ y) → IfErr r (λ f. f ≡ read_faults.Memory) → Takes o r old new
-takes_made o y old new (Ok x) read less same memory = record { reads = reads_made o y new (Ok x) read same memory; shorter = less }
-takes_made o y old new (Err f) read less same memory = record { reads = reads_made o y new (Err f) read same memory; shorter = tt }

@@ -13,6 +13,7 @@ use st_tree::{Boxed, List};
 use std::alloc::Global;
 
 /// What was read, in a box. It is refused where that was, and for want of memory.
+#[inline(always)]
 pub fn boxed<T: Drop>(alloc: Global, read: Result<T, ReadFault>) -> Result<Boxed<T>, ReadFault>
     ensures ok { IfOk result (λ kept. read ≡ Ok kept) }
     ensures err { IfErr result (IsFaultOf read) }
@@ -21,6 +22,7 @@ pub fn boxed<T: Drop>(alloc: Global, read: Result<T, ReadFault>) -> Result<Boxed
 }
 
 /// What was read, as the only item of a list. It is refused where that was, and for want of memory.
+#[inline(always)]
 pub fn single<T: Drop>(alloc: Global, read: Result<T, ReadFault>) -> Result<List<T>, ReadFault>
     ensures ok { IfOk result (λ list. IsOkAnd read (λ item. list ≡ item ∷ [])) }
     ensures err { IfErr result (IsFaultOf read) }
@@ -31,6 +33,7 @@ pub fn single<T: Drop>(alloc: Global, read: Result<T, ReadFault>) -> Result<List
 }
 
 /// Adds what was read to what was found before. It is refused where that was, and for want of memory.
+#[inline(always)]
 pub fn add<T: Drop>(found: &mut List<T>, read: Result<T, ReadFault>) -> Result<(), ReadFault>
     ensures ok { IfOk result (λ _. IsOkAnd read (λ item. found.new ≡ found.old ++ item ∷ [])) }
     ensures err { IfErr result (IsFaultOf read) }

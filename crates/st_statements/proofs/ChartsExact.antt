@@ -10,7 +10,7 @@ use Rattle.st_parser.specs.Grammar.Levels.{IsWithin}
 use Rattle.st_parser.specs.Grammar.Lists.{IsMany, IsListed, listed}
 use Rattle.st_parser.specs.Grammar.Tokens.{Tok, kind}
 use Rattle.st_parser.specs.Reader.Parsers as parser
-use Rattle.st_parser.specs.Reader.Parsers.{Outcome, Parser, and_then, is_symbol, is_word, Deep, Wrong}
+use Rattle.st_parser.specs.Reader.Parsers.{and_then, is_symbol, is_word, Deep}
 use Rattle.st_parser.proofs.Exact.{Relation, Found, Exact, Always, Any, Then, seq, IsOne, one, IsPure, done, IsWord, a_word, IsNumber, a_number, exact_bind, exact_as, exact_iff, exact_last, exact_under, exact_zero, exact_pure, made, exact_refuse, exact_on, IsFirst, exact_token, exact_token_if, symbol_is, exact_symbol, exact_keyword, exact_open_level, exact_identifier, Before, exact_identifier_before, exact_number, exact_before, Ends, exact_many, exact_listed}
 use Rattle.st_parser.proofs.Levels.{At, enters, fits_from, within_from}
 use Rattle.st_parser.proofs.Loops.{ok_parts}

@@ -1,5 +1,5 @@
 //! Statements (IEC 61131-3:2003, 3.3.2).
-ghost use Rattle.std.specs.Prelude.{◌≡◌, ◌↔◌, ◌<◌, ℕ, [], length, List as Items, Ok};
+ghost use Rattle.std.specs.Prelude.{◌≡◌, ◌↔◌, ◌<◌, ℕ, [], List as Items, Ok};
 ghost use Rattle.st_parser.specs.Grammar.Levels.{IsWithin};
 ghost use Rattle.st_parser.specs.Grammar.Tokens.{kind, Tok};
 ghost use Rattle.st_parser.specs.Names as names;

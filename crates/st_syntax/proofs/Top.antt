@@ -84,11 +84,3 @@ only_memory text (syntax_faults.NotInGrammar line) us h short t =
 only_memory text (syntax_faults.TooDeep line) us h short t =
     absurd (h.deeper (same_tokens text t.tokens h.tokens (λ ts. IsWithin 64 (numbered 0 ts)) t.has h.has t.within))
 only_memory text syntax_faults.TooLong us h short t = absurd (omega (arith, h, short))
-
--- the fault of a text without tokens, or too long
-pub from_tokens : (text : List ℕ) (f : SyntaxFault) → Rattle.st_tokens.specs.Text.Explains f text → Explains f text
-from_tokens text syntax_faults.Memory h = tt
-from_tokens text (syntax_faults.NoToken line) h = h
-from_tokens text syntax_faults.TooLong h = h
-from_tokens text (syntax_faults.NotInGrammar line) h = absurd h
-from_tokens text (syntax_faults.TooDeep line) h = absurd h

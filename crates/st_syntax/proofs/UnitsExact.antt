@@ -13,7 +13,7 @@ use Rattle.st_parser.specs.Names.{Body, Declaration, DeclaredType, Kind, Positio
 use Rattle.st_parser.specs.Grammar.Lists.{IsMany}
 use Rattle.st_parser.specs.Grammar.Tokens.{Tok, kind}
 use Rattle.st_parser.specs.Reader.Parsers as parser
-use Rattle.st_parser.specs.Reader.Parsers.{Parser, and_then, is_keyword, is_word, Deep}
+use Rattle.st_parser.specs.Reader.Parsers.{and_then, is_keyword, is_word, Deep}
 use Rattle.st_parser.proofs.Exact.{Relation, Found, Exact, Always, Any, Then, seq, IsOne, one, IsPure, done, IsWord, a_word, exact_bind, exact_as, exact_iff, exact_last, exact_under, exact_zero, exact_pure, made, exact_refuse, exact_on, IsFirst, exact_token, keyword_is, exact_symbol, exact_keyword, exact_identifier, Before, exact_identifier_before, exact_before, Ends, exact_many}
 use Rattle.st_parser.proofs.Levels.{At}
 use Rattle.st_parser.proofs.Loops.{ok_parts}
