@@ -1,5 +1,5 @@
 //! Lists of items, each of which a function reads that is passed.
-ghost use Rattle.std.specs.Prelude.{◌≡◌, ◌<◌, ◌≤◌, Bool, Option, [], ◌∷◌, ◌++◌, length, IfErr, IfOk, IsOkAnd, Ok, OnOk};
+ghost use Rattle.std.specs.Prelude.{◌≡◌, ◌<◌, ◌≤◌, Bool, Option, [], ◌∷◌, ◌++◌, length, Err, IfErr, IfOk, IsOkAnd, Ok, OnOk};
 ghost use Rattle.st_parser.specs.Names as names;
 ghost use Rattle.st_parser.specs.Reader.Functions.{IsReader, IsTest, ReadsAs, TestsAs};
 ghost use Rattle.st_parser.specs.Reader.Parsers as spec;
@@ -16,6 +16,7 @@ use std::alloc::Global;
 #[inline(always)]
 pub fn boxed<T: Drop>(alloc: Global, read: Result<T, ReadFault>) -> Result<Boxed<T>, ReadFault>
     ensures ok { IfOk result (λ kept. read ≡ Ok kept) }
+    ensures refused { IfErr read (λ fault. result ≡ Err fault) }
     ensures err { IfErr result (IsFaultOf read) }
 {
     Ok(Boxed::new(alloc, read?)?)
@@ -25,6 +26,7 @@ pub fn boxed<T: Drop>(alloc: Global, read: Result<T, ReadFault>) -> Result<Boxed
 #[inline(always)]
 pub fn single<T: Drop>(alloc: Global, read: Result<T, ReadFault>) -> Result<List<T>, ReadFault>
     ensures ok { IfOk result (λ list. IsOkAnd read (λ item. list ≡ item ∷ [])) }
+    ensures refused { IfErr read (λ fault. result ≡ Err fault) }
     ensures err { IfErr result (IsFaultOf read) }
 {
     let mut list = List::new(alloc);
@@ -36,6 +38,7 @@ pub fn single<T: Drop>(alloc: Global, read: Result<T, ReadFault>) -> Result<List
 #[inline(always)]
 pub fn add<T: Drop>(found: &mut List<T>, read: Result<T, ReadFault>) -> Result<(), ReadFault>
     ensures ok { IfOk result (λ _. IsOkAnd read (λ item. found.new ≡ found.old ++ item ∷ [])) }
+    ensures refused { IfErr read (λ fault. result ≡ Err fault) }
     ensures err { IfErr result (IsFaultOf read) }
 {
     found.push(read?)?;
