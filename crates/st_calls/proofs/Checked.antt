@@ -1,5 +1,5 @@
 -- What the functions of a checked program call stands before them, and they give what their bodies give.
-use Rattle.std.proofs.Common.{◌≤◌, length, arith}
+use Rattle.std.proofs.Common.{arith}
 use Rattle.st_references.proofs.Contents.{order_len}
 use Rattle.st_check.specs.Programs.{level_in, order_of, text_of}
 use Rattle.st_types.specs.Names.{units_of}

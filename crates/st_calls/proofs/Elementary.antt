@@ -1,5 +1,5 @@
 -- No variable of a function of a checked program is an instance.
-use Rattle.std.proofs.Common.{◌≡◌, ℕ, suc, Bool, true, false, if◌then◌else◌, List, [], ◌∷◌, length, None, Some, refl, ap, sym, ◌∙◌, subst}
+use Rattle.std.proofs.Common.{◌≡◌, ℕ, suc, Bool, true, false, if◌then◌else◌, List, [], ◌∷◌, length, None, Some, refl, ap}
 use Rattle.std.specs.List.{All}
 use Rattle.std.proofs.lemmas.List.Elements.{All-head, All-tail}
 use Rattle.st_check.specs.Laws.{IsOneValue}
@@ -15,7 +15,7 @@ use Rattle.st_types.specs.Names.{Declared, Declares, Named, named, unit_at, unit
 use Rattle.st_types.specs.Names as names
 use Rattle.st_leaves.specs.Selected.{member_selected, selected_by}
 use Rattle.st_meaning.specs.Units.{instance_of, member_instance, members_of_function, root_of, unit_whole}
-use Rattle.st_meaning.specs.Wholes.{Invoked, block_of}
+use Rattle.st_meaning.specs.Wholes.{block_of}
 use Rattle.st_calls.specs.Checked.{CheckedFunctionsHaveNoBlocks, CheckedFunctionsHaveNoInstances}
 
 -- each member is one value

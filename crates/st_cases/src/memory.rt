@@ -1,6 +1,6 @@
 //! A memory used through its trait, and look-ups of paths, as they run.
 ghost use Rattle.std.specs.Prelude.{◌≡◌, IfOk, length, true};
-ghost use Rattle.st_layout.specs.Layout.{IsValueAt, leaf_at};
+ghost use Rattle.st_layout.specs.Layout.{IsValueAt};
 ghost use Rattle.st_layout.specs.Memory.{initial_content, with_force, with_value};
 
 use st_control::{Image, load_image};

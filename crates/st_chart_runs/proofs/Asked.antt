@@ -1,22 +1,18 @@
 -- Which steps are active, from the leaves of a chart among all.
-use Rattle.std.proofs.Common.{◌≡◌, ℕ, zero, suc, ◌+◌, ◌<◌, ◌≤◌, Bool, true, false, ◌&&◌, ℤ, pos, not, List, [], ◌∷◌, ◌++◌, length, get_or, map, take, drop, refl, sym, ap, subst, ◌∙◌, arith}
-use Rattle.std.specs.List.{list_all}
+use Rattle.std.proofs.Common.{◌≡◌, ℕ, zero, suc, ◌+◌, ◌<◌, Bool, true, false, pos, not, List, [], ◌∷◌, length, take, drop, refl, sym, ap, ◌∙◌, arith}
 use Rattle.std.specs.Ordering.{int_eq}
-use Rattle.std.proofs.lemmas.List.{get_or-drop, get_or-take, get_or_default, get_or_past, get_or-map, length-append, length-drop}
-use Rattle.std.proofs.lemmas.Slice.Zip.{AllZip-long}
+use Rattle.std.proofs.lemmas.List.{get_or-drop, get_or-take, length-append}
 use Rattle.st_values.specs.declared.value.Value.{Value}
 use Rattle.st_leaves.specs.LeavesIn.{truth}
-use Rattle.st_blocks.specs.Cells.{IsOfType, flag_at}
-use Rattle.st_charts.specs.Charts.{active_in, is_enabled, no_step}
-use Rattle.st_charts.specs.Passages.{Passage, no_passage, passage}
-use Rattle.st_charts.specs.declared.step.StepCell.{StepCell}
-use Rattle.st_meaning.specs.Charts.{cell_in, cells_in, is_asked, state_in}
+use Rattle.st_blocks.specs.Cells.{flag_at}
+use Rattle.st_charts.specs.Charts.{active_in}
+use Rattle.st_meaning.specs.Charts.{cells_in, state_in}
 use Rattle.st_meaning.specs.Meaning.{Values}
 use Rattle.st_meaning.specs.Sketches.{Sketch, chart_size, flags_types, step_types, steps_types}
 use Rattle.st_meaning.specs.Statements.{stretch}
 use Rattle.st_sketches.specs.Views.{IsOf, SketchView, step_place}
 use Rattle.st_chart_runs.specs.Views.{StandsAt, types_of}
-use Rattle.st_chart_runs.proofs.Stretched.{leaves_there, types_are}
+use Rattle.st_chart_runs.proofs.Stretched.{types_are}
 
 -- ---- a step among others
 
@@ -70,23 +66,3 @@ module _ (view : SketchView) (s : Sketch) (is : IsOf view s) (values : Values) (
       let first : 0 < chart_size s = omega arith in
       let same : leaf + 0 ≡ leaf = omega arith in
       ap (λ k. flag_at values k) (sym same) ∙ sym (flag_there values leaf (chart_size s) 0 first)
-
-  pub asked_not : flag_at values leaf ≡ false → false ≡ is_asked s part t
-  asked_not off = ap (λ b. b && is_enabled s.passages (active_in (state_in s part).steps) t) (sym off ∙ begun)
-
-  asked_so : flag_at values leaf ≡ true → is_enabled s.passages (active_in (state_in s part).steps) t ≡ is_asked s part t
-  asked_so so = ap (λ b. b && is_enabled s.passages (active_in (state_in s part).steps) t) (sym so ∙ begun)
-
-  pub asked_past : flag_at values leaf ≡ true → length view.passages ≤ t → true ≡ is_asked s part t
-  asked_past so past =
-      let none : passage s.passages t ≡ no_passage = get_or_past s.passages t no_passage (omega (arith, past, ap length is.passages)) in
-      ap (λ (p : Passage). list_all (active_in (state_in s part).steps) p.before) (sym none) ∙ asked_so so
-
-  pub asked_there : flag_at values leaf ≡ true → (before : List ℕ) → before ≡ (passage view.passages t).before
-      → list_all (active_in (cells_in view.pulses (drop 1 (stretch values leaf (length (types_of view)))))) before ≡ is_asked s part t
-  asked_there so before same =
-      ap (λ ns. list_all (active_in (cells_in view.pulses (drop 1 (stretch values leaf (length (types_of view)))))) ns) same
-      ∙ ap (λ ts. list_all (active_in (cells_in view.pulses (drop 1 (stretch values leaf (length (types_of view)))))) (passage ts t).before) is.passages
-      ∙ ap (λ (ps : List Bool). list_all (active_in (cells_in ps (drop 1 (stretch values leaf (length (types_of view)))))) (passage s.passages t).before) is.pulses
-      ∙ ap (λ n. list_all (active_in (cells_in s.pulses (drop 1 (stretch values leaf n)))) (passage s.passages t).before) size
-      ∙ asked_so so

@@ -5,7 +5,7 @@ use Rattle.std.proofs.lemmas.Bool.{ltb-true}
 use Rattle.std.proofs.lemmas.Grind.{common_steps}
 use Rattle.std.proofs.lemmas.List.{get_or-take, get_or_default, get_or_past}
 use Rattle.st_sketches.specs.Views.{SketchView}
-use Rattle.st_chart_runs.specs.Charts.{ChartsFit, chart_at}
+use Rattle.st_chart_runs.specs.Charts.{ChartsFit}
 use Rattle.st_chart_runs.specs.Views.{HasRoom}
 use Rattle.st_chart_runs.specs.declared.workspace.ChartRoom.{ChartRoom}
 
@@ -26,9 +26,6 @@ wider room new more view fit = record {
   transitions = omega (arith, fit.transitions, more.transitions);
   leaves = omega (arith, fit.leaves, more.leaves);
 }
-
-pub none_fit : (charts : List (Option SketchView)) (room : ChartRoom) → ChartsFit (take 0 charts) room
-none_fit charts room unit view at = cc
 
 pub more_fit : (charts : List (Option SketchView)) (i : ℕ) (d item : Option SketchView) (room new : ChartRoom) → i < length charts → item ≡ get_or charts i d → IsWider room new
     → IfSome item (λ view. HasRoom new view) → ChartsFit (take i charts) room → ChartsFit (take (i + 1) charts) new

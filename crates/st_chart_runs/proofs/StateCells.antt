@@ -1,5 +1,5 @@
 -- What a chart keeps of itself, and what one invocation makes of it, over the values of its leaves.
-use Rattle.std.proofs.Common.{◌≡◌, ℕ, zero, suc, ◌+◌, ◌-◌, ◌<◌, ◌≤◌, ℤ, Bool, true, false, List, [], ◌∷◌, ◌++◌, length, get_or, map, replicate, set, take, drop, Option, refl, sym, ap, ◌∙◌, arith, append-nil}
+use Rattle.std.proofs.Common.{◌≡◌, ℕ, suc, ◌+◌, ◌-◌, ◌≤◌, ℤ, Bool, true, false, List, [], ◌∷◌, ◌++◌, length, map, replicate, set, take, drop, Option, refl, sym, ap, ◌∙◌, arith, append-nil}
 use Rattle.std.specs.List.{AllZip}
 use Rattle.std.proofs.Math.Seq.{drop-length, take-append_seam}
 use Rattle.std.proofs.lemmas.List.{length-append, length-drop, take_all}
@@ -7,7 +7,6 @@ use Rattle.std.proofs.lemmas.Slice.Zip.{AllZip-long}
 use borrow.Rule.Slice.PartMut.{post_of, put_mid}
 use Rattle.std.specs.Option.{is_some}
 use Rattle.st_values.specs.declared.elem.Elem.{Elem}
-use Rattle.st_values.specs.declared.elem.Elem.TheVariants as elems
 use Rattle.st_values.specs.declared.value.Value.{Value}
 use Rattle.st_leaves.specs.LeavesIn.{truth}
 use Rattle.st_blocks.specs.Cells.{IsOfType, flag_at}

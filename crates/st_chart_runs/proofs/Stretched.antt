@@ -1,10 +1,9 @@
 -- The leaves of a chart among all, and what is made of them.
-use Rattle.std.proofs.Common.{◌≡◌, ℕ, ◌+◌, ◌<◌, ◌≤◌, ℤ, Bool, true, false, List, [], ◌∷◌, ◌++◌, length, get_or, map, drop, Option, Some, None, if◌then◌else◌, w64, FitsSigned, refl, sym, ap, subst, ◌∙◌, arith, length-take, length-drop}
+use Rattle.std.proofs.Common.{◌≡◌, ℕ, ◌+◌, ◌<◌, ◌≤◌, ℤ, Bool, true, false, List, [], ◌∷◌, ◌++◌, length, get_or, map, drop, Option, Some, None, w64, FitsSigned, refl, sym, ap, subst, ◌∙◌, arith, length-take, length-drop}
 use Rattle.std.specs.List.{AllZip}
 use Rattle.std.specs.Option.{is_some}
 use Rattle.std.proofs.lemmas.Slice.Zip.{AllZip-long}
 use Rattle.st_values.specs.Values.{in_range}
-use Rattle.st_values.specs.declared.elem.Elem.{Elem}
 use Rattle.st_values.specs.declared.elem.Elem.TheVariants as elems
 use Rattle.st_values.specs.declared.value.Value.{Value}
 use Rattle.st_tree.specs.declared.leaf.Leaf.{Leaf}
@@ -15,7 +14,7 @@ use Rattle.st_layout.specs.Memory.{Content, Fits}
 use Rattle.st_layout.proofs.Contents.{value_fits}
 use Rattle.st_meaning.specs.Charts.{moved_on, times_set}
 use Rattle.st_meaning.specs.Meaning.{Values, no_value}
-use Rattle.st_meaning.specs.Sketches.{Sketch, chart_size, chart_types, flags_types, steps_types}
+use Rattle.st_meaning.specs.Sketches.{Sketch, chart_types, flags_types, steps_types}
 use Rattle.st_meaning.specs.Statements.{part_made, stretch, unless_forced, with_stretch}
 use Rattle.st_meaning.proofs.ChartStates.{moved_typed, times_typed}
 use Rattle.st_meaning.proofs.Stretches.{stretch_at}

@@ -1,7 +1,6 @@
 //! Leaves of a memory that stand together.
 ghost use Rattle.std.specs.Prelude.{◌≡◌, ◌≤◌, ◌<◌, ◌+◌, drop, length, Some};
 ghost use Rattle.st_layout.specs.Layout.{IsValueAt};
-ghost use Rattle.st_layout.specs.Memory.{Content};
 ghost use Rattle.st_meaning.specs.Meaning.{stored_to};
 ghost use Rattle.st_meaning.specs.Statements.{stretch, unless_forced, with_stretch};
 ghost use Rattle.st_chart_runs.specs.Leaves.{FitFrom};

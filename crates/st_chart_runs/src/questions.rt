@@ -1,10 +1,8 @@
 //! Whether the condition of a transition is asked.
 ghost use Rattle.std.specs.Prelude.{◌≡◌, ◌≤◌, ◌<◌, drop, length};
 ghost use Rattle.std.specs.List.{All, list_all};
-ghost use Rattle.st_blocks.specs.Cells.{flag_at};
 ghost use Rattle.st_chart_runs.specs.Views.{StandsAt, types_of};
 ghost use Rattle.st_charts.specs.Charts.{active_in};
-ghost use Rattle.st_layout.specs.Memory.{Content};
 ghost use Rattle.st_meaning.specs.Charts.{cells_in, is_asked};
 ghost use Rattle.st_meaning.specs.Sketches.{chart_size};
 ghost use Rattle.st_meaning.specs.Sketches as sketches;

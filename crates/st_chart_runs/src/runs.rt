@@ -1,7 +1,6 @@
 //! One invocation of a chart, over the leaves of a memory.
 ghost use Rattle.std.specs.Prelude.{◌≡◌, ◌≤◌, ◌-◌, ◌^◌, length, map, min, take};
 ghost use Rattle.st_chart_runs.specs.Views.{HasRoom, StandsAt, room_of, setting_at, types_of};
-ghost use Rattle.st_layout.specs.Memory.{Content};
 ghost use Rattle.st_meaning.specs.Charts.{names_on};
 ghost use Rattle.st_meaning.specs.Sketches.{chart_size};
 ghost use Rattle.st_meaning.specs.Sketches as sketches;

@@ -27,7 +27,7 @@ use Rattle.st_types.specs.declared.base.Base.TheVariants as bases
 use Rattle.st_types.specs.declared.standard.Standard.{Standard}
 use Rattle.st_types.specs.declared.standard.Standard.TheVariants as standards
 use Rattle.st_program_sizes.proofs.Unfolding.{unfolded}
-use Rattle.st_check_units.specs.Declarations.{as_type, initial_faults, is_misdeclared, is_misvalued, is_missing, is_permitted, named_as_type, optional_as_type, specification_faults, specification_fits, specified_faults, standard_as_type, type_faults, type_fits, type_position, unit_as_type}
+use Rattle.st_check_units.specs.Declarations.{as_type, initial_faults, is_misdeclared, is_misvalued, is_missing, is_permitted, named_as_type, optional_as_type, specification_faults, specification_fits, specified_faults, standard_as_type, type_faults, type_fits, unit_as_type}
 use Rattle.st_check_units.specs.Subscripts.{subrange_faults}
 use Rattle.st_check_units.specs.Units.{node_faults, unit_faults}
 use Rattle.st_check_units.specs.declared.permitted.Permitted.{Permitted}

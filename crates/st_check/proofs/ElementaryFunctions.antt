@@ -1,5 +1,5 @@
 -- In a text without faults each variable and each constant of a function is one value.
-use Rattle.std.proofs.Common.{◌≡◌, ℕ, suc, arith, get_or, Bool, true, false, ◌&&◌, ◌||◌, not, if◌then◌else◌, List, [], ◌∷◌, ◌++◌, length, map, Option, Some, None, refl, ap, sym, ◌∙◌, subst}
+use Rattle.std.proofs.Common.{◌≡◌, ℕ, suc, arith, get_or, Bool, true, false, ◌||◌, if◌then◌else◌, List, [], ◌∷◌, ◌++◌, length, map, Option, Some, None, refl, ap, ◌∙◌, subst}
 use Rattle.std.specs.List.{All, AllByRecursion as Each, Contains, flat_map}
 use Rattle.std.proofs.lemmas.Bool.{and_parts}
 use Rattle.std.proofs.lemmas.Grind.{flat_map-append}
@@ -12,13 +12,11 @@ use Rattle.st_tree.specs.declared.tree.declaration.Initial.TheVariants as initia
 use Rattle.st_tree.specs.declared.tree.declaration.Specification.{Specification}
 use Rattle.st_tree.specs.declared.tree.declaration.Specification.TheVariants as specifications
 use Rattle.st_tree.specs.declared.tree.declaration.Subrange.{Subrange}
-use Rattle.st_tree.specs.declared.tree.declaration.TypeName.{TypeName}
 use Rattle.st_tree.specs.declared.tree.declaration.VarBlock.{VarBlock}
 use Rattle.st_tree.specs.declared.tree.declaration.VarKind.{VarKind}
 use Rattle.st_tree.specs.declared.tree.position.Identifier.{Identifier}
 use Rattle.st_tree.specs.declared.tree.unit.Function.{Function}
 use Rattle.st_faults.specs.Faults.{fault, when}
-use Rattle.st_faults.specs.declared.fault.Fault.{Fault}
 use Rattle.st_faults.specs.declared.fault.Rule.TheVariants as rules
 use Rattle.st_types.specs.Compositions.{Composition, elementary, composition_within, declared_composition, started, subscripted}
 use Rattle.st_types.specs.Initials.{element_initial, initial_of, number_in, zero_of}

@@ -11,7 +11,7 @@ use Rattle.st_order.proofs.Orders.{none_reaches_itself}
 use Rattle.st_references.specs.References.{graph_of}
 use Rattle.st_leaves.specs.Leaves.{leaves_of}
 use Rattle.st_leaves.specs.Limits.{is_too_large}
-use Rattle.st_check.specs.Answers.{Explains, answer_to}
+use Rattle.st_check.specs.Answers.{Explains}
 use Rattle.st_check.specs.Answers as answers
 use Rattle.st_check.specs.Faults.{HasNoProgram, IsAccepted, IsFault, IsFirst, IsUnitFault, listed, program_named, recursion, size, unit}
 use Rattle.st_check.specs.Laws.{HasNoRecursion}

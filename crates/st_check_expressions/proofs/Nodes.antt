@@ -87,10 +87,6 @@ pub empty_map : {A B : Type 0} (f : A → B) (xs : List A) → is_empty (map f x
 empty_map f [] = refl
 empty_map f (x ∷ xs) = refl
 
--- an argument stands by its position
-pub positional_empty : (scope : Scope) (a : Argument) → is_empty (positional_in (known_argument scope a)) ≡ is_empty (positional_of a)
-positional_empty scope a = ap is_empty (positional_known scope a) ∙ empty_map (known scope) (positional_of a)
-
 map_append : {A B : Type 0} (f : A → B) (xs ys : List A) → map f xs ++ map f ys ≡ map f (xs ++ ys)
 map_append f [] ys = refl
 map_append f (x ∷ xs) ys = ap (λ zs. f x ∷ zs) (map_append f xs ys)

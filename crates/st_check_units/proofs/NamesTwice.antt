@@ -51,16 +51,3 @@ module _ {A : Type 0} (k : A → List Identifier) (xs : List A) (i : ℕ) (x : A
       ap (λ t. t ++ spellings (flat_map k (drop (i + 1) xs))) s ∙ append_assoc others (spellings ns) (spellings (flat_map k (drop (i + 1) xs)))
       ∙ ap (λ t. others ++ t) (sym (map-append (λ n. n.spelling) ns (flat_map k (drop (i + 1) xs)))) ∙ ap (λ ms. others ++ spellings (ms ++ flat_map k (drop (i + 1) xs))) same
       ∙ sym (ap (λ ys. others ++ spellings (flat_map k ys)) (dropped xs i x lt is)) ∙ h
-
--- ---- the names of one list
-
-module _ (names : List Identifier) (i : ℕ) (n : Identifier) (lt : i < length names) (is : n ≡ get_or names i n) where
-  pub name_turn : (others others2 : List (List ℕ)) (o o2 r : Option Fault) → o2 ≡ offer_all o (when (is_there others n.spelling) (fault n.position rules.NameTwice)) → others2 ≡ others ++ n.spelling ∷ []
-      → offer_all o (repeated others (drop i names)) ≡ r → offer_all o2 (repeated others2 (drop (i + 1) names)) ≡ r
-  name_turn others others2 o o2 r e s h =
-      offered o o2 r (when (is_there others n.spelling) (fault n.position rules.NameTwice)) (repeated others2 (drop (i + 1) names)) (repeated others (drop i names)) e
-      (ap (repeated others) (dropped names i n lt is) ∙ ap (λ t. when (is_there others n.spelling) (fault n.position rules.NameTwice) ++ repeated t (drop (i + 1) names)) (sym s)) h
-
-  pub spelling_turn : (others others2 r : List (List ℕ)) → others2 ≡ others ++ n.spelling ∷ [] → others ++ spellings (drop i names) ≡ r → others2 ++ spellings (drop (i + 1) names) ≡ r
-  spelling_turn others others2 r s h =
-      ap (λ t. t ++ spellings (drop (i + 1) names)) s ∙ append_assoc others (n.spelling ∷ []) (spellings (drop (i + 1) names)) ∙ sym (ap (λ ys. others ++ spellings ys) (dropped names i n lt is)) ∙ h

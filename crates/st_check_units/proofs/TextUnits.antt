@@ -15,9 +15,9 @@ use Rattle.st_types.specs.Inside.{declared_by, named_by}
 use Rattle.st_types.specs.declared.unit.NamedUnit.{NamedUnit}
 use Rattle.st_check_units.specs.Declarations.{block_faults}
 use Rattle.st_check_units.specs.Repeats.{repeated, spellings}
-use Rattle.st_check_units.specs.Units.{body_of_faults, chart_names, name_faults, names_faults, pou_faults, unit_faults, units_faults, variable_names}
+use Rattle.st_check_units.specs.Units.{body_of_faults, chart_names, pou_faults, unit_faults, units_faults, variable_names}
 use Rattle.st_check_units.proofs.NamesTwice.{repeated-append}
-use Rattle.st_faults.proofs.Offers.{both, dropped, offered, three}
+use Rattle.st_faults.proofs.Offers.{both, three}
 
 -- ---- a function block or program
 
@@ -32,15 +32,6 @@ pou_done units scope unit pou variables elements seen seen2 o o1 o2 o3 o4 same e
     ∙ ap (λ t. offer_all o (repeated t (variable_names variables ++ chart_names elements) ++ flat_map (block_faults units unit) variables ++ body_of_faults scope pou.name pou.body)) none
     ∙ ap (λ vs. offer_all o (repeated [] (variable_names vs ++ chart_names elements) ++ flat_map (block_faults units unit) vs ++ body_of_faults scope pou.name pou.body)) same
     ∙ ap (λ es. offer_all o (repeated [] (variable_names pou.variables ++ chart_names es) ++ flat_map (block_faults units unit) pou.variables ++ body_of_faults scope pou.name pou.body)) elements_are
-
--- ---- the names of units
-
-pub unit_name_turn : (units : List NamedUnit) (i : ℕ) (u : NamedUnit) (seen seen2 : List (List ℕ)) (o o2 r : Option Fault) → i < length units → u ≡ get_or units i u
-    → o2 ≡ offer_all o (name_faults seen u.name.now) → seen2 ≡ seen ++ u.name.now.spelling ∷ []
-    → offer_all o (names_faults seen (map named_by (drop i units))) ≡ r → offer_all o2 (names_faults seen2 (map named_by (drop (i + 1) units))) ≡ r
-unit_name_turn units i u seen seen2 o o2 r lt is e s h =
-    offered o o2 r (name_faults seen u.name.now) (names_faults seen2 (map named_by (drop (i + 1) units))) (names_faults seen (map named_by (drop i units))) e
-    (ap (λ us. names_faults seen (map named_by us)) (dropped units i u lt is) ∙ ap (λ t. name_faults seen u.name.now ++ names_faults t (map named_by (drop (i + 1) units))) (sym s)) h
 
 -- ---- each unit in its scope
 

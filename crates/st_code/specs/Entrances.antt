@@ -1,5 +1,5 @@
 -- Which instances code enters: those of the function blocks of the text that its body invokes.
-use Rattle.std.specs.Prelude.{◌≡◌, ℕ, Bool, IsTrue, List, Option, Some, None}
+use Rattle.std.specs.Prelude.{◌≡◌, ℕ, Bool, IsTrue, List, Some}
 use Rattle.std.specs.List.{All}
 use Rattle.st_tree.specs.declared.tree.statement.Statement.{Statement}
 use Rattle.st_types.specs.Compositions.{Composition}
@@ -11,11 +11,6 @@ use Rattle.st_code.specs.Code.{code_of}
 use Rattle.st_code.specs.Invocations.{Asked, BodyInvokes}
 use Rattle.st_code.specs.declared.instr.Instr.{Instr}
 use Rattle.st_code.specs.declared.instr.Instr.TheVariants.{Enter}
-
--- the instance that an instruction enters: the number of its unit, and its first leaf
-abbrev pub entrance_of : Instr → Option (ℕ × ℕ)
-entrance_of (Enter leaf unit) = Some (unit, leaf)
-entrance_of i = None
 
 -- the test is of a unit's number and the first leaf of an instance of it
 abbrev pub InstanceTest : Type 0

@@ -2,7 +2,6 @@
 ghost use Rattle.std.specs.Prelude.{◌≡◌};
 ghost use Rattle.st_code.specs.CalledFunctions.{call_of};
 ghost use Rattle.st_code.specs.Charts.{chart_of};
-ghost use Rattle.st_code.specs.Entrances.{entrance_of};
 ghost use Rattle.st_code.specs.Relative.{clipped_from};
 
 use st_meaning::{Binary, Unary};
@@ -107,17 +106,6 @@ impl Instr {
             Instr::Ask(unit, leaf, number) => Instr::Ask(unit, first.saturating_add(leaf), number),
             Instr::Chart(unit, leaf) => Instr::Chart(unit, first.saturating_add(leaf)),
             other => other,
-        }
-    }
-
-    /// The instance that the instruction enters: the number of its unit, and its first leaf.
-    #[inline(always)]
-    pub fn entrance(&self) -> Option<(usize, u32)>
-        ensures { result ≡ entrance_of self.now }
-    {
-        match *self {
-            Instr::Enter(leaf, unit) => Some((unit, leaf)),
-            _ => None,
         }
     }
 

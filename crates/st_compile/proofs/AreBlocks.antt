@@ -1,7 +1,6 @@
 -- The function blocks of a checked program do as is said of them.
 use Rattle.std.proofs.Common.{◌≡◌, ℕ, ◌≤◌, ◌==◌, Bool, true, false, ◌&&◌, ◌||◌, if◌then◌else◌, nat_le, IsTrue, List, [], length, get_or, Option, Some, None, refl, ap, sym, ◌∙◌, subst, arith}
 use Rattle.std.specs.List.{slice_get}
-use Rattle.std.specs.Prelude.{min}
 use Rattle.std.proofs.lemmas.Bool.{and_from, and_parts, le-leb, leb-true, lt-ltb, or_right}
 use Rattle.st_check.specs.Programs.{IsChecked, ProgramView, level_in, main_of, order_of, text_of}
 use Rattle.st_values.specs.Values.{in_range}
@@ -13,20 +12,18 @@ use Rattle.st_meaning.specs.Laws.{StaysInFrame}
 use Rattle.st_meaning.specs.Meaning.{Values}
 use Rattle.st_meaning.proofs.SmallArrays.{small_arrays}
 use Rattle.st_meaning.specs.Offsets.{IsSmall, offset_of}
-use Rattle.st_meaning.specs.Sound.{AreSoundCalls, AreValuesOf}
+use Rattle.st_meaning.specs.Sound.{AreValuesOf}
 use Rattle.st_meaning.specs.Statements.{Setting, Outcome, done, exited, returned, faulted, body_meaning, ended}
 use Rattle.st_meaning.specs.Units.{body_of_unit, calls_of, function_at, root_of, statements_of, unit_whole}
-use Rattle.st_meaning.specs.Wholes.{Called}
 use Rattle.st_meaning.proofs.Bodies.{body_ended}
 use Rattle.st_meaning.proofs.Stretches.{part_fits}
-use Rattle.st_code.specs.Correct.{HaveTypes}
 use Rattle.st_code.specs.Entrances.{HasEntrances}
 use Rattle.st_code.specs.Invocations.{HasBodies, InvokesAs, IsBodyOf}
 use Rattle.st_code.specs.Machine.{Reaches, UnitBody, are_of_types, ends_here, state}
 use Rattle.st_code.specs.Relative.{LeavesSoMany}
 use Rattle.st_machine.specs.Blocks.{AreBlocks, BlockView, EntersBelow, IsBlock, is_below, may_enter, stand_at}
 use Rattle.st_machine.specs.Charts.{ChartsAmong, is_known}
-use Rattle.st_machine.specs.Functions.{CallsBelow, may_call}
+use Rattle.st_machine.specs.Functions.{CallsBelow}
 use Rattle.st_machine.specs.Levels.{environment_in, no_room}
 use Rattle.st_machine.specs.declared.stacks.Room.{Room}
 use Rattle.st_places.specs.Parts.{is_block, is_small_block}
@@ -37,7 +34,7 @@ use Rattle.st_compile.proofs.Charted.{has_its_chart, is_chart_where, is_known_ch
 use Rattle.st_compile.proofs.Known.{Known}
 use Rattle.st_compile.proofs.OfTypes.{many_elems, test_of_values, values_by_test}
 use Rattle.st_compile.proofs.OneLeaf.{one_leaf_each}
-use Rattle.st_compile.proofs.Ordered.{at_its_level, level_below, second_given, unit_of_view, view_at}
+use Rattle.st_compile.proofs.Ordered.{at_its_level, second_given, unit_of_view, view_at}
 use Rattle.st_compile.proofs.Callable.{AreFunctionsSmall, have_types, sound_calls, unit_calls}
 use Rattle.st_compile.proofs.Taken.{takes_few}
 use Rattle.st_compile.proofs.Said.{body_size, may_run, part_stands, root_types, said_of, unit_body, unit_types}

@@ -1,14 +1,12 @@
 -- The functions of a checked program give what is said of them.
-use Rattle.std.proofs.Common.{◌≡◌, ℕ, ◌<◌, ◌≤◌, ◌+◌, Bool, true, false, ◌&&◌, if◌then◌else◌, nat_le, IsTrue, ℤ, pos, List, [], ◌∷◌, length, get_or, map, codes, length-append, Option, Some, None, refl, ap, sym, ◌∙◌, subst, arith}
-use Rattle.std.specs.List.{All, slice_get}
-use Rattle.std.specs.Prelude.{min}
+use Rattle.std.proofs.Common.{◌≡◌, ℕ, ◌<◌, ◌≤◌, Bool, true, false, if◌then◌else◌, nat_le, IsTrue, pos, List, [], length, get_or, map, codes, length-append, Some, None, refl, ap, sym, ◌∙◌, subst, arith}
+use Rattle.std.specs.List.{All}
 use Rattle.std.proofs.lemmas.Bool.{and_parts, leb-true}
 use Rattle.std.proofs.lemmas.List.{length-map}
 use Rattle.st_check.specs.Programs.{IsChecked, ProgramView, level_in, order_of, text_of}
 use Rattle.st_tree.specs.declared.tree.position.Identifier.{Identifier}
 use Rattle.st_tree.specs.declared.tree.unit.Function.{Function}
 use Rattle.st_values.specs.Values.{IsValue}
-use Rattle.st_values.specs.declared.elem.Elem.{Elem}
 use Rattle.st_types.specs.Names.{Declares, Named, named, unit_at, units_of}
 use Rattle.st_types.specs.Names as names
 use Rattle.st_leaves.specs.Places.{count}
@@ -18,14 +16,14 @@ use Rattle.st_meaning.specs.Sound.{AreInputsOf, AreValuesOf}
 use Rattle.st_meaning.specs.Statements.{Outcome, body_meaning}
 use Rattle.st_meaning.specs.Terms.{plain_body}
 use Rattle.st_meaning.specs.Typing.{body_of}
-use Rattle.st_meaning.specs.Units.{body_of_unit, called_by, calls_of, function_at, function_setting, inputs_in, members_begun, members_of_function, root_of, statements_of, unit_given, unit_whole}
+use Rattle.st_meaning.specs.Units.{body_of_unit, called_by, calls_of, function_at, function_setting, inputs_in, members_begun, members_of_function, root_of, unit_given, unit_whole}
 use Rattle.st_meaning.proofs.BegunFunctions.{function_begins, members_have_values}
-use Rattle.st_code.specs.Invocations.{HasBodies, InvokesAs}
+use Rattle.st_code.specs.Invocations.{InvokesAs}
 use Rattle.st_code.specs.Machine.{Reaches, are_of_types, state}
 use Rattle.st_machine.specs.Functions.{AreFunctions, EntersNothing, FunctionView, HasNoCharts, IsFunction, IsRunFrom, begun_by}
 use Rattle.st_machine.specs.Levels.{environment_with, no_room}
 use Rattle.st_machine.specs.declared.stacks.Room.{Room}
-use Rattle.st_places.specs.Parts.{is_function, is_small_function}
+use Rattle.st_places.specs.Parts.{is_small_function}
 use Rattle.st_places.specs.Functions.{starts_of}
 use Rattle.st_places.proofs.Roots.{charts_are_in_bodies}
 use Rattle.st_bodies.proofs.ChartDepths.{body_of_unit_deep}

@@ -1,22 +1,21 @@
 -- Which functions the code of a program calls: small ones, on levels below its own.
-use Rattle.std.proofs.Common.{◌≡◌, ℕ, ◌<◌, ◌≤◌, ◌==◌, Bool, true, false, ◌&&◌, if◌then◌else◌, nat_lt, List, [], length, map, Option, Some, None, refl, ap, sym, ◌∙◌, subst, arith}
+use Rattle.std.proofs.Common.{◌≡◌, ℕ, ◌<◌, ◌≤◌, ◌==◌, Bool, true, false, if◌then◌else◌, nat_lt, List, length, Option, Some, None, refl, ap, sym, ◌∙◌, subst, arith}
 use Rattle.std.specs.List.{slice_get}
 use Rattle.std.proofs.lemmas.Bool.{and_from, lt-ltb, ltb-true}
 use Rattle.std.proofs.lemmas.Bool.Decides.{nat_tests}
 use Rattle.std.proofs.lemmas.List.{length-map}
 use Rattle.st_check.specs.Programs.{IsChecked, ProgramView, level_in, order_of, text_of}
-use Rattle.st_tree.specs.declared.tree.position.Identifier.{Identifier}
 use Rattle.st_tree.specs.declared.tree.unit.Function.{Function}
-use Rattle.st_types.specs.Names.{Declares, Named, named, unit_at, units_of}
+use Rattle.st_types.specs.Names.{Declares, Named, unit_at, units_of}
 use Rattle.st_types.specs.Names as names
 use Rattle.st_meaning.specs.CalledBy.{BodyCalls, CalledTest}
 use Rattle.st_meaning.specs.Sound.{AreSoundCalls}
 use Rattle.st_meaning.specs.Units.{body_of_unit, called_as, called_by, calls_of, function_at, statements_of, unit_whole}
-use Rattle.st_meaning.specs.Wholes.{Called, Functions}
+use Rattle.st_meaning.specs.Wholes.{Called}
 use Rattle.st_calls.specs.Passing.{passing}
 use Rattle.st_code.specs.CalledFunctions.{FunctionsPass}
 use Rattle.st_code.specs.Correct.{HaveTypes}
-use Rattle.st_machine.specs.Functions.{CallsBelow, FunctionView, is_callable, may_call}
+use Rattle.st_machine.specs.Functions.{CallsBelow, is_callable, may_call}
 use Rattle.st_places.specs.Parts.{is_function, is_small_function}
 use Rattle.st_places.specs.Functions.{starts_of}
 use Rattle.st_compile.specs.Programs.{function_view, no_function, program_functions, small_function, types_taken, unit_code}

@@ -1,5 +1,5 @@
 -- Units of a checked program by their numbers in the tables: what their names stand for, that they are small, and what is made of them.
-use Rattle.std.proofs.Common.{◌≡◌, ℕ, Bool, zero, suc, ◌==◌, ◌<◌, ◌≤◌, true, false, ◌&&◌, ◌||◌, not, nat_le, List, [], ◌∷◌, codes, get_or, length, map, Option, Some, None, refl, ap, sym, ◌∙◌, subst, arith}
+use Rattle.std.proofs.Common.{◌≡◌, ℕ, zero, suc, ◌==◌, ◌<◌, ◌≤◌, true, ◌||◌, not, nat_le, List, [], ◌∷◌, get_or, length, map, Option, Some, None, refl, ap, sym, ◌∙◌, subst, arith}
 use Rattle.std.specs.Prelude.{if◌then◌else◌, min}
 use Rattle.std.proofs.lemmas.Bool.{and_parts, leb-true}
 use Rattle.std.proofs.lemmas.List.{length-map}
@@ -28,7 +28,7 @@ use Rattle.st_types.specs.Inside.{named_by}
 use Rattle.st_types.specs.Names.{Named, unit_at, units_of}
 use Rattle.st_types.specs.declared.unit.NamedUnit.{NamedUnit}
 use Rattle.st_bodies.specs.Depths.{declared_depth}
-use Rattle.st_compile.specs.Programs.{HasRoom, block_code, chart_view, faulty, faulty_name, made_of, main_unit, most_taken, name_in, program_charts, program_code, program_depth, program_names, program_rooms, types_taken, unit_chart, unit_code, own_depth}
+use Rattle.st_compile.specs.Programs.{HasRoom, block_code, chart_view, faulty, faulty_name, made_of, most_taken, name_in, program_charts, program_code, program_depth, program_names, program_rooms, types_taken, unit_chart, unit_code, own_depth}
 use Rattle.st_compile.specs.Small.{function_is_small}
 use Rattle.st_compile.proofs.Charted.{whichever_statements}
 use Rattle.st_compile.proofs.Renamed.{program_root}

@@ -1,5 +1,5 @@
 -- What is made of a unit as a function, and as a function block.
-use Rattle.std.proofs.Common.{◌≡◌, ℕ, ◌+◌, true, false, if◌then◌else◌, List, [], length, Some, refl, ap, sym, ◌∙◌}
+use Rattle.std.proofs.Common.{◌≡◌, ℕ, true, false, if◌then◌else◌, List, [], length, ap, sym, ◌∙◌}
 use Rattle.std.specs.Prelude.{min}
 use Rattle.st_values.specs.declared.elem.Elem.{Elem}
 use Rattle.st_types.specs.Names.{Named}
@@ -14,7 +14,7 @@ use Rattle.st_places.specs.Functions.{starts_of}
 use Rattle.st_places.specs.Parts.{is_small_function}
 use Rattle.st_bodies.specs.Depths.{declared_depth}
 use Rattle.st_check.specs.Programs.{level_in}
-use Rattle.st_compile.specs.Programs.{block_code, block_level, block_room, block_view, function_room, function_view, most_taken, no_function, no_level, own_depth, small_function, types_taken, unit_code}
+use Rattle.st_compile.specs.Programs.{block_code, block_level, block_room, block_view, function_view, most_taken, no_function, no_level, own_depth, small_function, types_taken, unit_code}
 
 abbrev viewed : List Line → ℕ → List Elem → List Start → FunctionView
 viewed code level inputs starts = record { code = code; level = level; inputs = inputs; starts = starts }

@@ -1,28 +1,24 @@
 -- Where names are distinct, each place is that of one leaf.
-use Rattle.std.proofs.Common.{◌≡◌, ℕ, zero, suc, ◌+◌, ℤ, Bool, true, false, cond, not, nat_lt, ◌<◌, List, [], ◌∷◌, ◌++◌, ◌≢◌, ◌<◌, map, codes, length, get_or, slice_index_or, Option, Some, None, refl, ap, sym, ◌∙◌, subst, arith}
+use Rattle.std.proofs.Common.{◌≡◌, ℕ, ◌+◌, ℤ, Bool, true, false, cond, not, nat_lt, ◌<◌, List, [], ◌∷◌, ◌<◌, map, length, get_or, slice_index_or, Option, Some, None, refl, ap, sym, ◌∙◌, subst, arith}
 use Rattle.std.specs.Ordering.{int_eq}
-use Rattle.std.specs.Char.{to_ascii_uppercase}
 use Rattle.std.specs.List.{AllPairs, position, position_or_len}
 use Rattle.std.proofs.lemmas.Bool.{and_parts}
 use Rattle.std.proofs.lemmas.Bool.Decides.{Decides-int_eq}
 use Rattle.st_types.specs.Compositions.{Composition}
 use Rattle.st_types.specs.Names.{Named}
-use Rattle.st_tree.specs.declared.leaf.Leaf.{Leaf}
 use Rattle.st_leaves.specs.LeavesIn.{LeafIn, leaves_in, leaves_of_whole}
-use Rattle.st_leaves.specs.Paths.{Path, Selector, field, kept, index, are_same_numbers, is_same_path, is_same_selector, path_text, selector_text}
-use Rattle.st_leaves.specs.Programs.{leaves_from}
-use Rattle.std.proofs.lemmas.List.{length-map, map-append}
+use Rattle.st_leaves.specs.Paths.{Path, Selector, field, kept, index, are_same_numbers, is_same_path, is_same_selector}
+use Rattle.std.proofs.lemmas.List.{length-map}
 use Rattle.std.proofs.lemmas.List.Quantifiers.{position-Some}
 use Rattle.st_leaves.proofs.Numbers.{leaves_are_counted, whole_paths}
 use Rattle.st_leaves.proofs.Places.{places_are_numbers}
 use Rattle.st_layout.proofs.Paths.{position-None}
 use Rattle.st_layout.proofs.Fronts.{Decides-is_word}
-use Rattle.st_values.specs.Words.{is_word, raised}
+use Rattle.st_values.specs.Words.{is_word}
 use Rattle.st_leaves.proofs.WaysApart.{ways_are_distinct}
 use Rattle.st_meaning.specs.Units.{root_of}
 use Rattle.st_places.specs.Laws.{IsSoundUnit}
 use Rattle.st_meaning.specs.Sound.{HasOneLeafEach, no_leaf}
-use Rattle.st_layout.specs.Layout.{no_leaf as a_leaf}
 
 -- ---- two paths that are the same as a third are the same
 

@@ -1,10 +1,9 @@
 -- The code of a checked program runs as the program means.
 use Rattle.std.proofs.Common.{◌≡◌, ℕ, ◌≤◌, ◌==◌, ℤ, IsTrue, List, [], length, Ok, Err, refl, ap, sym, ◌∙◌, subst, arith}
 use Rattle.std.proofs.lemmas.Bool.{or_left}
-use Rattle.std.proofs.lemmas.List.{length-map}
-use Rattle.st_check.specs.Programs.{IsChecked, ProgramView, leaves_of_program, level_in, main_of, optional_leaves, order_of, text_of}
+use Rattle.st_check.specs.Programs.{IsChecked, ProgramView, leaves_of_program, main_of, optional_leaves, order_of, text_of}
 use Rattle.st_tree.specs.declared.leaf.Leaf.{Leaf}
-use Rattle.st_types.specs.Names.{Named, unit_at, units_of}
+use Rattle.st_types.specs.Names.{Named, units_of}
 use Rattle.st_leaves.specs.Places.{count}
 use Rattle.st_leaves.specs.Programs.{program_leaves}
 use Rattle.st_layout.specs.Memory.{AreValues, Content, Fits}

@@ -1,6 +1,5 @@
 -- The variables of a function begin as is meant.
-use Rattle.std.proofs.Common.{◌≡◌, ℕ, ◌<◌, Bool, true, List, [], ◌∷◌, ◌++◌, map, length, Option, Some, None, refl, ap, ◌∙◌, arith}
-use Rattle.st_tree.specs.declared.tree.unit.Function.{Function}
+use Rattle.std.proofs.Common.{◌≡◌, ◌<◌, true, List, [], ◌∷◌, ◌++◌, map, length, Option, Some, None, refl, ap, ◌∙◌, arith}
 use Rattle.st_types.specs.Compositions.{Composition, Members, none, member}
 use Rattle.st_types.specs.Names.{Declares, Named}
 use Rattle.st_types.specs.Names as names

@@ -1,14 +1,13 @@
 -- Forced leaves are open, whatever is written, forced, released and undone.
-use Rattle.std.proofs.Common.{ℕ, ◌≡◌, Bool, true, false, inl, inr, List, zero, suc, length, set, replicate, pos, subst, sym, ◌∙◌, arith}
+use Rattle.std.proofs.Common.{ℕ, ◌≡◌, Bool, false, inl, inr, List, set, subst, sym, ◌∙◌}
 use Rattle.std.proofs.lemmas.Bool.Decides.{eqb_tells}
 use Rattle.std.proofs.lemmas.List.{get_or-set_other}
-use Rattle.st_control.specs.States.{IsMoment}
 use Rattle.st_layout.specs.Layout.{IsOpenAt}
 use Rattle.std.specs.List.{All}
 use Rattle.std.specs.Prelude.{Err, Ok, OnOk, Result}
 use Rattle.std.specs.declared.alloc.AllocError.{AllocError}
 use Rattle.st_layout.proofs.OpenForces.{returned_forces_are_open}
-use Rattle.st_layout.specs.Memory.{Content, ForcesAreOpen, forced_at}
+use Rattle.st_layout.specs.Memory.{Content, ForcesAreOpen}
 use Rattle.st_layout.specs.Moves.{unmoved}
 use Rattle.st_layout.specs.Pairs.{IsPairing, Pairs}
 use Rattle.st_layout.specs.declared.saved.Saved.{Saved}
@@ -18,19 +17,6 @@ use Rattle.st_tree.specs.declared.leaf.Leaf.{Leaf}
 pub mark_keeps_open : (leaves : List Leaf) (forced : List Bool) (leaf : ℕ) (on : Bool) → ForcesAreOpen leaves forced → IsOpenAt leaves leaf → ForcesAreOpen leaves (set forced leaf on)
 mark_keeps_open leaves forced leaf on all here other is_forced =
     elim (eqb_tells other leaf) [ inl same ↦ subst (λ it. IsOpenAt leaves it) (sym same.1) here | inr apart ↦ all other (sym (get_or-set_other forced leaf other on false apart.1) ∙ is_forced) ]
-
--- where no leaf is forced there is nothing to ask
-none_forced : (count leaf : ℕ) → forced_at (replicate count false) leaf ≡ true → ⊥
-none_forced zero leaf is_forced = cc
-none_forced (suc count) zero is_forced = cc
-none_forced (suc count) (suc leaf) is_forced = none_forced count leaf is_forced
-
-pub initial_open : (leaves : List Leaf) → ForcesAreOpen leaves (replicate (length leaves) false)
-initial_open leaves leaf is_forced = absurd (none_forced (length leaves) leaf is_forced)
-
--- the first moment is one
-pub first_moment : IsMoment (pos 0)
-first_moment = record { early = omega arith; late = omega arith }
 
 -- what was moved back is forced only where an operator may force it
 pub opens_back : (result : Result (Unit {0}) AllocError) (old new : List Leaf) (pairs : Pairs) (content after : Content) (saved : Saved)

@@ -1,8 +1,8 @@
 -- What a scan makes of a state.
 use Rattle.std.proofs.Common.{ℕ, ℤ, pos, ◌≡◌, ◌≤ℤ◌, Bool, true, false, IsTrue, List, [], Option, Some, None, refl, subst, ◌∙◌, ap, arith}
 use Rattle.std.specs.Option.{option_map, option_map_or}
-use Rattle.std.specs.Prelude.{Err, Ok, Result, int_le, ◌^◌, not}
-use Rattle.std.proofs.lemmas.Bool.{and_parts, not-false, or_parts}
+use Rattle.std.specs.Prelude.{Err, Ok, Result, int_le, ◌^◌}
+use Rattle.std.proofs.lemmas.Bool.{and_parts, not-false}
 use Rattle.std.proofs.lemmas.Int.{ints}
 use Rattle.st_control.proofs.Causes.{NoneHolds, unless_allows, unless_gives}
 use Rattle.st_compile.proofs.Frames.{frame_kept}
@@ -11,7 +11,7 @@ use Rattle.st_control.proofs.Inputs.{inputs_fit, inputs_kept}
 use Rattle.st_control.specs.ScanLaws.{IsScanned, ScansKeepTheFrame, ScansKeepWhole, ScansStartAnew}
 use Rattle.st_control.specs.Laws.{KeepsLoad}
 use Rattle.st_control.specs.Machine.{Machine}
-use Rattle.st_control.specs.Scans.{Input, Scan, can_follow, is_halted, outcome_of, run_of, scan_causes, scan_of, state_after, with_inputs}
+use Rattle.st_control.specs.Scans.{Input, Scan, can_follow, outcome_of, run_of, scan_causes, scan_of, state_after, with_inputs}
 use Rattle.st_control.specs.States.{IsMoment, IsWhole, StateView, leaves_of}
 use Rattle.st_compile.specs.Programs.{KeepsFrame}
 use Rattle.st_layout.specs.Layout.{number_of}

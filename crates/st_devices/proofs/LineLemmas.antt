@@ -36,10 +36,6 @@ is_not_empty part some = grind (arith, common_steps)
 is_some : (part : List ℕ) → false ≡ (length part == 0) → 0 < length part
 is_some part empty = grind (arith, common_steps)
 
-is_nil : (part : List ℕ) → true ≡ (length part == 0) → part ≡ []
-is_nil [] empty = refl
-is_nil (byte ∷ part) empty = cc (empty, is_not_empty (byte ∷ part) (omega arith))
-
 lines_in-last : (part : List ℕ) → 0 < length part → lines_in (part ∷ []) ≡ last_line part ∷ []
 lines_in-last part some = rw (is_not_empty part some) refl
 

@@ -63,13 +63,6 @@ takes_nothing unread false None new none going same = λ more _. (more, tt, refl
 takes_nothing unread false (Some xs) None none going same = absurd same
 takes_nothing unread false (Some xs) (Some ys) none going same = λ more can_be. rw none (xs, refl, sym same ∙ sym can_be)
 
--- where nothing is read yet, what is pending is what the source has
-pub pending_first : (unread : List ℕ) (at_end : Bool) (known : Option (List ℕ)) → unread ≡ [] → at_end ≡ false
-    → (if at_end then Some unread else prepend_known unread known) ≡ known
-pending_first unread true known none going = cc going
-pending_first unread false None none going = refl
-pending_first unread false (Some xs) none going = rw none refl
-
 -- the same fact of an equal answer
 pub TakesByte-same : (o p : Option ℕ) (a b : Option (List ℕ)) → OnReading a b (TakesByte o) → o ≡ p → OnReading a b (TakesByte p)
 TakesByte-same o p a b takes same = subst (λ (q : Option ℕ). OnReading a b (TakesByte q)) same takes

@@ -1,5 +1,5 @@
 //! The source over memory, whose pieces are of a chosen size and which fails in a chosen call.
-ghost use Rattle.std.specs.Prelude.{◌≡◌, ◌≤◌, ◌<◌, ◌==◌, ◌+◌, ℕ, Some, [], false, IfOk, OnOk, OnErr, length, is_err, min, vec_capacity};
+ghost use Rattle.std.specs.Prelude.{◌≡◌, ◌≤◌, ◌<◌, ◌==◌, ◌+◌, Some, false, IfOk, OnOk, length, is_err, min};
 ghost use Rattle.std.specs.Io.KnownBytes.{ReadConsumes};
 
 use crate::devices::{DeviceFault, Source};

@@ -112,22 +112,11 @@ text_own w c name o found e s h g =
       by None = refl
       by (Some f) = refl
 
-pub unknown_call : (w : Whole) (t : Elem) (c : Call) (name : List ℕ) (old new : List Line) → name ≡ (out-Call c).name.spelling → standard_of (out-Call c).name.spelling ≡ None
-    → w.functions name ≡ None → Emits w.variables t (nil t) old new → Emits w.variables t ((call_typed_in w c).as_type t) old new
-unknown_call w t c name old new e h g en =
-    subst (λ (x : Typed). Emits w.variables t (x.as_type t) old new)
-    (sym (text_call w c name e (ap standard_of e ∙ h) ∙ ap (λ f. function_called (out-Call c).name.position.line f (passed_in w (out-Call c).arguments)) g)) en
-
 known_call : (w : Whole) (t : Elem) (c : Call) (name : List ℕ) (f : Called) → name ≡ (out-Call c).name.spelling → standard_of (out-Call c).name.spelling ≡ None → w.functions name ≡ Some f
     → (call_typed_in w c).as_type t
     ≡ fitted f.result (call (out-Call c).name.position.line f.number f.result (arguments_from f.inputs 0 (passed_in w (out-Call c).arguments)) (sources_in w f (out-Call c).arguments)) t
 known_call w t c name f e h g =
     ap (λ (x : Typed). x.as_type t) (text_call w c name e (ap standard_of e ∙ h) ∙ ap (λ o. function_called (out-Call c).name.position.line o (passed_in w (out-Call c).arguments)) g)
-
-pub other_result : (w : Whole) (t : Elem) (c : Call) (name : List ℕ) (f : Called) (old new : List Line) → name ≡ (out-Call c).name.spelling → standard_of (out-Call c).name.spelling ≡ None
-    → w.functions name ≡ Some f → is_same f.result t ≡ false → Emits w.variables t (nil t) old new → Emits w.variables t ((call_typed_in w c).as_type t) old new
-other_result w t c name f old new e h g r en =
-    subst (λ x. Emits w.variables t x old new) (sym (known_call w t c name f e h g ∙ ap (λ b. if b then call (out-Call c).name.position.line f.number f.result (arguments_from f.inputs 0 (passed_in w (out-Call c).arguments)) (sources_in w f (out-Call c).arguments) else nil t) r)) en
 
 args_number : (inputs : List Input) (place : ℕ) (xs : List Passed) → how_many (arguments_from inputs place xs) ≡ length xs
 args_number inputs place [] = refl

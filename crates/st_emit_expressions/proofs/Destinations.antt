@@ -1,5 +1,5 @@
 -- Which argument goes to which input of a function.
-use Rattle.std.proofs.Common.{◌≡◌, ℕ, zero, suc, ◌+◌, ◌<◌, ◌≤◌, ◌==◌, ◌⊎◌, inl, inr, nat_lt, Bool, true, false, not, if◌then◌else◌, List, [], ◌∷◌, ◌++◌, length, take, drop, get_or, refl, sym, ap, ◌∙◌, arith, add-one, append_assoc, append-nil, length-append, drop-cons, take_all, take-append-drop, eq-or-lt_of_le}
+use Rattle.std.proofs.Common.{◌≡◌, ℕ, suc, ◌+◌, ◌<◌, ◌≤◌, ◌==◌, ◌⊎◌, inl, inr, nat_lt, Bool, true, false, not, if◌then◌else◌, List, [], ◌∷◌, ◌++◌, length, take, drop, get_or, refl, sym, ap, ◌∙◌, arith, add-one, append_assoc, append-nil, length-append, drop-cons, take_all, take-append-drop, eq-or-lt_of_le}
 use Rattle.std.specs.Prelude.{Option, Some, None, ◌&&◌, slice_set}
 use Rattle.std.specs.List.{position, position_or_len}
 use Rattle.std.specs.Option.{is_none}
@@ -251,12 +251,3 @@ noted_first inputs to all input place e h = record {
       noted_each all input place n (omega (arith, h.number)) ∙ ap (λ o. first_or o (is_number n input) place) (h.each n lt)
       ∙ ap (first_or (position (is_number n) to) (is_number n input)) e ∙ sym (position_more (is_number n) to input);
 }
-
-pub none_first : (inputs : ℕ) (all : List (Option ℕ)) → length all ≡ inputs → ((n : ℕ) → get_or all n None ≡ None) → AreFirst inputs [] all
-none_first inputs all e h = record { number = e; each = λ n lt. h n }
-
-pub none_more : (all : List (Option ℕ)) → ((n : ℕ) → get_or all n None ≡ None) → (n : ℕ) → get_or (all ++ None ∷ []) n None ≡ None
-none_more [] h zero = refl
-none_more [] h (suc n) = refl
-none_more (o ∷ all) h zero = h zero
-none_more (o ∷ all) h (suc n) = none_more all (λ k. h (suc k)) n

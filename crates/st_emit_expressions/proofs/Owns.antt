@@ -71,15 +71,6 @@ ended_own w e p y os seen q r h = ends_own w (typed w y).own seen h ∙ whole_ow
 
 -- ---- calls
 
-not_counted : (n m : ℕ) → (n == m) ≡ true → n ≡ m
-not_counted n m h = (Decides-eqb n m).0 h
-
-first_first : (a b c : Option Elem) → first_own (first_own (a ∷ b ∷ []) ∷ c ∷ []) ≡ first_own (a ∷ b ∷ c ∷ [])
-first_first None None None = refl
-first_first None None (Some e) = refl
-first_first None (Some e) c = refl
-first_first (Some e) b c = refl
-
 only : (a : Option Elem) → a ≡ first_own (a ∷ [])
 only None = refl
 only (Some e) = refl
@@ -295,14 +286,6 @@ own_skip s n x xs c found e f g = rw add-one (ap (λ b. if b && is_some x.own th
   by true None h = refl
   by true (Some t) h = absurd (cc)
   by false a h = refl
-
-pub own_found : (s : Standard) (n : ℕ) (x : Typed) (xs : List Typed) (c : Bool) (found : Option Elem) → c ≡ counts s n → found ≡ (if c then x.own else None) → is_some found ≡ true
-    → found ≡ own_from s n (x ∷ xs)
-own_found s n x xs c found e f g = f ∙ by c x.own (ap is_some (sym f) ∙ g) ∙ ap (λ b. if b && is_some x.own then x.own else own_from s (suc n) xs) e where
-  by : (b : Bool) (a : Option Elem) → is_some (if b then a else None) ≡ true → (if b then a else None) ≡ (if b && is_some a then a else own_from s (suc n) xs)
-  by true None h = absurd (cc)
-  by true (Some t) h = refl
-  by false a h = absurd (cc)
 
 -- ---- variables
 

@@ -3,7 +3,6 @@ use Rattle.std.proofs.Common.{◌≡◌, ℕ, suc, ◌+◌, ◌<◌, List, [], �
 use Rattle.std.specs.Prelude.{Some, None}
 use Rattle.std.proofs.Math.Seq.{take-suc}
 use Rattle.std.proofs.lemmas.List.{map-append}
-use Rattle.st_tree.specs.declared.tree.constant.Constant.{Constant}
 use Rattle.st_tree.specs.declared.tree.expression.Argument.{the_lemmas}
 use Rattle.st_tree.specs.declared.tree.expression.Argument.TheVariants as arguments
 use Rattle.st_tree.specs.declared.tree.expression.Call.{Call, out-Call}
@@ -17,30 +16,14 @@ use Rattle.st_tree.specs.declared.tree.position.Identifier.{Identifier}
 use Rattle.st_tree.specs.declared.tree.position.Position.{Position}
 use Rattle.st_types.specs.Standard.{standard_of}
 use Rattle.st_meaning.specs.Terms.{Parts, field_part, element_part}
-use Rattle.st_meaning.specs.Typing.{Typed, argument_typed, call_typed, call_typed_in, chained, joined, literal, operation_typed, part_typed, passed, place_of, prefixed, typed, variable_typed}
+use Rattle.st_meaning.specs.Typing.{Typed, argument_typed, call_typed, call_typed_in, chained, joined, operation_typed, part_typed, passed, place_of, typed}
 use Rattle.st_meaning.specs.Wholes.{Whole}
-use Rattle.st_meaning.specs.declared.operation.Unary.TheVariants as unaries
 use Rattle.st_emit_expressions.specs.Calls.{passed_in}
 use Rattle.st_emit_expressions.specs.Emits.{terms_in}
 use Rattle.st_emit_expressions.specs.Trees.{chain_of, parts_in}
 
-pub constant_is : (w : Whole) (c : Constant) → typed w (expressions.Constant c) ≡ literal c
-constant_is w c = search (rules, the_lemmas)
-
-pub variable_is : (w : Whole) (v : Variable) → typed w (expressions.Variable v) ≡ variable_typed w (place_of w v)
-variable_is w v = search (rules, the_lemmas)
-
 pub call_is : (w : Whole) (c : Call) → typed w (expressions.Call c) ≡ call_typed_in w c
 call_is w c = search (rules, the_lemmas)
-
-pub parenthesized_is : (w : Whole) (p : Position) (x : Expression) → typed w (expressions.Parenthesized p x) ≡ typed w x
-parenthesized_is w p x = search (rules, the_lemmas)
-
-pub negate_is : (w : Whole) (p : Position) (x : Expression) → typed w (expressions.Negate p x) ≡ prefixed unaries.Negate (typed w x)
-negate_is w p x = search (rules, the_lemmas)
-
-pub not_is : (w : Whole) (p : Position) (x : Expression) → typed w (expressions.Not p x) ≡ prefixed unaries.Complement (typed w x)
-not_is w p x = search (rules, the_lemmas)
 
 pub chain_is : (w : Whole) (p : Position) (x : Expression) (os : List Operation) → typed w (expressions.Chain p x os) ≡ chain_of w x os
 chain_is w p x os = search (rules, the_lemmas)

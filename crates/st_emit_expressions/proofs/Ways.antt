@@ -115,13 +115,6 @@ takes_no_other (array ranges firsts c) n f = by (n == length ranges) refl where
 takes_no_other (composed name ms chart) n f = refl
 takes_no_other (standard b) n f = refl
 
-pub takes_none : (c : Composition) (n : ℕ) → is_array c ≡ false → takes_subscripts c n ≡ false
-takes_none unknown n h = refl
-takes_none (elementary v) n h = refl
-takes_none (array ranges firsts c) n h = absurd (cc)
-takes_none (composed name ms chart) n h = refl
-takes_none (standard b) n h = refl
-
 -- ---- what parts select
 
 no_type : (ps : Parts) → type_of unknown ps ≡ None

@@ -12,7 +12,7 @@ use Rattle.st_expressions.specs.Grammar.{integer_of, typed_of, duration_of, oper
 use Rattle.st_parser.specs.Grammar.Levels.{opens, closes}
 use Rattle.st_parser.specs.Grammar.Lists.{IsMany, none, more, IsNext, comma, IsListed, listed}
 use Rattle.st_parser.specs.Reader.Parsers as parser
-use Rattle.st_parser.specs.Reader.Parsers.{Parser, and_then, many}
+use Rattle.st_parser.specs.Reader.Parsers.{Parser, and_then}
 use Rattle.st_expressions.specs.Reader as spec
 use Rattle.st_expressions.specs.Reader.{Inside, begins_part}
 use Rattle.st_parser.specs.Grammar.Tokens.{Tok, kind, next, position}

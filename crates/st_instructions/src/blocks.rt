@@ -3,7 +3,6 @@ ghost use Rattle.std.specs.Prelude.{◌≡◌, ◌≤◌, ℕ, ℤ, length, IsTr
 ghost use Rattle.st_blocks.specs.Cells.{types_of};
 ghost use Rattle.st_code.specs.Machine.{act, has_leaves};
 ghost use Rattle.st_code.specs.declared.instr.Instr.{Instr};
-ghost use Rattle.st_layout.specs.Memory.{Content};
 ghost use Rattle.st_chart_runs.specs.Views.{setting_at};
 ghost use Rattle.st_instructions.specs.Moves.{environment_at, moved};
 ghost use Rattle.st_meaning.specs.Statements.{block_done};

@@ -1,7 +1,7 @@
 //! Cells of the stack: the number of a value as a two's complement of 64 bits.
-ghost use Rattle.std.specs.Prelude.{◌≡◌, ◌≤ℤ◌, ◌<ℤ◌, ◌^◌, pos, neg_ℤ, IsTrue};
+ghost use Rattle.std.specs.Prelude.{◌≡◌, ◌≤ℤ◌, ◌<ℤ◌, ◌^◌, pos, neg_ℤ};
 ghost use Rattle.st_code.specs.Code.{cell_of};
-ghost use Rattle.st_code.specs.Machine.{is_cell_of, number_in, value_in};
+ghost use Rattle.st_code.specs.Machine.{number_in, value_in};
 ghost use Rattle.st_values.specs.Values.{IsValue};
 
 use st_values::{Elem, Value, is_value};

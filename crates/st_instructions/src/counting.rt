@@ -1,7 +1,6 @@
 //! The instructions that count steps, and those of FOR.
 ghost use Rattle.std.specs.Prelude.{◌≡◌, ◌∷◌, ◌^◌, ◌+ℤ◌, ◌≤ℤ◌, ◌<ℤ◌, ℕ, ℤ, neg_ℤ, pos, IsTrue, List};
 ghost use Rattle.st_code.specs.declared.instr.Instr.{Instr};
-ghost use Rattle.st_layout.specs.Memory.{Content};
 ghost use Rattle.st_meaning.specs.Statements.{goes_on};
 ghost use Rattle.st_instructions.specs.Ready.{can_begin, can_go_next, can_test, has_three, next_cell, next_of};
 ghost use Rattle.st_instructions.specs.Moves.{Counts, DoesWith, environment_at, moved};

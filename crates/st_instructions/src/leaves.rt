@@ -2,7 +2,6 @@
 ghost use Rattle.std.specs.Prelude.{◌≡◌, ◌<◌, get_or, length, IsTrue, Some};
 ghost use Rattle.st_code.specs.Code.{cell_of};
 ghost use Rattle.st_code.specs.Machine.{has_leaf, is_cell_of, value_in};
-ghost use Rattle.st_layout.specs.Memory.{Content};
 ghost use Rattle.st_meaning.specs.Meaning.{no_value, stored_to};
 
 use crate::cells::{cell, value_in};

@@ -2,7 +2,6 @@
 ghost use Rattle.std.specs.Prelude.{◌≡◌, ◌≤◌, ◌<◌, ◌+◌, length, IsTrue};
 ghost use Rattle.st_code.specs.Machine.{distance_in};
 ghost use Rattle.st_code.specs.declared.instr.Instr.{Instr};
-ghost use Rattle.st_layout.specs.Memory.{Content};
 ghost use Rattle.st_instructions.specs.Ready.{can_put, can_put_at, finds};
 ghost use Rattle.st_instructions.specs.Moves.{DoesWith};
 

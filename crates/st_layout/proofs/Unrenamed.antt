@@ -1,6 +1,6 @@
 -- Without renames an online change gives pairs.
-use Rattle.std.proofs.Common.{◌≡◌, ◌≢◌, ℕ, zero, suc, ◌+◌, ◌<◌, ◌==◌, Bool, true, false, not, ◌&&◌, ◌||◌, List, [], ◌∷◌, ◌++◌, codes, get_or, length, Option, Some, None, refl, ap, sym, ◌∙◌, subst, arith}
-use Rattle.std.specs.List.{AllPairs, list_any, zip}
+use Rattle.std.proofs.Common.{◌≡◌, ℕ, ◌+◌, ◌<◌, Bool, true, false, not, ◌&&◌, List, [], ◌∷◌, ◌++◌, codes, length, Option, Some, None, refl, ap, sym, ◌∙◌, subst, arith}
+use Rattle.std.specs.List.{zip}
 use Rattle.std.specs.Cmp.Lexicographic.{pointwise}
 use Rattle.std.specs.Option.{option_map_or}
 use Rattle.std.specs.Str.{bytes_eq}
@@ -10,7 +10,6 @@ use Rattle.std.proofs.lemmas.List.Elements.{All-from_get_or}
 use Rattle.std.proofs.lemmas.List.Folds.{list_any_none}
 use Rattle.std.proofs.lemmas.Slice.Zip.{get_or-zip, length-zip}
 use Rattle.st_values.specs.Types.{is_same}
-use Rattle.st_values.specs.declared.elem.Elem.TheVariants as elems
 use Rattle.st_tree.specs.declared.leaf.Leaf.{Leaf}
 use Rattle.st_tree.specs.declared.leaf.Role.{Role}
 use Rattle.st_tree.specs.declared.leaf.Role.TheVariants.{Plain, ProcessInput, Hidden, ChartBegun, StepActive, StepPulsed, StepTime}
@@ -22,9 +21,8 @@ use Rattle.st_leaves.specs.Programs.{program_leaves}
 use Rattle.st_leaves.specs.Sound.{IsSound}
 use Rattle.st_layout.specs.Laws.{ChangesWithoutRenamesPair, IsWorded}
 use Rattle.st_layout.specs.Layout.{is_open, leaf_at, no_leaf}
-use Rattle.st_layout.specs.Pairs.{are_alike, are_both, chart_of, is_number, is_pairable, is_same_number, leaves_chart, names_wrongly, number_at, shares_target, some_leaves_chart, target_of, targets_of}
+use Rattle.st_layout.specs.Pairs.{are_alike, are_both, chart_of, is_pairable, is_same_number, leaves_chart, number_at, some_leaves_chart, target_of, targets_of}
 use Rattle.st_layout.specs.Renames.{renamed}
-use Rattle.st_layout.specs.declared.renames.Rename.{Rename}
 use Rattle.st_layout.proofs.PairPaths.{pairs_by_path}
 use Rattle.st_layout.proofs.Paired.{alike_open}
 use Rattle.st_layout.proofs.Pairings.{AreApart, apart_from, target_at}

@@ -1,5 +1,5 @@
 //! The bytes of values, and the values that bytes begin with.
-ghost use Rattle.std.specs.Prelude.{◌≡◌, ◌<◌, ◌≤◌, ◌++◌, ◌^◌, OnErr, OnOk, length, unsigned_abs};
+ghost use Rattle.std.specs.Prelude.{◌≡◌, ◌<◌, ◌≤◌, ◌++◌, ◌^◌, OnOk, length, unsigned_abs};
 ghost use Rattle.std.specs.Int.{cast_unsigned, w64};
 ghost use Rattle.st_layout.specs.Bytes.{read_bytes, value_bytes};
 ghost use Rattle.st_values.specs.Types.{width_of};

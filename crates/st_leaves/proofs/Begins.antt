@@ -27,7 +27,7 @@ use Rattle.st_types.specs.declared.base.Base.TheVariants as bases
 use Rattle.st_types.specs.declared.standard.StandardBlock.{StandardBlock}
 use Rattle.st_leaves.specs.Charts.{is_pulse, stored_by}
 use Rattle.st_leaves.specs.Compositions.{BeginWithValues}
-use Rattle.st_leaves.specs.LeavesIn.{Kept, LeafIn, Use, all_steps_in, begun, block_leaves, block_name, chart_in, first_written, hidden, kept_by, kept_leaf, leaves_in, leaves_of_whole, member_names, members_in, one, pin_leaf, starting, state_in, step_in, stored_in, subscript_lists, truth, used_as, within}
+use Rattle.st_leaves.specs.LeavesIn.{LeafIn, Use, all_steps_in, begun, block_leaves, block_name, chart_in, first_written, hidden, kept_by, kept_leaf, leaves_in, leaves_of_whole, member_names, members_in, one, pin_leaf, starting, state_in, step_in, stored_in, subscript_lists, truth, used_as, within}
 use Rattle.st_leaves.specs.LeavesIn as leaves
 use Rattle.st_leaves.specs.Paths.{Selector, field, index, kept}
 use Rattle.st_leaves.proofs.Wrapped.{wrapped_is_value}

@@ -4,7 +4,7 @@ use Rattle.std.specs.List.{All}
 use Rattle.st_values.specs.Values.{in_range}
 use Rattle.st_values.specs.declared.elem.Elem.TheVariants as elems
 use Rattle.st_tree.specs.declared.tree.declaration.Subrange.{Subrange}
-use Rattle.st_types.specs.Compositions.{Composition, unknown, elementary, array, composed, standard, Members, none, member}
+use Rattle.st_types.specs.Compositions.{Composition, array, composed, Members, none, member}
 use Rattle.st_leaves.specs.Leaves.{number_of}
 
 -- both bounds are values of LINT, and the lower one isn't above the upper one

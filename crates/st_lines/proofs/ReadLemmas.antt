@@ -101,18 +101,6 @@ pub record TextSoFar (renames : List Rename) (source : SourceText) (bytes rest :
   pub asked : asked_from (Some (new_change renames)) (lines_of bytes) ≡ asked_from (Some (change_with renames text)) (lines_of (part ++ rest))
   pub whole : (more : List ℕ) → whole_from (Some (new_change renames)) (whole_lines_of (read ++ more)) ≡ whole_from (Some (change_with renames text)) (whole_lines_of more)
 
-pub no_text : (renames : List Rename) (source : SourceText) (bytes : List ℕ) → Holds source [] [] → TextSoFar renames source bytes bytes
-no_text renames source bytes holds = record {
-  text = [];
-  read = [];
-  part = [];
-  split = refl;
-  no_lf = λ k d within. absurd (omega arith);
-  holds = holds;
-  asked = refl;
-  whole = λ more. refl;
-}
-
 -- another byte of a line
 pub TextSoFar-byte : (renames : List Rename) (old new : SourceText) (byte : ℕ) (x y z : List ℕ) → TextSoFar renames old x y → y ≡ byte ∷ z → byte ≢ 10
     → ((text part : List ℕ) → Holds old text part → Holds new text (part ++ byte ∷ [])) → TextSoFar renames new x z

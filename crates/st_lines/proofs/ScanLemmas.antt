@@ -8,11 +8,6 @@ use Rattle.st_values.specs.Words.{begins_with}
 
 -- ---- where pairs are cut
 
--- a text that begins with `:=`, and one that doesn't
-pub before-begun : (text : List ℕ) → begins_with (codes ":=") text ≡ true → bytes_before text ≡ 0
-before-begun [] is = refl
-before-begun (byte ∷ rest) is = rw is refl
-
 before-cons : (byte : ℕ) (rest : List ℕ) → begins_with (codes ":=") (byte ∷ rest) ≡ false → bytes_before (byte ∷ rest) ≡ 1 + bytes_before rest
 before-cons byte rest is = rw is refl
 

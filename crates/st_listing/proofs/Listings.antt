@@ -1,12 +1,11 @@
 -- Lists of leaves, put together and taken apart.
 use Rattle.std.proofs.Common.{◌≡◌, ℕ, suc, ◌+◌, ◌-◌, ◌&&◌, Bool, true, false, List, [], ◌∷◌, ◌++◌, Option, Some, None, length, take, refl, ap, sym, ◌∙◌, arith, append-nil, append_assoc, length-append, subst}
 use Rattle.std.specs.List.{list_all}
-use Rattle.std.proofs.lemmas.List.{length-map, map-append, take-append-le, take_all}
+use Rattle.std.proofs.lemmas.List.{length-map, take-append-le, take_all}
 use Rattle.std.proofs.lemmas.List.Elements.{All-append, All-cons, All-head, All-nil, All-tail}
 use Rattle.st_values.specs.Words.{AreWordBytes, is_word_byte, raised}
 use Rattle.st_tree.specs.declared.leaf.Leaf.{Leaf}
 use Rattle.st_tree.specs.declared.tree.constant.Constant.{Constant}
-use Rattle.st_tree.specs.declared.tree.declaration.VarKind.{VarKind}
 use Rattle.st_tree.specs.declared.tree.declaration.VarKind.TheVariants as var_kinds
 use Rattle.st_leaves.specs.LeavesIn.{LeafIn, as_input, starting, used_as, within}
 use Rattle.st_leaves.specs.Paths.{HasWord, HasWords, Path, Selector, field, index, kept, path_text, selector_text}
@@ -92,31 +91,13 @@ listed_inputs s ls off =
 
 -- ---- lists of leaves within parts
 
-pub within_append : (selector : Selector) (name : List ℕ) (a b : List LeafIn) → within selector name (a ++ b) ≡ within selector name a ++ within selector name b
-within_append selector name a b = map-append (λ l. record { path = selector ∷ l.path; spine = name ∷ l.spine; initial = l.initial; use' = l.use' }) a b
-
 pub length_within : (selector : Selector) (name : List ℕ) (ls : List LeafIn) → length (within selector name ls) ≡ length ls
 length_within selector name ls = length-map ls (λ l. record { path = selector ∷ l.path; spine = name ∷ l.spine; initial = l.initial; use' = l.use' })
-
-pub starting_append : (first : Option Constant) (a b : List LeafIn) → starting first (a ++ b) ≡ starting first a ++ starting first b
-starting_append None a b = refl
-starting_append (Some c) [] b = refl
-starting_append (Some c) (l ∷ a) b = ap (λ ls. starting (Some c) (l ∷ []) ++ ls) (starting_append (Some c) a b)
-
-pub starting_within : (first : Option Constant) (selector : Selector) (name : List ℕ) (ls : List LeafIn) → starting first (within selector name ls) ≡ within selector name (starting first ls)
-starting_within None selector name ls = refl
-starting_within (Some c) selector name [] = refl
-starting_within (Some c) selector name (l ∷ ls) = ap (λ xs. within selector name (starting (Some c) (l ∷ [])) ++ xs) (starting_within (Some c) selector name ls)
 
 pub length_starting : (first : Option Constant) (ls : List LeafIn) → length (starting first ls) ≡ length ls
 length_starting None ls = refl
 length_starting (Some c) [] = refl
 length_starting (Some c) (l ∷ ls) = ap suc (length_starting (Some c) ls)
-
-pub length_used : (kind : VarKind) (ls : List LeafIn) → length (used_as kind ls) ≡ length ls
-length_used var_kinds.Input [] = refl
-length_used var_kinds.Input (l ∷ ls) = ap suc (length_used var_kinds.Input ls)
-length_used kind ls = refl
 
 -- ---- ways
 

@@ -1,7 +1,7 @@
 -- What stands for declared names, in lists of them.
-use Rattle.std.proofs.Common.{◌≡◌, ℕ, ◌+◌, ◌<◌, ◌≤◌, List, [], ◌∷◌, ◌++◌, length, map, drop, get_or, refl, ap, sym, ◌∙◌, subst, arith}
+use Rattle.std.proofs.Common.{◌≡◌, ℕ, ◌+◌, ◌<◌, List, [], ◌∷◌, ◌++◌, length, map, drop, get_or, refl, ap, sym, ◌∙◌, subst, arith}
 use Rattle.std.specs.List.{All}
-use Rattle.std.proofs.lemmas.List.{drop_all, drop_more, get_or-map, length-map}
+use Rattle.std.proofs.lemmas.List.{drop_more, get_or-map, length-map}
 use Rattle.std.proofs.lemmas.List.Elements.{All-cons, All-get_or, All-nil}
 use Rattle.st_types.specs.Names.{Declared, Named}
 use Rattle.st_scopes.specs.Declarations.{names_at}
@@ -58,12 +58,6 @@ member_at units ms i m within at known = subst (IsMember units) (sym at) (All-ge
 pub drop_one : (ms : List MemberView) (i : ℕ) (m : MemberView) → i < length ms → m ≡ get_or ms i m → declared_of (drop i ms) ≡ m.declared ∷ declared_of (drop (i + 1) ms)
 drop_one ms i m within at = ap declared_of (drop_more ms i m within ∙ ap (λ x. x ∷ drop (i + 1) ms) (sym at))
 
-pub drop_end : (ms : List MemberView) (i : ℕ) → length ms ≤ i → declared_of (drop i ms) ≡ []
-drop_end ms i above = ap declared_of (drop_all i ms above)
-
 pub members_left : (units : List Named) (depth : ℕ) (of : List ℕ) (ms : List MemberView) (i : ℕ) (m : MemberView) → i < length ms → m ≡ get_or ms i m
     → member_leaves units depth of (declared_of (drop i ms)) ≡ member_leaves units depth of (m.declared ∷ []) ++ member_leaves units depth of (declared_of (drop (i + 1) ms))
 members_left units depth of ms i m within at = ap (member_leaves units depth of) (drop_one ms i m within at) ∙ members_more units depth of m.declared (declared_of (drop (i + 1) ms))
-
-pub members_end : (units : List Named) (depth : ℕ) (of : List ℕ) (ms : List MemberView) (i : ℕ) → length ms ≤ i → member_leaves units depth of (declared_of (drop i ms)) ≡ []
-members_end units depth of ms i above = ap (member_leaves units depth of) (drop_end ms i above)

@@ -21,8 +21,8 @@ use Rattle.st_listing.specs.Kinds.{is_input}
 use Rattle.st_listing.specs.Listings.{AreWays, ListingView, as_inputs, inside, listed, outside}
 use Rattle.st_listing.specs.Members.{MemberView, declared_of}
 use Rattle.st_listing.specs.Walks.{ListsTheSame, declared_leaves, variable_leaves}
-use Rattle.st_listing.proofs.Listings.{length_listed, length_used, length_within, listed_inputs, listed_twice, listed_within, ways_append, ways_none, ways_within}
-use Rattle.st_listing.proofs.MemberLists.{drop_end, drop_one}
+use Rattle.st_listing.proofs.Listings.{length_listed, listed_inputs, listed_twice, listed_within, ways_append, ways_none, ways_within}
+use Rattle.st_listing.proofs.MemberLists.{drop_one}
 use Rattle.st_listing.proofs.Walks.{other_variable, variables_more, with_chart}
 
 abbrev pub program : List ℕ
@@ -63,15 +63,6 @@ module _ (units : List Named) (depth : ℕ) (v : Declared) (other : is_constant 
       leaves_it ∙ ap (outside back) marked ∙ ap (λ x. outside x (length s.text)) all ∙ listed_within s (field name) program (used_as v.kind ls)
       ∙ ap (λ n. listed s (within (field n) program (used_as v.kind ls))) named ∙ ap (listed s) (sym (other_variable units depth program v other))
 
-  pub variable_room : (s entered used : ListingView) (name : List ℕ) (b : Bool) → entered ≡ inside s (field name) program → used ≡ as_inputs entered b
-      → length s.leaves + length (variable_leaves units depth program (v ∷ [])) ≤ 65536 → length used.leaves + length (declared_leaves units depth v) ≤ 65536
-  variable_room s entered used name b enters uses room =
-      let ls = declared_leaves units depth v in
-      let count : length (variable_leaves units depth program (v ∷ [])) ≡ length ls =
-      ap length (other_variable units depth program v other) ∙ length_within (field v.name.spelling) program (used_as v.kind ls) ∙ length_used v.kind ls in
-      let same : length used.leaves ≡ length s.leaves = ap (λ (x : ListingView). length x.leaves) uses ∙ ap (λ (x : ListingView). length x.leaves) enters in
-      omega (arith, count, same, room)
-
   pub variable_ways : (name : List ℕ) → name ≡ v.name.spelling → AreWordBytes name → AreWays (declared_leaves units depth v) → AreWays (variable_leaves units depth program (v ∷ []))
   variable_ways name named word ways =
       subst AreWays (sym (other_variable units depth program v other))
@@ -82,12 +73,6 @@ module _ (units : List Named) (depth : ℕ) (v : Declared) (other : is_constant 
 pub variables_left : (units : List Named) (depth : ℕ) (ms : List MemberView) (i : ℕ) (m : MemberView) → i < length ms → m ≡ get_or ms i m
     → variable_leaves units depth program (declared_of (drop i ms)) ≡ variable_leaves units depth program (m.declared ∷ []) ++ variable_leaves units depth program (declared_of (drop (i + 1) ms))
 variables_left units depth ms i m within at = ap (variable_leaves units depth program) (drop_one ms i m within at) ∙ variables_more units depth program m.declared (declared_of (drop (i + 1) ms))
-
-pub variables_end : (units : List Named) (depth : ℕ) (ms : List MemberView) (i : ℕ) → length ms ≤ i → variable_leaves units depth program (declared_of (drop i ms)) ≡ []
-variables_end units depth ms i above = ap (variable_leaves units depth program) (drop_end ms i above)
-
-pub all_ways : (left whole : List LeafIn) → left ≡ [] → (AreWays left → AreWays whole) → AreWays whole
-all_ways left whole none each = each (subst AreWays (sym none) ways_none)
 
 -- ---- the program
 

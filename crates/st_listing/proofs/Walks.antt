@@ -12,7 +12,6 @@ use Rattle.st_tree.specs.declared.tree.constant.Constant.{Constant}
 use Rattle.st_tree.specs.declared.tree.declaration.DeclaredType.TheVariants as declared_types
 use Rattle.st_tree.specs.declared.tree.declaration.Initial.{Initial}
 use Rattle.st_tree.specs.declared.tree.declaration.Initial.TheVariants as initials
-use Rattle.st_tree.specs.declared.tree.declaration.Subrange.{Subrange}
 use Rattle.st_types.specs.Compositions.{Composition, array, member, composition_within, declared_composition, is_constant, members_by, optional_composition, started, subscripted, unknown}
 use Rattle.st_types.specs.Names.{Declared, Declares, Named, chart_in, variables_of}
 use Rattle.st_types.specs.Names as names
@@ -27,13 +26,12 @@ use Rattle.st_tree.specs.declared.tree.declaration.Specification.TheVariants as 
 use Rattle.st_types.specs.declared.base.Base.{Base}
 use Rattle.st_types.proofs.Units.{there}
 use Rattle.st_leaves.specs.Charts.{stored_by, stored_of}
-use Rattle.st_leaves.specs.LeavesIn.{LeafIn, block_leaves, elements_in, first_written, leaves_in, member_names, members_in, plain, starting, subscript_lists, used_as, variables_in, within}
+use Rattle.st_leaves.specs.LeavesIn.{LeafIn, block_leaves, elements_in, first_written, leaves_in, member_names, members_in, plain, starting, used_as, variables_in, within}
 use Rattle.st_leaves.specs.LeavesIn as leaves
 use Rattle.st_leaves.specs.Paths.{field, index, selector_text}
 use Rattle.st_chart_parts.specs.Charts.{ChartView, leaves_of_parts, parts_of}
 use Rattle.st_chart_parts.proofs.UnitCharts.{leaves_are}
 use Rattle.st_chart_parts.proofs.Units.{names_of_unit, unit_item}
-use Rattle.st_initials.specs.Lists.{values_of}
 use Rattle.st_scopes.specs.Declarations.{names_at, names_in}
 use Rattle.st_leaves.proofs.Spellings.{variables_are_members}
 use Rattle.st_listing.specs.Listings.{AreWays, ListingView, behind, inside, leaf_behind, leaves_behind, listed, outside}
@@ -50,13 +48,6 @@ unknown_has_none (Some (initials.Array position items)) = refl
 pub no_depth : (units : List Named) (depth : ℕ) (base : Base) (initial : Option Initial) → depth ≡ 0 → leaves_in (started initial (composition_within units depth base)) ≡ []
 unfolding composition_within
 no_depth units depth base initial is = ap (λ n. leaves_in (started initial (composition_within units n base))) is ∙ unknown_has_none initial
-
--- ---- arrays
-
-pub array_started : (initial : Option Initial) (ranges : List Subrange) (c : Composition) → leaves_in (started initial (array ranges [] c)) ≡ elements_in (subscript_lists ranges) (values_of initial) (leaves_in c)
-array_started None ranges c = refl
-array_started (Some (initials.Constant v)) ranges c = refl
-array_started (Some (initials.Array position items)) ranges c = refl
 
 -- ---- units
 

@@ -4,7 +4,7 @@ ghost use Rattle.std.specs.Prelude.{◌≡◌, ◌+◌, ◌≤◌, [], ◌∷◌
 ghost use Rattle.st_values.specs.Words.{raised};
 ghost use Rattle.st_leaves.specs.LeavesIn.{LeafIn, one, starting};
 ghost use Rattle.st_leaves.specs.Paths.{field, kept};
-ghost use Rattle.st_listing.specs.Listings.{ListingView, as_inputs, behind, inside, leaf_behind, listed, outside};
+ghost use Rattle.st_listing.specs.Listings.{ListingView, as_inputs, behind, inside, listed, outside};
 ghost use Rattle.st_listing.specs.Uses.{meant};
 ghost use Rattle.st_listing.specs.Walks.{begins_with};
 

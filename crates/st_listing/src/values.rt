@@ -1,7 +1,6 @@
 //! Values with which leaves begin.
 ghost use Rattle.std.specs.Prelude.{◌≡◌};
 ghost use Rattle.std.specs.Option.{option_copied};
-ghost use Rattle.st_types.specs.Compositions.{elementary, started};
 ghost use Rattle.st_types.specs.Initials.{zero_of};
 ghost use Rattle.st_listing.specs.Walks.{started_value};
 ghost use Rattle.st_leaves.specs.LeavesIn.{truth};

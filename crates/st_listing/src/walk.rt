@@ -6,7 +6,6 @@
 ghost use Rattle.std.specs.List.{All};
 ghost use Rattle.std.specs.Option.{option_copied};
 ghost use Rattle.std.specs.Prelude.{◌≡◌, ◌+◌, ◌≤◌, ◌<◌, ◌∷◌, [], ℤ, List, Some, OnOk, codes, length, suc};
-ghost use Rattle.st_initials.specs.Lists.{values_of};
 ghost use Rattle.st_leaves.specs.LeavesIn.{elements_in, starting, subscript_lists, within};
 ghost use Rattle.st_leaves.specs.Paths.{index, selector_text};
 ghost use Rattle.st_listing.specs.Listings.{AreWays, listed};

@@ -3,7 +3,6 @@ ghost use Rattle.std.specs.Prelude.{◌≡◌, ◌≤◌, ◌+◌, ◌++◌, dro
 ghost use Rattle.st_chart_runs.specs.Charts.{chart_at};
 ghost use Rattle.st_chart_runs.specs.Views.{room_of};
 ghost use Rattle.st_code.specs.Machine.{act, goes, state, truth_of};
-ghost use Rattle.st_layout.specs.Memory.{Content};
 ghost use Rattle.st_machine.specs.Charts.{ChartWork, is_known, on_among};
 
 use st_chart_runs::{Workspace, invoke_chart, is_asked, set_times};

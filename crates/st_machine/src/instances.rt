@@ -1,6 +1,5 @@
 //! Running the bodies of function blocks on their instances, and the instructions that need the units.
 ghost use Rattle.std.specs.Prelude.{◌≡◌, ◌≤◌, is_some, IfErr, IfOk, IsTrue};
-ghost use Rattle.st_layout.specs.Memory.{Content};
 ghost use Rattle.st_code.specs.Machine.{act};
 ghost use Rattle.st_machine.specs.Blocks.{Entrance, LeavesAs, UnitWork, made_by};
 ghost use Rattle.st_chart_runs.specs.Views.{room_of};

@@ -5,7 +5,7 @@ use Rattle.st_values.specs.declared.value.Value.{Value}
 use Rattle.st_tree.specs.declared.tree.position.Identifier.{Identifier}
 use Rattle.st_tree.specs.declared.tree.unit.Function.{Function}
 use Rattle.st_types.specs.Compositions.{Composition}
-use Rattle.st_types.specs.Names.{Declares, Named, number_of, unit_at}
+use Rattle.st_types.specs.Names.{Declares, Named, unit_at}
 use Rattle.st_types.specs.Names as names
 use Rattle.st_leaves.specs.Places.{count}
 use Rattle.st_operators.specs.Laws.{IsOf}

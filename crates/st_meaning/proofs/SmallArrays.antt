@@ -1,5 +1,5 @@
 -- Where a whole has few leaves, so do the elements of each array in it.
-use Rattle.std.proofs.Common.{◌≡◌, ℕ, zero, suc, ◌+◌, ◌*◌, ◌<◌, ◌≤◌, ◌≤ℤ◌, ℤ, pos, negsuc, ◌-ℤ◌, List, [], ◌∷◌, arith}
+use Rattle.std.proofs.Common.{ℕ, zero, suc, ◌*◌, ◌<◌, ◌≤◌, ◌≤ℤ◌, ℤ, pos, negsuc, ◌-ℤ◌, List, [], ◌∷◌, arith}
 use Rattle.std.specs.List.{All}
 use Rattle.std.proofs.lemmas.Int.{ints}
 use Rattle.std.proofs.lemmas.List.Elements.{All-head, All-tail}
@@ -8,7 +8,7 @@ use Rattle.st_sizes.specs.Subscripts.{values_from}
 use Rattle.st_types.specs.Compositions.{Composition, unknown, elementary, array, composed, standard, Members, none, member}
 use Rattle.st_leaves.specs.Bounds.{HasBounds, HaveBounds, IsBounded}
 use Rattle.st_leaves.specs.Leaves.{number_of}
-use Rattle.st_leaves.specs.Places.{chart_count, count, counts, extent, extent_of}
+use Rattle.st_leaves.specs.Places.{count, counts, extent, extent_of}
 use Rattle.st_meaning.specs.Offsets.{HasSmallArrays, HaveSmallArrays}
 
 some_values : (z : ℤ) → pos 0 ≤ℤ z → 0 < values_from z

@@ -1,6 +1,5 @@
 //! The operators between two operands (IEC 61131-3:2003, 3.3.1, table 55).
 ghost use Rattle.std.specs.Prelude.{◌≡◌, Ok, IfOk};
-ghost use Rattle.std.specs.Ordering.{int_eq};
 ghost use Rattle.st_values.specs.Values.{IsValue};
 ghost use Rattle.st_operators.specs.Operators.{applied, truth, type_given, Takes};
 

@@ -1,5 +1,5 @@
 //! A graph with its references turned round.
-ghost use Rattle.std.specs.Prelude.{◌≡◌, [], length, replicate, All, IfOk, OnOk};
+ghost use Rattle.std.specs.Prelude.{◌≡◌, [], replicate, All, IfOk, OnOk};
 ghost use Rattle.st_order.specs.Graphs.{IsClosed, IsRow};
 ghost use Rattle.st_order.specs.Reversals.{AddsReferences, IsReversal};
 

@@ -147,13 +147,6 @@ module _ (units : List Named) where
     starts = starts ∙ has.starts ∙ sym (known_own (unit_at units number) (names.function f) at);
   }
 
-  pub other_callable : (number : ℕ) (d : Declares) (c : Callable) → declares_at units number ≡ Some d → called_as units number d ≡ None → declared_own units d ≡ [] → c.function ≡ None
-      → c.starts ≡ [] → IsCallable units number c
-  other_callable number d c at no_function no_starts function starts = record {
-    function = function ∙ sym no_function ∙ sym (known_function number (unit_at units number) d at);
-    starts = starts ∙ sym no_starts ∙ sym (known_own (unit_at units number) d at);
-  }
-
   -- ---- the tables of all units
 
   found_function : (number : ℕ) (all : List Callable) (o : Option Callable) → ((i : ℕ) (c : Callable) → slice_get all i ≡ Some c → IsCallable units i c)

@@ -14,7 +14,7 @@ use Rattle.st_tree.specs.declared.tree.position.Identifier.{Identifier}
 use Rattle.st_types.proofs.Cases.{by_test}
 use Rattle.st_types.specs.Compositions.{declared_composition, elementary, is_constant, started}
 use Rattle.st_types.specs.Initials.{initial_of, zero_of}
-use Rattle.st_types.specs.Names.{Declared, Declares, Named, declared_in, members_of, unit_at, units_of, variables_in}
+use Rattle.st_types.specs.Names.{Declared, Declares, Named, members_of, unit_at, units_of, variables_in}
 use Rattle.st_types.specs.Names as names
 use Rattle.st_types.specs.Types.{elem_of, shape_of}
 use Rattle.st_values.specs.Values.{IsValue}

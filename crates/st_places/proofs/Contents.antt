@@ -18,7 +18,7 @@ use Rattle.st_tree.specs.declared.tree.unit.ChartElement.{ChartElement}
 use Rattle.st_types.proofs.Units.{unit_at-past}
 use Rattle.st_types.specs.Compositions.{Composition, unknown, elementary, array, composed, standard, Members as Parts, composition_within, elements_composition, members_by, optional_composition, started, unit_composition}
 use Rattle.st_types.specs.Initials.{first_values, unit_element_initial, zero_of}
-use Rattle.st_types.specs.Names.{Declared, Declares, Named, chart_in, unit_at}
+use Rattle.st_types.specs.Names.{Declares, Named, chart_in, unit_at}
 use Rattle.st_types.specs.Names as names
 use Rattle.st_types.specs.Types.{Elements, declared_elements, elements_in, optional_elements, shape_of, specified_elements, type_at}
 use Rattle.st_types.specs.declared.base.Base.{Base}

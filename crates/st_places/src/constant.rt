@@ -1,5 +1,5 @@
 //! The constants of a unit (2.4.3).
-ghost use Rattle.std.specs.Prelude.{◌≡◌, ◌++◌, ◌∷◌, [], IfOk, List as Items, OnOk, Some};
+ghost use Rattle.std.specs.Prelude.{◌≡◌, ◌++◌, ◌∷◌, [], List as Items, OnOk, Some};
 ghost use Rattle.st_initials.specs.Tables.{AreInitials};
 ghost use Rattle.st_meaning.specs.Wholes.{constant_value};
 ghost use Rattle.st_places.specs.Members.{HasConstants, value_declared};

@@ -1,5 +1,5 @@
 -- The variables of the program of a checked text aren't too large.
-use Rattle.std.proofs.Common.{◌≡◌, ◌≤◌, ℕ, true, List, codes, refl, ap, subst, sym, ◌∙◌, arith}
+use Rattle.std.proofs.Common.{◌≡◌, ℕ, true, List, codes, refl, ap, subst, sym, ◌∙◌, arith}
 use Rattle.st_check.specs.Faults.{is_program}
 use Rattle.st_check.specs.Laws.{CheckedIsSmall}
 use Rattle.st_check.specs.Programs.{IsChecked, ProgramView, main_of, text_of}

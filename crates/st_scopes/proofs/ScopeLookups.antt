@@ -1,5 +1,5 @@
 -- What names stand for in the scope of a unit.
-use Rattle.std.proofs.Common.{◌≡◌, ℕ, zero, suc, ◌<◌, Bool, false, List, [], ◌∷◌, length, get_or, map, Option, Some, None, is_some, refl, sym, ◌∙◌, ap, subst, ◌⊎◌, inl, inr}
+use Rattle.std.proofs.Common.{◌≡◌, ℕ, zero, suc, ◌<◌, Bool, false, List, [], ◌∷◌, length, get_or, map, Option, Some, None, is_some, refl, sym, ◌∙◌, ap, ◌⊎◌, inl, inr}
 use Rattle.std.specs.List.{slice_get}
 use Rattle.std.proofs.lemmas.List.{length-map}
 use Rattle.std.specs.Option.{option_map, option_map_or}
@@ -7,17 +7,15 @@ use Rattle.std.proofs.lemmas.Option.{same_Some, slice_get_read}
 use Rattle.st_names.specs.Tables.{first_of}
 use Rattle.st_tree.specs.declared.tree.position.Identifier.{Identifier}
 use Rattle.st_tree.specs.declared.tree.unit.Action.{Action}
-use Rattle.st_tree.specs.declared.tree.unit.Function.{Function}
 use Rattle.st_tree.specs.declared.tree.unit.Step.{Step}
 use Rattle.st_tree.specs.declared.tree.unit.Unit.{Unit as Section}
 use Rattle.st_types.specs.Inside.{declares_at}
 use Rattle.st_scopes.specs.Lookups.{optional_unit_callee, optional_unit_member, optional_variable}
-use Rattle.st_types.specs.Names.{Declared, Declares, Named, actions_of, declared_named, is_action, is_among, is_step, number_of, steps_of, unit_at, unit_by, units_of, variables_of}
-use Rattle.st_types.specs.Names as names
+use Rattle.st_types.specs.Names.{Declares, Named, actions_of, is_action, is_among, is_step, number_of, steps_of, unit_at, unit_by, units_of}
 use Rattle.st_scopes.specs.Declarations.{names_at, names_in}
 use Rattle.st_scopes.specs.UnitNames.{unit_names}
 use Rattle.st_scopes.specs.declared.names.UnitNames.{UnitNames}
-use Rattle.st_types.specs.Scopes.{callee_named, member_of, optional_callee, optional_member, optional_scope, scope_at, scope_of, global_callee, symbol_callee, symbol_of, variable_named}
+use Rattle.st_types.specs.Scopes.{callee_named, member_of, optional_callee, optional_member, optional_scope, scope_at, scope_of, global_callee, symbol_callee}
 use Rattle.st_types.specs.Standard.{standard_of}
 use Rattle.st_types.specs.Types.{elements_in}
 use Rattle.st_types.specs.declared.base.Base.{Base}
@@ -131,16 +129,6 @@ module _ (units : List Named) where
   pub action-missing : (unit : Option Declares) (name : List ℕ) → option_map (unit_names units) unit ≡ None → false ≡ optional_action unit name
   action-missing None name is = refl
   action-missing (Some unit) name is = cc
-
-  own_name : (f : Function) (name : List ℕ) → is_word f.name.spelling name ≡ false → option_map (symbol_of units (names.function f)) (declared_named (variables_of f.variables) name) ≡ variable_named units (names.function f) name
-  unfolding variable_named
-  own_name f name other = rw other refl
-
-  -- in a function, a name that isn't its own
-  pub variable-other : (unit : Declares) (f : Function) (all : List Declared) (name : List ℕ) → unit ≡ names.function f → all ≡ names_in unit → is_word f.name.spelling name ≡ false → option_map (symbol_of units unit) (declared_named all name) ≡ variable_named units unit name
-  variable-other unit f all name is are other =
-      ap (λ (ds : List Declared). option_map (symbol_of units unit) (declared_named ds name)) are
-      ∙ subst (λ (u : Declares). option_map (symbol_of units u) (declared_named (names_in u) name) ≡ variable_named units u name) (sym is) (own_name f name other)
 
   pub member-numbered : (base : Base) (i : ℕ) (name : List ℕ) → (base ≡ bases.Structure i) ⊎ (base ≡ bases.Block i) → optional_unit_member units (declares_at units i) name ≡ member_of units base name
   unfolding member_of

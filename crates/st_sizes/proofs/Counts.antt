@@ -39,10 +39,6 @@ below_longest : (n : ℕ) (x : LeafSize) (xs : List LeafSize) → longest_path (
 below_longest n x [] = omega arith
 below_longest n x (y ∷ ys) = omega (arith, below_longest n y ys)
 
-pub below_none : (a : Size) (n : ℕ) (xs : List LeafSize) → a.leaves ≡ 0 → IsSize a xs → longest_path (below n xs) ≡ 0
-below_none a n [] none s = refl
-below_none a n (x ∷ xs) none s = absurd (omega (arith, none, s.leaves))
-
 pub below_some : (a : Size) (n : ℕ) (xs : List LeafSize) → 0 < a.leaves → IsSize a xs → longest_path (below n xs) ≡ n + longest_path xs
 below_some a n [] some s = absurd (omega (arith, some, s.leaves))
 below_some a n (x ∷ xs) some s = below_longest n x xs
@@ -82,10 +78,6 @@ copied a c k texts xs l m n t s = record {
   bytes = m ∙ product k.count a.bytes (total_bytes xs) (length texts) t.count s.bytes ∙ ap (λ j. min j 1000000) (mul_comm (total_bytes xs) (length texts) ∙ sym (copies_bytes texts xs));
   longest = n;
 }
-
-pub copied_none : (a : Size) (k : Choices) (texts : List ℕ) (xs : List LeafSize) → k.count ≡ 0 → AreChoices k texts → longest_path (copies texts xs) ≡ 0
-copied_none a k [] xs none t = refl
-copied_none a k (n ∷ ns) xs none t = absurd (omega (arith, none, t.count))
 
 -- below the longest of the parts there are the longest paths
 pub copied_some : (a : Size) (k : Choices) (n : ℕ) (texts : List ℕ) (xs : List LeafSize) → 0 < k.count → AreChoices k texts → IsSize a xs

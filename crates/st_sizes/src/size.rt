@@ -1,5 +1,5 @@
 //! Sizes of lists of leaves.
-ghost use Rattle.std.specs.Prelude.{◌≡◌, ◌*◌, ◌+◌, ◌++◌, ◌∷◌, [], List, max, min, ℕ};
+ghost use Rattle.std.specs.Prelude.{◌≡◌, ◌+◌, ◌++◌, ◌∷◌, [], List, max, min, ℕ};
 ghost use Rattle.st_sizes.specs.Sizes.{AreChoices, IsSize, LeafSize, below, copies, leaf, longest_path, pairs};
 
 /// Each count stops here. It is above the limits of a program.

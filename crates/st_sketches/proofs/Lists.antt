@@ -1,5 +1,5 @@
 -- Lists of a chart's parts, one element more at a time.
-use Rattle.std.proofs.Common.{◌≡◌, ℕ, ◌+◌, ◌<◌, Bool, true, false, cond, nat_lt, not, ◌||◌, Option, Some, None, List, [], ◌∷◌, ◌++◌, length, map, take, get_or, refl, ap, sym, ◌∙◌, arith, append-nil}
+use Rattle.std.proofs.Common.{◌≡◌, ℕ, ◌+◌, ◌<◌, Bool, true, false, cond, nat_lt, not, ◌||◌, Some, None, List, [], ◌∷◌, ◌++◌, length, map, take, get_or, refl, ap, sym, ◌∙◌, arith, append-nil}
 use Rattle.std.specs.List.{All, flat_map, list_any, position, position_or_len}
 use Rattle.std.specs.Option.{is_some}
 use Rattle.std.proofs.lemmas.Bool.Decides.{nat_tests}
@@ -46,11 +46,6 @@ found_below p xs i is = by (nat_lt (position_or_len p xs) (length xs)) refl is
     by : (b : Bool) → nat_lt (position_or_len p xs) (length xs) ≡ b → cond b (Some (position_or_len p xs)) None ≡ Some i → i < length xs
     by true t e = let same : position_or_len p xs ≡ i = cc in grind (arith, nat_tests, t, same)
     by false t e = cc
-
--- where none passes
-no_some : (o : Option ℕ) → is_some o ≡ false → o ≡ None
-no_some None e = refl
-no_some (Some i) e = cc
 
 first_fails : {A : Type 0} (p : A → Bool) (x : A) (xs : List A) → list_any p (x ∷ xs) ≡ false → (p x ≡ false) × (list_any p xs ≡ false)
 first_fails p x xs none = by (p x) none

@@ -1,6 +1,6 @@
 //! Charts as numbers (2.6).
 ghost use Rattle.std.specs.Option.{is_some};
-ghost use Rattle.std.specs.Prelude.{◌≡◌, ◌<◌, ◌≤◌, ◌^◌, [], IfOk, length, map};
+ghost use Rattle.std.specs.Prelude.{◌≡◌, ◌<◌, ◌≤◌, ◌^◌, IfOk, length, map};
 ghost use Rattle.std.specs.List.{All, flat_map};
 ghost use Rattle.st_charts.specs.Passages.{passages_of};
 ghost use Rattle.st_meaning.specs.Sketched.{links_from, passage_in, sketch_of, transitions_in, variable_named};

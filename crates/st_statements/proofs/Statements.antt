@@ -12,7 +12,7 @@ use Rattle.st_parser.specs.Grammar.Levels.{opens, closes}
 use Rattle.st_parser.specs.Grammar.Lists.{IsMany, none, more, IsListed, listed}
 use Rattle.st_parser.specs.Grammar.Tokens.{Tok, kind, next}
 use Rattle.st_parser.specs.Reader.Parsers as parser
-use Rattle.st_parser.specs.Reader.Parsers.{Parser, and_then, many, is_symbol, is_keyword}
+use Rattle.st_parser.specs.Reader.Parsers.{Parser, and_then, is_symbol, is_keyword}
 use Rattle.st_parser.proofs.Exact.{Relation, Exact, Always, Any, Then, seq, IsOne, one, IsPure, done, IsWord, a_word, exact_bind, exact_as, exact_iff, exact_last, exact_under, exact_zero, exact_pure, made, exact_refuse, exact_on, IsFirst, at_first, exact_token, exact_enter, AfterOpening, symbol_is, keyword_is, exact_symbol, exact_keyword, Before, exact_identifier_before, exact_before, Ends, exact_many, exact_listed}
 use Rattle.st_parser.proofs.Levels.{At, past}
 use Rattle.st_expressions.specs.Grammar.{IsConstant, IsBinary, IsVariable, named as is_named, no_part, parts, field, subscripts, IsCall, called, no_arguments, arguments}

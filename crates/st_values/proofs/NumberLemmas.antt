@@ -3,22 +3,15 @@ use Rattle.std.proofs.Common.{◌≡◌, ◌≢◌, ℕ, suc, ◌+◌, ◌*◌, 
 use Rattle.std.proofs.Math.Nat.{mul-le-mul_left}
 use Rattle.std.proofs.Math.Seq.{drop-cons}
 use Rattle.std.specs.Char.{digit_value}
-use Rattle.std.specs.Prelude.{Option, Some, None, option_map, if◌then◌else◌}
+use Rattle.std.specs.Prelude.{Option, Some, None, if◌then◌else◌}
 use Rattle.std.specs.Str.Parse.{digits_value_after}
 use Rattle.st_values.proofs.Cases.{is_below, differs}
-use Rattle.st_values.specs.Numbers.{are_digits, capped, digits_read, too_much, without_underscores}
+use Rattle.st_values.specs.Numbers.{are_digits, capped, too_much, without_underscores}
 
 -- what the rest of a text gives, after the digits of n
 abbrev pub rest_read : ℕ → Bool → ℕ → List ℕ → Option ℕ
 rest_read base after_digit n text =
     if are_digits base after_digit text then Some (capped (digits_value_after base n (without_underscores text))) else None
-
-map_if : (b : Bool) (n : ℕ) → option_map capped (if b then Some n else None) ≡ (if b then Some (capped n) else None)
-map_if true n = refl
-map_if false n = refl
-
-pub rest_read-whole : (base : ℕ) (text : List ℕ) → rest_read base false 0 text ≡ option_map capped (digits_read base text)
-rest_read-whole base text = sym (map_if (are_digits base false text) (digits_value_after base 0 (without_underscores text)))
 
 scaled : (base n d most : ℕ) → 1 ≤ base → min (min n most * base + d) most ≡ min (n * base + d) most
 scaled base n d most low =

@@ -2,12 +2,10 @@
 use Rattle.std.proofs.Common.{◌≡◌, ℕ, zero, suc, ◌+◌, ◌≤◌, ◌^◌, Bool, true, false, List, refl, ap, sym, ◌∙◌, arith, add-one, nat_lt, ℤ, pos, negsuc, ◌⊎◌, ⊎_elim, lit≤, ◌-◌}
 use Rattle.std.proofs.lemmas.Grind.{common_steps}
 use Rattle.std.specs.Prelude.{Option, Some, None, option_map, option_and_then, if◌then◌else◌}
-use Rattle.std.specs.Option.{option_or}
 use Rattle.std.specs.Str.{byte}
-use Rattle.std.specs.Prelude.{codes, slice_index, drop, ◌==◌}
+use Rattle.std.specs.Prelude.{slice_index, drop, ◌==◌}
 use Rattle.st_values.specs.Numbers.{capped, capped_signed, negative, number_read, too_much}
-use Rattle.st_values.specs.Readings.{after_sign, signed_read, truth_read, value_of}
-use Rattle.st_values.specs.Words.{is_word}
+use Rattle.st_values.specs.Readings.{after_sign, signed_read, value_of}
 use Rattle.st_values.specs.Types.{is_signed, limit_of}
 use Rattle.st_values.specs.Values.{in_range}
 use Rattle.st_values.specs.declared.elem.Elem.{Elem}
@@ -25,15 +23,6 @@ map-negative (Some n) = ap Some (capped_signed-negative n)
 pub map-pos : (magnitude : Option ℕ) → option_map capped_signed (option_map pos magnitude) ≡ option_map pos (option_map capped magnitude)
 map-pos None = refl
 map-pos (Some n) = refl
-
-if-or : (p q : Bool) (other : Option ℤ) → option_map capped_signed (option_or (if p then Some (pos 1) else if q then Some (pos 0) else None) other)
-    ≡ option_or (if p then Some (pos 1) else if q then Some (pos 0) else None) (option_map capped_signed other)
-if-or true q other = refl
-if-or false true other = refl
-if-or false false other = refl
-
-pub truth-or : (text : List ℕ) (other : Option ℤ) → option_map capped_signed (option_or (truth_read text) other) ≡ option_or (truth_read text) (option_map capped_signed other)
-truth-or text other = if-or (is_word (codes "TRUE") text) (is_word (codes "FALSE") text) other
 
 pub limit_of-most : (elem : Elem) → limit_of elem ≤ 2 ^ 64
 limit_of-most elems.Bool = omega arith
@@ -58,9 +47,6 @@ limit_of-signed elems.Dint h = omega arith
 limit_of-signed elems.Lint h = omega arith
 limit_of-signed elems.Time h = omega arith
 limit_of-signed _ h = cc
-
-below-capped : (n most : ℕ) → most ≤ too_much → nat_lt (capped n) most ≡ nat_lt n most
-below-capped n most h = grind (arith, common_steps)
 
 -- a number that counts as itself, or one out of each range that counts as one out of each range
 counts : (n : ℕ) → (capped n ≡ n) ⊎ ((capped n ≡ too_much) × (too_much ≤ n))

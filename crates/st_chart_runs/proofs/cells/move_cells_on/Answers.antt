@@ -1,8 +1,7 @@
-use Rattle.std.proofs.Common.{◌≡◌, ◌∙◌, ap, arith, length, rules, w64, sym}
+use Rattle.std.proofs.Common.{◌≡◌, ◌∙◌, ap, arith, length, rules, w64}
 use Rattle.std.proofs.lemmas.Int.{to_z-of_z}
-use Rattle.std.proofs.lemmas.List.{length-map}
 use Rattle.st_charts.specs.Outcomes.{IsOutcome, Outcome, invoked}
-use Rattle.st_charts.specs.Passages.{passage_of, passages_of}
+use Rattle.st_charts.specs.Passages.{passages_of}
 use Rattle.st_charts.proofs.OutcomeLaws.{invocations_have_one_outcome}
 use Rattle.st_chart_runs.proofs.StateCells.{many_cells, moved_are, names_are}
 use Rattle.st_chart_runs.proofs.cells.move_cells_on.Goals as goal

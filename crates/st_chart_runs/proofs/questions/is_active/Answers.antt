@@ -1,4 +1,4 @@
-use Rattle.std.proofs.Common.{◌≡◌, ◌+◌, ◌<◌, ◌≤◌, ◌^◌, ◌∙◌, ap, arith, length, not, pos, sym}
+use Rattle.std.proofs.Common.{◌+◌, ◌∙◌, ap, arith, not, pos}
 use Rattle.std.specs.Ordering.{int_eq}
 use Rattle.st_values.specs.declared.value.Value.{Value}
 use Rattle.st_blocks.specs.Cells.{flag_at}

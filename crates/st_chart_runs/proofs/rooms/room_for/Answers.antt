@@ -1,4 +1,4 @@
-use Rattle.std.proofs.Common.{◌≡◌, ◌∙◌, ap, arith, length, subst, take}
+use Rattle.std.proofs.Common.{arith, subst}
 use Rattle.std.proofs.lemmas.List.{take_all}
 use Rattle.st_chart_runs.specs.Charts.{ChartsFit}
 use Rattle.st_chart_runs.proofs.RoomCells.{IsWider, more_fit}

@@ -1,4 +1,4 @@
-use Rattle.std.proofs.Common.{◌≡◌, ◌≤◌, ◌∙◌, ap, arith, length, rules, w64}
+use Rattle.std.proofs.Common.{◌≤◌, ◌∙◌, ap, arith, length, rules, w64}
 use Rattle.std.proofs.lemmas.Int.{to_z-of_z}
 use Rattle.st_chart_runs.specs.Views.{WorkspaceView}
 use Rattle.st_chart_runs.proofs.Fronts.{front_within}

@@ -1,4 +1,4 @@
-use Rattle.std.proofs.Common.{◌≡◌, ◌∙◌, ◌+◌, ◌≤◌, ap, arith, drop, length, subst, sym}
+use Rattle.std.proofs.Common.{◌∙◌, ap, arith, drop, length, subst, sym}
 use Rattle.st_meaning.specs.Charts.{cells_in}
 use Rattle.st_meaning.specs.Meaning.{Values}
 use Rattle.st_meaning.specs.Sketches.{steps_types}

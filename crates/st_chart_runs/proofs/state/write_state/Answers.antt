@@ -1,4 +1,4 @@
-use Rattle.std.proofs.Common.{◌≡◌, ◌∙◌, ap}
+use Rattle.std.proofs.Common.{◌∙◌, ap}
 use Rattle.st_leaves.specs.LeavesIn.{truth}
 use Rattle.st_meaning.specs.Charts.{flags_values, steps_values}
 use Rattle.st_chart_runs.proofs.StateCells.{written}

@@ -1,6 +1,5 @@
-use Rattle.std.proofs.Common.{◌≡◌, ◌<◌, ◌≤◌, ◌+◌, ◌++◌, arith, drop, get_or, length, subst, sym, take}
+use Rattle.std.proofs.Common.{◌≡◌, ◌<◌, ◌+◌, ◌++◌, arith, drop, length, subst, sym, take}
 use Rattle.st_meaning.specs.Charts.{steps_values}
-use Rattle.st_meaning.specs.Sketches.{step_types}
 use Rattle.st_chart_runs.proofs.StepCells.{leaves_left, step_written}
 use Rattle.st_chart_runs.proofs.steps.write_steps.Goals as goal
 

@@ -1,5 +1,5 @@
 use Rattle.std.specs.Option.{is_some}
-use Rattle.std.proofs.Common.{[], ◌≡◌, ◌∷◌, ◌++◌, ◌∙◌, List, ap, map, sym, take, ℕ}
+use Rattle.std.proofs.Common.{[], ◌∷◌, ◌++◌, ◌∙◌, List, ap, map, sym, take, ℕ}
 use Rattle.st_meaning.specs.Sketched.{variable_named}
 use Rattle.st_places.specs.Parts.{whole_in}
 use Rattle.st_compile.proofs.Listed.{map_more}

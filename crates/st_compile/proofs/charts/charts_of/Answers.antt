@@ -1,4 +1,4 @@
-use Rattle.std.proofs.Common.{◌≡◌, ◌<◌, ◌∙◌, arith, length}
+use Rattle.std.proofs.Common.{◌<◌, ◌∙◌, arith, length}
 use Rattle.st_check.specs.Programs.{main_of, text_of}
 use Rattle.st_types.specs.Names.{units_of}
 use Rattle.st_compile.specs.Programs.{program_charts, unit_chart}

@@ -1,6 +1,5 @@
-use Rattle.std.proofs.Common.{◌≡◌, ◌∙◌, None, Some, ap, sym}
+use Rattle.std.proofs.Common.{◌∙◌, ap, sym}
 use Rattle.std.specs.Option.{option_copied}
-use Rattle.st_types.specs.Names.{units_of}
 use Rattle.st_compile.specs.Programs.{types_taken}
 use Rattle.st_compile.proofs.Taken.{types_some}
 use Rattle.st_compile.proofs.functions.types_taken.Goals as goal

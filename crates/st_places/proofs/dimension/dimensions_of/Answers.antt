@@ -1,4 +1,4 @@
-use Rattle.std.proofs.Common.{◌-◌, ◌≤◌, arith, false, subst, sym}
+use Rattle.std.proofs.Common.{◌-◌, ◌≤◌, arith, subst, sym}
 use Rattle.st_leaves.specs.Places.{extent_of}
 use Rattle.st_places.proofs.Dimensions.{AreBehind, behind_more}
 use Rattle.st_places.proofs.dimension.dimensions_of.Goals as goal
