@@ -36,7 +36,8 @@ impl Stack {
     /// The stack, in whose place one without room stays.
     #[inline(always)]
     pub fn take(&mut self) -> Stack
-        ensures { result ≡ self.old }
+        ensures taken { result ≡ self.old }
+        ensures left { self.new ≡ ([], 0) }
     {
         let alloc = *self.cells.allocator();
         mem::replace(
