@@ -1,8 +1,7 @@
 -- In a text without faults what the name of a type stands for is known, and no function block, where no function block may stand.
-use Rattle.std.proofs.Common.{◌≡◌, ℕ, zero, suc, ◌<◌, ◌≤◌, Bool, true, false, not, if◌then◌else◌, List, [], ◌∷◌, ◌++◌, length, get_or, take, Option, Some, None, is_some, ◌&&◌, refl, ap, sym, ◌∙◌, subst, arith}
-use Rattle.std.specs.List.{All, Contains, flat_map}
-use Rattle.std.proofs.Math.Seq.{take-suc}
-use Rattle.std.proofs.lemmas.List.Elements.{All-contains, All-head, All-nil, All-push, All-weaker}
+use Rattle.std.proofs.Common.{◌≡◌, ℕ, ◌<◌, ◌≤◌, Bool, true, false, not, if◌then◌else◌, List, [], ◌∷◌, ◌++◌, length, get_or, take, Option, Some, None, is_some, ◌&&◌, refl, ap, sym, ◌∙◌, subst, arith}
+use Rattle.std.specs.List.{All, flat_map}
+use Rattle.std.proofs.lemmas.List.Elements.{All-head}
 use Rattle.st_faults.specs.Faults.{fault, when}
 use Rattle.st_faults.specs.declared.fault.Rule.TheVariants as rules
 use Rattle.st_tree.specs.declared.tree.declaration.DeclaredType.TheVariants as declared_types
@@ -15,7 +14,8 @@ use Rattle.st_tree.specs.declared.tree.declaration.TypeName.TheVariants as type_
 use Rattle.st_tree.specs.declared.tree.position.Identifier.{Identifier}
 use Rattle.st_order.specs.Graphs.{IsOrder}
 use Rattle.st_references.specs.References.{contained, graph_of, is_type, listed, names_type, type_names_in, unit_types}
-use Rattle.st_references.proofs.Contents.{before_place, contents}
+use Rattle.st_references.proofs.Contents.{contents}
+use Rattle.st_references.proofs.InOrder.{all_in_order, of_before}
 use Rattle.st_references.proofs.Lists.{all_left}
 use Rattle.st_types.specs.Names.{Declares, Named, number_of, unit_at, unit_by}
 use Rattle.st_types.specs.Names as names
@@ -154,23 +154,19 @@ module _ (units : List Named) where
 -- ---- in an order
 
 module _ (units : List Named) (order : List ℕ) (ordered : IsOrder (graph_of units) order) (faultless : node_faults units ≡ []) where
-  next_data : (place : ℕ) → place < length order → All (IsDataAt units) (take place order) → IsDataAt units (get_or order place 0)
-  next_data place below all u at type =
+  next_data : (place : ℕ) → place < length order → ((u : Named) → unit_at units (get_or order place 0) ≡ Some u → All (IsDataAt units) (contents units u))
+      → IsDataAt units (get_or order place 0)
+  next_data place below before u at type =
       let i = get_or order place 0 in
-      let before = All-weaker (Contains (take place order)) (IsDataAt units) (λ j has. All-contains (IsDataAt units) (take place order) j all has) (contents units u) (before_place units order ordered place u below at) in
-      let own : IsData (unit_stands_for (type_named units) i u.declares) = declared_data units (scope_of units u.declares) u.name i u.declares type (unit_faultless units i u faultless at) before in
+      let own : IsData (unit_stands_for (type_named units) i u.declares) =
+      declared_data units (scope_of units u.declares) u.name i u.declares type (unit_faultless units i u faultless at) (before u at) in
       subst IsData (sym (unfolded units order ordered place below ∙ ap (optional_stands_for (type_named units) i) at)) own
 
   -- what stands before a place in the order
-  pub data_before : (place : ℕ) → place ≤ length order → All (IsDataAt units) (take place order)
-  data_before zero le = All-nil (IsDataAt units)
-  data_before (suc place) le =
-      let below : place < length order = omega (arith, le) in
-      let before = data_before place (omega (arith, le)) in
-      subst (All (IsDataAt units)) (sym (take-suc order place 0 below)) (All-push (IsDataAt units) (take place order) (get_or order place 0) before (next_data place below before))
+  data_before : (place : ℕ) → place ≤ length order → All (IsDataAt units) (take place order)
+  data_before place le = all_in_order units order ordered (λ placed i. IsDataAt units i) (λ placed next i is. is) next_data place le
 
   -- what a unit contains
   pub data_in : (i : ℕ) (u : Named) → unit_at units i ≡ Some u → (place : ℕ) → place < length order → get_or order place 0 ≡ i → All (IsDataAt units) (contents units u)
   data_in i u at place below is =
-      All-weaker (Contains (take place order)) (IsDataAt units) (λ j has. All-contains (IsDataAt units) (take place order) j (data_before place (omega (arith, below))) has) (contents units u)
-      (before_place units order ordered place u below (ap (unit_at units) is ∙ at))
+      of_before units order ordered (IsDataAt units) place below (data_before place (omega (arith, below))) u (ap (unit_at units) is ∙ at)

@@ -1,9 +1,8 @@
 -- In an order of the units the leaves of each type are found before the fuel ends.
 use Rattle.std.proofs.Common.{◌≡◌, ℕ, zero, suc, ◌<◌, ◌≤◌, Bool, true, false, List, [], ◌∷◌, ◌++◌, length, get_or, take, Option, Some, None, refl, sym, ◌∙◌, ap, subst, arith, length-append, if◌then◌else◌}
 use Rattle.std.specs.List.{All, Contains, flat_map}
-use Rattle.std.proofs.Math.Seq.{take-suc}
 use Rattle.std.proofs.lemmas.List.{length-take-le}
-use Rattle.std.proofs.lemmas.List.Elements.{All-contains, All-nil, All-push, All-weaker, Contains-append_left, Contains-push}
+use Rattle.std.proofs.lemmas.List.Elements.{All-weaker, Contains-append_left, Contains-push}
 use Rattle.st_values.specs.declared.elem.Elem.{Elem}
 use Rattle.st_tree.specs.declared.tree.declaration.DeclaredType.TheVariants as declared_types
 use Rattle.st_tree.specs.declared.tree.declaration.Specification.TheVariants as specifications
@@ -22,7 +21,8 @@ use Rattle.st_types.specs.declared.standard.StandardBlock.{StandardBlock}
 use Rattle.st_program_sizes.specs.Sized.{made_leaves, own_leaves, type_leaves, unit_of}
 use Rattle.st_program_sizes.proofs.Insides.{unit_same}
 use Rattle.st_program_sizes.proofs.Names.{of_name}
-use Rattle.st_references.proofs.Contents.{before_place, contents, order_len}
+use Rattle.st_references.proofs.Contents.{contents, order_len}
+use Rattle.st_references.proofs.InOrder.{all_in_order}
 use Rattle.st_program_sizes.proofs.Unfolding.{unfolded}
 
 -- The leaves of the type are found within one unit more than these, one of which declares it, where a unit does.
@@ -157,25 +157,14 @@ module _ (units : List Named) (placed : List ℕ) where
 -- ---- in an order
 
 module _ (units : List Named) (order : List ℕ) (ordered : IsOrder (graph_of units) order) where
-  abbrev pub AreSettled : ℕ → Type 0
-  AreSettled place = All (λ i. IsSettled units (take place order) (type_at units i)) (take place order)
-
-  settled_next : (place : ℕ) → place < length order → AreSettled place → IsSettled units (take place order ++ get_or order place 0 ∷ []) (type_at units (get_or order place 0))
-  settled_next place below all =
+  next_settled : (place : ℕ) → place < length order
+      → ((u : Named) → unit_at units (get_or order place 0) ≡ Some u → All (λ i. IsSettled units (take place order) (type_at units i)) (contents units u))
+      → IsSettled units (take place order ++ get_or order place 0 ∷ []) (type_at units (get_or order place 0))
+  next_settled place below all =
       let len : length (take place order) ≡ place = length-take-le place order (omega (arith, below)) in
       subst (IsSettled units (take place order ++ get_or order place 0 ∷ [])) (sym (unfolded units order ordered place below))
-      (optional_settled units (take place order) (get_or order place 0) (omega (arith, len, below, order_len units order ordered)) (unit_at units (get_or order place 0)) refl (λ u is.
-      All-weaker (Contains (take place order)) (λ i. IsSettled units (take place order) (type_at units i))
-      (λ i has. All-contains (λ k. IsSettled units (take place order) (type_at units k)) (take place order) i all has) (contents units u) (before_place units order ordered place u below is)))
+      (optional_settled units (take place order) (get_or order place 0) (omega (arith, len, below, order_len units order ordered)) (unit_at units (get_or order place 0)) refl all)
 
-  pub settled : (place : ℕ) → place ≤ length order → AreSettled place
-  settled zero le = All-nil (λ i. IsSettled units [] (type_at units i))
-  settled (suc place) le =
-      let below : place < length order = omega (arith, le) in
-      let before : AreSettled place = settled place (omega (arith, le)) in
-      let next : ℕ = get_or order place 0 in
-      subst (λ placed. All (λ i. IsSettled units placed (type_at units i)) placed) (sym (take-suc order place 0 below))
-      (All-push (λ i. IsSettled units (take place order ++ next ∷ []) (type_at units i)) (take place order) next
-      (All-weaker (λ i. IsSettled units (take place order) (type_at units i)) (λ i. IsSettled units (take place order ++ next ∷ []) (type_at units i))
-      (λ i is. grown units (take place order) next (type_at units i) is) (take place order) before)
-      (settled_next place below before))
+  pub settled : (place : ℕ) → place ≤ length order → All (λ i. IsSettled units (take place order) (type_at units i)) (take place order)
+  settled place le =
+      all_in_order units order ordered (λ placed i. IsSettled units placed (type_at units i)) (λ placed next i is. grown units placed next (type_at units i) is) next_settled place le

@@ -1,8 +1,8 @@
 -- In an order of the units each type is found before the fuel ends.
-use Rattle.std.proofs.Common.{◌≡◌, ℕ, zero, suc, ◌<◌, ◌≤◌, List, length, get_or, take, Option, Some, None, refl, sym, ◌∙◌, ap, subst, arith}
-use Rattle.std.specs.List.{All, Contains, flat_map}
-use Rattle.std.proofs.Math.Seq.{take-suc}
-use Rattle.std.proofs.lemmas.List.Elements.{All-contains, All-nil, All-push, All-weaker}
+use Rattle.std.proofs.Common.{◌≡◌, ℕ, zero, suc, ◌<◌, ◌≤◌, List, [], ◌∷◌, ◌++◌, length, get_or, take, Option, Some, None, refl, sym, ◌∙◌, ap, arith, length-append}
+use Rattle.std.specs.List.{All, flat_map}
+use Rattle.std.proofs.lemmas.List.{length-take-le}
+use Rattle.std.proofs.lemmas.List.Elements.{All-weaker}
 use Rattle.st_tree.specs.declared.tree.declaration.DeclaredType.TheVariants as declared_types
 use Rattle.st_tree.specs.declared.tree.declaration.Specification.TheVariants as specifications
 use Rattle.st_tree.specs.declared.tree.declaration.TypeName.{TypeName}
@@ -13,7 +13,8 @@ use Rattle.st_types.specs.Names as names
 use Rattle.st_types.specs.Types.{array_of, name_stands_for, optional_stands_for, type_at, type_named, type_within, unit_stands_for, without_instance}
 use Rattle.st_types.specs.declared.base.Base.{Base}
 use Rattle.st_program_sizes.proofs.Names.{by_name, named_by, others_unknown}
-use Rattle.st_references.proofs.Contents.{before_place, contents, order_len}
+use Rattle.st_references.proofs.Contents.{contents, order_len}
+use Rattle.st_references.proofs.InOrder.{all_in_order, of_before}
 
 -- ---- types that are looked up in two ways
 
@@ -56,32 +57,31 @@ abbrev pub IsFound : List Named → ℕ → ℕ → Type 0
 IsFound units n i = (m : ℕ) → n ≤ m → type_within units m i ≡ type_at units i
 
 module _ (units : List Named) (order : List ℕ) (ordered : IsOrder (graph_of units) order) where
-  found_next : (place : ℕ) → place < length order → All (IsFound units place) (take place order) → IsFound units (suc place) (get_or order place 0)
+  next_found : (place : ℕ) → place < length order
+      → ((u : Named) → unit_at units (get_or order place 0) ≡ Some u → All (IsFound units (length (take place order))) (contents units u))
+      → IsFound units (length (take place order ++ get_or order place 0 ∷ [])) (get_or order place 0)
   unfolding type_at
-  found_next place below all zero le = absurd (omega (arith, le))
-  found_next place below all (suc m) le =
+  next_found place below all zero le = absurd (omega (arith, le, length-append (take place order) (get_or order place 0 ∷ [])))
+  next_found place below all (suc m) le =
+      let len : length (take place order) ≡ place = length-take-le place order (omega (arith, below)) in
+      let longer = length-append (take place order) (get_or order place 0 ∷ []) in
       within_same units m (length units) (get_or order place 0) (λ u is.
-      All-weaker (Contains (take place order)) (AreSame units m (length units)) (λ i has.
-      let known : IsFound units place i = All-contains (IsFound units place) (take place order) i all has in
-      known m (omega (arith, le)) ∙ sym (known (length units) (omega (arith, below, order_len units order ordered)))) (contents units u) (before_place units order ordered place u below is))
+      All-weaker (IsFound units (length (take place order))) (AreSame units m (length units)) (λ i known.
+      known m (omega (arith, le, longer)) ∙ sym (known (length units) (omega (arith, len, below, order_len units order ordered)))) (contents units u) (all u is))
 
-  pub found : (place : ℕ) → place ≤ length order → All (IsFound units place) (take place order)
-  found zero le = All-nil (IsFound units zero)
-  found (suc place) le =
-      let below : place < length order = omega (arith, le) in
-      let before : All (IsFound units place) (take place order) = found place (omega (arith, le)) in
-      subst (All (IsFound units (suc place))) (sym (take-suc order place 0 below))
-      (All-push (IsFound units (suc place)) (take place order) (get_or order place 0)
-      (All-weaker (IsFound units place) (IsFound units (suc place)) (λ i known m more. known m (omega (arith, more))) (take place order) before)
-      (found_next place below before))
+  found : (place : ℕ) → place ≤ length order → All (IsFound units (length (take place order))) (take place order)
+  found place le =
+      all_in_order units order ordered (λ placed i. IsFound units (length placed) i)
+      (λ placed next i known m more. known m (omega (arith, more, length-append placed (next ∷ [])))) next_found place le
 
   -- the type of a unit at a place, by the types of those that it names
   pub unfolded : (place : ℕ) → place < length order
       → type_at units (get_or order place 0) ≡ optional_stands_for (type_named units) (get_or order place 0) (unit_at units (get_or order place 0))
   unfolding type_at type_named
   unfolded place below =
+      let len : length (take place order) ≡ place = length-take-le place order (omega (arith, below)) in
       within_same units (length units) (suc (length units)) (get_or order place 0) (λ u is.
-      All-weaker (Contains (take place order)) (AreSame units (length units) (suc (length units))) (λ i has.
-      All-contains (IsFound units place) (take place order) i (found place (omega (arith, below))) has (length units) (omega (arith, below, order_len units order ordered)))
-      (contents units u) (before_place units order ordered place u below is))
+      All-weaker (IsFound units (length (take place order))) (AreSame units (length units) (suc (length units))) (λ i known.
+      known (length units) (omega (arith, len, below, order_len units order ordered))) (contents units u)
+      (of_before units order ordered (IsFound units (length (take place order))) place below (found place (omega (arith, below))) u is))
       ∙ unfolds_once units (suc (length units)) (get_or order place 0)

@@ -2,6 +2,7 @@ pub mod Callers
 pub mod Closed
 pub mod Contents
 pub mod Folds
+pub mod InOrder
 pub mod Lists
 pub mod Names
 pub mod Rows
