@@ -1,5 +1,5 @@
 //! The room that charts need.
-ghost use Rattle.st_chart_runs.specs.Charts.{ChartsFit};
+ghost use Rattle.st_chart_runs.specs.Charts.{IsRoomFor, IsWithin};
 ghost use Rattle.st_chart_runs.specs.Views.{HasRoom, types_of};
 ghost use Rattle.std.specs.Prelude.{◌≡◌, ◌≤◌, ◌-◌, ◌^◌, length, min, IfSome};
 
@@ -20,6 +20,7 @@ fn with_chart(room: ChartRoom, chart: &Option<Sketch>) -> ChartRoom
     ensures names { room.names ≤ result.names }
     ensures transitions { room.transitions ≤ result.transitions }
     ensures leaves { room.leaves ≤ result.leaves }
+    ensures least { (other : ChartRoom) → IsWithin room other → IfSome chart.now (λ view. HasRoom other view) → IsWithin result other }
 {
     match chart {
         Some(sketch) => ChartRoom {
@@ -32,9 +33,9 @@ fn with_chart(room: ChartRoom, chart: &Option<Sketch>) -> ChartRoom
     }
 }
 
-/// Room for each of these charts.
+/// Room for each of these charts, and no more.
 pub fn room_for(charts: &[Option<Sketch>]) -> ChartRoom
-    ensures { ChartsFit charts.now result }
+    ensures { IsRoomFor charts.now result }
 {
     let mut room = ChartRoom {
         steps: 0,

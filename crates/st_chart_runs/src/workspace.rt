@@ -1,5 +1,5 @@
 //! What an invocation of a chart is worked out on.
-ghost use Rattle.std.specs.Prelude.{◌≡◌, IfOk};
+ghost use Rattle.std.specs.Prelude.{◌≡◌, All, IfOk, false};
 ghost use Rattle.st_chart_runs.specs.Views.{room_of};
 
 use st_charts::StepCell;
@@ -60,9 +60,10 @@ impl Model for Workspace {
 }
 
 impl Workspace {
-    /// One with this room.
+    /// One with this room, in which no name is on.
     pub fn with_room(alloc: Global, room: ChartRoom) -> Result<Workspace, AllocError>
-        ensures { IfOk result (λ workspace. room_of workspace ≡ room) }
+        ensures room { IfOk result (λ workspace. room_of workspace ≡ room) }
+        ensures off { IfOk result (λ workspace. All (λ is_on. is_on ≡ false) workspace.on) }
     {
         let mut steps = Vec::new(alloc);
         steps.resize(room.steps, NO_STEP)?;

@@ -8,7 +8,7 @@ use Rattle.st_check.specs.Faults.{is_program}
 use Rattle.st_check.specs.Laws.{CheckedIsSmall}
 use Rattle.st_check.specs.Programs.{IsChecked, ProgramView, main_of, text_of}
 use Rattle.st_code.specs.Code.{code_of}
-use Rattle.st_chart_runs.specs.Charts.{ChartsFit}
+use Rattle.st_chart_runs.specs.Charts.{IsRoomFor}
 use Rattle.st_chart_runs.specs.declared.workspace.ChartRoom.{ChartRoom}
 use Rattle.st_leaves.specs.Bounds.{HasBounds}
 use Rattle.st_leaves.specs.Places.{count}
@@ -168,12 +168,12 @@ main_below program read same checked main is =
 -- ---- an image's stacks, and its names
 
 pub has_room : (program : ProgramView) (rooms : Rooms) (n : ℕ) (rs : List Room) (room : ChartRoom) → rooms ≡ record { own = n; levels = rs; charts = room } → n ≡ program_depth program
-    → rs ≡ program_rooms program → ChartsFit (program_charts program) room → HasRoom program rooms
+    → rs ≡ program_rooms program → IsRoomFor (program_charts program) room → HasRoom program rooms
 has_room program rooms n rs room is own levels fit =
     record {
       own = ap (λ (r : Rooms). r.own) is ∙ own;
       levels = ap (λ (r : Rooms). r.levels) is ∙ levels;
-      charts = subst (ChartsFit (program_charts program)) (sym (ap (λ (r : Rooms). r.charts) is)) fit;
+      charts = subst (IsRoomFor (program_charts program)) (sym (ap (λ (r : Rooms). r.charts) is)) fit;
     }
 
 names_get : (us : List Named) (n : ℕ) (name : List ℕ) → n < length (map (λ (u : Named). u.name.spelling) us) → name ≡ get_or (map (λ (u : Named). u.name.spelling) us) n name → name ≡ name_in (unit_at us n)

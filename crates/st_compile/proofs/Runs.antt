@@ -132,7 +132,7 @@ module _ (known : Known) (program : ProgramView) (checked : IsChecked program) (
       enters = enters;
       calls = calls;
       charts = charts;
-      fit = room.charts;
+      fit = room.charts.fit;
       outcome = meant;
       comes = reaches (setting_at now content.forced) content.values limit time fits.types;
     }

@@ -17,7 +17,7 @@ use Rattle.st_meaning.specs.Wholes.{Called}
 use Rattle.st_meaning.specs.declared.fault.RunFault.{RunFault}
 use Rattle.st_code.specs.Code.{Line, code_of}
 use Rattle.st_sketches.specs.Views.{SketchView}
-use Rattle.st_chart_runs.specs.Charts.{ChartsFit}
+use Rattle.st_chart_runs.specs.Charts.{IsRoomFor}
 use Rattle.st_machine.specs.Blocks.{BlockView, UnitsView}
 use Rattle.st_machine.specs.Functions.{FunctionView}
 use Rattle.st_machine.specs.Levels.{Rooms, no_room}
@@ -210,11 +210,11 @@ stacks_in rooms = map (λ (r : Room). r.stack) rooms
 unfoldable pub greatest_depth : ProgramView → ℕ
 greatest_depth program = max (program_depth program) (most (stacks_in (program_rooms program)))
 
--- there is so much room, and enough for each chart
+-- there is so much room, and for charts what each of them needs
 pub record HasRoom (program : ProgramView) (rooms : Rooms) : Type 0 where
   pub own : rooms.own ≡ program_depth program
   pub levels : rooms.levels ≡ program_rooms program
-  pub charts : ChartsFit (program_charts program) rooms.charts
+  pub charts : IsRoomFor (program_charts program) rooms.charts
 
 -- ---- what follows
 

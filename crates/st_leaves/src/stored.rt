@@ -1,5 +1,5 @@
 //! The names that a chart stores (2.6.4.4).
-ghost use Rattle.std.specs.Prelude.{◌≡◌, ◌++◌, ◌∷◌, [], IfOk, OnOk, if◌then◌else◌};
+ghost use Rattle.std.specs.Prelude.{◌≡◌, ◌++◌, ◌∷◌, [], IfOk, OnErr, OnOk, if◌then◌else◌};
 ghost use Rattle.st_sizes.specs.Sizes.{IsSize};
 ghost use Rattle.st_leaves.specs.Charts.{has_qualifier, stored_leaves, stored_names};
 ghost use Rattle.st_leaves.specs.Limits.{sizes_of};
@@ -62,6 +62,7 @@ impl<'a> StoredNames<'a> {
     pub fn add(&mut self, association: &'a Association) -> Result<bool, AllocError>
         ensures names { OnOk result (self.new ≡ self.old ++ stored_names self.old (association.now ∷ [])) }
         ensures added { IfOk result (λ is_added. stored_names self.old (association.now ∷ []) ≡ if is_added then association.now.name.spelling ∷ [] else []) }
+        ensures err { OnErr result (self.new ≡ self.old) }
     {
         let name = association.name.spelling.as_slice();
         if has_qualifier(association, b"S") && self.names.find(name).is_none() {

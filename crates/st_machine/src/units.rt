@@ -1,6 +1,6 @@
 //! The units of a text whose code a program runs beside its own.
 ghost use Rattle.std.specs.Prelude.{◌≡◌};
-ghost use Rattle.st_chart_runs.specs.Charts.{ChartsFit};
+ghost use Rattle.st_chart_runs.specs.Charts.{IsRoomFor};
 
 use crate::block::Block;
 use crate::function::Function;
@@ -50,9 +50,9 @@ impl Units {
         &self.functions
     }
 
-    /// The room that the charts need.
+    /// The room that the charts need, and no more.
     pub fn chart_room(&self) -> ChartRoom
-        ensures { ChartsFit self.now.charts result }
+        ensures { IsRoomFor self.now.charts result }
     {
         room_for(&self.charts)
     }

@@ -1,5 +1,5 @@
 //! The inputs of a function (2.5.1), in order and by name.
-ghost use Rattle.std.specs.Prelude.{◌≡◌, ◌++◌, ◌∷◌, [], ◌<◌, IfSome, OnOk, length, option_copied, slice_get};
+ghost use Rattle.std.specs.Prelude.{◌≡◌, ◌++◌, ◌∷◌, [], ◌<◌, IfSome, OnErr, OnOk, length, option_copied, slice_get};
 ghost use Rattle.st_types.specs.OwnTypes.{nth_due};
 ghost use Rattle.st_types.specs.Signatures.{input_number};
 ghost use Rattle.st_types.specs.Inputs.{input};
@@ -42,7 +42,8 @@ impl<'a> Inputs<'a> {
 
     /// Adds an input at the end.
     pub fn push(&mut self, name: &'a [u8], due: Due) -> Result<(), AllocError>
-        ensures { OnOk result (self.new ≡ self.old ++ input name.now due ∷ []) }
+        ensures ok { OnOk result (self.new ≡ self.old ++ input name.now due ∷ []) }
+        ensures err { OnErr result (self.new ≡ self.old) }
     {
         self.items.reserve(1)?;
         self.names.push(name)?;

@@ -23,6 +23,7 @@ returns-in_ok-push c = record {
   added =
       chosen_new c.self.inside.names c.args.self.now c.as_slice-name.result.now c.args.association.now c.self.view_is c.as_slice-name.ensures (sym c.if-has_qualifier.ensures)
       (ap is_some (sym c.find.ensures.number) ∙ c.if-is_none.ensures);
+  err = tt;
 }
 
 pub returns-else-has_qualifier-clause-added : goal.returns-else-has_qualifier-clause-added
