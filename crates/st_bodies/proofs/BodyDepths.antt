@@ -23,7 +23,7 @@ use Rattle.st_types.specs.OwnTypes.{or_lint}
 use Rattle.st_types.specs.declared.standard.StandardBlock.{StandardBlock}
 use Rattle.st_leaves.specs.Selected.{selected_by}
 use Rattle.st_meaning.specs.Terms.{Parts, whole, field_part, Command, Moves, Branches, Cases}
-use Rattle.st_meaning.specs.Typing.{Typed, assignment, branch_of, branches_of, call_command, case_of, cases_of, command_of, commands_of, condition, entrance, for_command, input_moves, input_of, inputs_of, invocation, output_moves, output_of, outputs_of, pin_of, place_of, step_typed, typed}
+use Rattle.st_meaning.specs.Typing.{Typed, assignment, branch_of, branches_of, call_command, case_of, cases_of, command_of, commands_of, entrance, for_command, input_moves, input_of, inputs_of, invocation, output_moves, output_of, outputs_of, pin_of, place_of, step_typed, typed}
 use Rattle.st_meaning.specs.Wholes.{Invoked, Whole, block_of, type_of}
 use Rattle.st_meaning.proofs.TypedStatements.{case_statement_of, for_of, if_of, repeat_of, while_of}
 use Rattle.st_code.specs.Depth.{branches_depth, cases_depth, command_depth, commands_depth, moves_depth, parts_depth, term_depth}

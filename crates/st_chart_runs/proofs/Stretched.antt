@@ -3,7 +3,6 @@ use Rattle.std.proofs.Common.{◌≡◌, ℕ, ◌+◌, ◌<◌, ◌≤◌, ℤ, 
 use Rattle.std.specs.List.{AllZip}
 use Rattle.std.specs.Option.{is_some}
 use Rattle.std.proofs.lemmas.Slice.Zip.{AllZip-long}
-use Rattle.st_values.specs.Values.{in_range}
 use Rattle.st_values.specs.declared.elem.Elem.TheVariants as elems
 use Rattle.st_values.specs.declared.value.Value.{Value}
 use Rattle.st_tree.specs.declared.leaf.Leaf.{Leaf}

@@ -1,5 +1,5 @@
 -- Checked programs are small: the bounds of their arrays are numbers of LINT, and they have few leaves.
-use Rattle.std.proofs.Common.{◌≡◌, ◌≤◌, ℕ, zero, suc, ◌+◌, ◌||◌, ◌==◌, nat_lt, false, List, [], ◌∷◌, ◌++◌, map, length, Some, ◌∙◌, subst}
+use Rattle.std.proofs.Common.{◌≡◌, ◌≤◌, ℕ, zero, suc, ◌||◌, ◌==◌, nat_lt, false, List, [], ◌∷◌, ◌++◌, map, length, Some, ◌∙◌, subst}
 use Rattle.std.specs.List.{AllByRecursion as Each}
 use Rattle.std.proofs.lemmas.Bool.{ltb-false}
 use Rattle.std.proofs.lemmas.List.{length-map}
