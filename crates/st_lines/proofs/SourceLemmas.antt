@@ -14,6 +14,7 @@ front_more bytes more text size front = record {
   kept = λ kept short.
       let begin = front.kept kept short in
       (begin.0 ++ more, ap (λ xs. xs ++ more) begin.1 ∙ append_assoc text begin.0 more);
+  lost = front.lost;
 }
 
 -- the last byte of a part

@@ -5,11 +5,11 @@ use Rattle.st_lines.specs.Commands.{Asked, TakesCommand, change_with, new_change
 use Rattle.st_lines.specs.declared.change_text.ChangeText.{ChangeText}
 use Rattle.st_lines.specs.declared.change_text.ChangeText.TheVariants.{Whole, TooLong, Memory, Unended}
 
--- a text that was ended was read so: its bytes are there, or it is too long, or there was no memory for it
+-- a text that was ended was read so: its bytes are there, or it is too long, or there was no memory for it, which an empty text doesn't want
 abbrev pub IsKept : ChangeText → List ℕ → Type 0
 IsKept (Whole bytes) text = (bytes.items ≡ text) × (length text ≤ 2 ^ 20)
 IsKept TooLong text = 2 ^ 20 < length text
-IsKept Memory text = length text ≤ 2 ^ 20
+IsKept Memory text = (0 < length text) × (length text ≤ 2 ^ 20)
 IsKept Unended text = ⊥
 
 -- a change was taken whose text was ended, and its text was read so

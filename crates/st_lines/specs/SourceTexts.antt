@@ -1,5 +1,5 @@
 -- The text of a change, as far as its source lines were read.
-use Rattle.std.specs.Prelude.{ℕ, ◌≡◌, ◌≤◌, ◌+◌, ◌^◌, Bool, true, false, if◌then◌else◌, List, [], ◌∷◌, ◌++◌, length, min, take, codes, Some}
+use Rattle.std.specs.Prelude.{ℕ, ◌≡◌, ◌≤◌, ◌<◌, ◌+◌, ◌^◌, Bool, true, false, if◌then◌else◌, List, [], ◌∷◌, ◌++◌, length, min, take, codes, Some}
 use Rattle.std.specs.Str.Lines.{strip_carriage_return}
 use Rattle.st_devices.specs.Words.{words_of}
 use Rattle.st_layout.specs.declared.renames.Rename.{Rename}
@@ -26,15 +26,17 @@ ends_with Other rest = false
 abbrev pub counted : List ℕ → ℕ
 counted text = min (length text) (2 ^ 20 + 1)
 
--- the bytes are a text of this size, unless it is too long or found no memory
+-- the bytes are a text of this size, unless it is too long or found no memory, of which an empty text wants none
 pub record IsStored (bytes : List ℕ) (size : Size) (text : List ℕ) : Type 0 where
   pub len : size.len ≡ counted text
   pub kept : size.is_kept ≡ true → length text ≤ 2 ^ 20 → bytes ≡ text
+  pub lost : size.is_kept ≡ false → 0 < length text
 
 -- the bytes begin with such a text
 pub record IsFront (bytes : List ℕ) (size : Size) (text : List ℕ) : Type 0 where
   pub len : size.len ≡ counted text
   pub kept : size.is_kept ≡ true → length text ≤ 2 ^ 20 → (more : List ℕ) × (bytes ≡ text ++ more)
+  pub lost : size.is_kept ≡ false → 0 < length text
 
 -- the text was ended, and is this
 abbrev pub HoldsText : SourceText → List ℕ → Type 0

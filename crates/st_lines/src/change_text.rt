@@ -18,7 +18,7 @@ pub enum ChangeText {
     Whole(Vec<u8>),
     /// It was ended, and is longer than a text may be.
     TooLong,
-    /// It was ended, and there was no memory for it.
+    /// It was ended, and there was no memory for it. An empty text wants none.
     Memory,
     /// The input ended before.
     Unended,

@@ -12,7 +12,7 @@ returns-clause-line c = λ _ text part holds.
       is = refl;
       stripped = refl;
       holds = record {
-        lines = record { len = after.len; kept = λ kept short. ([], after.kept kept short ∙ sym (append-nil lines)) };
+        lines = record { len = after.len; kept = λ kept short. ([], after.kept kept short ∙ sym (append-nil lines)); lost = after.lost };
         all = rw (append-nil lines) after;
         word = λ rest. refl;
       };
