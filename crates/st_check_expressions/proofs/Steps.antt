@@ -1,7 +1,7 @@
 -- The walk, node by node: what was offered of its parts is what the rules say of it.
 use Rattle.std.proofs.Common.{rules, ◌≡◌, ℕ, List, [], ◌∷◌, ◌++◌, Option, Bool, true, false, ◌&&◌, ◌||◌, not, length, refl, ap, sym, ◌∙◌, if◌then◌else◌}
 use Rattle.std.proofs.lemmas.List.{append-nil, length-map}
-use Rattle.std.specs.List.{list_all, list_any}
+use Rattle.std.specs.List.{list_any}
 use Rattle.std.specs.Option.{is_some}
 use Rattle.st_values.specs.Words.{is_word}
 use Rattle.st_values.specs.declared.elem.Elem.{Elem}
@@ -21,7 +21,7 @@ use Rattle.st_faults.specs.Faults.{fault, offer_all, when}
 use Rattle.st_faults.specs.declared.fault.Fault.{Fault}
 use Rattle.st_faults.specs.declared.fault.Rule.{Rule}
 use Rattle.st_faults.specs.declared.fault.Rule.TheVariants as broken_rules
-use Rattle.st_types.specs.OwnTypes.{compared_type, compares, complements, gives, is_boolean, negates, takes}
+use Rattle.st_types.specs.OwnTypes.{compared_type, compares, complements, gives, is_boolean, negates}
 use Rattle.st_types.specs.Scopes.{Scope}
 use Rattle.st_types.specs.Types.{Shape}
 use Rattle.st_types.specs.declared.symbol.Callee.{Callee}
@@ -29,7 +29,7 @@ use Rattle.st_types.specs.declared.symbol.Due.{Due}
 use Rattle.st_types.specs.declared.symbol.Due.TheVariants as dues
 use Rattle.st_check_expressions.specs.Calls.{ArgumentKnown, arguments_faults, broken, call_faults, is_faulty, value_of_call}
 use Rattle.st_check_expressions.specs.Inside.{chain_type, count_faults, due_elem, fits_chain, further_type, is_kept, meets, operands_from, shape_misfit, whole_faults}
-use Rattle.st_check_expressions.specs.Known.{Known, OperandKnown, alone, arithmetic_faults, chain_faults, compared_at, comparison_faults, complemented, faults_as, negated, operands_at, operators_of, owns_of}
+use Rattle.st_check_expressions.specs.Known.{Known, OperandKnown, all_combine, all_compare, alone, arithmetic_faults, chain_faults, compared_at, comparison_faults, complemented, faults_as, negated, operands_at, operators_of, owns_of}
 use Rattle.st_check_expressions.specs.Nodes.{operators_in, position_of, rule_of}
 use Rattle.st_check_expressions.specs.Variables.{VariableKnown, is_fixed, part_faults, subscripts, subscripts_faults, target_faults, value_of, variable_of}
 use Rattle.st_check_expressions.specs.Walk.{known, known_arguments, known_call, known_expressions, known_operations, known_part, known_parts, known_variable}
@@ -145,9 +145,9 @@ operands_alike (l ∷ ls) e = ap (λ fs. l.operand.faults_at l.operand.position 
 chain_alike : (x : Known) (ls : List OperandKnown) (at : Position) (e c : Elem) (b : Bool)
     → (if b then comparison_faults c x ls at e else arithmetic_faults x ls at e)
     ≡ (x.faults_at x.position (if b then c else e) ++ operands_from ls (if b then c else e) (if b then elems.Bool else (if b then c else e))
-    ++ when (not (if b then is_boolean e else list_all (λ o. takes o e) (operators_of ls))) (fault at broken_rules.TypeMismatch))
-chain_alike x ls at e c true = ap (λ fs. x.faults_at x.position c ++ fs ++ when (not (is_boolean e)) (fault at broken_rules.TypeMismatch)) (compared_from ls c)
-chain_alike x ls at e c false = ap (λ fs. x.faults_at x.position e ++ fs ++ when (not (list_all (λ o. takes o e) (operators_of ls))) (fault at broken_rules.TypeMismatch)) (operands_alike ls e)
+    ++ when (not (if b then is_boolean e && all_compare (operators_of ls) else all_combine (operators_of ls) e)) (fault at broken_rules.TypeMismatch))
+chain_alike x ls at e c true = ap (λ fs. x.faults_at x.position c ++ fs ++ when (not (is_boolean e && all_compare (operators_of ls))) (fault at broken_rules.TypeMismatch)) (compared_from ls c)
+chain_alike x ls at e c false = ap (λ fs. x.faults_at x.position e ++ fs ++ when (not (all_combine (operators_of ls) e)) (fault at broken_rules.TypeMismatch)) (operands_alike ls e)
 
 abbrev chain_parts : Known → List OperandKnown → Position → Elem → Elem → Elem → Bool → List Fault
 chain_parts x ls at e w further b = faults_as x (dues.Type w) ++ operands_from ls w further ++ when (not b) (fault at broken_rules.TypeMismatch)

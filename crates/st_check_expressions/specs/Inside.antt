@@ -1,6 +1,6 @@
 -- What the functions of this crate give that do parts of the walk.
 use Rattle.std.specs.Prelude.{ℕ, Bool, true, ◌&&◌, ◌||◌, not, List, [], ◌∷◌, ◌++◌, Option, None, if◌then◌else◌}
-use Rattle.std.specs.List.{list_all, list_any}
+use Rattle.std.specs.List.{list_any}
 use Rattle.st_values.specs.Words.{is_word}
 use Rattle.st_values.specs.declared.elem.Elem.{Elem}
 use Rattle.st_values.specs.declared.elem.Elem.TheVariants as elems
@@ -10,7 +10,7 @@ use Rattle.st_tree.specs.declared.tree.position.Position.{Position}
 use Rattle.st_faults.specs.Faults.{fault, when}
 use Rattle.st_faults.specs.declared.fault.Fault.{Fault}
 use Rattle.st_faults.specs.declared.fault.Rule.TheVariants as rules
-use Rattle.st_types.specs.OwnTypes.{compared_type, compares, is_boolean, is_integer, is_shift, takes}
+use Rattle.st_types.specs.OwnTypes.{compared_type, compares, is_boolean, is_integer, is_shift}
 use Rattle.st_types.specs.Scopes.{Scope}
 use Rattle.st_types.specs.Types.{Shape, elem_of, is_unknown, is_value}
 use Rattle.st_types.specs.declared.standard.StandardFunction.{StandardFunction}
@@ -18,7 +18,7 @@ use Rattle.st_types.specs.declared.standard.StandardFunction.TheVariants as func
 use Rattle.st_types.specs.declared.symbol.Due.{Due}
 use Rattle.st_types.specs.declared.symbol.Due.TheVariants as dues
 use Rattle.st_check_expressions.specs.Calls.{ArgumentKnown, positional}
-use Rattle.st_check_expressions.specs.Known.{Known, OperandKnown, alone, is_empty, operators_of, owns_of}
+use Rattle.st_check_expressions.specs.Known.{Known, OperandKnown, all_combine, all_compare, alone, is_empty, operators_of, owns_of}
 use Rattle.st_check_expressions.specs.Variables.{element_faults, is_fixed, misfit, shape_elements, start_by}
 use Rattle.st_check_expressions.specs.Walk.{known_parts}
 use Rattle.st_check_expressions.specs.declared.route.Route.{Route}
@@ -65,9 +65,9 @@ abbrev pub operands_from : List OperandKnown → Elem → Elem → List Fault
 operands_from [] e further = []
 operands_from (l ∷ ls) e further = l.operand.faults_at l.operand.position e ++ operands_from ls further further
 
--- the operators take their operands, and give what is due
+-- the operators are of one kind, take their operands, and give what is due
 abbrev pub fits_chain : List BinOp → Elem → Bool
-fits_chain os e = if compares os then is_boolean e else list_all (λ o. takes o e) os
+fits_chain os e = if compares os then is_boolean e && all_compare os else all_combine os e
 
 -- ---- variables
 

@@ -1,5 +1,5 @@
 -- What is known of a part of an expression (3.3.1), and what the rules say of it where a type is due.
-use Rattle.std.specs.Prelude.{ℕ, zero, suc, pos, negsuc, Bool, true, false, ◌||◌, not, List, [], ◌∷◌, ◌++◌, map, Option, ℤ, if◌then◌else◌}
+use Rattle.std.specs.Prelude.{ℕ, zero, suc, pos, negsuc, Bool, true, false, ◌&&◌, ◌||◌, not, List, [], ◌∷◌, ◌++◌, map, Option, ℤ, if◌then◌else◌}
 use Rattle.std.specs.List.{flat_map, list_all}
 use Rattle.st_values.specs.Types.{is_same}
 use Rattle.st_values.specs.Values.{in_range}
@@ -13,7 +13,7 @@ use Rattle.st_tree.specs.declared.tree.position.Position.{Position}
 use Rattle.st_faults.specs.Faults.{fault, when}
 use Rattle.st_faults.specs.declared.fault.Fault.{Fault}
 use Rattle.st_faults.specs.declared.fault.Rule.TheVariants as rules
-use Rattle.st_types.specs.OwnTypes.{chain_own, compared_type, compares, complements, is_boolean, is_integer, literal_own, negates, or_lint, takes}
+use Rattle.st_types.specs.OwnTypes.{chain_own, compared_type, compares, complements, is_boolean, is_comparison, is_integer, literal_own, negates, or_lint, takes}
 use Rattle.st_types.specs.declared.symbol.Due.{Due}
 use Rattle.st_types.specs.declared.symbol.Due.TheVariants as dues
 
@@ -111,21 +111,32 @@ operators_of ls = map (λ l. l.operator) ls
 abbrev pub operands_at : List OperandKnown → Elem → List Fault
 operands_at ls e = flat_map (λ l. l.operand.faults_at l.operand.position e) ls
 
+-- the operator takes operands of the type, and gives a value of it: a comparison gives a BOOL
+abbrev pub combines : BinOp → Elem → Bool
+combines o e = not (is_comparison o) && takes o e
+
 -- operators that give what they take: each operand has the type of the whole
+abbrev pub all_combine : List BinOp → Elem → Bool
+all_combine os e = list_all (λ o. combines o e) os
+
 abbrev pub arithmetic_faults : Known → List OperandKnown → Position → Elem → List Fault
-arithmetic_faults x ls at e = x.faults_at x.position e ++ operands_at ls e ++ when (not (list_all (λ o. takes o e) (operators_of ls))) (fault at rules.TypeMismatch)
+arithmetic_faults x ls at e = x.faults_at x.position e ++ operands_at ls e ++ when (not (all_combine (operators_of ls) e)) (fault at rules.TypeMismatch)
 
 -- Comparisons give BOOL. The first compares its two sides; each further one a BOOL, which is what those before it give.
 abbrev pub compared_at : List OperandKnown → Elem → List Fault
 compared_at [] e = []
 compared_at (l ∷ ls) e = l.operand.faults_at l.operand.position e ++ compared_at ls elems.Bool
 
+abbrev pub all_compare : List BinOp → Bool
+all_compare os = list_all is_comparison os
+
 abbrev pub comparison_faults : Elem → Known → List OperandKnown → Position → Elem → List Fault
-comparison_faults compared x ls at e = x.faults_at x.position compared ++ compared_at ls compared ++ when (not (is_boolean e)) (fault at rules.TypeMismatch)
+comparison_faults compared x ls at e = x.faults_at x.position compared ++ compared_at ls compared ++ when (not (is_boolean e && all_compare (operators_of ls))) (fault at rules.TypeMismatch)
 
 abbrev pub owns_of : List OperandKnown → List (Option Elem)
 owns_of ls = map (λ l. l.operand.own) ls
 
+-- The first operator says of which kind the chain is, and each further one is of that kind.
 abbrev pub chain_faults : Known → List OperandKnown → Position → Elem → List Fault
 chain_faults x ls at e = if compares (operators_of ls) then comparison_faults (compared_type x.own (owns_of ls)) x ls at e else arithmetic_faults x ls at e
 

@@ -276,6 +276,7 @@ pub fn offer_broken(rule: Option<Rule>, position: Position, first: &mut FirstFau
     ensures { first.new ≡ offer_all first.old (broken position rule) }
 {
     if let Some(rule) = rule {
+        // Typing rests on this rule in its cases `function`, `conversion` and `own`, and for statements in `invocation`.
         first.offer(position, rule);
     }
 }

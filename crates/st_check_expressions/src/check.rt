@@ -40,6 +40,7 @@ pub fn check_expression(
     let position = position(expression);
     check_at(alloc, scope, expression, position, elem, first)?;
     let fits = meets(alloc, scope, expression, elem, due)?;
+    // Typing rests on this rule in its cases `subscript`, `case_is` and `shifted`, where an integer is due, and in `input`.
     first.offer_when(!fits, position, Rule::TypeMismatch);
     Ok(())
 }
@@ -66,10 +67,12 @@ fn check_at(
         Expression::Parenthesized(_, inner) => check_at(alloc, scope, inner.get(), at, due, first)?,
         Expression::Negate(_, operand) => {
             check_expression(alloc, scope, operand.get(), Due::Type(due), first)?;
+            // Typing rests on this rule in its case `negate`.
             first.offer_when(!negates(due), at, Rule::TypeMismatch);
         }
         Expression::Not(_, operand) => {
             check_expression(alloc, scope, operand.get(), Due::Type(due), first)?;
+            // Typing rests on this rule in its case `complement`.
             first.offer_when(!complements(due), at, Rule::TypeMismatch);
         }
         Expression::Chain(_, left, operations) => {
@@ -78,6 +81,7 @@ fn check_at(
             check_expression(alloc, scope, left.get(), Due::Type(operand_due), first)?;
             let further_due = further_type(operations, operand_due);
             check_operations(alloc, scope, operations, operand_due, further_due, first)?;
+            // Typing rests on this rule in its cases `combination` and `comparison`.
             first.offer_when(!fits_chain(operations, due), at, Rule::TypeMismatch);
         }
     }
@@ -214,6 +218,8 @@ pub fn check_target<'a>(
     let at = variable.name.position;
     check_whole(&route.shape, at, first);
     let is_kept = is_kept(scope, counters, variable, &route);
+    // Typing rests on this rule in its cases `assignment` and `output`: a constant and a part of a step are no places. No case
+    // rests on it for inputs, for members of instances and for what a loop counts.
     first.offer_when(is_kept, at, Rule::NotAssignable);
     Ok(route.shape)
 }
@@ -236,6 +242,7 @@ fn check_call(
     offer_broken(rule, call.name.position, first);
     check_arguments(alloc, scope, &callee, Due::Type(due), arguments, first)?;
     let fits = fits_call(&callee, rule, due);
+    // Typing rests on this rule in its cases `absolute`, `shifted`, `conversion` and `own`.
     first.offer_when(!fits, at, Rule::TypeMismatch);
     Ok(())
 }

@@ -80,8 +80,10 @@ fn check_number(number: &SignedInteger, at: Position, due: Elem, first: &mut Fir
     ensures { first.new ≡ offer_all first.old (literal_faults (Constant.Integer number.now) at due) }
 {
     if due.is(Elem::Time) {
+        // Typing rests on this rule in its case `integer`.
         first.offer(at, Rule::TypeMismatch);
     } else {
+        // Typing rests on this rule in its case `integer`: no number is wrapped.
         first.offer_when(!number_fits(number, due), number.position, Rule::OutOfRange);
     }
 }
@@ -98,8 +100,10 @@ fn check_stated(
     ensures { first.new ≡ offer_all first.old (stated_faults is_misstated stated position at due) }
 {
     if is_misstated {
+        // Typing rests on this rule in its cases `stated` and `duration`: no number is wrapped.
         first.offer(position, Rule::OutOfRange);
     } else {
+        // Typing rests on this rule in its cases `stated`, `duration`, `false_is` and `true_is`.
         first.offer_when(!stated.is(due), at, Rule::TypeMismatch);
     }
 }

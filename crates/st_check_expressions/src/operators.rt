@@ -1,8 +1,8 @@
 //! Operators, and the types that they take (3.3.1, table 55).
 ghost use Rattle.std.specs.Prelude.{◌≡◌};
-ghost use Rattle.std.specs.List.{list_all};
-ghost use Rattle.st_types.specs.OwnTypes.{compares, complements, is_bits, is_comparison, is_integer, negates, takes};
+ghost use Rattle.st_types.specs.OwnTypes.{compares, complements, is_bits, is_comparison, is_integer, negates};
 ghost use Rattle.st_check_expressions.specs.Inside.{fits_chain, further_type};
+ghost use Rattle.st_check_expressions.specs.Known.{all_combine, all_compare, combines};
 ghost use Rattle.st_check_expressions.specs.Nodes.{operators_in};
 
 use st_tree::BinOp;
@@ -37,26 +37,26 @@ pub fn complements(elem: Elem) -> bool
     elem.is(Elem::Bool) || is_bits(elem)
 }
 
-/// Whether an operator takes operands of the type. A comparison takes any.
-fn takes(operator: BinOp, elem: Elem) -> bool
-    ensures { result ≡ takes operator elem }
+/// Whether an operator takes operands of the type and gives a value of it. A comparison gives a BOOL.
+fn combines(operator: BinOp, elem: Elem) -> bool
+    ensures { result ≡ combines operator elem }
 {
     match operator {
         BinOp::Add | BinOp::Sub => negates(elem),
         BinOp::Mul | BinOp::Div | BinOp::Mod => is_integer(elem),
         BinOp::And | BinOp::Or | BinOp::Xor => complements(elem),
-        _ => true,
+        _ => false,
     }
 }
 
-/// Whether all operators take operands of the type.
-fn all_take(operations: &[Operation], elem: Elem) -> bool
-    ensures { result ≡ list_all (λ o. takes o elem) (operators_in operations.now) }
+/// Whether all operators take operands of the type and give a value of it.
+fn all_combine(operations: &[Operation], elem: Elem) -> bool
+    ensures { result ≡ all_combine (operators_in operations.now) elem }
 {
     operations
         .iter()
         .map(|operation| operation.operator)
-        .all(|operator| takes(operator, elem))
+        .all(|operator| combines(operator, elem))
 }
 
 /// Whether the operator compares.
@@ -67,6 +67,16 @@ fn is_comparison(operator: BinOp) -> bool
         operator,
         BinOp::Eq | BinOp::Ne | BinOp::Lt | BinOp::Gt | BinOp::Le | BinOp::Ge
     )
+}
+
+/// Whether all operators compare.
+fn all_compare(operations: &[Operation]) -> bool
+    ensures { result ≡ all_compare (operators_in operations.now) }
+{
+    operations
+        .iter()
+        .map(|operation| operation.operator)
+        .all(|operator| is_comparison(operator))
 }
 
 /// Whether the first operator compares.
@@ -90,13 +100,14 @@ pub fn further_type(operations: &[Operation], due: Elem) -> Elem
     }
 }
 
-/// Whether operators take operands of the type that is due, or where the first compares, whether BOOL is due.
+/// Whether operators are of one kind and give what is due: all of them combine values of the type that is due, or all compare and a
+/// BOOL is due.
 pub fn fits_chain(operations: &[Operation], due: Elem) -> bool
     ensures { result ≡ fits_chain (operators_in operations.now) due }
 {
     if compares(operations) {
-        due.is(Elem::Bool)
+        due.is(Elem::Bool) && all_compare(operations)
     } else {
-        all_take(operations, due)
+        all_combine(operations, due)
     }
 }

@@ -21,6 +21,7 @@ pub fn offer_unknown(unknown: Option<Position>, first: &mut FirstFault)
     ensures { first.new ≡ offer_all first.old (unknown_faults unknown) }
 {
     if let Some(position) = unknown {
+        // Typing rests on this rule in its cases `named`, `place` and `step`, and wherever else a place is due.
         first.offer(position, Rule::UnknownName);
     }
 }
@@ -31,6 +32,7 @@ pub fn check_field(scope: &Scope<'_>, route: &Route<'_>, name: &Identifier, firs
 {
     let is_there = is_unknown(route.shape.base)
         || member(scope, &route.shape, name).symbol.is_some();
+    // Typing rests on this rule in its case `field`: a part that isn't there has no type.
     first.offer_when(!is_there, name.position, Rule::UnknownName);
 }
 
@@ -48,6 +50,7 @@ pub fn check_count(
         Some(elements) => elements.subscripts.len() == count,
         None => is_unknown(shape.base),
     };
+    // Typing rests on this rule in its case `element`: only with as many subscripts has the element a type.
     first.offer_when(!fits, position, Rule::TypeMismatch);
 }
 
@@ -59,6 +62,7 @@ pub fn check_misfit(shape: &Shape<'_>, at: Position, due: Elem, first: &mut Firs
         Some(elem) => elem.is(due),
         None => is_unknown(shape.base),
     };
+    // Typing rests on this rule in its cases `named`, `place` and `step`.
     first.offer_when(!fits, at, Rule::TypeMismatch);
 }
 
@@ -67,6 +71,7 @@ pub fn check_whole(shape: &Shape<'_>, at: Position, first: &mut FirstFault)
     ensures { first.new ≡ offer_all first.old (whole_faults shape.now at) }
 {
     let fits = is_unknown(shape.base) || elem_of(shape).is_some();
+    // Typing rests on this rule in its cases `assignment` and `output`.
     first.offer_when(!fits, at, Rule::TypeMismatch);
 }
 

@@ -68,8 +68,11 @@ pub fn check_counter(
     match scope.variable(spelling) {
         Some(symbol) => {
             let may_count = may_count(counters, spelling, &symbol);
+            // Typing rests on this rule in its case `for_is`: an integer is counted, and no constant. No case rests on it for
+            // inputs and for what a loop around counts.
             first.offer_when(!may_count, name.position, Rule::NotAssignable);
         }
+        // Typing rests on this rule in its case `for_is`.
         None => first.offer(name.position, Rule::UnknownName),
     }
 }

@@ -57,6 +57,7 @@ fn check_no_instance(
 ) -> Result<(), AllocError>
     ensures { OnOk result (first.new ≡ offer_all first.old (other_faults (known_call (scope_at scope.now) call.now) callee.now)) }
 {
+    // Typing rests on this rule in its cases `standard_block` and `own_block`.
     offer_broken(statement_rule(callee), call.name.position, first);
     check_arguments(
         alloc,
@@ -83,6 +84,8 @@ fn check_invocation(
 {
     let arguments = call.arguments.as_slice();
     let fits = are_pins(alloc, scope, base, arguments)?;
+    // Typing rests on this rule in its cases `input` and `output`: each argument has the name of one. No case rests on it for a
+    // name that stands twice.
     first.offer_when(!fits, call.name.position, Rule::CallMismatch);
     check_pins(alloc, scope, around, base, arguments, first)?;
     Ok(())

@@ -121,6 +121,7 @@ pub fn check_taker(
 {
     if let Some(symbol) = pin(scope, base, name) {
         let is_broken = is_output_purpose(symbol.purpose) && is_other(target, &symbol.shape);
+        // Typing rests on this rule in its case `output`.
         first.offer_when(is_broken, position, Rule::TypeMismatch);
     }
 }

@@ -81,6 +81,7 @@ fn check_statement(
         }
         Statement::Call(call) => check_call_statement(alloc, scope, around, call.get(), first)?,
         Statement::Exit(position) => {
+            // Typing rests on this rule in its case `exit_is`.
             first.offer_when(!around.in_loop, *position, Rule::CallMismatch);
         }
         Statement::If(found) => check_if(alloc, scope, around, found.get(), first)?,

@@ -51,6 +51,7 @@ fn check_duration(duration: Option<Duration>, first: &mut FirstFault)
             elem: Elem::Time,
             bits: duration.milliseconds.get(),
         };
+        // Typing rests on this rule in its case `timed`: no duration is wrapped.
         first.offer_when(!is_value(value), duration.position, Rule::OutOfRange);
     }
 }
@@ -61,6 +62,7 @@ fn check_qualifier(name: &Identifier, qualifier: &Option<ActionQualifier>, first
     ensures { first.new ≡ offer_all first.old (qualifier_faults name.now qualifier.now) }
 {
     if let Some(qualifier) = qualifier {
+        // Typing rests on this rule in its cases `untimed` and `timed`.
         first.offer_when(
             !is_qualifier(qualifier),
             name.position,
@@ -93,11 +95,14 @@ fn check_associated(name: &Identifier, symbol: Option<Symbol<'_>>, first: &mut F
     ensures { first.new ≡ offer_all first.old (associated_faults name.now symbol.entry) }
 {
     match symbol {
+        // Typing rests on this rule in its case `variable_then`.
         None => first.offer(name.position, Rule::UnknownName),
         Some(symbol) => {
             let fits = symbol.shape.base.is_unknown() || is_boolean_type(symbol.shape.elem());
+            // Typing rests on this rule in its case `variable_then`.
             first.offer_when(!fits, name.position, Rule::TypeMismatch);
             let is_fixed = is_fixed_purpose(symbol.purpose);
+            // Typing rests on this rule in its case `variable_then`: a constant is no place. No case rests on it for inputs.
             first.offer_when(is_fixed, name.position, Rule::NotAssignable);
         }
     }

@@ -28,6 +28,7 @@ fn check_initial(element: &ChartElement, has_initial: bool, first: &mut FirstFau
     if !step.is_initial {
         return has_initial;
     }
+    // No case of typing rests on this rule.
     first.offer_when(has_initial, step.name.position, Rule::MalformedChart);
     true
 }
@@ -41,6 +42,7 @@ fn check_initial_steps(unit: &Identifier, elements: &[ChartElement], first: &mut
     for element in elements {
         has_initial = check_initial(element, has_initial, first);
     }
+    // No case of typing rests on this rule.
     first.offer_when(!has_initial, unit.position, Rule::MalformedChart);
 }
 
@@ -51,6 +53,7 @@ fn check_step_names(scope: &Scope<'_>, names: &[Identifier], first: &mut FirstFa
 {
     for name in names {
         let is_step = scope.is_step(name.spelling.as_slice());
+        // Typing rests on this rule in its case `passage_then`: each step that is named has a number.
         first.offer_when(!is_step, name.position, Rule::MalformedChart);
     }
 }

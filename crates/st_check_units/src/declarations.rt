@@ -75,6 +75,8 @@ fn check_misdeclared(are_wrong: bool, names: &[Identifier], first: &mut FirstFau
     ensures { first.new ≡ offer_all first.old (misdeclared_faults are_wrong names.now) }
 {
     for name in names {
+        // Typing rests on this rule wherever a place is due, as in its case `place`, in `own`, since each input of a function
+        // is one value, and in `literal` and `list`, since nothing else begins with a value.
         first.offer_when(are_wrong, name.position, Rule::TypeMismatch);
     }
 }
@@ -152,6 +154,7 @@ pub fn check_type(
         DeclaredType::Derived(specification, initial) => {
             let permitted = Permitted::Types;
             let is_wrong = check_specified(types, permitted, specification, initial, first);
+            // Typing rests on this rule wherever a place is due, as in its case `place`, and in `literal` and `list`.
             first.offer_when(is_wrong, name.position, Rule::TypeMismatch);
         }
         DeclaredType::Structure(_, members) => {

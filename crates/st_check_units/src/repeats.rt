@@ -27,6 +27,8 @@ fn check_name<'a>(
     ensures seen { OnOk result (seen.new ≡ seen.old ++ name.now.spelling ∷ []) }
 {
     let spelling = name.spelling.as_slice();
+    // Typing rests on this rule in its cases `place`, where no constant has the name, and `action_then`, where no variable has it.
+    // No case rests on it for two variables, two steps or two actions.
     first.offer_when(is_there(seen, spelling), name.position, Rule::NameTwice);
     seen.push(spelling)?;
     Ok(())

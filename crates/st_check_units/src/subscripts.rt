@@ -47,6 +47,7 @@ fn check_subrange(range: &Subrange, first: &mut FirstFault)
 {
     let lower = bound(&range.lower);
     let upper = bound(&range.upper);
+    // No case of typing rests on these two rules.
     first.offer_when(lower.is_none(), range.lower.position, Rule::OutOfRange);
     first.offer_when(
         !is_upper(lower, upper),

@@ -79,6 +79,7 @@ fn check_type(tables: &Tables<'_>, name: &TypeName, first: &mut FirstFault)
     ensures { first.new ≡ offer_all first.old (type_faults (units_of tables.now) name.now) }
 {
     let is_missing = is_missing(as_type(tables, name));
+    // Typing rests on this rule wherever a place is due, as in its case `place`: a variable of an unknown type has none.
     first.offer_when(is_missing, type_position(name), Rule::UnknownName);
 }
 

@@ -117,8 +117,10 @@ fn check_unit_name<'a>(
 {
     let spelling = name.spelling.as_slice();
     let is_taken = is_there(seen, spelling) || standard_of(spelling).is_some();
+    // Typing rests on this rule in its case `own_block`: an instance is found by the name of its function block.
     first.offer_when(is_taken, name.position, Rule::NameTwice);
     let is_past_limit = seen.len() == MAX_UNITS || spelling.len() > MAX_NAME_BYTES;
+    // No case of typing rests on this rule.
     first.offer_when(is_past_limit, name.position, Rule::LimitPassed);
     seen.push(spelling)
 }

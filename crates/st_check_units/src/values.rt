@@ -21,6 +21,7 @@ fn check_array_literal(constant: &Constant, first: &mut FirstFault)
     } else {
         Rule::TypeMismatch
     };
+    // Typing rests on this rule in its case `literal`: what begins with a literal is one value.
     first.offer(literal_position(constant), rule);
 }
 
@@ -32,6 +33,7 @@ fn check_constant(base: Base, constant: &Constant, first: &mut FirstFault)
     match base {
         Base::Elementary(elem) => check_literal(constant, position, elem, first),
         Base::Array(_) => check_array_literal(constant, first),
+        // No case of typing rests on this rule.
         _ => first.offer_when(is_misstated(constant), position, Rule::OutOfRange),
     }
 }
@@ -102,6 +104,7 @@ fn check_list(
             if base.is_unknown() {
                 check_items(base, items, first);
             } else {
+                // Typing rests on this rule in its case `list`: what begins with a list is an array.
                 first.offer(position, Rule::TypeMismatch);
             }
         }
