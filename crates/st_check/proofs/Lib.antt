@@ -1,7 +1,7 @@
 pub mod Apart
 mod Checked
 mod Cyclic
-mod DataTypes
+pub mod DataTypes
 mod Deciding
 pub mod DistinctNames
 pub mod ElementaryFunctions

@@ -46,6 +46,7 @@ fn checked(alloc: Global, text: &[Unit], main: &[u8]) -> Result<(usize, Vec<usiz
     let Some(number) = program_named(&tables, main) else {
         return Err(CheckFault::NoProgram);
     };
+    // No case of typing rests on the rules of the size of a program and of its name.
     if is_too_large(alloc, &tables, &order, number)? {
         let position = tables.unit(number).name.position;
         let rule = Rule::LimitPassed;
@@ -83,6 +84,8 @@ fn offer_recursions(tables: &Tables<'_>, numbers: &[usize], first: &mut FirstFau
 {
     for number in numbers {
         let position = tables.unit(*number).name.position;
+        // Typing rests on this rule wherever a place is due, as in its case `place`, and in `own_block`: what a type is made
+        // of is found step by step.
         first.offer(position, Rule::Recursion);
     }
 }
