@@ -1,5 +1,5 @@
 //! Layouts: the leaves of a program by number and by path.
-ghost use Rattle.std.specs.Prelude.{◌≡◌, ◌≤◌, ◌<◌, ◌+◌, ◌↔◌, EachIndex, IfOk, IfSome, IsSome, length, map, slice_index};
+ghost use Rattle.std.specs.Prelude.{◌≡◌, ◌≤◌, ◌<◌, ◌+◌, ◌↔◌, EachIndex, IfOk, IfSome, IsSome, Some, length, map, slice_index};
 ghost use Rattle.std.specs.List.{Contains};
 ghost use Rattle.st_leaves.specs.Sound.{IsSound, IsValueOf};
 ghost use Rattle.st_layout.specs.Layout.{leaf_at, number_of, offset_of, paths_of, total_width};
@@ -88,6 +88,7 @@ impl Layout {
     pub fn at(&self, leaf: u32) -> &Leaf
         requires { leaf < length self.now }
         ensures value { result.now ≡ leaf_at self.now leaf }
+        ensures found { number_of self.now result.now.path ≡ Some leaf }
         ensures short { length result.now.shown ≤ 255 }
         ensures initial { IsValueOf result.now result.now.initial }
     {
