@@ -4,6 +4,7 @@
 mod array;
 mod chart;
 mod laws;
+mod names;
 mod size;
 mod standard;
 mod stored;
@@ -14,6 +15,7 @@ pub use laws::{
     flags_have_charts, leaves_are_counted, leaves_begin_with_values, leaves_follow_the_composition,
     paths_are_distinct, places_are_numbers,
 };
+pub use names::AssociatedNames;
 pub use size::{leaf_size, named_size};
 pub use standard::standard_size;
-pub use stored::StoredNames;
+pub use stored::stored_names;
