@@ -1,4 +1,5 @@
-//! Layouts: the leaves of a program by number and by path, and where each lies in bytes; and which leaves an online change pairs.
+//! Numbers the leaves of a program, finds them by their paths, and says where each lies in bytes. It pairs the leaves of two programs for
+//! an online change, as ranges. It knows leaves and no programs.
 #![tactic(auto)]
 
 mod alike;

@@ -1,4 +1,4 @@
-//! The leaves of a program: which there are, in order, and how large those are that a part of it has.
+//! Defines which leaves a program has, in which order, under which paths and with which values, and counts those of its parts.
 #![tactic(auto)]
 
 mod array;

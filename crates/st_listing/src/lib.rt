@@ -1,4 +1,4 @@
-//! The leaves of a checked program, listed, and the layout that they make.
+//! Lists the leaves of a checked program, in order, and makes its layout of them.
 #![tactic(auto)]
 
 mod block;

@@ -1,5 +1,5 @@
-//! Memories, which hold the value of each leaf of a layout and whether it is forced: one of cells, and one of packed bytes. What
-//! an online change makes of them, what it saves, and what gives it back.
+//! Holds the value of each leaf of a layout, and whether the leaf is forced: in cells, or packed into the bytes that the layout says. Says
+//! what an online change makes of a memory, what it saves, and what gives it back.
 #![tactic(auto)]
 
 mod bytes;
