@@ -4,6 +4,15 @@ import subprocess
 import sys
 import tempfile
 
+TOP = os.path.dirname(os.path.dirname(os.path.abspath(__file__)))
+
+
+def program_at_hand():
+    """The path of the program that ./stc runs, which it unpacks, or proves and builds, where that isn't done."""
+    subprocess.run([os.path.join(TOP, "stc"), "--version"], check=True, stdout=subprocess.DEVNULL)
+    with open(os.path.join(TOP, "out", "stc", "current")) as it:
+        return os.path.join(TOP, it.readline().strip())
+
 
 def measured(words, lines=os.devnull):
     """Processor time in seconds, and what was written, of a run with these lines as its input."""

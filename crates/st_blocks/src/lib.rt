@@ -1,4 +1,4 @@
-//! The standard function blocks: what one invocation makes of their leaves (IEC 61131-3:2003, 2.5.2.3).
+//! Works out one invocation of a standard function block from the values of its leaves (IEC 61131-3:2003, 2.5.2.3).
 #![tactic(auto)]
 
 mod bistable;

@@ -1,7 +1,8 @@
 -- Trees need at least as many cells as what they are typed as: charts, and the bodies of units.
-use Rattle.std.proofs.Common.{◌≡◌, ℕ, suc, ◌+◌, ◌≤◌, Bool, true, false, if◌then◌else◌, List, [], ◌∷◌, map, length, Option, Some, None, refl, subst, sym, arith}
-use Rattle.std.specs.List.{flat_map, list_any}
+use Rattle.std.proofs.Common.{◌≡◌, ℕ, suc, ◌+◌, ◌≤◌, Bool, true, false, cond, not, List, [], ◌∷◌, map, length, Option, Some, None, refl, subst, sym, arith}
+use Rattle.std.specs.List.{filter, flat_map}
 use Rattle.std.specs.Prelude.{max}
+use Rattle.std.proofs.lemmas.List.{length-map}
 use Rattle.st_values.specs.Words.{is_word}
 use Rattle.st_values.specs.declared.elem.Elem.TheVariants as elems
 use Rattle.st_tree.specs.declared.tree.unit.Action.{Action}
@@ -13,7 +14,8 @@ use Rattle.st_tree.specs.declared.tree.unit.ChartElement.TheVariants as chart_el
 use Rattle.st_types.specs.Compositions.{Composition}
 use Rattle.st_types.specs.Names.{Declares, Named, actions_in, chart_in, chart_of, steps_in}
 use Rattle.st_types.specs.Names as names
-use Rattle.st_meaning.specs.Sketched.{associated_names, associations_of, transitions_in, variable_named}
+use Rattle.st_leaves.specs.Charts.{associated_names, associations_of, each_once}
+use Rattle.st_meaning.specs.Sketched.{transitions_in, variable_named}
 use Rattle.st_meaning.specs.Steps.{chart_within}
 use Rattle.st_meaning.specs.Terms.{Commands, count_actions}
 use Rattle.st_meaning.specs.Typing.{actions_of, body_in, body_of, chart_or, tests_of}
@@ -35,13 +37,19 @@ few_variables : (root : Composition) (named : List (List ℕ)) → count_variabl
 few_variables root [] = omega arith
 few_variables root (name ∷ named) = omega (arith, one_variable (variable_named root name) (map (variable_named root) named), few_variables root named)
 
-few_names : (others : List (List ℕ)) (links : List Association) → length (associated_names others links) ≤ length links
-few_names others [] = omega arith
-few_names others (a ∷ links) =
-    by (list_any (is_word a.name.spelling) others) (associated_names others links) (associated_names (a.name.spelling ∷ others) links) (few_names others links) (few_names (a.name.spelling ∷ others) links) where
-      by : (b : Bool) (old new : List (List ℕ)) → length old ≤ length links → length new ≤ length links → length (if b then old else (a.name.spelling ∷ new)) ≤ suc (length links)
-      by true old new h k = omega (arith, h)
-      by false old new h k = omega (arith, k)
+few_left : (p : List ℕ → Bool) (names : List (List ℕ)) → length (filter p names) ≤ length names
+few_left p [] = omega arith
+few_left p (name ∷ names) = by (p name) (few_left p names) where
+  by : (b : Bool) → length (filter p names) ≤ length names → length (cond b (name ∷ filter p names) (filter p names)) ≤ suc (length names)
+  by true h = omega (arith, h)
+  by false h = omega (arith, h)
+
+few_once : (names : List (List ℕ)) → length (each_once names) ≤ length names
+few_once [] = omega arith
+few_once (name ∷ names) = omega (arith, few_left (λ other. not (is_word name other)) (each_once names), few_once names)
+
+few_names : (links : List Association) → length (associated_names links) ≤ length links
+few_names links = omega (arith, few_once (map (λ (a : Association). a.name.spelling) links), length-map links (λ (a : Association). a.name.spelling))
 
 module _ (w : Whole) (inputs : ℕ) (few : TakeAtMost w inputs) where
   -- ---- conditions and actions
@@ -75,8 +83,8 @@ module _ (w : Whole) (inputs : ℕ) (few : TakeAtMost w inputs) where
       omega (
         arith,
         tests_deep 0 elements,
-        few_variables w.variables (associated_names [] links),
-        few_names [] links,
+        few_variables w.variables (associated_names links),
+        few_names links,
         many_actions actions,
         actions_deep actions,
       )

@@ -29,7 +29,7 @@ use Rattle.st_types.specs.Standard.{standard_of}
 use Rattle.st_types.specs.declared.standard.Standard.{Standard}
 use Rattle.st_types.specs.declared.standard.Standard.TheVariants as standards
 use Rattle.st_types.specs.declared.standard.StandardFunction.TheVariants as functions
-use Rattle.st_meaning.specs.Sketched.{associations_of}
+use Rattle.st_leaves.specs.Charts.{associations_of}
 
 -- the greatest of them
 abbrev pub most : List ℕ → ℕ

@@ -2,7 +2,7 @@
 ghost use Rattle.std.specs.Prelude.{◌≡◌, None, Some, length, map, min, true};
 ghost use Rattle.std.specs.List.{flat_map};
 ghost use Rattle.st_bodies.specs.Depths.{action_depth, argument_depths, branch_depth, call_depth, called_cells, case_depth, chart_depth, condition_depths, element_depth, expression_depth, for_depth, if_depth, in_turn, invocation_depth, is_choice, most, move_depth, operation_depth, part_depth, place_depth, repeat_depth, statement_depth, statements_depth, step_depth, unit_depth, unnamed_cells, while_depth};
-ghost use Rattle.st_meaning.specs.Sketched.{associations_of};
+ghost use Rattle.st_leaves.specs.Charts.{associations_of};
 ghost use Rattle.st_types.specs.Names.{actions_in, steps_in};
 ghost use Rattle.st_types.specs.Standard.{standard_of};
 

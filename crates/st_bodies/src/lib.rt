@@ -1,4 +1,4 @@
-//! How many cells of the stack bodies need, by their structure.
+//! Counts how many numbers the bodies of units need on the stack, by the structure of their trees.
 #![tactic(auto)]
 
 mod depth;

@@ -1,4 +1,4 @@
-//! Which functions of the text statements call: those that are named in them before a `(`.
+//! States which functions statements call: those that are named in them before a `(`, which in a checked program stand before them.
 #![tactic(auto)]
 
 mod laws;

@@ -1,6 +1,6 @@
 //! Sessions over devices of all kinds, as they run.
 use st_control::Controller;
-use st_layout::Cells;
+use st_memory::Cells;
 use st_session::{
     ACCEPTED, Bytes, DEVICE_FAILED, FromReader, LINE_REFUSED, NO_PROGRAM, Outcome, Sheet, Sink,
     Source, ToWriter, run_text, session,

@@ -153,6 +153,24 @@ END_PROGRAM
 29 8 TIME Main.S2.$M
 37 1 BOOL Main.B.$S
 38 1 BOOL Main.A.$S
+# stored names in the order of their first associations, whatever the qualifiers of these
+PROGRAM Main VAR A, B : BOOL; END_VAR
+INITIAL_STEP S1: A(R); B(S); END_STEP
+STEP S2: A(S); END_STEP
+TRANSITION FROM S1 TO S2 := TRUE; END_TRANSITION
+END_PROGRAM
+=
+0 1 BOOL Main.A
+1 1 BOOL Main.B
+2 1 BOOL Main.$CHART
+3 1 BOOL Main.S1.X
+4 8 TIME Main.S1.T
+12 8 TIME Main.S1.$M
+20 1 BOOL Main.S2.X
+21 8 TIME Main.S2.T
+29 8 TIME Main.S2.$M
+37 1 BOOL Main.A.$S
+38 1 BOOL Main.B.$S
 # stored names as their variables and actions are declared, however an association spells them
 PROGRAM Main VAR Lamp : BOOL; END_VAR
 INITIAL_STEP S1: HORN(S); LAMP(S); END_STEP

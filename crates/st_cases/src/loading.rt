@@ -1,7 +1,7 @@
 //! Loads: texts that are loaded, and texts that are refused.
 use crate::running::FIRST;
 use st_control::{Controller, Refusal};
-use st_layout::Cells;
+use st_memory::Cells;
 use std::alloc::Global;
 use std::test::Fail;
 

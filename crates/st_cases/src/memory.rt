@@ -1,10 +1,11 @@
 //! A memory used through its trait, and look-ups of paths, as they run.
 ghost use Rattle.std.specs.Prelude.{◌≡◌, IfOk, length, true};
 ghost use Rattle.st_layout.specs.Layout.{IsValueAt};
-ghost use Rattle.st_layout.specs.Memory.{initial_content, with_force, with_value};
+ghost use Rattle.st_memory.specs.Memory.{initial_content, with_force, with_value};
 
 use st_control::{Image, load_image};
-use st_layout::{Cells, Layout, Memory};
+use st_layout::Layout;
+use st_memory::{Cells, Memory};
 use st_values::{Elem, Value};
 use std::alloc::{AllocError, Global};
 use std::test::Fail;

@@ -2,7 +2,8 @@
 use crate::running::{FIRST, number_at, run};
 use crate::tables::{cases_of, status_of};
 use st_control::{Controller, Refusal};
-use st_layout::{Cells, Rename};
+use st_layout::Rename;
+use st_memory::Cells;
 use st_session::LINE_REFUSED;
 use st_tree::List;
 use st_values::{Elem, Value};

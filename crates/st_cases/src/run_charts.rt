@@ -265,9 +265,9 @@ END_PROGRAM
 | 2 TRUE  => FALSE
 | 3 -     => FALSE
 | 4 FALSE => TRUE
-# flags of several names, which are stored in another order than that of their first associations
-PROGRAM Main VAR A, B, C : BOOL; END_VAR
-INITIAL_STEP S1: A(N); C(D, T#1h); END_STEP
+# flags of several names, which are set in another order than that of their first associations, behind a name without one
+PROGRAM Main VAR A, B, C, D : BOOL; END_VAR
+INITIAL_STEP S1: D(N); A(N); C(D, T#1h); END_STEP
 STEP S2: B(S); C(S); END_STEP
 STEP S3: A(S); B(R); END_STEP
 STEP S4: C(R); END_STEP
@@ -282,6 +282,15 @@ END_PROGRAM
 | 2 => TRUE  FALSE TRUE  TRUE  FALSE TRUE
 | 3 => TRUE  FALSE FALSE TRUE  FALSE FALSE
 | 4 => TRUE  FALSE FALSE TRUE  FALSE FALSE
+# a name that is reset before another step sets it: its flag stands before that of the name behind it
+PROGRAM Main VAR A, B : BOOL; END_VAR
+INITIAL_STEP S1: A(R); B(S); END_STEP
+STEP S2: A(S); END_STEP
+TRANSITION FROM S1 TO S2 := TRUE; END_TRANSITION
+END_PROGRAM
+|: scan => Main.A Main.B Main.A.$S Main.B.$S
+| 0 => FALSE TRUE FALSE TRUE
+| 1 => TRUE  TRUE TRUE  TRUE
 # a variable that no active step names is FALSE, whatever was written to it
 PROGRAM Main VAR Lamp, Other : BOOL; END_VAR
 INITIAL_STEP S1: END_STEP

@@ -1,7 +1,7 @@
 //! A program with code where memory is refused once: its load, its scans, and a change of it with its undo.
 use crate::running::number_at;
 use st_control::{Controller, Refusal, Scanned};
-use st_layout::Cells;
+use st_memory::Cells;
 use st_values::{Elem, Value};
 use std::alloc::Global;
 

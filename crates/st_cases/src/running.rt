@@ -3,7 +3,7 @@ ghost use Rattle.std.specs.Prelude.{◌<◌};
 
 use crate::tables::{Case, cases_of, status_of};
 use st_control::Controller;
-use st_layout::Cells;
+use st_memory::Cells;
 use st_session::{Bytes, Sheet, run_text};
 use std::alloc::{AllocError, Global};
 use std::process::Abort;

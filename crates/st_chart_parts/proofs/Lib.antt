@@ -1,3 +1,3 @@
-pub mod NamesStored
+pub mod DeclaredNames
 pub mod UnitCharts
 pub mod Units

@@ -23,14 +23,6 @@ pub leaves_are : (name : List ℕ) (stored : List (List ℕ)) (elements : List C
 leaves_are name stored [] = refl
 leaves_are name stored (e ∷ es) = refl
 
--- ---- the steps among elements, one element after the other
-
-pub elements_more : (elements : List ChartElement) (i : ℕ) (element : ChartElement) (s : Step) → i < length elements → get_or elements i element ≡ element → steps_in element ≡ s ∷ []
-    → flat_map steps_in (take (i + 1) elements) ≡ flat_map steps_in (take i elements) ++ s ∷ []
-elements_more elements i element s within at is =
-    ap (flat_map steps_in) (take_more elements i element within) ∙ flat_map-append steps_in (take i elements) (get_or elements i element ∷ [])
-    ∙ ap (λ ss. flat_map steps_in (take i elements) ++ ss) (append-nil (steps_in (get_or elements i element)) ∙ ap steps_in at ∙ is)
-
 -- ---- of a unit
 
 -- what a unit declares, where it has a chart

@@ -1,8 +1,6 @@
 -- What of charts has leaves (2.6).
-use Rattle.std.specs.Borrow.{Bor}
-use Rattle.std.specs.Prelude.{ℕ, Bool, true, false, List, [], map, if◌then◌else◌}
+use Rattle.std.specs.Prelude.{ℕ, Bool, true, false, List, [], if◌then◌else◌}
 use Rattle.std.specs.List.{flat_map}
-use Rattle.st_tree.specs.declared.tree.unit.Association.{Association}
 use Rattle.st_tree.specs.declared.tree.unit.ChartElement.{ChartElement}
 use Rattle.st_tree.specs.declared.tree.unit.Step.{Step}
 use Rattle.st_types.specs.Names.{Declares, chart_in, steps_in}
@@ -32,11 +30,3 @@ parts_of unit = parts_in (stored_of unit) (chart_in unit)
 -- the leaves that these are, in a unit of this name
 abbrev pub leaves_of_parts : List ℕ → ChartView → List LeafIn
 leaves_of_parts name chart = if chart.is_there then whole_chart_in name chart.stored chart.steps else []
-
--- the names that these words are
-abbrev pub spelled : List (Bor (List ℕ)) → List (List ℕ)
-spelled words = map (λ word. word.now) words
-
--- what the steps of a chart are associated with
-abbrev pub associations_in : List ChartElement → List Association
-associations_in elements = flat_map (λ s. s.associations) (flat_map steps_in elements)

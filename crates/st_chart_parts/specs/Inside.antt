@@ -2,8 +2,8 @@
 use Rattle.std.specs.Prelude.{◌≡◌}
 use Rattle.std.specs.List.{list_any}
 use Rattle.st_tree.specs.declared.tree.unit.Step.{Step}
-use Rattle.st_leaves.specs.Charts.{is_pulse}
-use Rattle.st_chart_parts.specs.Charts.{ChartView, spelled}
+use Rattle.st_leaves.specs.Charts.{is_pulse, spelled}
+use Rattle.st_chart_parts.specs.Charts.{ChartView}
 use Rattle.st_chart_parts.specs.declared.parts.ChartParts.TheInside as charts
 use Rattle.st_chart_parts.specs.declared.step.StepPart.TheInside as steps
 

@@ -1,4 +1,5 @@
-//! What of charts has leaves (2.6): their steps, and the names that they store.
+//! Finds what of each unit's chart has leaves (IEC 61131-3:2003, 2.6): its steps, and the names that it stores. This is done once for all
+//! instances.
 #![tactic(auto)]
 
 mod parts;

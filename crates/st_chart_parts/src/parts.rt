@@ -2,7 +2,8 @@
 //! chart has.
 ghost use Rattle.std.specs.List.{flat_map};
 ghost use Rattle.std.specs.Prelude.{◌≡◌, ◌<◌, IfOk, Some, length, map};
-ghost use Rattle.st_chart_parts.specs.Charts.{parts_of, spelled};
+ghost use Rattle.st_chart_parts.specs.Charts.{parts_of};
+ghost use Rattle.st_leaves.specs.Charts.{spelled};
 ghost use Rattle.st_types.specs.Inside.{declared_by};
 ghost use Rattle.st_types.specs.Names.{Named, chart_in, steps_in, unit_at, units_of};
 

@@ -9,8 +9,8 @@ use Rattle.st_tree.specs.declared.leaf.Leaf.{Leaf}
 use Rattle.st_blocks.specs.Cells.{IsOfType}
 use Rattle.st_blocks.proofs.TypeLemmas.{cell_typed}
 use Rattle.st_blocks.proofs.RangeLemmas.{is_time}
-use Rattle.st_layout.specs.Memory.{Content, Fits}
-use Rattle.st_layout.proofs.Contents.{value_fits}
+use Rattle.st_memory.specs.Memory.{Content, Fits}
+use Rattle.st_memory.proofs.Contents.{value_fits}
 use Rattle.st_meaning.specs.Charts.{moved_on, times_set}
 use Rattle.st_meaning.specs.Meaning.{Values, no_value}
 use Rattle.st_meaning.specs.Sketches.{Sketch, chart_types, flags_types, steps_types}

@@ -5,7 +5,8 @@ ghost use Rattle.st_meaning.specs.Meaning.{stored_to};
 ghost use Rattle.st_meaning.specs.Statements.{stretch, unless_forced, with_stretch};
 ghost use Rattle.st_chart_runs.specs.Leaves.{FitFrom};
 
-use st_layout::{Layout, Memory};
+use st_layout::Layout;
+use st_memory::Memory;
 use st_values::Value;
 
 /// Stores a value of the leaf's type, unless the leaf is forced.

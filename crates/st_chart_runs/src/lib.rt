@@ -1,5 +1,5 @@
-//! Charts over the leaves of a memory: what a chart keeps of itself is read from them, one invocation of it is worked out, and what
-//! follows is written back, without allocating (IEC 61131-3:2003, 2.6).
+//! Runs charts over the leaves of a memory: what a chart keeps is read from them, one invocation is worked out, and what isn't forced is
+//! written back, without allocating (IEC 61131-3:2003, 2.6).
 #![tactic(auto)]
 
 mod cells;

@@ -10,7 +10,8 @@ ghost use Rattle.st_meaning.specs.Statements.{stretch};
 ghost use Rattle.st_sketches.specs.Views.{IsOf};
 
 use crate::values::is_true;
-use st_layout::{Layout, Memory};
+use st_layout::Layout;
+use st_memory::Memory;
 use st_sketches::Sketch;
 
 /// Whether a chart has begun, and all steps before its transition of this number are active. Its leaves stand from this one on.

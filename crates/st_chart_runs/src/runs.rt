@@ -12,7 +12,8 @@ use crate::leaves::{load_values, store_values};
 use crate::rooms::leaves_of;
 use crate::workspace::Workspace;
 use st_charts::StepCell;
-use st_layout::{Layout, Memory};
+use st_layout::Layout;
+use st_memory::Memory;
 use st_sketches::Sketch;
 use st_values::Value;
 

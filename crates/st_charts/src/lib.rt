@@ -1,4 +1,5 @@
-//! Sequential function charts: what one invocation makes of their steps, stored flags and names (IEC 61131-3:2003, 2.6).
+//! Works out one invocation of a sequential function chart: which transitions are cleared, which steps are active, and which names are on
+//! (IEC 61131-3:2003, 2.6). It knows no text, no leaves and no values.
 #![tactic(auto)]
 
 mod chart;

@@ -1,7 +1,6 @@
 -- What the charts of a text without faults store is declared.
 use Rattle.std.proofs.Common.{◌≡◌, ℕ, Bool, true, false, cond, ◌&&◌, ◌||◌, not, if◌then◌else◌, List, [], ◌∷◌, ◌++◌, Option, Some, None, map, option_map, refl, ap, sym, ◌∙◌, subst}
 use Rattle.std.specs.List.{All, AllByRecursion as Each, Contains, flat_map, list_any}
-use Rattle.std.proofs.lemmas.Bool.{cond_both}
 use Rattle.std.proofs.lemmas.List.Elements.{All-from_recursion, Contains-append_left, Contains-append_right, Contains-push}
 use Rattle.std.proofs.lemmas.List.Folds.{list_any-append}
 use Rattle.st_tree.specs.declared.tree.declaration.VarKind.{VarKind}
@@ -29,8 +28,8 @@ use Rattle.st_check_units.specs.Declarations.{block_faults}
 use Rattle.st_check_units.specs.Repeats.{repeated}
 use Rattle.st_check_units.specs.Units.{body_of_faults, chart_names, node_faults, pou_faults, unit_faults}
 use Rattle.st_check_units.specs.Units as rules_of
-use Rattle.st_leaves.specs.Charts.{action_names, as_declared, is_stored, storable, stored_by, stored_names, stored_of, variable_names}
-use Rattle.st_leaves.proofs.Pairs.{each_append, each_map, each_weaker}
+use Rattle.st_leaves.specs.Charts.{action_names, as_declared, associated_names, associations_in, each_once, is_stored_by, storable, stored_by, stored_names, stored_of, variable_names}
+use Rattle.st_leaves.proofs.Pairs.{each_append, each_filter, each_map, each_weaker}
 use Rattle.st_check.proofs.Apart.{nothing_each, nothing_parts}
 use Rattle.st_check.proofs.UnitsApart.{unit_faultless}
 
@@ -49,21 +48,25 @@ among (d ∷ ds) name is =
     (λ t. subst (λ b. Contains (d ∷ ds) (cond b d (as_declared ds name))) (sym t)
     (Contains-append_right (d ∷ []) ds (as_declared ds name) (among ds name (ap (λ b. b || list_any (λ e. is_word e name) ds) (sym t) ∙ is))))
 
--- what holds of the names of all associations holds of those that are stored
-each_stored : (P : List ℕ → Type 0) (others : List (List ℕ)) (associations : List Association) → Each (λ a. P a.name.spelling) associations → Each P (stored_names others associations)
-each_stored P others [] each = tt
-each_stored P others (a ∷ more) each =
-    cond_both (is_stored a && not (list_any (is_word a.name.spelling) others)) (a.name.spelling ∷ stored_names (a.name.spelling ∷ others) more) (stored_names others more) (Each P)
-    (λ added. (each.0, each_stored P (a.name.spelling ∷ others) more each.1)) (λ left. each_stored P others more each.1)
+-- what holds of names holds of each of them once
+each_named : (P : List ℕ → Type 0) (names : List (List ℕ)) → Each P names → Each P (each_once names)
+each_named P [] each = tt
+each_named P (name ∷ names) each = (each.0, each_filter P (λ other. not (is_word name other)) (each_once names) (each_named P names each.1))
 
-stored_among : (variables : List (List ℕ)) (elements : List ChartElement) → Each (λ (a : Association). IsDeclared (variables ++ action_names elements) a.name.spelling) (flat_map (λ (s : Step). s.associations) (flat_map steps_in elements))
+-- what holds of the names of all associations holds of those that are stored
+each_stored : (P : List ℕ → Type 0) (associations : List Association) → Each (λ a. P a.name.spelling) associations → Each P (stored_names associations)
+each_stored P associations each =
+    each_filter P (is_stored_by associations) (associated_names associations)
+    (each_named P (map (λ (a : Association). a.name.spelling) associations) (each_map P (λ (a : Association). a.name.spelling) associations each))
+
+stored_among : (variables : List (List ℕ)) (elements : List ChartElement) → Each (λ (a : Association). IsDeclared (variables ++ action_names elements) a.name.spelling) (associations_in elements)
     → All (Contains (variables ++ action_names elements)) (stored_by variables elements)
 stored_among variables elements each =
     let declared = variables ++ action_names elements in
-    let associations = flat_map (λ (s : Step). s.associations) (flat_map steps_in elements) in
+    let associations = associations_in elements in
     All-from_recursion (Contains declared) (stored_by variables elements)
-    (each_map (Contains declared) (as_declared declared) (stored_names [] associations)
-    (each_weaker (IsDeclared declared) (λ name. Contains declared (as_declared declared name)) (stored_names [] associations) (among declared) (each_stored (IsDeclared declared) [] associations each)))
+    (each_map (Contains declared) (as_declared declared) (stored_names associations)
+    (each_weaker (IsDeclared declared) (λ name. Contains declared (as_declared declared name)) (stored_names associations) (among declared) (each_stored (IsDeclared declared) associations each)))
 
 -- ---- variables and actions
 
@@ -134,11 +137,11 @@ module _ (units : List Named) (unit : Declares) (vs : List Declared) (elements :
       or_first (list_any (λ d. is_word d name) (variable_names vs)) (list_any (λ d. is_word d name) (action_names elements)) (of_variable a.name (declared_named vs name) refl faultless)))
 
   of_elements : (es : List ChartElement) → flat_map (element_faults (scope_of units unit)) es ≡ []
-      → Each (λ (a : Association). IsDeclared (variable_names vs ++ action_names elements) a.name.spelling) (flat_map (λ (s : Step). s.associations) (flat_map steps_in es))
+      → Each (λ (a : Association). IsDeclared (variable_names vs ++ action_names elements) a.name.spelling) (associations_in es)
   of_elements [] none = tt
   of_elements (chart_elements.Step s ∷ es) none =
       let parts = nothing_parts (flat_map (association_faults (scope_of units unit)) s.associations) (flat_map (element_faults (scope_of units unit)) es) none in
-      each_append (λ (a : Association). IsDeclared (variable_names vs ++ action_names elements) a.name.spelling) s.associations (flat_map (λ (s : Step). s.associations) (flat_map steps_in es))
+      each_append (λ (a : Association). IsDeclared (variable_names vs ++ action_names elements) a.name.spelling) s.associations (associations_in es)
       (each_weaker (λ a. association_faults (scope_of units unit) a ≡ []) (λ (a : Association). IsDeclared (variable_names vs ++ action_names elements) a.name.spelling) s.associations of_association
       (nothing_each (association_faults (scope_of units unit)) s.associations parts.0)) (of_elements es parts.1)
   of_elements (chart_elements.Transition t ∷ es) none = of_elements es (nothing_parts (element_faults (scope_of units unit) (chart_elements.Transition t)) (flat_map (element_faults (scope_of units unit)) es) none).1

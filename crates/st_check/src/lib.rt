@@ -1,4 +1,4 @@
-//! The checks: a text that is in the grammar is a program, or has a first fault.
+//! Checks a text that is in the grammar: it is a program, or has a first fault.
 #![tactic(auto)]
 
 mod checks;

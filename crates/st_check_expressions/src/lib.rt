@@ -1,4 +1,4 @@
-//! What the rules say of expressions, and of the variables and calls in them.
+//! Finds what breaks a rule in expressions, in their variables and calls, and in what is assigned.
 #![tactic(auto)]
 
 mod arguments;

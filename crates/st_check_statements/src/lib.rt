@@ -1,4 +1,4 @@
-//! What the rules say of statements.
+//! Finds what breaks a rule in statements.
 #![tactic(auto)]
 
 mod around;

@@ -1,4 +1,4 @@
-//! What the rules say of declarations, charts and units.
+//! Finds what breaks a rule in declarations, charts and units.
 #![tactic(auto)]
 
 mod associations;

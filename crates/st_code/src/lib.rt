@@ -1,5 +1,5 @@
-//! The code of a unit for a stack machine: its instructions, what each does, and that the code of statements and charts does as they
-//! mean.
+//! Defines the code of units for a stack machine: its instructions and what each does. Its main law says that the code of statements and
+//! charts does as they mean.
 #![tactic(auto)]
 
 mod code;

@@ -8,7 +8,7 @@ use Rattle.st_tree.specs.declared.leaf.Leaf.{Leaf}
 use Rattle.st_types.specs.Compositions.{Composition}
 use Rattle.st_types.specs.Names.{Named, unit_at, units_of}
 use Rattle.st_leaves.specs.Sound.{IsValueOf}
-use Rattle.st_layout.specs.Memory.{AreValues}
+use Rattle.st_memory.specs.Memory.{AreValues}
 use Rattle.st_values.specs.Values.{in_range}
 use Rattle.st_values.specs.declared.elem.Elem.TheVariants as elems
 use Rattle.st_meaning.specs.Laws.{StaysInFrame}

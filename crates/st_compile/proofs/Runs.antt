@@ -6,7 +6,7 @@ use Rattle.st_tree.specs.declared.leaf.Leaf.{Leaf}
 use Rattle.st_types.specs.Names.{Named, units_of}
 use Rattle.st_leaves.specs.Places.{count}
 use Rattle.st_leaves.specs.Programs.{program_leaves}
-use Rattle.st_layout.specs.Memory.{AreValues, Content, Fits}
+use Rattle.st_memory.specs.Memory.{AreValues, Content, Fits}
 use Rattle.st_values.specs.Values.{in_range}
 use Rattle.st_values.specs.declared.elem.Elem.TheVariants as elems
 use Rattle.st_code.specs.Code.{Line}

@@ -2,7 +2,7 @@
 use Rattle.std.specs.Prelude.{ℕ, suc, ◌≡◌, ◌+◌, ◌==◌, min, max, Bool, true, ◌||◌, IsTrue, if◌then◌else◌, List, [], ◌∷◌, ◌++◌, length, map, Option, Some, None, Result, Ok, Err}
 use Rattle.std.specs.Option.{is_some}
 use Rattle.st_check.specs.Programs.{IsChecked, ProgramView, leaves_of_program, level_in, main_of, order_of, text_of}
-use Rattle.st_layout.specs.Memory.{Fits, forced_at, value_at}
+use Rattle.st_memory.specs.Memory.{Fits, forced_at, value_at}
 use Rattle.st_values.specs.Values.{in_range}
 use Rattle.st_values.specs.declared.elem.Elem.{Elem}
 use Rattle.st_values.specs.declared.elem.Elem.TheVariants as elems

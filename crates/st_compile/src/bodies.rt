@@ -16,8 +16,8 @@ use st_bodies::{body_depth, statements_depth};
 use st_check::{Program, checked_program_is_small};
 use st_code::Code;
 use st_emit::{emit_body, emit_chart};
+use st_leaves::AssociatedNames;
 use st_places::Tables;
-use st_sketches::Names;
 use st_tree::tree::{Body as Written, Statement};
 use st_types::{NamedUnit, UnitKind};
 use std::alloc::{AllocError, Global};
@@ -101,7 +101,7 @@ fn code_of(
     if elements.is_empty() {
         emit_body(alloc, tables, number, statements_of(unit))
     } else {
-        let names = Names::of(alloc, elements)?;
+        let names = AssociatedNames::of(alloc, elements)?;
         emit_chart(alloc, tables, number, elements, &names)
     }
 }

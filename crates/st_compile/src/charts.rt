@@ -11,8 +11,9 @@ ghost use Rattle.st_types.specs.Names.{units_of};
 ghost use Rattle.st_compile.specs.Programs.{chart_view, program_charts};
 
 use st_check::{Program, checked_program_is_small};
+use st_leaves::AssociatedNames;
 use st_places::{Tables, units_are_sound};
-use st_sketches::{Names, Sketch, sketch_of};
+use st_sketches::{Sketch, sketch_of};
 use st_values::Elem;
 use std::alloc::{AllocError, Global};
 
@@ -70,7 +71,7 @@ fn body_chart(
     if elements.is_empty() {
         return Ok(None);
     }
-    let names = Names::of(alloc, elements)?;
+    let names = AssociatedNames::of(alloc, elements)?;
     let variables = bool_variables(alloc, tables, number, &names)?;
     let sketch = sketch_of(alloc, elements, &names, variables)?;
     Ok(Some(sketch))
@@ -81,7 +82,7 @@ fn bool_variables(
     alloc: Global,
     tables: &Tables<'_>,
     unit: usize,
-    names: &Names<'_>,
+    names: &AssociatedNames<'_>,
 ) -> Result<Vec<bool>, AllocError>
     requires { IsSmall (whole_in tables.now unit).variables }
     ensures { IfOk result (λ variables. variables.items ≡ map (λ n. is_some (variable_named (whole_in tables.now unit).variables n)) names.now) }

@@ -10,6 +10,7 @@ use crate::making::made_of;
 use st_check::Program;
 use st_fused::Fused;
 use st_layout::Layout;
+use st_listing::OfProgram;
 use st_machine::{Room, Stacks, Units};
 use st_tree::Name;
 use std::alloc::{AllocError, Global};

@@ -1,4 +1,4 @@
-//! Images: programs with their layouts and their code, and how they run.
+//! Makes images, which are checked programs with their layouts and their code, and runs them.
 #![tactic(auto)]
 
 mod bodies;

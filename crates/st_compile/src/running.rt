@@ -15,7 +15,7 @@ use st_code::{
     code_is_of_its_chart, depth_is_at_most_the_length, typing_enters_instances,
     typing_invokes_bodies,
 };
-use st_layout::Memory;
+use st_memory::Memory;
 use st_machine::{Stacks, run_fused};
 use st_meaning::{RunFault, bodies_keep_the_frame, calls_are_sound, typing_gives_sound_units};
 use st_places::{instances_are_of_blocks, units_are_sound};

@@ -16,7 +16,7 @@ use Rattle.st_control.specs.Texts.{IsProgramOf, Reads}
 use Rattle.st_control.specs.declared.changing.Counts.{Counts}
 use Rattle.st_control.specs.declared.record.Record.{Record}
 use Rattle.st_control.specs.declared.refusal.Refusal.{Refusal}
-use Rattle.st_layout.specs.Moves.{moved}
+use Rattle.st_memory.specs.Moves.{moved}
 use Rattle.st_layout.specs.Pairs.{Pairs, is_pairable, pairs_between}
 use Rattle.st_layout.specs.declared.renames.Rename.{Rename}
 

@@ -13,16 +13,16 @@ use Rattle.st_control.specs.Machine.Command.{change}
 use Rattle.st_control.specs.States.{FitsRecord, IsWhole, StateView, leaves_of, undone}
 use Rattle.st_control.specs.declared.record.Record.{Record}
 use Rattle.st_control.specs.declared.refusal.Refusal.{Refusal}
-use Rattle.st_layout.proofs.ByPath.{fresh_leaf_is_initial, fresh_leaf_is_not_forced, fresh_pulse_follows_step, fresh_step_is_inactive, kept_force_stays, kept_value_stays}
-use Rattle.st_layout.proofs.GivenBack.{saved_content_holds, unmoved-moved}
-use Rattle.st_layout.proofs.Moving.{moved_content_fits}
-use Rattle.st_layout.proofs.OpenForces.{carried_forces_are_open, saved_forces_are_open}
+use Rattle.st_memory.proofs.ByPath.{fresh_leaf_is_initial, fresh_leaf_is_not_forced, fresh_pulse_follows_step, fresh_step_is_inactive, kept_force_stays, kept_value_stays}
+use Rattle.st_memory.proofs.GivenBack.{saved_content_holds, unmoved-moved}
+use Rattle.st_memory.proofs.Moving.{moved_content_fits}
+use Rattle.st_memory.proofs.OpenForces.{carried_forces_are_open, saved_forces_are_open}
 use Rattle.st_layout.proofs.Pairings.{pairs_one_to_one}
 use Rattle.std.specs.List.{All}
-use Rattle.st_layout.specs.Laws.{IsChange}
+use Rattle.st_memory.specs.Laws.{IsChange}
 use Rattle.st_layout.specs.Layout.{IsOpenAt}
-use Rattle.st_layout.specs.Memory.{Content}
-use Rattle.st_layout.specs.Moves.{HoldsValues, moved, saved, unmoved}
+use Rattle.st_memory.specs.Memory.{Content}
+use Rattle.st_memory.specs.Moves.{HoldsValues, moved, saved, unmoved}
 use Rattle.st_layout.specs.Pairs.{IsPairing, Pairs}
 use Rattle.st_layout.specs.declared.renames.Rename.{Rename}
 

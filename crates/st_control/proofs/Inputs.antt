@@ -9,9 +9,9 @@ use Rattle.std.proofs.lemmas.List.Folds.{list_any_at}
 use Rattle.st_control.proofs.Records.{takes_value}
 use Rattle.st_control.specs.Machine.{is_value_of}
 use Rattle.st_control.specs.Scans.{Input, has_no_leaf, has_other_type, with_input, with_inputs}
-use Rattle.st_layout.proofs.Contents.{with_value_fits}
+use Rattle.st_memory.proofs.Contents.{with_value_fits}
 use Rattle.st_layout.specs.Layout.{IsValueAt, leaf_at, no_value}
-use Rattle.st_layout.specs.Memory.{Content, Fits, forced_at, value_at}
+use Rattle.st_memory.specs.Memory.{Content, Fits, forced_at, value_at}
 use Rattle.st_tree.specs.declared.leaf.Leaf.{Leaf}
 use Rattle.st_values.specs.declared.value.Value.{Value}
 

@@ -11,12 +11,12 @@ use Rattle.st_control.specs.States.{IsWhole, StateView, forced, leaf_of, leaves_
 use Rattle.st_control.specs.declared.refusal.Refusal.{Refusal}
 use Rattle.st_control.proofs.Causes.{NoneHolds, unless_allows, unless_gives}
 use Rattle.st_control.proofs.ChangedStates.{change_carries}
-use Rattle.st_layout.proofs.Maps.{mark_changes_one_force, set_changes_one_value}
+use Rattle.st_memory.proofs.Maps.{mark_changes_one_force, set_changes_one_value}
 use Rattle.st_layout.proofs.Paths.{number-Some}
 use Rattle.st_layout.specs.Layout.{leaf_at}
 use Rattle.st_values.specs.Words.{raised}
-use Rattle.st_layout.specs.Laws.{is_forced, value_of}
-use Rattle.st_layout.specs.Memory.{with_force, with_value}
+use Rattle.st_memory.specs.Laws.{is_forced, value_of}
+use Rattle.st_memory.specs.Memory.{with_force, with_value}
 use Rattle.st_values.specs.declared.value.Value.{Value}
 
 -- a leaf is found only at the path

@@ -6,11 +6,11 @@ use Rattle.st_layout.specs.Layout.{IsOpenAt}
 use Rattle.std.specs.List.{All}
 use Rattle.std.specs.Prelude.{Err, Ok, OnOk, Result}
 use Rattle.std.specs.declared.alloc.AllocError.{AllocError}
-use Rattle.st_layout.proofs.OpenForces.{returned_forces_are_open}
-use Rattle.st_layout.specs.Memory.{Content, ForcesAreOpen}
-use Rattle.st_layout.specs.Moves.{unmoved}
+use Rattle.st_memory.proofs.OpenForces.{returned_forces_are_open}
+use Rattle.st_memory.specs.Memory.{Content, ForcesAreOpen}
+use Rattle.st_memory.specs.Moves.{unmoved}
 use Rattle.st_layout.specs.Pairs.{IsPairing, Pairs}
-use Rattle.st_layout.specs.declared.saved.Saved.{Saved}
+use Rattle.st_memory.specs.declared.saved.Saved.{Saved}
 use Rattle.st_tree.specs.declared.leaf.Leaf.{Leaf}
 
 -- an open leaf may be forced or let go

@@ -8,7 +8,7 @@ use Rattle.std.specs.Str.{bytes_eq}
 use Rattle.std.proofs.lemmas.Bool.Decides.{nat_tests}
 use Rattle.std.proofs.lemmas.List.{length-map}
 use Rattle.st_control.specs.Changes.{raised_rename, raised_renames}
-use Rattle.st_layout.proofs.Maps.{raised-raised}
+use Rattle.st_layout.proofs.Paths.{raised-raised}
 use Rattle.st_layout.specs.Pairs.{has_dollar, is_pairable, names_hidden, names_nothing, pairs_between, renames_twice, targets_of}
 use Rattle.st_layout.specs.Renames.{is_in, longest, renamed, renamed_by, renames_over}
 use Rattle.st_layout.specs.declared.renames.Rename.{Rename}

@@ -13,11 +13,11 @@ use Rattle.st_control.proofs.ChangedStates.{change_fits, change_undoes, change_w
 use Rattle.st_control.proofs.OnePath.{force_accepts, found_at, release_accepts, write_accepts}
 use Rattle.st_control.proofs.Open.{mark_keeps_open}
 use Rattle.st_control.proofs.Undone.{undone_forced, undone_released, undone_written}
-use Rattle.st_layout.proofs.Contents.{value_fits, with_value_fits}
+use Rattle.st_memory.proofs.Contents.{value_fits, with_value_fits}
 use Rattle.st_layout.proofs.Paired.{same_elem}
 use Rattle.st_layout.proofs.Paths.{number-Some}
 use Rattle.st_layout.specs.Layout.{IsOpenAt, IsValueAt, is_open, leaf_at}
-use Rattle.st_layout.specs.Memory.{forced_at, value_at}
+use Rattle.st_memory.specs.Memory.{forced_at, value_at}
 use Rattle.st_tree.specs.declared.leaf.Leaf.{Leaf}
 use Rattle.st_values.specs.Types.{is_same}
 use Rattle.st_values.specs.Values.{is_value}

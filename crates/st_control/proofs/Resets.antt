@@ -11,10 +11,10 @@ use Rattle.st_control.specs.ScanLaws.{ResetsGiveInitialValues, ResetsKeepWhole, 
 use Rattle.st_control.specs.Laws.{is_forced_in, path_at}
 use Rattle.st_control.specs.Scans.{reset_value, reset_values}
 use Rattle.st_control.specs.States.{IsWhole, StateView, leaves_of}
-use Rattle.st_layout.proofs.Contents.{value_fits}
-use Rattle.st_layout.proofs.Maps.{number-own}
+use Rattle.st_memory.proofs.Contents.{value_fits}
+use Rattle.st_layout.proofs.Paths.{number-own}
 use Rattle.st_layout.specs.Layout.{IsValueAt, leaf_at, no_leaf, no_value, number_of}
-use Rattle.st_layout.specs.Memory.{AreValues, forced_at, value_at}
+use Rattle.st_memory.specs.Memory.{AreValues, forced_at, value_at}
 use Rattle.st_leaves.specs.Sound.{IsSound}
 use Rattle.st_tree.specs.declared.leaf.Leaf.{Leaf}
 use Rattle.st_values.specs.declared.value.Value.{Value}

@@ -15,7 +15,7 @@ use Rattle.st_control.specs.Scans.{Input, Scan, can_follow, outcome_of, run_of, 
 use Rattle.st_control.specs.States.{IsMoment, IsWhole, StateView, leaves_of}
 use Rattle.st_compile.specs.Programs.{KeepsFrame}
 use Rattle.st_layout.specs.Layout.{number_of}
-use Rattle.st_layout.specs.Memory.{forced_at, value_at}
+use Rattle.st_memory.specs.Memory.{forced_at, value_at}
 use Rattle.st_meaning.specs.declared.fault.RunFault.{RunFault}
 use Rattle.st_values.specs.Values.{in_range}
 use Rattle.st_values.specs.declared.elem.Elem.TheVariants as elems

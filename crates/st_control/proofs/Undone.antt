@@ -4,7 +4,7 @@ use Rattle.std.proofs.lemmas.List.{set-set, set-get_or}
 use Rattle.st_control.specs.States.{StateView, forced, released, undone, with_content, written}
 use Rattle.st_control.specs.declared.record.Record.TheVariants.{Force, Release, Write}
 use Rattle.st_layout.specs.Layout.{no_value}
-use Rattle.st_layout.specs.Memory.{forced_at, value_at}
+use Rattle.st_memory.specs.Memory.{forced_at, value_at}
 use Rattle.st_values.specs.declared.value.Value.{Value}
 
 -- putting the old item back gives the list before

@@ -6,8 +6,8 @@ use Rattle.st_check.specs.Programs.{ProgramView, leaves_of_program}
 use Rattle.st_control.specs.States.{StateView, leaves_of}
 use Rattle.st_control.specs.declared.changing.Counts.{Counts}
 use Rattle.st_layout.specs.Layout.{leaf_at}
-use Rattle.st_layout.specs.Memory.{value_at}
-use Rattle.st_layout.specs.Moves.{is_true, moved}
+use Rattle.st_memory.specs.Memory.{value_at}
+use Rattle.st_memory.specs.Moves.{is_true, moved}
 use Rattle.st_layout.specs.Pairs.{Pairs, chart_of, dropped_count, fresh_count, is_number, is_pairable, kept_count, number_at, pairs_between}
 use Rattle.st_layout.specs.declared.renames.Rename.{Rename}
 use Rattle.st_tree.specs.declared.leaf.Leaf.{Leaf}

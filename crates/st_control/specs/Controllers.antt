@@ -11,8 +11,8 @@ use Rattle.st_control.specs.Texts.{Reads}
 use Rattle.st_control.specs.declared.record.Record.{Record}
 use Rattle.st_control.specs.declared.record.Record.TheVariants.{Change, Force, Release, Write}
 use Rattle.st_control.specs.declared.refusal.Refusal.{Refusal}
-use Rattle.st_layout.specs.Memory.{value_at, forced_at}
-use Rattle.st_layout.specs.Moves.{saved}
+use Rattle.st_memory.specs.Memory.{value_at, forced_at}
+use Rattle.st_memory.specs.Moves.{saved}
 use Rattle.st_layout.specs.declared.renames.Rename.{Rename}
 use Rattle.st_values.specs.declared.value.Value.{Value}
 

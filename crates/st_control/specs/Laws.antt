@@ -7,9 +7,9 @@ use Rattle.st_control.specs.Controllers.{record_of}
 use Rattle.st_control.specs.Machine.{Command, Machine, after_all, after_undos, ok_count, passed, step}
 use Rattle.st_control.specs.Machine.Command.{change, force, release, write}
 use Rattle.st_control.specs.States.{FitsRecord, IsWhole, StateView, leaves_of, undone}
-use Rattle.st_layout.specs.Laws.{BeginsAsDeclared, IsFresh, WasTrue, is_forced, value_of}
+use Rattle.st_memory.specs.Laws.{BeginsAsDeclared, IsFresh, WasTrue, is_forced, value_of}
 use Rattle.st_layout.specs.Layout.{leaf_at}
-use Rattle.st_layout.specs.Moves.{truth}
+use Rattle.st_memory.specs.Moves.{truth}
 use Rattle.st_layout.specs.Pairs.{Pairs, number_at}
 use Rattle.st_leaves.specs.Sound.{IsSound}
 use Rattle.st_tree.specs.declared.leaf.Role.{Role}

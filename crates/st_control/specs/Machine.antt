@@ -9,7 +9,7 @@ use Rattle.st_control.specs.Changes.{changed, gives_pairs, stops_chart}
 use Rattle.st_control.specs.States.{StateView, leaf_of, leaves_of, written, forced, released}
 use Rattle.st_control.specs.declared.refusal.Refusal.{Refusal}
 use Rattle.st_layout.specs.Layout.{leaf_at, is_open}
-use Rattle.st_layout.specs.Memory.{forced_at}
+use Rattle.st_memory.specs.Memory.{forced_at}
 use Rattle.st_layout.specs.declared.renames.Rename.{Rename}
 use Rattle.st_values.specs.Types.{is_same}
 use Rattle.st_values.specs.Values.{is_value}

@@ -8,7 +8,7 @@ use Rattle.st_control.specs.declared.scanning.Scanned.{Scanned}
 use Rattle.st_control.specs.declared.scanning.Scanned.TheVariants.{Done, Faulted}
 use Rattle.st_control.specs.declared.state.Status.TheVariants.{Halted, Running}
 use Rattle.st_layout.specs.Layout.{leaf_at}
-use Rattle.st_layout.specs.Memory.{Fits}
+use Rattle.st_memory.specs.Memory.{Fits}
 use Rattle.st_meaning.specs.declared.fault.RunFault.{RunFault}
 
 -- ---- scans

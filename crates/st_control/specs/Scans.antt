@@ -13,7 +13,7 @@ use Rattle.st_control.specs.declared.scanning.Scanned.TheVariants.{Done, Faulted
 use Rattle.st_control.specs.declared.state.Status.{Status}
 use Rattle.st_control.specs.declared.state.Status.TheVariants.{Halted, Running}
 use Rattle.st_layout.specs.Layout.{leaf_at}
-use Rattle.st_layout.specs.Memory.{Content, forced_at, value_at}
+use Rattle.st_memory.specs.Memory.{Content, forced_at, value_at}
 use Rattle.st_meaning.specs.declared.fault.RunFault.{RunFault}
 use Rattle.st_tree.specs.declared.leaf.Leaf.{Leaf}
 use Rattle.st_tree.specs.declared.leaf.Role.{Role}

@@ -8,11 +8,11 @@ use Rattle.st_control.specs.declared.state.Status.{Status}
 use Rattle.st_control.specs.declared.state.Status.TheVariants.{Running}
 use Rattle.st_leaves.specs.Sound.{IsSound}
 use Rattle.st_layout.specs.Layout.{IsOpenAt, IsValueAt, number_of}
-use Rattle.st_layout.specs.Memory.{Content, Fits, ForcesAreOpen, initial_content, with_value, with_force}
-use Rattle.st_layout.specs.Moves.{HoldsValues, unmoved}
+use Rattle.st_memory.specs.Memory.{Content, Fits, ForcesAreOpen, initial_content, with_value, with_force}
+use Rattle.st_memory.specs.Moves.{HoldsValues, unmoved}
 use Rattle.st_layout.specs.Pairs.{is_pairable, pairs_between}
 use Rattle.st_layout.specs.declared.renames.Rename.{Rename}
-use Rattle.st_layout.specs.declared.saved.Saved.{Saved}
+use Rattle.st_memory.specs.declared.saved.Saved.{Saved}
 use Rattle.st_tree.specs.declared.leaf.Leaf.{Leaf}
 use Rattle.st_values.specs.declared.value.Value.{Value}
 

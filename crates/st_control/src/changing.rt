@@ -6,7 +6,7 @@ ghost use Rattle.st_control.specs.Controllers.{is_of_change};
 ghost use Rattle.st_control.specs.Machine.{Heeds, change_causes};
 ghost use Rattle.st_control.specs.States.{FitsRecord, leaves_of, undone};
 ghost use Rattle.st_layout.specs.Layout.{leaf_at};
-ghost use Rattle.st_layout.specs.Moves.{saved};
+ghost use Rattle.st_memory.specs.Moves.{saved};
 ghost use Rattle.st_layout.specs.Pairs.{IsPairing, is_number};
 ghost use Rattle.st_values.specs.Words.{raised};
 
@@ -15,7 +15,8 @@ use crate::refusal::{NO_ACTIVE_STEP, Refusal, UNDO_FULL};
 use crate::scanning::room_for;
 use crate::state::State;
 use st_compile::Image;
-use st_layout::{Layout, Memory, Plan, Rename, carry_over};
+use st_layout::{Layout, Plan, Rename};
+use st_memory::{Memory, carry_over};
 use st_tree::{List, Role};
 use std::alloc::{AllocError, Global};
 use std::mem;

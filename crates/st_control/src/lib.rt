@@ -1,4 +1,4 @@
-//! The controller: a running program that an operator looks at and changes, and whose changes can all be taken back.
+//! Controls a running program: an operator looks at it and changes it, scans run, and each change of the operator's can be taken back.
 #![tactic(auto)]
 
 mod changing;

@@ -1,6 +1,7 @@
 //! Undo records.
 use st_compile::Image;
-use st_layout::{Rename, Saved};
+use st_layout::Rename;
+use st_memory::Saved;
 use st_tree::List;
 use st_values::Value;
 

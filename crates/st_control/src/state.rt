@@ -3,7 +3,7 @@ ghost use Rattle.std.specs.Prelude.{◌≡◌, ◌<◌, IfOk, IsTrue, OnOk, coun
 ghost use Rattle.st_control.specs.Machine.{is_value_of};
 ghost use Rattle.st_leaves.specs.Sound.{IsValueOf};
 ghost use Rattle.st_layout.specs.Layout.{IsOpenAt, IsValueAt, is_open};
-ghost use Rattle.st_layout.specs.Memory.{forced_at, value_at};
+ghost use Rattle.st_memory.specs.Memory.{forced_at, value_at};
 
 mod apart;
 
@@ -12,7 +12,7 @@ use crate::refusal::{
     IS_FORCED, NO_SUCH_PATH, NOT_FORCED, NOT_OF_TYPE, NOT_OPEN, Refusal, UNDO_FULL,
 };
 use st_compile::Image;
-use st_layout::Memory;
+use st_memory::Memory;
 use st_machine::Stacks;
 use st_meaning::RunFault;
 use st_tree::{Leaf, Role};
@@ -50,7 +50,7 @@ impl<M: Memory> Model for State<M> {
     ghost use Rattle.st_check.specs.Programs.{leaves_of_program};
     ghost use Rattle.st_control.specs.States.{IsMoment, StateView};
     ghost use Rattle.st_compile.specs.Programs.{HasRoom};
-    ghost use Rattle.st_layout.specs.Memory.{ForcesAreOpen};
+    ghost use Rattle.st_memory.specs.Memory.{ForcesAreOpen};
     ghost use Rattle.st_tree.specs.contracts.tree.expression.Expression as expression;
     ghost use Rattle.st_tree.specs.contracts.tree.statement.Statement as statement;
 

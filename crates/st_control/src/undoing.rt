@@ -4,15 +4,16 @@ ghost use Rattle.st_check.specs.Programs.{leaves_of_program};
 ghost use Rattle.st_control.specs.Controllers.{is_of_change};
 ghost use Rattle.st_control.specs.States.{FitsRecord, FitsSaved, undone};
 ghost use Rattle.st_compile.specs.Programs.{HasRoom};
-ghost use Rattle.st_layout.specs.Memory.{ForcesAreOpen};
-ghost use Rattle.st_layout.specs.Moves.{unmoved};
+ghost use Rattle.st_memory.specs.Memory.{ForcesAreOpen};
+ghost use Rattle.st_memory.specs.Moves.{unmoved};
 ghost use Rattle.st_layout.specs.Pairs.{pairs_between};
 
 use crate::record::Record;
 use crate::scanning::room_for;
 use crate::state::State;
 use st_compile::Image;
-use st_layout::{Layout, Memory, Plan, PlanFault, Rename, Saved};
+use st_layout::{Layout, Plan, PlanFault, Rename};
+use st_memory::{Memory, Saved};
 use st_machine::Stacks;
 use std::alloc::{AllocError, Global};
 

@@ -1,4 +1,4 @@
-//! Devices that give and take bytes, and the lines and words that are read from them.
+//! Reads bytes, lines and words from devices, and writes bytes to them.
 //!
 //! A [`Source`] gives bytes and a [`Sink`] takes them, over readers, writers or memory. An [`Input`] takes lines off a source.
 #![tactic(auto)]

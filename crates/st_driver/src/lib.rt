@@ -1,4 +1,4 @@
-//! The driver of the program `stc`: it does what the words of the command line order, from the source file to the exit status.
+//! Does what the words of the command line order, from the source file to the exit status and the message on standard error.
 #![tactic(auto)]
 
 mod driver;

@@ -15,8 +15,8 @@ ghost use Rattle.st_emit_expressions.specs.Trees.{whole_of};
 use crate::statements::emit_statements;
 use st_code::{Code, Instr};
 use st_emit_expressions::{Scope, emit_expression, narrow, place_named};
+use st_leaves::AssociatedNames;
 use st_places::Tables;
-use st_sketches::Names;
 use st_tree::tree::{Action, ChartElement, Transition};
 use st_values::Elem;
 use std::alloc::{AllocError, Global};
@@ -28,7 +28,7 @@ pub fn emit_chart(
     tables: &Tables<'_>,
     unit: usize,
     elements: &[ChartElement],
-    names: &Names<'_>,
+    names: &AssociatedNames<'_>,
 ) -> Result<Code, AllocError>
     requires small { IsSmall (whole_in tables.now unit).variables }
     requires elements { elements.now ≡ chart_within (whole_in tables.now unit).variables }
@@ -91,7 +91,7 @@ fn emit_action(
 }
 
 /// Stores whether each of the names is on that is a BOOL variable.
-fn emit_variables(code: &mut Code, scope: &Scope<'_>, names: &Names<'_>) -> Result<(), AllocError>
+fn emit_variables(code: &mut Code, scope: &Scope<'_>, names: &AssociatedNames<'_>) -> Result<(), AllocError>
     ensures { OnOk result (code.new ≡ code.old ++ reverse (variables_code (whole_of scope.now).variables (map (variable_named (whole_of scope.now).variables) names.now))) }
 {
     let mut number = names.len();

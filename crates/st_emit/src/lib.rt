@@ -1,4 +1,4 @@
-//! The code of statements and charts: from the trees of what units do to instructions.
+//! Makes the code of statements and charts from their trees, from its end to its beginning.
 #![tactic(auto)]
 
 mod body;

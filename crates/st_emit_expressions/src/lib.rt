@@ -1,4 +1,4 @@
-//! The code of expressions and places: from their trees to instructions.
+//! Makes the code of expressions and places from their trees.
 #![tactic(auto)]
 
 mod expression;

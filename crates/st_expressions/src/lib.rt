@@ -1,4 +1,4 @@
-//! Expressions and what stands in them, read from tokens.
+//! Reads expressions (IEC 61131-3:2003, 3.3.1), and the variables, calls and constants that stand in them.
 #![tactic(auto)]
 
 pub mod constant;

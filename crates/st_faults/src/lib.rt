@@ -1,4 +1,4 @@
-//! What can be wrong with a program that the grammar has: the rules, each with its number, the faults, and the first of some.
+//! Names the rules that a text can break though it is in the grammar, and keeps the first of the faults that are offered.
 #![tactic(auto)]
 
 mod fault;

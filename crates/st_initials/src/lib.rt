@@ -1,4 +1,4 @@
-//! With which values the variables of a text begin (2.4.2).
+//! Finds with which values the variables of a text begin (IEC 61131-3:2003, 2.4.2), each with one look-up.
 #![tactic(auto)]
 
 mod constant;

@@ -11,7 +11,8 @@ use crate::cells::NO_VALUE;
 use crate::moves::Move;
 use st_blocks::{MAX_BLOCK_LEAVES, block_step, leaf_count};
 use st_chart_runs::{load_values, store_values};
-use st_layout::{Layout, Memory};
+use st_layout::Layout;
+use st_memory::Memory;
 use st_types::StandardBlock;
 use st_values::Value;
 

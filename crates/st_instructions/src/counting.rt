@@ -11,7 +11,8 @@ use crate::leaves::store;
 use crate::moves::Move;
 use crate::stack::Stack;
 use st_code::Instr;
-use st_layout::{Layout, Memory};
+use st_layout::Layout;
+use st_memory::Memory;
 use st_meaning::RunFaultKind;
 use st_values::Elem;
 

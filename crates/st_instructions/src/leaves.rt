@@ -6,7 +6,8 @@ ghost use Rattle.st_meaning.specs.Meaning.{no_value, stored_to};
 
 use crate::cells::{cell, value_in};
 use st_chart_runs::store_value;
-use st_layout::{Layout, Memory};
+use st_layout::Layout;
+use st_memory::Memory;
 use st_values::Elem;
 
 /// The value of a leaf, as a cell.

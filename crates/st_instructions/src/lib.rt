@@ -1,4 +1,4 @@
-//! What each instruction does by itself, over a stack, the leaves of a memory or the variables of a function.
+//! Does each instruction by itself, over a stack and the leaves of a memory, or the variables of a function.
 #![tactic(auto)]
 
 pub mod acts;

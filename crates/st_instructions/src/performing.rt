@@ -15,7 +15,8 @@ use crate::operations::{
 use crate::stack::Stack;
 use crate::transfers::{get, get_at, put, put_at};
 use st_code::Instr;
-use st_layout::{Layout, Memory};
+use st_layout::Layout;
+use st_memory::Memory;
 
 /// Whether the machine does an instruction by itself: it enters no instance, calls no function, and is about no chart.
 #[inline(always)]

@@ -10,7 +10,8 @@ use crate::leaves::{load, store};
 use crate::moves::Move;
 use crate::stack::Stack;
 use st_code::Instr;
-use st_layout::{Layout, Memory};
+use st_layout::Layout;
+use st_memory::Memory;
 use st_values::Elem;
 
 /// The leaf that stands so far behind another.

@@ -1,10 +1,9 @@
-pub mod Bytes
 pub mod Inside
 pub mod InsideParts
+pub mod InsideRuns
 pub mod Laws
 pub mod Layout
-pub mod Memory
-pub mod Moves
 pub mod Pairs
 pub mod Parts
 pub mod Renames
+pub mod Runs

@@ -1,5 +1,5 @@
 -- Which leaf of a new program takes the place of which leaf of an old one.
-use Rattle.std.specs.Prelude.{ℕ, ◌≡◌, ◌↔◌, Bool, true, false, not, ◌&&◌, ◌||◌, ◌==◌, if◌then◌else◌, List, [], ◌∷◌, length, map, get_or, count_by, Option, Some, None}
+use Rattle.std.specs.Prelude.{ℕ, zero, suc, ◌≡◌, ◌<◌, ◌+◌, ◌↔◌, Bool, true, false, not, ◌&&◌, ◌||◌, ◌==◌, if◌then◌else◌, List, [], ◌∷◌, length, map, get_or, count_by, Option, Some, None}
 use Rattle.std.specs.Cmp.Lexicographic.{pointwise}
 use Rattle.std.specs.List.{list_any, position, range_with_len, zip}
 use Rattle.std.specs.Option.{is_some, option_and_then, option_map_or}
@@ -66,6 +66,24 @@ dropped_count pairs = count_by (λ target. not (is_some target)) pairs.targets
 abbrev pub fresh_count : Pairs → ℕ
 fresh_count pairs = count_by (λ source. not (is_some source)) pairs.sources
 
+-- the second number is the next after the first
+abbrev pub follows : Option ℕ → Option ℕ → Bool
+follows None other = false
+follows (Some i) None = false
+follows (Some i) (Some j) = j == i + 1
+
+-- a leaf is kept, and doesn't follow the one before it
+abbrev pub begins_run : List (Option ℕ) → ℕ → Bool
+begins_run numbers zero = is_some (number_at numbers 0)
+begins_run numbers (suc i) = is_some (number_at numbers (suc i)) && not (follows (number_at numbers i) (number_at numbers (suc i)))
+
+abbrev pub runs_in : List (Option ℕ) → ℕ
+runs_in numbers = count_by (begins_run numbers) (range_with_len 0 (length numbers))
+
+-- how many ranges of leaves that follow one another are kept
+abbrev pub range_count : Pairs → ℕ
+range_count pairs = runs_in pairs.targets
+
 -- ---- when renames give no pairs (O13)
 
 -- no leaf is in the part
@@ -115,6 +133,10 @@ is_pairable old new renames =
     not (names_wrongly old new renames || (shares_target (targets_of old new renames) || some_leaves_chart old new (targets_of old new renames)))
 
 -- ---- pairings
+
+-- the numbers in the list are below this one
+abbrev pub AreBelow : List (Option ℕ) → ℕ → Type 0
+AreBelow numbers count = (i j : ℕ) → number_at numbers i ≡ Some j → j < count
 
 -- Each leaf is in one pair at most, and the leaves of a pair are alike.
 pub record IsPairing (old new : List Leaf) (pairs : Pairs) : Type 0 where

@@ -1,16 +1,14 @@
 //! Layouts: the leaves of a program by number and by path.
-ghost use Rattle.std.specs.Prelude.{◌≡◌, ◌≤◌, ◌<◌, ◌+◌, ◌↔◌, EachIndex, IfOk, IfSome, IsSome, length, slice_index};
+ghost use Rattle.std.specs.Prelude.{◌≡◌, ◌≤◌, ◌<◌, ◌+◌, ◌↔◌, EachIndex, IfOk, IfSome, IsSome, Some, length, map, slice_index};
 ghost use Rattle.std.specs.List.{Contains};
-ghost use Rattle.st_check.specs.Programs.{leaves_of_program};
 ghost use Rattle.st_leaves.specs.Sound.{IsSound, IsValueOf};
 ghost use Rattle.st_layout.specs.Layout.{leaf_at, number_of, offset_of, paths_of, total_width};
 ghost use Rattle.st_values.specs.Words.{raised};
 
 use crate::table::{Entry, place_of, table_of};
 use indexmap::IndexSet;
-use st_check::Program;
-use st_listing::leaves_of;
 use st_tree::Leaf;
+use st_values::Elem;
 use std::alloc::{AllocError, Global};
 use std::marker::Model;
 
@@ -21,6 +19,8 @@ pub struct Layout {
     leaves: IndexSet<Entry>,
     /// The place of each leaf in bytes, and the end of the last one.
     offsets: Vec<u32>,
+    /// The type of each leaf.
+    elems: Vec<Elem>,
 }
 
 impl Model for Layout {
@@ -36,14 +36,19 @@ impl Model for Layout {
 }
 
 impl Layout {
-    /// The layout of a program's leaves. It is refused for want of memory alone.
-    pub fn of(alloc: Global, program: &Program) -> Result<Layout, AllocError>
-        ensures { IfOk result (λ layout. layout ≡ leaves_of_program program.now) }
+    /// The layout of leaves that a program can have. It is refused for want of memory alone.
+    pub fn new(alloc: Global, leaves: Vec<Leaf>) -> Result<Layout, AllocError>
+        requires { IsSound leaves.items }
+        ensures { IfOk result (λ layout. layout ≡ leaves.items) }
     {
-        let leaves = leaves_of(alloc, program)?;
         let offsets = offsets_of(alloc, &leaves)?;
+        let elems = elems_of(alloc, &leaves)?;
         let leaves = table_of(alloc, leaves)?;
-        Ok(Layout { leaves, offsets })
+        Ok(Layout {
+            leaves,
+            offsets,
+            elems,
+        })
     }
 
     /// How many leaves there are.
@@ -62,6 +67,7 @@ impl Layout {
     }
 
     /// The place of a leaf's value in bytes: the values lie in order, with no gaps.
+    #[inline]
     pub fn offset(&self, leaf: u32) -> u32
         requires { leaf < length self.now }
         ensures { result ≡ offset_of self.now leaf }
@@ -69,10 +75,20 @@ impl Layout {
         self.offsets[leaf as usize]
     }
 
+    /// The type of a leaf, from a table that is smaller than that of the leaves.
+    #[inline]
+    pub fn elem(&self, leaf: u32) -> Elem
+        requires { leaf < length self.now }
+        ensures { result ≡ (leaf_at self.now leaf).elem }
+    {
+        self.elems[leaf as usize]
+    }
+
     /// The leaf of this number.
     pub fn at(&self, leaf: u32) -> &Leaf
         requires { leaf < length self.now }
         ensures value { result.now ≡ leaf_at self.now leaf }
+        ensures found { number_of self.now result.now.path ≡ Some leaf }
         ensures short { length result.now.shown ≤ 255 }
         ensures initial { IsValueOf result.now result.now.initial }
     {
@@ -108,4 +124,15 @@ fn offsets_of(alloc: Global, leaves: &[Leaf]) -> Result<Vec<u32>, AllocError>
         offsets.push(end)?;
     }
     Ok(offsets)
+}
+
+/// The type of each leaf.
+fn elems_of(alloc: Global, leaves: &[Leaf]) -> Result<Vec<Elem>, AllocError>
+    ensures { IfOk result (λ elems. elems.items ≡ map (λ leaf. leaf.elem) leaves.now) }
+{
+    let mut elems = Vec::with_capacity(alloc, leaves.len())?;
+    for leaf in leaves {
+        elems.push(leaf.elem)?;
+    }
+    Ok(elems)
 }

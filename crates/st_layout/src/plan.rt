@@ -1,32 +1,31 @@
 //! Plans of online changes: which leaf of a new program takes the place of which leaf of an old one.
-ghost use Rattle.std.specs.Prelude.{◌≡◌, ◌<◌, false, IfOk, OnOk, length, true};
-ghost use Rattle.st_layout.specs.Pairs.{IsPairing, dropped_count, fresh_count, is_pairable, kept_count, number_at, pairs_between};
+ghost use Rattle.std.specs.Prelude.{◌≡◌, ◌<◌, ◌≤◌, false, IfOk, OnOk, length, true};
+ghost use Rattle.st_layout.specs.Pairs.{IsPairing, dropped_count, fresh_count, is_pairable, kept_count, number_at, pairs_between, range_count};
+ghost use Rattle.st_layout.specs.Runs.{IsNextRun};
 
 use crate::layout::Layout;
 use crate::pairing::{some_leaves_chart, sources_of, targets_of};
 use crate::plan_fault::PlanFault;
 use crate::rename_table::RenameTable;
 use crate::renames::Rename;
+use crate::runs::{Run, Runs};
 use std::alloc::Global;
 use std::marker::Model;
 
 /// The pairs of an online change: of each old leaf the number of the new one that takes its place, and of each new leaf the
-/// number of the old one.
+/// number of the old one. Both lists are kept as ranges, one in the order of the old leaves and one in that of the new ones.
 #[derive(Drop)]
 pub struct Plan {
-    targets: Vec<Option<u32>>,
-    sources: Vec<Option<u32>>,
+    targets: Runs,
+    sources: Runs,
 }
 
 impl Model for Plan {
-    ghost use Rattle.std.specs.Prelude.{◌≤◌, length};
     ghost use Rattle.st_layout.specs.Pairs.{Pairs};
 
     ghost Value = { Pairs };
 
-    ghost view = { λ plan. record { targets = plan.targets.items; sources = plan.sources.items } };
-
-    ghost invariant = { λ plan. (length plan.targets.items ≤ 65536) × (length plan.sources.items ≤ 65536) };
+    ghost view = { λ plan. record { targets = plan.targets; sources = plan.sources } };
 }
 
 impl Plan {
@@ -49,7 +48,12 @@ impl Plan {
         if some_leaves_chart(old, new, &targets) {
             return Err(PlanFault::NotPaired);
         }
-        Ok(Plan { targets, sources })
+        let by_old = Runs::of(alloc, &targets)?;
+        let by_new = Runs::of(alloc, &sources)?;
+        Ok(Plan {
+            targets: by_old,
+            sources: by_new,
+        })
     }
 
     /// The number of the new leaf that takes the place of this old one.
@@ -57,7 +61,7 @@ impl Plan {
         requires { leaf < length self.now.targets }
         ensures { result ≡ number_at self.now.targets leaf }
     {
-        self.targets[leaf as usize]
+        self.targets.at(leaf)
     }
 
     /// The number of the old leaf whose place this new one takes.
@@ -65,36 +69,64 @@ impl Plan {
         requires { leaf < length self.now.sources }
         ensures { result ≡ number_at self.now.sources leaf }
     {
-        self.sources[leaf as usize]
+        self.sources.at(leaf)
+    }
+
+    /// Of each old leaf the number of the new one that takes its place.
+    pub fn targets(&self) -> &Runs
+        ensures { result.now ≡ self.now.targets }
+    {
+        &self.targets
+    }
+
+    /// Of each new leaf the number of the old one whose place it takes.
+    pub fn sources(&self) -> &Runs
+        ensures { result.now ≡ self.now.sources }
+    {
+        &self.sources
+    }
+
+    /// The first kept range of old leaves from one on, or an empty one behind the last leaf.
+    pub fn next_target(&self, leaf: u32) -> Run
+        requires { leaf ≤ length self.now.targets }
+        ensures { IsNextRun self.now.targets leaf result }
+    {
+        self.targets.next(leaf)
+    }
+
+    /// The first kept range of new leaves from one on, or an empty one behind the last leaf.
+    pub fn next_source(&self, leaf: u32) -> Run
+        requires { leaf ≤ length self.now.sources }
+        ensures { IsNextRun self.now.sources leaf result }
+    {
+        self.sources.next(leaf)
     }
 
     /// How many leaves are kept.
     pub fn kept(&self) -> u32
         ensures { result ≡ kept_count self.now }
     {
-        self.targets
-            .iter()
-            .filter(|target| target.is_some())
-            .count() as u32
+        self.targets.kept()
     }
 
     /// How many old leaves are dropped.
     pub fn dropped(&self) -> u32
         ensures { result ≡ dropped_count self.now }
     {
-        self.targets
-            .iter()
-            .filter(|target| target.is_none())
-            .count() as u32
+        self.targets.len() - self.targets.kept()
     }
 
     /// How many new leaves take no other's place.
     pub fn fresh(&self) -> u32
         ensures { result ≡ fresh_count self.now }
     {
-        self.sources
-            .iter()
-            .filter(|source| source.is_none())
-            .count() as u32
+        self.sources.len() - self.sources.kept()
+    }
+
+    /// How many ranges of leaves that follow one another are kept.
+    pub fn ranges(&self) -> u32
+        ensures { result ≡ range_count self.now }
+    {
+        self.targets.runs()
     }
 }

@@ -10,17 +10,9 @@ use Rattle.st_tree.specs.declared.tree.unit.Step.{Step}
 use Rattle.st_types.specs.Names.{steps_in}
 use Rattle.st_sizes.specs.Sizes.{IsSize}
 use Rattle.st_sizes.specs.declared.size.Size.{Size}
-use Rattle.st_leaves.specs.Charts.{LeafBelow, all_leaves, below, chart_leaves, is_pulse, named, step_leaves, stored_leaves, stored_names}
+use Rattle.st_leaves.specs.Charts.{LeafBelow, all_leaves, associations_in, associations_of, below, chart_leaves, is_pulse, named, step_leaves, stored_leaves}
 use Rattle.st_leaves.specs.Limits.{size_of, sizes_of}
 use Rattle.st_leaves.specs.Steps.{state_leaves}
-use Rattle.st_leaves.proofs.Names.{stored_append}
-
-abbrev pub associations_of : List Step → List Association
-associations_of steps = flat_map (λ s. s.associations) steps
-
--- whether the chart has begun, and its steps
-abbrev pub steps_leaves : List Step → List LeafBelow
-steps_leaves steps = named (codes "$CHART") elems.Bool ∷ flat_map step_leaves steps
 
 -- two lists of leaves, one after the other
 pub sizes_joined : (size : Size) (leaves more all : List LeafBelow) → leaves ++ more ≡ all → IsSize size (sizes_of leaves ++ sizes_of more) → IsSize size (sizes_of all)
@@ -32,15 +24,20 @@ steps_more elements i element within =
     ap (flat_map steps_in) (take_more elements i element within) ∙ flat_map-append steps_in (take i elements) (get_or elements i element ∷ [])
     ∙ ap (λ ss. flat_map steps_in (take i elements) ++ ss) (append-nil (steps_in (get_or elements i element)))
 
-pub leaves_more : (steps : List Step) (s : Step) → steps_leaves steps ++ step_leaves s ≡ steps_leaves (steps ++ s ∷ [])
-leaves_more steps s =
-    ap (λ ls. named (codes "$CHART") elems.Bool ∷ ls)
-    (sym (flat_map-append step_leaves steps (s ∷ []) ∙ ap (λ ls. flat_map step_leaves steps ++ ls) (append-nil (step_leaves s))))
+-- one step more
+pub step_more : (elements : List ChartElement) (i : ℕ) (element : ChartElement) (s : Step) → i < length elements → element ≡ get_or elements i element → steps_in element ≡ s ∷ []
+    → flat_map steps_in (take (i + 1) elements) ≡ flat_map steps_in (take i elements) ++ s ∷ []
+step_more elements i element s within at one =
+    steps_more elements i element within ∙ ap (λ e. flat_map steps_in (take i elements) ++ steps_in e) (sym at) ∙ ap (λ ss. flat_map steps_in (take i elements) ++ ss) one
 
-pub stored_more : (names : List (List ℕ)) (steps : List Step) (s : Step) → names ≡ stored_names [] (associations_of steps) → names ++ stored_names names s.associations ≡ stored_names [] (associations_of (steps ++ s ∷ []))
-stored_more names steps s is =
-    ap (λ ns. ns ++ stored_names ns s.associations) is ∙ sym (stored_append [] (associations_of steps) s.associations)
-    ∙ ap (stored_names []) (sym (flat_map-append (λ t. t.associations) steps (s ∷ []) ∙ ap (λ as'. associations_of steps ++ as') (append-nil s.associations)))
+pub leaves_more : (steps : List Step) (s : Step) → flat_map step_leaves steps ++ step_leaves s ≡ flat_map step_leaves (steps ++ s ∷ [])
+leaves_more steps s = sym (flat_map-append step_leaves steps (s ∷ []) ∙ ap (λ ls. flat_map step_leaves steps ++ ls) (append-nil (step_leaves s)))
+
+pub associations_more : (elements : List ChartElement) (i : ℕ) (element : ChartElement) (s : Step) (associations : List Association) → i < length elements → element ≡ get_or elements i element → steps_in element ≡ s ∷ []
+    → associations ≡ s.associations → associations_in (take (i + 1) elements) ≡ associations_in (take i elements) ++ associations
+associations_more elements i element s associations within at one these =
+    ap associations_of (step_more elements i element s within at one)
+    ∙ flat_map-append (λ (t : Step). t.associations) (flat_map steps_in (take i elements)) (s ∷ []) ∙ ap (λ as'. associations_in (take i elements) ++ as') (append-nil s.associations ∙ sym these)
 
 pub chart_some : (stored : List (List ℕ)) (elements : List ChartElement) → 0 < length elements → all_leaves stored (flat_map steps_in elements) ≡ chart_leaves stored elements
 chart_some stored [] some = absurd (omega (arith, some))

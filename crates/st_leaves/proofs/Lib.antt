@@ -7,7 +7,7 @@ pub mod Cuts
 pub mod Differences
 pub mod FlagCharts
 pub mod Groups
-pub mod Names
+pub mod NamesOnce
 pub mod NumberTexts
 pub mod Numbers
 pub mod Pairs
@@ -17,7 +17,6 @@ pub mod RaisedWords
 pub mod SizesOf
 pub mod Spellings
 pub mod Started
-pub mod StoredApart
 pub mod SubscriptTexts
 pub mod SubscriptsApart
 pub mod SubscriptsTold

@@ -15,7 +15,7 @@ use Rattle.st_types.specs.Names.{steps_in}
 use Rattle.st_types.specs.Standard.{pins_of}
 use Rattle.st_types.specs.declared.standard.StandardBlock.{StandardBlock}
 use Rattle.st_types.specs.declared.standard.StandardBlock.TheVariants as blocks
-use Rattle.st_leaves.specs.Charts.{is_pulse, stored_by, stored_names}
+use Rattle.st_leaves.specs.Charts.{associations_of, is_pulse, stored_by, stored_names}
 use Rattle.st_leaves.specs.Leaves.{number_of, numbers_in}
 use Rattle.st_leaves.specs.LeavesIn.{LeafIn, all_steps_in, block_leaves, chart_in, elements_in, first_written, kept_by, leaves_in, leaves_of_whole, member_names, members_in, starting, state_in, step_in, stored_in, subscript_lists, used_as, variables_in, within}
 use Rattle.st_leaves.specs.Paths.{Path, Selector, field, index}
@@ -104,7 +104,7 @@ stored_length name (n ∷ stored) = ap suc (stored_length name stored)
 pub chart_length : (name : List ℕ) (variables : List (List ℕ)) (chart : List ChartElement) → length (chart_in name (stored_by variables chart) chart) ≡ chart_count chart
 chart_length name variables [] = refl
 chart_length name variables (e ∷ es) =
-    let all : length (all_steps_in name 1 steps ++ flat_map (stored_in name) stored) ≡ steps_count steps + length (stored_names [] (flat_map (λ s. s.associations) steps)) =
+    let all : length (all_steps_in name 1 steps ++ flat_map (stored_in name) stored) ≡ steps_count steps + length (stored_names (associations_of steps)) =
     length-append (all_steps_in name 1 steps) (flat_map (stored_in name) stored) ∙ ap (λ n. n + length (flat_map (stored_in name) stored)) (steps_length name 1 steps)
     ∙ ap (λ n. steps_count steps + n) (stored_length name stored ∙ stored_by_count variables (e ∷ es)) in
     omega (arith, all) where

@@ -1,6 +1,7 @@
 -- What holds of each element, and of each element and each later one, by recursion on the list.
-use Rattle.std.proofs.Common.{List, [], ◌∷◌, ◌++◌, map, AllPairs, zero, suc, arith}
-use Rattle.std.specs.List.{AllByRecursion as Each}
+use Rattle.std.proofs.Common.{◌≡◌, Bool, true, List, [], ◌∷◌, ◌++◌, map, AllPairs, zero, suc, arith}
+use Rattle.std.specs.List.{AllByRecursion as Each, filter}
+use Rattle.std.proofs.lemmas.Bool.{cond_both}
 use Rattle.std.proofs.lemmas.List.Elements.{All-from_recursion, recursion_from_All}
 use Rattle.std.proofs.lemmas.List.Kept.{AllPairs-cons}
 
@@ -28,6 +29,17 @@ module _ {X : Type 0} (P : X → Type 0) where
   pub each_weaker : (Q : X → Type 0) (xs : List X) → ((x : X) → P x → Q x) → Each P xs → Each Q xs
   each_weaker Q [] weaker all = tt
   each_weaker Q (x ∷ xs) weaker all = (weaker x all.0, each_weaker Q xs weaker all.1)
+
+  pub each_filter : (p : X → Bool) (xs : List X) → Each P xs → Each P (filter p xs)
+  each_filter p [] all = tt
+  each_filter p (x ∷ xs) all =
+      cond_both (p x) (x ∷ filter p xs) (filter p xs) (Each P) (λ kept. (all.0, each_filter p xs all.1)) (λ left. each_filter p xs all.1)
+
+-- those that are left pass
+pub each_passes : {X : Type 0} (p : X → Bool) (xs : List X) → Each (λ x. p x ≡ true) (filter p xs)
+each_passes p [] = tt
+each_passes p (x ∷ xs) =
+    cond_both (p x) (x ∷ filter p xs) (filter p xs) (Each (λ y. p y ≡ true)) (λ kept. (kept, each_passes p xs)) (λ left. each_passes p xs)
 
 -- R holds of each element and each later one
 abbrev pub Pairwise : {X : Type 0} → (X → X → Type 0) → List X → Type 0
@@ -68,6 +80,11 @@ module _ {X : Type 0} (R : X → X → Type 0) where
   pub pairwise_weaker : (Q : X → X → Type 0) (xs : List X) → ((a b : X) → R a b → Q a b) → Pairwise R xs → Pairwise Q xs
   pairwise_weaker Q [] weaker all = tt
   pairwise_weaker Q (x ∷ xs) weaker all = (each_weaker (R x) (Q x) xs (weaker x) all.0, pairwise_weaker Q xs weaker all.1)
+
+  pub pairwise_filter : (p : X → Bool) (xs : List X) → Pairwise R xs → Pairwise R (filter p xs)
+  pairwise_filter p [] all = tt
+  pairwise_filter p (x ∷ xs) all =
+      cond_both (p x) (x ∷ filter p xs) (filter p xs) (Pairwise R) (λ kept. (each_filter (R x) p xs all.0, pairwise_filter p xs all.1)) (λ left. pairwise_filter p xs all.1)
 
   pub all_pairs : (xs : List X) → Pairwise R xs → AllPairs R xs
   all_pairs [] all = λ i j d before within. absurd (omega arith)

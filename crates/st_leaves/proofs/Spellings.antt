@@ -14,26 +14,16 @@ use Rattle.st_types.specs.Names.{Declared, Named, steps_in}
 use Rattle.st_types.specs.declared.base.Base.{Base}
 use Rattle.st_values.specs.Words.{is_word}
 use Rattle.st_values.proofs.SameWords.{is_word_comm}
-use Rattle.st_leaves.specs.Charts.{action_names, as_declared, stored_by, stored_leaves, stored_names, variable_names}
+use Rattle.st_leaves.specs.Charts.{action_names, as_declared, associations_in, stored_by, stored_leaves, stored_names, variable_names}
 use Rattle.st_leaves.specs.LeavesIn.{member_names}
 use Rattle.st_leaves.specs.Limits.{sizes_of}
+use Rattle.st_leaves.proofs.NamesOnce.{alike, itself, lowered, stored_apart}
 use Rattle.st_leaves.proofs.Pairs.{Pairwise, pairwise_map, pairwise_weaker}
-use Rattle.st_leaves.proofs.StoredApart.{stored_apart}
 
 -- ---- the same word
 
-lowered : (a b : List ℕ) → is_word a b ≡ true → str_to_ascii_lowercase a ≡ str_to_ascii_lowercase b
-lowered a b same = sym ((bytes_eq-Decides (str_to_ascii_lowercase b) (str_to_ascii_lowercase a)).0 same)
-
 same_length : (a b : List ℕ) → is_word a b ≡ true → length a ≡ length b
 same_length a b same = sym (length-map a to_ascii_lowercase) ∙ ap length (lowered a b same) ∙ length-map b to_ascii_lowercase
-
-itself : (a : List ℕ) → is_word a a ≡ true
-itself a = (bytes_eq-Decides (str_to_ascii_lowercase a) (str_to_ascii_lowercase a)).1 refl
-
--- what is the same as one of two such words is the same as the other
-alike : (a b c : List ℕ) → is_word a b ≡ true → is_word a c ≡ is_word b c
-alike a b c same = ap (bytes_eq (str_to_ascii_lowercase c)) (lowered a b same)
 
 -- ---- a name as it is declared
 
@@ -72,14 +62,14 @@ module _ (declared : List (List ℕ)) where
 module _ (variables : List (List ℕ)) (chart : List ChartElement) where
   pub stored_by_apart : Pairwise (λ a b. is_word a b ≡ false) (stored_by variables chart)
   stored_by_apart =
-      declared_apart (variables ++ action_names chart) (stored_names [] (flat_map (λ s. s.associations) (flat_map steps_in chart)))
-      (stored_apart [] (flat_map (λ s. s.associations) (flat_map steps_in chart)))
+      declared_apart (variables ++ action_names chart) (stored_names (associations_in chart))
+      (stored_apart (associations_in chart))
 
-  pub stored_by_count : length (stored_by variables chart) ≡ length (stored_names [] (flat_map (λ s. s.associations) (flat_map steps_in chart)))
-  stored_by_count = length-map (stored_names [] (flat_map (λ s. s.associations) (flat_map steps_in chart))) (as_declared (variables ++ action_names chart))
+  pub stored_by_count : length (stored_by variables chart) ≡ length (stored_names (associations_in chart))
+  stored_by_count = length-map (stored_names (associations_in chart)) (as_declared (variables ++ action_names chart))
 
-  pub stored_by_sizes : sizes_of (stored_leaves (stored_by variables chart)) ≡ sizes_of (stored_leaves (stored_names [] (flat_map (λ s. s.associations) (flat_map steps_in chart))))
-  stored_by_sizes = declared_sizes (variables ++ action_names chart) (stored_names [] (flat_map (λ s. s.associations) (flat_map steps_in chart)))
+  pub stored_by_sizes : sizes_of (stored_leaves (stored_by variables chart)) ≡ sizes_of (stored_leaves (stored_names (associations_in chart)))
+  stored_by_sizes = declared_sizes (variables ++ action_names chart) (stored_names (associations_in chart))
 
 -- ---- the names of variables
 

@@ -1,6 +1,7 @@
 -- What a chart keeps of itself (2.6): leaves whose names can't be written in a program, but for the flag and the time of a step.
+use Rattle.std.specs.Borrow.{Bor}
 use Rattle.std.specs.Prelude.{ℕ, Bool, false, ◌&&◌, not, List, [], ◌∷◌, ◌++◌, codes, map, Option, Some, None, if◌then◌else◌}
-use Rattle.std.specs.List.{flat_map, list_any}
+use Rattle.std.specs.List.{filter, flat_map, list_any}
 use Rattle.st_values.specs.Words.{is_word}
 use Rattle.st_values.specs.declared.elem.Elem.{Elem}
 use Rattle.st_values.specs.declared.elem.Elem.TheVariants as elems
@@ -43,12 +44,40 @@ step_leaves s =
     (named (codes "X") elems.Bool ∷ named (codes "T") elems.Time ∷ named (codes "$M") elems.Time
     ∷ (if list_any is_pulse s.associations then named (codes "$P") elems.Bool ∷ [] else []))
 
--- the names that some association has with the qualifier S, each once, in the order of the first
-abbrev pub stored_names : List (List ℕ) → List Association → List (List ℕ)
-stored_names others [] = []
-stored_names others (a ∷ more) =
-    if is_stored a && not (list_any (is_word a.name.spelling) others) then a.name.spelling ∷ stored_names (a.name.spelling ∷ others) more
-    else stored_names others more
+-- ---- associated names
+
+-- what steps are associated with, in order
+abbrev pub associations_of : List Step → List Association
+associations_of steps = flat_map (λ s. s.associations) steps
+
+-- what the steps among these elements of a chart are associated with
+abbrev pub associations_in : List ChartElement → List Association
+associations_in elements = associations_of (flat_map steps_in elements)
+
+-- names, each once, in the order of the first
+abbrev pub each_once : List (List ℕ) → List (List ℕ)
+each_once [] = []
+each_once (name ∷ names) = name ∷ filter (λ other. not (is_word name other)) (each_once names)
+
+-- the names of associations, each once, in the order of its first association, whatever the qualifiers
+abbrev pub associated_names : List Association → List (List ℕ)
+associated_names associations = each_once (map (λ a. a.name.spelling) associations)
+
+-- whether one of these associations has this name and the qualifier S
+abbrev pub is_stored_by : List Association → List ℕ → Bool
+is_stored_by associations name = list_any (λ a. is_stored a && is_word name a.name.spelling) associations
+
+-- those of the associated names that some association has with the qualifier S
+abbrev pub stored_names : List Association → List (List ℕ)
+stored_names associations = filter (is_stored_by associations) (associated_names associations)
+
+-- the names of the associations that have the qualifier S, in order, one for each of these
+abbrev pub set_names : List Association → List (List ℕ)
+set_names associations = map (λ a. a.name.spelling) (filter is_stored associations)
+
+-- the names that these words are
+abbrev pub spelled : List (Bor (List ℕ)) → List (List ℕ)
+spelled words = map (λ word. word.now) words
 
 -- ---- how these names are declared
 
@@ -70,7 +99,7 @@ action_names elements = map (λ a. a.name.spelling) (flat_map actions_in element
 -- the names that a chart stores, in the order of their first associations, each as the variable or the action is declared that it
 -- names: the variables of its unit have these names
 abbrev pub stored_by : List (List ℕ) → List ChartElement → List (List ℕ)
-stored_by variables elements = map (as_declared (variables ++ action_names elements)) (stored_names [] (flat_map (λ s. s.associations) (flat_map steps_in elements)))
+stored_by variables elements = map (as_declared (variables ++ action_names elements)) (stored_names (associations_in elements))
 
 -- the names that the chart of a unit stores
 abbrev pub stored_of : Declares → List (List ℕ)

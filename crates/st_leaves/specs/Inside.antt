@@ -1,9 +1,8 @@
--- The fields of the names that a chart stores.
-use Rattle.st_sizes.specs.Sizes.{IsSize}
-use Rattle.st_leaves.specs.Charts.{stored_leaves}
-use Rattle.st_leaves.specs.Limits.{sizes_of}
-use Rattle.st_leaves.specs.declared.stored.StoredNames.TheInside.{Inside}
+-- The fields of a chart's names.
+use Rattle.std.specs.Prelude.{◌≡◌}
+use Rattle.st_leaves.specs.Charts.{spelled}
+use Rattle.st_leaves.specs.declared.names.AssociatedNames.TheInside.{Inside}
 
--- the size is that of the names' leaves
-pub record IsStored (stored : Inside) : Type 0 where
-  pub size : IsSize stored.size (sizes_of (stored_leaves stored.names))
+-- the table has the names that these words are
+pub record AreNames (names : Inside) : Type 0 where
+  pub words : names.numbers ≡ spelled names.words.items

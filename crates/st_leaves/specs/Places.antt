@@ -13,7 +13,7 @@ use Rattle.st_types.specs.Standard.{pins_of}
 use Rattle.st_types.specs.declared.standard.StandardBlock.{StandardBlock}
 use Rattle.st_values.specs.Words.{is_word}
 use Rattle.st_values.specs.declared.value.Value.{Value}
-use Rattle.st_leaves.specs.Charts.{is_pulse, stored_names}
+use Rattle.st_leaves.specs.Charts.{associations_of, is_pulse, stored_names}
 use Rattle.st_leaves.specs.Leaves.{number_of}
 use Rattle.st_leaves.specs.LeavesIn.{LeafIn, kept_by, leaves_in, leaves_of_whole}
 use Rattle.st_leaves.specs.Paths.{Path, field, index, is_same_path}
@@ -39,7 +39,7 @@ steps_count (s ∷ steps) = step_count s + steps_count steps
 
 -- whether the chart has begun, its steps, and the names that are stored
 abbrev pub whole_chart_count : List Step → ℕ
-whole_chart_count steps = 1 + (steps_count steps + length (stored_names [] (flat_map (λ s. s.associations) steps)))
+whole_chart_count steps = 1 + (steps_count steps + length (stored_names (associations_of steps)))
 
 abbrev pub chart_count : List ChartElement → ℕ
 chart_count [] = 0

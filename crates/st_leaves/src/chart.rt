@@ -1,13 +1,14 @@
 //! How large the leaves of charts are (2.6).
 ghost use Rattle.std.specs.Prelude.{◌≡◌, IfOk, List, ℕ};
-ghost use Rattle.std.specs.List.{list_any};
+ghost use Rattle.std.specs.List.{flat_map, list_any};
 ghost use Rattle.st_sizes.specs.Sizes.{IsSize};
 ghost use Rattle.st_leaves.specs.Charts.{chart_leaves, is_pulse, step_leaves, stored_by};
 ghost use Rattle.st_leaves.specs.Limits.{sizes_of};
 ghost use Rattle.st_leaves.specs.Steps.{state_leaves};
+ghost use Rattle.st_types.specs.Names.{steps_in};
 
 use crate::size::{named_leaf_size, named_size};
-use crate::stored::{StoredNames, has_qualifier};
+use crate::stored::{flags_size, has_qualifier, stored_names};
 use st_sizes::Size;
 use st_tree::tree::{Association, ChartElement, Step};
 use st_values::Elem;
@@ -21,16 +22,23 @@ pub fn chart_size(alloc: Global, elements: &[ChartElement]) -> Result<Size, Allo
     if elements.is_empty() {
         return Ok(Size::none());
     }
-    let mut size = named_leaf_size(b"$CHART", Elem::Bool);
-    let mut stored = StoredNames::new(alloc);
+    let stored = stored_names(alloc, elements)?;
+    let size = named_leaf_size(b"$CHART", Elem::Bool).beside(steps_size(elements));
+    Ok(size.beside(flags_size(stored.as_slice())))
+}
+
+/// Of the steps among these elements.
+fn steps_size(elements: &[ChartElement]) -> Size
+    ensures { IsSize result (sizes_of (flat_map step_leaves (flat_map steps_in elements.now))) }
+{
+    let mut size = Size::none();
     'elements: for element in elements {
         let ChartElement::Step(step) = element else {
             continue;
         };
         size = size.beside(step_size(step));
-        stored.add_all(step.associations.as_slice())?;
     }
-    Ok(size.beside(stored.size()))
+    size
 }
 
 /// Of a step.

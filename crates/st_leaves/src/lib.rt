@@ -1,9 +1,10 @@
-//! The leaves of a program: which there are, in order, and how large those are that a part of it has.
+//! Defines which leaves a program has, in which order, under which paths and with which values, and counts those of its parts.
 #![tactic(auto)]
 
 mod array;
 mod chart;
 mod laws;
+mod names;
 mod size;
 mod standard;
 mod stored;
@@ -14,6 +15,7 @@ pub use laws::{
     flags_have_charts, leaves_are_counted, leaves_begin_with_values, leaves_follow_the_composition,
     paths_are_distinct, places_are_numbers,
 };
+pub use names::AssociatedNames;
 pub use size::{leaf_size, named_size};
 pub use standard::standard_size;
-pub use stored::StoredNames;
+pub use stored::stored_names;

@@ -1,79 +1,88 @@
 //! The names that a chart stores (2.6.4.4).
-ghost use Rattle.std.specs.Prelude.{◌≡◌, ◌++◌, ◌∷◌, [], IfOk, OnErr, OnOk, if◌then◌else◌};
+ghost use Rattle.std.specs.Prelude.{◌≡◌, ◌++◌, ◌&&◌, IfOk, OnOk, filter, map};
+ghost use Rattle.std.specs.List.{list_any};
 ghost use Rattle.st_sizes.specs.Sizes.{IsSize};
-ghost use Rattle.st_leaves.specs.Charts.{has_qualifier, stored_leaves, stored_names};
+ghost use Rattle.st_leaves.specs.Charts.{associations_in, has_qualifier, set_names, spelled, stored_leaves, stored_names};
 ghost use Rattle.st_leaves.specs.Limits.{sizes_of};
+ghost use Rattle.st_values.specs.Words.{is_word};
 
+use crate::names::AssociatedNames;
 use crate::size::{named_leaf_size, named_size};
 use st_names::{NameTable, is_same_name};
 use st_sizes::Size;
-use st_tree::tree::Association;
+use st_tree::Word;
+use st_tree::tree::{Association, ChartElement};
 use st_values::Elem;
 use std::alloc::{AllocError, Global};
-use std::marker::Model;
 
-/// The names that associations with the qualifier S have, each once, and how large their leaves are.
-#[derive(Drop)]
-pub struct StoredNames<'a> {
-    names: NameTable<'a>,
-    size: Size,
+/// The names that a chart with these elements stores, in the order of their first associations, as these spell them.
+pub fn stored_names<'a>(
+    alloc: Global,
+    elements: &'a [ChartElement],
+) -> Result<Vec<&'a Word>, AllocError>
+    ensures { IfOk result (λ words. spelled words.items ≡ stored_names (associations_in elements.now)) }
+{
+    let set = names_set(alloc, elements)?;
+    if set.len() == 0 {
+        return Ok(Vec::new(alloc));
+    }
+    let names = AssociatedNames::of(alloc, elements)?;
+    words_among(alloc, names.words(), &set)
 }
 
-impl<'a> Model for StoredNames<'a> {
-    ghost use Rattle.std.specs.Prelude.{List, ℕ};
-    ghost use Rattle.st_leaves.specs.Inside.{IsStored};
-
-    ghost Value = { List (List ℕ) };
-
-    ghost view = { λ stored. stored.names };
-
-    ghost invariant = { IsStored };
+/// Those of these words, in order, that are among the names of a table.
+fn words_among<'a>(
+    alloc: Global,
+    words: &[&'a Word],
+    names: &NameTable<'_>,
+) -> Result<Vec<&'a Word>, AllocError>
+    ensures { IfOk result (λ among. spelled among.items ≡ filter (λ name. list_any (is_word name) names.now) (spelled words.now)) }
+{
+    let mut among = Vec::new(alloc);
+    'words: for word in words {
+        if names.find(word.as_slice()).is_some() {
+            among.push(*word)?;
+        }
+    }
+    Ok(among)
 }
 
-impl<'a> StoredNames<'a> {
-    /// None. They take no memory.
-    pub fn new(alloc: Global) -> StoredNames<'a>
-        ensures { result ≡ [] }
-    {
-        StoredNames {
-            names: NameTable::new(alloc),
-            size: Size::none(),
+/// The names that the steps among these elements are associated with by the qualifier S, one for each such association.
+fn names_set<'a>(alloc: Global, elements: &'a [ChartElement]) -> Result<NameTable<'a>, AllocError>
+    ensures { IfOk result (λ names. names ≡ set_names (associations_in elements.now)) }
+{
+    let mut names = NameTable::new(alloc);
+    'elements: for element in elements {
+        let ChartElement::Step(step) = element else {
+            continue;
+        };
+        add_set(step.associations.as_slice(), &mut names)?;
+    }
+    Ok(names)
+}
+
+/// Adds the names of these associations that have the qualifier S.
+fn add_set<'a>(associations: &'a [Association], names: &mut NameTable<'a>) -> Result<(), AllocError>
+    ensures { OnOk result (names.new ≡ names.old ++ set_names associations.now) }
+{
+    'associations: for association in associations {
+        if has_qualifier(association, b"S") {
+            names.push(association.name.spelling.as_slice())?;
         }
     }
+    Ok(())
+}
 
-    /// How large their leaves are.
-    pub(crate) fn size(&self) -> Size
-        ensures { IsSize result (sizes_of (stored_leaves self.now)) }
-    {
-        self.size
+/// How large the leaves of these stored names are.
+pub(crate) fn flags_size(names: &[&Word]) -> Size
+    ensures { IsSize result (sizes_of (stored_leaves (spelled names.now))) }
+{
+    let mut size = Size::none();
+    'names: for name in names {
+        let flag = named_leaf_size(b"$S", Elem::Bool);
+        size = size.beside(named_size(name.as_slice(), flag));
     }
-
-    /// Adds the names of these associations with the qualifier S that aren't there yet.
-    pub(crate) fn add_all(&mut self, associations: &'a [Association]) -> Result<(), AllocError>
-        ensures { OnOk result (self.new ≡ self.old ++ stored_names self.old associations.now) }
-    {
-        'associations: for association in associations {
-            self.add(association)?;
-        }
-        Ok(())
-    }
-
-    /// Adds the name of this association, if it has the qualifier S and isn't there yet, and says whether it was added.
-    pub fn add(&mut self, association: &'a Association) -> Result<bool, AllocError>
-        ensures names { OnOk result (self.new ≡ self.old ++ stored_names self.old (association.now ∷ [])) }
-        ensures added { IfOk result (λ is_added. stored_names self.old (association.now ∷ []) ≡ if is_added then association.now.name.spelling ∷ [] else []) }
-        ensures err { OnErr result (self.new ≡ self.old) }
-    {
-        let name = association.name.spelling.as_slice();
-        if has_qualifier(association, b"S") && self.names.find(name).is_none() {
-            let flag = named_leaf_size(b"$S", Elem::Bool);
-            self.names.push(name)?;
-            self.size = self.size.beside(named_size(name, flag));
-            Ok(true)
-        } else {
-            Ok(false)
-        }
-    }
+    size
 }
 
 /// Whether an association has the qualifier of this letter.

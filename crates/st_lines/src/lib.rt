@@ -1,6 +1,5 @@
-//! What lines ask for: requests with their words, and changes with the source lines that follow.
-//!
-//! What is asked for is read here, and done by whoever has a controller.
+//! Reads what lines ask for: requests with their words, and changes with the source lines that follow. Who has a controller does what is
+//! asked.
 #![tactic(auto)]
 
 mod change_text;

@@ -8,7 +8,8 @@ use Rattle.st_tree.specs.declared.tree.unit.Step.{Step}
 use Rattle.st_leaves.specs.LeavesIn.{begun, one, truth, all_steps_in, step_in, stored_in, whole_chart_in}
 use Rattle.st_leaves.specs.Paths.{kept}
 use Rattle.st_values.specs.declared.value.Value.{Value}
-use Rattle.st_chart_parts.specs.Charts.{ChartView, leaves_of_parts, spelled}
+use Rattle.st_chart_parts.specs.Charts.{ChartView, leaves_of_parts}
+use Rattle.st_leaves.specs.Charts.{spelled}
 use Rattle.st_listing.specs.Listings.{AreWays, ListingView, listed}
 use Rattle.st_listing.proofs.Listings.{listed_count, listed_more, ways_append, ways_by, ways_more}
 

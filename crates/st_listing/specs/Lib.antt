@@ -5,3 +5,4 @@ pub mod Members
 pub mod Rows
 pub mod Uses
 pub mod Walks
+pub mod Worded

@@ -1,7 +1,8 @@
 //! The leaves of charts (2.6).
 ghost use Rattle.std.specs.List.{flat_map};
 ghost use Rattle.std.specs.Prelude.{◌≡◌, ◌+◌, ◌≤◌, OnOk, length};
-ghost use Rattle.st_chart_parts.specs.Charts.{leaves_of_parts, spelled};
+ghost use Rattle.st_chart_parts.specs.Charts.{leaves_of_parts};
+ghost use Rattle.st_leaves.specs.Charts.{spelled};
 ghost use Rattle.st_leaves.specs.LeavesIn.{all_steps_in, state_in, step_in, stored_in};
 ghost use Rattle.st_listing.specs.Listings.{AreWays, listed};
 

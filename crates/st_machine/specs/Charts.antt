@@ -2,7 +2,7 @@
 use Rattle.std.specs.Option.{is_some}
 use Rattle.std.specs.Prelude.{◌≡◌, ◌≢◌, ℕ, Bool, true, false, ℤ, List, [], ◌∷◌, drop, get_or, IsTrue, Option, Some}
 use Rattle.std.specs.List.{All}
-use Rattle.st_layout.specs.Memory.{Content}
+use Rattle.st_memory.specs.Memory.{Content}
 use Rattle.st_meaning.specs.Sketches.{Sketch}
 use Rattle.st_sketches.specs.Views.{IsOf, SketchView}
 use Rattle.st_chart_runs.specs.Charts.{ChartsFit, chart_at}

@@ -8,7 +8,8 @@ ghost use Rattle.st_machine.specs.Charts.{ChartWork, is_known, on_among};
 use st_chart_runs::{Workspace, invoke_chart, is_asked, set_times};
 use st_code::Instr;
 use st_instructions::Stack;
-use st_layout::{Layout, Memory};
+use st_layout::Layout;
+use st_memory::Memory;
 use st_sketches::Sketch;
 
 /// A BOOL's cell.

@@ -15,7 +15,8 @@ use crate::units::Units;
 use st_chart_runs::Workspace;
 use st_code::Instr;
 use st_instructions::{Stack, is_own, perform, place_after};
-use st_layout::{Layout, Memory};
+use st_layout::Layout;
+use st_memory::Memory;
 
 /// Runs the body of the block of this number on the instance whose first leaf has the other one. There is a level for each one up to
 /// that of the block. It gives how many steps are left.

@@ -1,4 +1,5 @@
-//! The stack machine: it runs the code of a program, its function blocks and its functions over a memory, without allocating.
+//! Runs the code of a program, its function blocks and its functions over any memory, on stacks that are made before, without
+//! allocating.
 #![tactic(auto)]
 
 mod block;

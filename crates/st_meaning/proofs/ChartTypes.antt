@@ -10,14 +10,14 @@ use Rattle.st_tree.specs.declared.tree.unit.ChartElement.{ChartElement}
 use Rattle.st_tree.specs.declared.tree.unit.Step.{Step}
 use Rattle.st_types.specs.Compositions.{Composition, unknown, elementary, array, composed, standard, Members}
 use Rattle.st_types.specs.Names.{steps_in}
-use Rattle.st_leaves.specs.Charts.{is_pulse, stored_by, stored_names}
+use Rattle.st_leaves.specs.Charts.{associated_names, associations_of, is_pulse, stored_by, stored_names}
 use Rattle.st_leaves.specs.LeavesIn.{LeafIn, all_steps_in, chart_in, member_names, members_in, state_in, step_in, stored_in, within}
 use Rattle.st_leaves.specs.Paths.{Selector, field}
 use Rattle.st_leaves.specs.Places.{IsPart, first, behind, LeadsTo, flag, time, chart_count, counts, step_count}
 use Rattle.st_leaves.proofs.Numbers.{chart_length, length_is_counts}
 use Rattle.st_leaves.proofs.Spellings.{stored_by_count}
 use Rattle.st_meaning.specs.Offsets.{step_leaf, step_offset}
-use Rattle.st_meaning.specs.Sketched.{associated_names, associations_of, number_among, sketch_of}
+use Rattle.st_meaning.specs.Sketched.{number_among, sketch_of}
 use Rattle.st_meaning.specs.Sketches.{chart_size, chart_types, step_types, steps_types}
 use Rattle.st_meaning.specs.Sound.{HasChartLeaves, type_at}
 use Rattle.st_meaning.specs.Steps.{has_step, step_elem, step_path}
@@ -73,12 +73,12 @@ module _ (name : List ℕ) (ms : Members) (e : ChartElement) (es : List ChartEle
 
   chart_elems : elems_of own ≡ chart_types (sketch_of root (e ∷ es))
   chart_elems =
-      let names = stored_names [] (associations_of steps) in
-      let many : length stored ≡ length (map (number_among (associated_names [] (associations_of steps))) names) = stored_by_count (member_names ms) (e ∷ es) ∙ sym (length-map names (number_among (associated_names [] (associations_of steps)))) in
+      let names = stored_names (associations_of steps) in
+      let many : length stored ≡ length (map (number_among (associated_names (associations_of steps))) names) = stored_by_count (member_names ms) (e ∷ es) ∙ sym (length-map names (number_among (associated_names (associations_of steps)))) in
       ap (λ (ts : List Elem). elems.Bool ∷ ts)
       (map-append (λ (l : LeafIn). l.initial.elem) (all_steps_in name 1 steps) (flat_map (stored_in name) stored)
       ∙ ap (λ (ts : List Elem). ts ++ elems_of (flat_map (stored_in name) stored)) (steps_elems name 1 steps)
-      ∙ ap (λ (ts : List Elem). steps_types (pulses_of steps) ++ ts) (stored_elems name stored ∙ as_many_bools stored (map (number_among (associated_names [] (associations_of steps))) names) many))
+      ∙ ap (λ (ts : List Elem). steps_types (pulses_of steps) ++ ts) (stored_elems name stored ∙ as_many_bools stored (map (number_among (associated_names (associations_of steps))) names) many))
 
   size_is : chart_size (sketch_of root (e ∷ es)) ≡ chart_count (e ∷ es)
   size_is = ap length (sym chart_elems) ∙ length-map own (λ l. l.initial.elem) ∙ chart_length name (member_names ms) (e ∷ es)

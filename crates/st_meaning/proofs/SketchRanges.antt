@@ -10,11 +10,11 @@ use Rattle.st_tree.specs.declared.tree.unit.Association.{Association}
 use Rattle.st_tree.specs.declared.tree.unit.Step.{Step}
 use Rattle.st_tree.specs.declared.tree.unit.Transition.{Transition}
 use Rattle.st_types.specs.Names.{steps_in}
-use Rattle.st_leaves.specs.Charts.{is_pulse}
+use Rattle.st_leaves.specs.Charts.{associated_names, associations_of, is_pulse}
 use Rattle.st_charts.specs.Passages.{Passage}
 use Rattle.st_charts.specs.declared.table.Link.{Link}
 use Rattle.st_meaning.specs.InRange.{SketchesAreInRange}
-use Rattle.st_meaning.specs.Sketched.{associated_names, associations_of, link_in, link_with, links_from, number_listed, numbers_among, passage_in, qualifier_of, sketch_of, time_of, transitions_in, variable_named}
+use Rattle.st_meaning.specs.Sketched.{link_in, link_with, links_from, number_listed, numbers_among, passage_in, qualifier_of, sketch_of, time_of, transitions_in, variable_named}
 
 -- ---- names as numbers
 
@@ -84,7 +84,7 @@ pub sketches_are_in_range : SketchesAreInRange
 sketches_are_in_range root elements =
     let steps = flat_map steps_in elements in
     let ts = flat_map transitions_in elements in
-    let names = associated_names [] (associations_of steps) in
+    let names = associated_names (associations_of steps) in
     let step_names = map (λ (s : Step). s.name.spelling) steps in
     let sketch = sketch_of root elements in
     let links = links_from names 0 steps in

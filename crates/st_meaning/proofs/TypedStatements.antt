@@ -27,7 +27,8 @@ use Rattle.st_types.specs.Initials.{number_in, value_written}
 use Rattle.st_types.specs.Names.{actions_in, steps_in}
 use Rattle.st_types.specs.OwnTypes.{or_lint}
 use Rattle.st_operators.proofs.Results.{wrapped_is}
-use Rattle.st_meaning.specs.Sketched.{associated_names, associations_of, bool_named, number_among, passage_in, sketch_of, transitions_in, variable_named}
+use Rattle.st_leaves.specs.Charts.{associated_names, associations_of}
+use Rattle.st_meaning.specs.Sketched.{bool_named, number_among, passage_in, sketch_of, transitions_in, variable_named}
 use Rattle.st_meaning.specs.Sound.{AreBoolVariables, AreSoundActions, AreSoundBranches, AreSoundCases, AreSoundCommands, AreSoundParts, AreSoundTests, HasChartLeaves, IsCount, IsLabelOf, IsPlaceOf, IsSoundBody, IsSoundCommand, IsTermOf, is_fixed, term_type}
 use Rattle.st_meaning.specs.Steps.{chart_within}
 use Rattle.st_meaning.specs.Terms.{Parts, whole, field_part, Command, choice, while_loop, repeat_loop, Commands, Branches, more_branches, Cases, more_cases, count_actions, count_tests}
@@ -275,8 +276,8 @@ module _ (functions : Functions) (w : Whole) (known : KnowsNames functions w) (b
           leaves = leaves;
           conditions = tests_sound ts;
           as_many_tests = length-map ts (passage_in (map (λ s. s.name.spelling) steps)) ∙ sym (tests_count w ts);
-          variables = variables_are w.variables (associated_names [] (associations_of steps));
-          as_many_actions = length-map as' (λ a. number_among (associated_names [] (associations_of steps)) a.name.spelling) ∙ sym (actions_count w as');
+          variables = variables_are w.variables (associated_names (associations_of steps));
+          as_many_actions = length-map as' (λ a. number_among (associated_names (associations_of steps)) a.name.spelling) ∙ sym (actions_count w as');
         },
         actions_sound as',
       )

@@ -19,7 +19,7 @@ use Rattle.st_tree.specs.declared.tree.unit.Transition.{Transition}
 use Rattle.st_types.specs.Compositions.{Composition}
 use Rattle.st_types.specs.Initials.{value_written}
 use Rattle.st_types.specs.Names.{actions_in, steps_in}
-use Rattle.st_leaves.specs.Charts.{is_pulse, stored_names}
+use Rattle.st_leaves.specs.Charts.{associated_names, associations_of, is_pulse, stored_names}
 use Rattle.st_charts.specs.Passages.{Passage}
 use Rattle.st_charts.specs.declared.table.Link.{Link}
 use Rattle.st_charts.specs.declared.table.Qualifier.{Qualifier}
@@ -33,16 +33,6 @@ use Rattle.st_meaning.specs.Wholes.{type_of}
 abbrev pub transitions_in : ChartElement → List Transition
 transitions_in (chart_elements.Transition t) = t ∷ []
 transitions_in _ = []
-
-abbrev pub associations_of : List Step → List Association
-associations_of steps = flat_map (λ s. s.associations) steps
-
--- the names that steps are associated with, each once, in the order of the first
-abbrev pub associated_names : List (List ℕ) → List Association → List (List ℕ)
-associated_names others [] = []
-associated_names others (a ∷ more) =
-    if list_any (is_word a.name.spelling) others then associated_names others more
-    else a.name.spelling ∷ associated_names (a.name.spelling ∷ others) more
 
 -- ---- names as numbers
 
@@ -113,11 +103,11 @@ sketch_with root names steps transitions actions = record {
   passages = map (passage_in (map (λ s. s.name.spelling) steps)) transitions;
   links = links_from names 0 steps;
   variables = map (variable_named root) names;
-  stored = map (number_among names) (stored_names [] (associations_of steps));
+  stored = map (number_among names) (stored_names (associations_of steps));
   actions = map (λ a. number_among names a.name.spelling) actions;
 }
 
 abbrev pub sketch_of : Composition → List ChartElement → Sketch
 sketch_of root elements =
     let steps = flat_map steps_in elements in
-    sketch_with root (associated_names [] (associations_of steps)) steps (flat_map transitions_in elements) (flat_map actions_in elements)
+    sketch_with root (associated_names (associations_of steps)) steps (flat_map transitions_in elements) (flat_map actions_in elements)

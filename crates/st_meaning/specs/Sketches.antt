@@ -15,7 +15,7 @@ pub record Sketch : Type 0 where
   pub links : List Link
   -- of each associated name, in the order of the first association, the BOOL variable that it is, where it is one
   pub variables : List (Option (List ℕ))
-  -- the names that are associated with the qualifier S, in the order of the first such association
+  -- those of the associated names that some association has with the qualifier S, in their order
   pub stored : List ℕ
   -- the name of each action
   pub actions : List ℕ

@@ -1,5 +1,5 @@
-//! What programs mean: the values of expressions, and what statements and charts do (IEC 61131-3:2003, 2.6 and 3.3), as definitions of
-//! the values of variables by their paths. No code and no stack stands in them.
+//! Defines what programs mean: the values of expressions, and what statements and charts do to the values of variables, which are found by
+//! their paths (IEC 61131-3:2003, 2.6 and 3.3). No code and no stack stands in it.
 #![tactic(auto)]
 
 mod fault;

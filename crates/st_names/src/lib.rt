@@ -1,4 +1,4 @@
-//! Names, which are the same where they differ in case only (IEC 61131-3:2003, 2.1.2), and tables of them.
+//! Compares names without regard to case (IEC 61131-3:2003, 2.1.2), and finds them in tables.
 #![tactic(auto)]
 
 mod name_table;

@@ -1,4 +1,4 @@
-//! The operators over values (IEC 61131-3:2003, 3.3.1) and the standard functions (2.5.1.5).
+//! Works out operators (IEC 61131-3:2003, 3.3.1) and standard functions (2.5.1.5) over values.
 #![tactic(auto)]
 
 mod arithmetic;

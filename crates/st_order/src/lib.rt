@@ -1,4 +1,5 @@
-//! The rows of a graph in an order in which each stands after all that it refers to, or the rows that reach themselves.
+//! Puts the rows of a graph in an order in which each stands after all that it refers to, or finds all rows that reach themselves, in
+//! linear time.
 #![tactic(auto)]
 
 mod cycles;

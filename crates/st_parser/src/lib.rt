@@ -1,4 +1,4 @@
-//! What all parsers share: the tokens that are left, the parsers' fault, levels, and lists.
+//! Gives parsers what they share: the tokens that are left, the fault of a parser, levels, and lists of items.
 #![tactic(auto)]
 
 mod cursor;

@@ -1,5 +1,5 @@
-//! What names in the statements of a text's units stand for, found in constant time a name: the parts of variables, by tables
-//! that are made once, in time linear in the text.
+//! Finds what names in the statements of a text's units stand for, in constant time a name: the parts of variables by offsets, bounds
+//! and strides. Its tables are made once, in time linear in the text.
 #![tactic(auto)]
 
 mod chart;

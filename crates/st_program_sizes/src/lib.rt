@@ -1,4 +1,4 @@
-//! How large a text's program is.
+//! Tells whether the program of a text passes a limit of size, each type of it sized once.
 #![tactic(auto)]
 
 mod program;

@@ -1,4 +1,4 @@
-//! Which units of a text a unit contains or calls.
+//! Finds which units of a text a unit contains or calls.
 #![tactic(auto)]
 
 mod caller;

@@ -1,4 +1,4 @@
-//! What the numbers of refusals and faults mean to people, and what to do about them.
+//! Says what the numbers of refusals and faults mean to people, and what to do about them.
 //!
 //! This is the one place that says so: the program's messages and the page `docs/REFUSALS.md` are made of these tables.
 #![tactic(auto)]

@@ -1,5 +1,5 @@
-//! What names stand for in a text: the variables of its units, members, steps, actions, and what can be called. A text's
-//! tables are made once, and each unit has a scope in them.
+//! Says what names stand for in each unit of a text: variables, members, steps, actions, and what can be called. The tables of a text
+//! are made once, and each unit has a scope in them.
 #![tactic(auto)]
 
 mod chart;

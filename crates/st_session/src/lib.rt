@@ -1,6 +1,5 @@
-//! Sessions: an operator's commands, line by line, and the replies to them.
-//!
-//! The lines come from a [`Source`] and the replies go to a [`Sink`].
+//! Holds sessions: it does an operator's commands, line by line from a [`Source`], and writes the replies to a [`Sink`]. A check and a
+//! layout of a text are answered here too.
 #![tactic(auto)]
 
 mod change;

@@ -12,7 +12,7 @@ use crate::conversation::{Outcome, session};
 use crate::reply::Reply;
 use st_control::{Controller, Refusal};
 use st_devices::{Sink, Source, write_all};
-use st_layout::Cells;
+use st_memory::Packed;
 use std::alloc::Global;
 use std::mem::forget;
 
@@ -80,7 +80,7 @@ pub fn run_text<R: Source, W: Sink>(
 /// Runs a session over a controller, and answers its status.
 fn serve<R: Source, W: Sink>(
     alloc: Global,
-    controller: &mut Controller<Cells>,
+    controller: &mut Controller<Packed>,
     source: &mut R,
     sink: &mut W,
 ) -> u8

@@ -1,4 +1,4 @@
-//! How many leaves a variable has, how many bytes they take and how long their paths are: counted without listing them.
+//! Counts how many leaves a variable has, how many bytes they take and how long their paths are, without listing them.
 #![tactic(auto)]
 
 mod size;

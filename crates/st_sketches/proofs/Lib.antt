@@ -1,4 +1,3 @@
-pub mod Associations
 pub mod Links
 pub mod Lists
 pub mod Passages

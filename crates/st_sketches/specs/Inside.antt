@@ -1,17 +1,12 @@
--- The fields of a chart's names, and of its sketch.
-use Rattle.std.specs.Prelude.{◌≡◌, ◌<◌, length, map}
+-- The fields of a chart as numbers.
+use Rattle.std.specs.Prelude.{◌≡◌, ◌<◌, length}
 use Rattle.std.specs.List.{All}
 use Rattle.st_charts.specs.Passages.{passages_of}
 use Rattle.st_sketches.specs.Counts.{ArePlaces}
 use Rattle.st_sketches.specs.Views.{SketchView}
-use Rattle.st_sketches.specs.declared.names.Names.TheInside.{Inside as NamesInside}
-use Rattle.st_sketches.specs.declared.sketch.Sketch.TheInside.{Inside as SketchInside}
+use Rattle.st_sketches.specs.declared.sketch.Sketch.TheInside.{Inside}
 
--- the table has the names that these words are
-pub record AreNames (names : NamesInside) : Type 0 where
-  pub words : names.numbers ≡ map (λ word. word.now) names.words.items
-
-abbrev pub view_of : SketchInside → SketchView
+abbrev pub view_of : Inside → SketchView
 view_of sketch = record {
   pulses = sketch.pulses.items;
   passages = passages_of sketch.table.transitions.items;
@@ -22,7 +17,7 @@ view_of sketch = record {
 }
 
 -- the table is of these steps and names, the names that are stored are among them, and the places are those of the steps
-pub record IsSketch (sketch : SketchInside) : Type 0 where
+pub record IsSketch (sketch : Inside) : Type 0 where
   pub steps : sketch.table.steps ≡ length sketch.pulses.items
   pub names : sketch.table.names ≡ length sketch.variables.items
   pub stored : All (λ n. n < length sketch.variables.items) sketch.stored.items

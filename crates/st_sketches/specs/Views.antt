@@ -1,17 +1,15 @@
 -- Charts (2.6) as the numbers that the machine runs.
 use Rattle.std.specs.Option.{is_some}
 use Rattle.std.specs.Prelude.{◌≡◌, ℕ, ◌+◌, Bool, List, [], length, map, take}
-use Rattle.std.specs.List.{flat_map}
 use Rattle.st_tree.specs.declared.tree.unit.ChartElement.{ChartElement}
-use Rattle.st_types.specs.Names.{steps_in}
+use Rattle.st_leaves.specs.Charts.{associated_names, associations_in}
 use Rattle.st_charts.specs.Passages.{Passage}
 use Rattle.st_charts.specs.declared.table.Link.{Link}
-use Rattle.st_meaning.specs.Sketched.{associated_names, associations_of}
 use Rattle.st_meaning.specs.Sketches.{Sketch, steps_types}
 
 -- the names that the steps among these elements are associated with, each once, in the order of the first association
 abbrev pub names_of : List ChartElement → List (List ℕ)
-names_of elements = associated_names [] (associations_of (flat_map steps_in elements))
+names_of elements = associated_names (associations_in elements)
 
 -- A chart as numbers, without the names of variables: of these the machine knows the leaves.
 pub record SketchView : Type 0 where
@@ -23,7 +21,7 @@ pub record SketchView : Type 0 where
   pub links : List Link
   -- of each associated name whether it is a BOOL variable
   pub variables : List Bool
-  -- the names that are associated with the qualifier S, in the order of the first such association
+  -- those of the associated names that some association has with the qualifier S, in their order
   pub stored : List ℕ
   -- the name of each action
   pub actions : List ℕ

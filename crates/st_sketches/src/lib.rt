@@ -1,12 +1,10 @@
-//! Charts as the numbers that the machine runs (IEC 61131-3:2003, 2.6): made once of the tree of a chart, in time linear in its text.
+//! Puts charts into the numbers that the machine runs, once and in time linear in their texts (IEC 61131-3:2003, 2.6).
 #![tactic(auto)]
 
-mod names;
 mod numbers;
 mod offsets;
 mod parts;
 mod qualifiers;
 mod sketch;
 
-pub use names::Names;
 pub use sketch::{Sketch, sketch_of};

@@ -1,14 +1,14 @@
 //! The parts of a chart as numbers, apart from its transitions: pulses, associations, stored names and actions (2.6.4).
-ghost use Rattle.std.specs.Prelude.{◌≡◌, ◌<◌, ◌^◌, ◌++◌, [], IfOk, OnOk, length, map};
+ghost use Rattle.std.specs.Prelude.{◌≡◌, ◌<◌, ◌^◌, ◌++◌, IfOk, OnOk, length, map};
 ghost use Rattle.std.specs.List.{flat_map, list_any};
-ghost use Rattle.st_leaves.specs.Charts.{is_pulse, stored_names};
-ghost use Rattle.st_meaning.specs.Sketched.{associations_of, link_in, links_from, number_among};
+ghost use Rattle.st_leaves.specs.Charts.{associations_in, is_pulse, spelled, stored_names};
+ghost use Rattle.st_meaning.specs.Sketched.{link_in, links_from, number_among};
 ghost use Rattle.st_types.specs.Names.{actions_in, steps_in};
 
-use crate::names::Names;
 use crate::qualifiers::{qualifier_of, time_of};
 use st_charts::Link;
-use st_leaves::{StoredNames, has_pulse};
+use st_leaves::{AssociatedNames, has_pulse, stored_names};
+use st_tree::Word;
 use st_tree::tree::{Association, ChartElement};
 use std::alloc::{AllocError, Global};
 
@@ -29,7 +29,7 @@ pub(crate) fn pulses_of(alloc: Global, elements: &[ChartElement]) -> Result<Vec<
 /// The associations of the steps among these elements.
 pub(crate) fn links_of(
     alloc: Global,
-    names: &Names<'_>,
+    names: &AssociatedNames<'_>,
     elements: &[ChartElement],
 ) -> Result<Vec<Link>, AllocError>
     requires names { length names.now < 2 ^ 32 }
@@ -50,7 +50,7 @@ pub(crate) fn links_of(
 
 /// Adds the associations of a step.
 fn add_links(
-    names: &Names<'_>,
+    names: &AssociatedNames<'_>,
     step: u32,
     associations: &[Association],
     links: &mut Vec<Link>,
@@ -75,52 +75,36 @@ fn add_links(
 /// The numbers of the names that the steps among these elements store.
 pub(crate) fn stored_of(
     alloc: Global,
-    names: &Names<'_>,
+    names: &AssociatedNames<'_>,
     elements: &[ChartElement],
 ) -> Result<Vec<u32>, AllocError>
     requires { length names.now < 2 ^ 32 }
-    ensures { IfOk result (λ numbers. numbers.items ≡ map (number_among names.now) (stored_names [] (associations_of (flat_map steps_in elements.now)))) }
+    ensures { IfOk result (λ numbers. numbers.items ≡ map (number_among names.now) (stored_names (associations_in elements.now))) }
 {
-    let mut stored = StoredNames::new(alloc);
-    let mut numbers = Vec::new(alloc);
-    'elements: for element in elements {
-        let ChartElement::Step(step) = element else {
-            continue;
-        };
-        add_stored(
-            names,
-            step.associations.as_slice(),
-            &mut stored,
-            &mut numbers,
-        )?;
-    }
-    Ok(numbers)
+    let stored = stored_names(alloc, elements)?;
+    numbers_of(alloc, names, stored.as_slice())
 }
 
-/// Adds the numbers of the names that these associations store and that aren't there yet.
-fn add_stored<'a>(
-    names: &Names<'_>,
-    associations: &'a [Association],
-    stored: &mut StoredNames<'a>,
-    numbers: &mut Vec<u32>,
-) -> Result<(), AllocError>
-    requires room { length names.now < 2 ^ 32 }
-    requires so_far { numbers.old.items ≡ map (number_among names.now) stored.old }
-    ensures stored { OnOk result (stored.new ≡ stored.old ++ stored_names stored.old associations.now) }
-    ensures numbers { OnOk result (numbers.new.items ≡ map (number_among names.now) stored.new) }
+/// The numbers of these words.
+fn numbers_of(
+    alloc: Global,
+    names: &AssociatedNames<'_>,
+    words: &[&Word],
+) -> Result<Vec<u32>, AllocError>
+    requires { length names.now < 2 ^ 32 }
+    ensures { IfOk result (λ numbers. numbers.items ≡ map (number_among names.now) (spelled words.now)) }
 {
-    'associations: for association in associations {
-        if stored.add(association)? {
-            numbers.push(names.number(association.name.spelling.as_slice()))?;
-        }
+    let mut numbers = Vec::with_capacity(alloc, words.len())?;
+    'words: for word in words {
+        numbers.push(number_among(names, word.as_slice()))?;
     }
-    Ok(())
+    Ok(numbers)
 }
 
 /// The numbers of the names of the actions among these elements.
 pub(crate) fn actions_of(
     alloc: Global,
-    names: &Names<'_>,
+    names: &AssociatedNames<'_>,
     elements: &[ChartElement],
 ) -> Result<Vec<u32>, AllocError>
     requires { length names.now < 2 ^ 32 }
@@ -131,7 +115,18 @@ pub(crate) fn actions_of(
         let ChartElement::Action(action) = element else {
             continue;
         };
-        numbers.push(names.number(action.name.spelling.as_slice()))?;
+        numbers.push(number_among(names, action.name.spelling.as_slice()))?;
     }
     Ok(numbers)
+}
+
+/// The number of this name, or how many there are where it is none of them.
+fn number_among(names: &AssociatedNames<'_>, name: &[u8]) -> u32
+    requires { length names.now < 2 ^ 32 }
+    ensures { result ≡ number_among names.now name.now }
+{
+    match names.find(name) {
+        Some(number) => number as u32,
+        None => names.len() as u32,
+    }
 }

@@ -8,11 +8,11 @@ ghost use Rattle.st_sketches.specs.Views.{IsOf, flags_place, names_of, step_plac
 ghost use Rattle.st_types.specs.Compositions.{Composition};
 ghost use Rattle.st_types.specs.Names.{steps_in};
 
-use crate::names::Names;
 use crate::numbers::{step_names, transitions_of};
 use crate::offsets::{Offsets, offsets_of};
 use crate::parts::{actions_of, links_of, pulses_of, stored_of};
 use st_charts::ChartTable;
+use st_leaves::AssociatedNames;
 use st_tree::tree::ChartElement;
 use std::alloc::{AllocError, Global};
 use std::marker::Model;
@@ -129,7 +129,7 @@ impl Sketch {
 pub fn sketch_of(
     alloc: Global,
     elements: &[ChartElement],
-    names: &Names<'_>,
+    names: &AssociatedNames<'_>,
     variables: Vec<bool>,
 ) -> Result<Sketch, AllocError>
     requires names { names.now ≡ names_of elements.now }
@@ -155,7 +155,7 @@ pub fn sketch_of(
 fn table_of(
     alloc: Global,
     elements: &[ChartElement],
-    names: &Names<'_>,
+    names: &AssociatedNames<'_>,
 ) -> Result<ChartTable, AllocError>
     ensures steps { IfOk result (λ table. table.steps ≡ length (flat_map steps_in elements.now)) }
     ensures few_steps { IfOk result (λ table. table.steps ≤ 2 ^ 29) }

@@ -1,5 +1,5 @@
-//! Counts the tokens of the source text on standard input, with the word `parse` its units, or with `check` the units of the
-//! program `Main`: for measures of speed.
+//! Counts the tokens of the source text on standard input, with the word `parse` its units, or with `check` the units of the program
+//! `Main`: for measures of speed.
 #![tactic(auto)]
 
 use anyhow::Result as Done;

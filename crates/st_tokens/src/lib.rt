@@ -1,4 +1,4 @@
-//! The tokens of a text (IEC 61131-3:2003, 2.1 and 2.2).
+//! Takes a text apart into its tokens (IEC 61131-3:2003, 2.1 and 2.2), or says at which line none begins.
 #![tactic(auto)]
 
 mod comment;

@@ -1,4 +1,5 @@
-//! What a program is made of: names, lists, the trees of programs, and the leaves of a program.
+//! Holds what a program is made of: names, lists, and the trees of a text's units, down to expressions. Leaves, the single values of a
+//! program, have their type here too.
 #![tactic(auto)]
 
 mod boxed;

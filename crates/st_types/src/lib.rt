@@ -1,5 +1,5 @@
-//! The units of a text and what their types stand for, the standard functions and function blocks, what names can stand
-//! for, and which type an expression has of itself.
+//! Says what the types of a text stand for, which functions and function blocks are standard, and which type an expression has of itself.
+//! All crates of the checks cite its definitions.
 #![tactic(auto)]
 
 mod base;

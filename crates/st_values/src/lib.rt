@@ -1,4 +1,5 @@
-//! Values of the elementary types, and their texts (IEC 61131-3:2003, 2.2 and 2.3.1).
+//! Gives the elementary types, their values, and the texts of values (IEC 61131-3:2003, 2.2 and 2.3.1). A value is put as a text, and a
+//! text is read as a value.
 #![tactic(auto)]
 
 mod compact;

@@ -1,4 +1,4 @@
-//! What the words of the program ask for.
+//! Reads the words of the command line by `clap`. It stands on no other crate of the repository.
 #![tactic(auto)]
 
 mod words;

@@ -4,7 +4,7 @@ ghost use Rattle.std.specs.Prelude.{◌≡◌};
 use crate::controller::Controller;
 use crate::record::Record;
 use crate::state::State;
-use st_layout::Memory;
+use st_memory::Memory;
 use st_tree::Name;
 
 /// Takes a controller apart. The pattern names all its fields.

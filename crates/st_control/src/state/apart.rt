@@ -4,7 +4,7 @@ ghost use Rattle.st_control.specs.States.{leaves_of};
 
 use crate::state::{State, Status};
 use st_compile::Image;
-use st_layout::Memory;
+use st_memory::Memory;
 use st_machine::Stacks;
 
 /// Takes a state apart. The pattern names all its fields.

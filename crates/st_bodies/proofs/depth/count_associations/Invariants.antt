@@ -2,7 +2,7 @@ use Rattle.std.proofs.Common.{◌≡◌, ◌+◌, ◌-◌, ◌^◌, ◌≤◌, d
 use Rattle.std.specs.List.{flat_map}
 use Rattle.std.specs.Prelude.{min}
 use Rattle.st_types.specs.Names.{steps_in}
-use Rattle.st_meaning.specs.Sketched.{associations_of}
+use Rattle.st_leaves.specs.Charts.{associations_of}
 use Rattle.st_bodies.proofs.depth.count_associations.Given as goal
 
 -- what is left makes it the whole

@@ -1,7 +1,7 @@
 use Rattle.std.proofs.Common.{map, not}
 use Rattle.st_scopes.specs.Declarations.{seen}
 use Rattle.st_types.specs.Names.{units_of}
-use Rattle.st_chart_parts.specs.Charts.{spelled}
+use Rattle.st_leaves.specs.Charts.{spelled}
 use Rattle.st_chart_parts.proofs.UnitCharts.{any_by_length, unit_parts}
 use Rattle.st_chart_parts.proofs.parts.unit_parts.Goals as goal
 

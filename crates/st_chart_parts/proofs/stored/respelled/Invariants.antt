@@ -1,6 +1,5 @@
 use Rattle.std.proofs.Common.{◌≡◌, map, take}
-use Rattle.st_leaves.specs.Charts.{as_declared}
-use Rattle.st_chart_parts.specs.Charts.{spelled}
+use Rattle.st_leaves.specs.Charts.{as_declared, spelled}
 use Rattle.st_chart_parts.proofs.stored.respelled.Given as goal
 
 -- the names so far

@@ -1,6 +1,6 @@
 use Rattle.std.proofs.Common.{◌≡◌, ◌<◌, ◌∙◌, Bool, List, length, ap, arith, sym}
 use Rattle.st_control.proofs.Resets.{reset_none, reset_one}
-use Rattle.st_layout.specs.Memory.{Content, forced_at}
+use Rattle.st_memory.specs.Memory.{Content, forced_at}
 use Rattle.st_control.proofs.scanning.reset_values.Goals.{then-not-forced, else-not-forced}
 use Rattle.st_control.proofs.scanning.reset_values.Goals as goal
 

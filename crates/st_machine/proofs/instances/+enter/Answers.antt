@@ -2,7 +2,7 @@ use Rattle.std.proofs.Common.{◌≡◌, ℕ, drop, false, ◌∙◌, ◌+◌, �
 use Rattle.std.proofs.lemmas.Int.{to_z-of_z}
 use Rattle.std.proofs.lemmas.Result.{err_from_is_err_and}
 use Rattle.std.specs.Prelude.{slice_index_or}
-use Rattle.st_layout.specs.Memory.{Content}
+use Rattle.st_memory.specs.Memory.{Content}
 use Rattle.st_meaning.specs.Operations.{stop}
 use Rattle.st_meaning.specs.Statements.{Outcome, faulted}
 use Rattle.st_chart_runs.specs.Charts.{ChartsFit}

@@ -2,8 +2,7 @@ use Rattle.std.proofs.Common.{◌≡◌, ap, length, subst, sym, ◌∙◌}
 use Rattle.std.specs.List.{flat_map, list_any}
 use Rattle.std.proofs.lemmas.List.{length-map}
 use Rattle.st_types.specs.Names.{steps_in}
-use Rattle.st_leaves.specs.Charts.{is_pulse}
-use Rattle.st_meaning.specs.Sketched.{associations_of}
+use Rattle.st_leaves.specs.Charts.{associations_in, is_pulse}
 use Rattle.st_sketches.specs.Counts.{ArePlaces}
 use Rattle.st_sketches.proofs.Stored.{stored_within}
 use Rattle.st_sketches.proofs.Whole.{is_of}
@@ -16,7 +15,7 @@ invariant_of-result c =
       steps = c.in_ok-table.ensures.steps ∙ sym pulses_count;
       names = c.in_ok-table.ensures.names ∙ sym c.requires.variables;
       stored =
-          stored_within c.args.names.now (associations_of (flat_map steps_in c.args.elements.now)) c.in_ok-stored.stored.items (length c.args.variables.items) c.requires.names c.in_ok-stored.ensures c.requires.variables;
+          stored_within c.args.names.now (associations_in c.args.elements.now) c.in_ok-stored.stored.items (length c.args.variables.items) c.requires.names c.in_ok-stored.ensures c.requires.variables;
       places = subst (ArePlaces c.in_ok-offsets.offsets) c.as_slice.ensures.value c.in_ok-offsets.ensures;
     }
 

@@ -1,6 +1,6 @@
 use Rattle.std.proofs.Common.{ap, sym, ◌∙◌}
 use Rattle.st_names.specs.Tables.{first_of}
-use Rattle.st_chart_parts.proofs.NamesStored.{found_nowhere, found_there}
+use Rattle.st_chart_parts.proofs.DeclaredNames.{found_nowhere, found_there}
 use Rattle.st_chart_parts.proofs.spellings.Spellings.of.Goals as goal
 
 pub returns-in-Some : goal.returns-in-Some

@@ -1,7 +1,7 @@
 use Rattle.std.proofs.Common.{◌+◌, sym, take}
 use Rattle.std.specs.List.{flat_map}
 use Rattle.st_leaves.specs.LeavesIn.{stored_in}
-use Rattle.st_chart_parts.specs.Charts.{spelled}
+use Rattle.st_leaves.specs.Charts.{spelled}
 use Rattle.st_listing.proofs.ChartListings.{stored_room, stored_split}
 use Rattle.st_listing.proofs.Listings.{listed_more, ways_more}
 use Rattle.st_listing.proofs.listing.Listing.list_stored.Goals as goal

@@ -1,0 +1,13 @@
+pub mod Bits
+pub mod ByPath
+pub mod Contents
+pub mod Encoded
+pub mod GivenBack
+pub mod Maps
+pub mod Moved
+pub mod Moving
+pub mod OpenForces
+pub mod Saving
+pub mod Steps
+pub mod Unpacked
+pub mod ValueBytes

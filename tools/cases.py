@@ -1,0 +1,77 @@
+"""Worked cases: files in which a program's text stands with what is done with it and what has to come out.
+
+`crates/st_cases/data/README.md` has the form of these files."""
+
+import re
+from dataclasses import dataclass, field
+from pathlib import Path
+from typing import Iterator
+
+Words = dict[str, str]
+
+
+@dataclass
+class Part:
+    """What is done with a text: `session`, `layout`, or, for what a check answers, `ok` or `refused ..`."""
+
+    words: str
+    typed: list[str] = field(default_factory=list)
+    wanted: list[str] = field(default_factory=list)
+    columns: list[str] = field(default_factory=list)
+
+    def add(self, line: str) -> None:
+        if line.startswith("| scan "):
+            self.columns = line.split()[2:]
+        elif line.startswith("| "):
+            self.add_scan(line.split()[1:])
+        elif line.startswith("> "):
+            self.typed.append(line[2:])
+        elif line:
+            self.wanted.append(line)
+
+    def add_scan(self, values: list[str]) -> None:
+        """Takes a scan that stands in columns: its moment, its inputs, and what is shown behind it."""
+        cut = self.columns.index("=>")
+        pairs = zip(self.columns[:cut], values[1:])
+        self.typed.append(" ".join(["scan", values[0], *(f"{path}:={value}" for path, value in pairs if value != "-")]))
+        self.wanted.append("ok")
+        for path, value in zip(self.columns[cut + 1 :], values[cut + 2 :]):
+            self.typed.append(f"show {path}")
+            self.wanted.append(f"{path} = {value.removesuffix('!')}" + " forced" * value.endswith("!"))
+
+
+@dataclass
+class Case:
+    name: str
+    place: str
+    text: str
+    parts: list[Part]
+
+
+def case_of(name: str, place: str, lines: list[str], words: Words) -> Case:
+    """The case with these lines, each word of which that stands in braces has a value."""
+    text, parts = list[str](), list[Part]()
+    for line in lines:
+        line = re.sub(r"\{([^{}]*)\}", lambda it: words.get(it[1], it[0]), line)
+        if line.startswith("-- "):
+            parts.append(Part(line[3:]))
+        elif parts:
+            parts[-1].add(line)
+        else:
+            text.append(line)
+    return Case(name, place, "".join(f"{it}\n" for it in text), parts)
+
+
+def cases_in(file: Path, shown: str) -> Iterator[Case]:
+    """The cases of a file. A block whose last lines are rows behind a line `-- each` is one case for each row."""
+    lines = file.read_bytes().decode("latin-1").split("\n")
+    starts = [at for at, line in enumerate(lines) if line.startswith("== ")]
+    for start, end in zip(starts, [*starts[1:], len(lines)]):
+        name, block = lines[start][3:], lines[start + 1 : end]
+        each = next((at for at, line in enumerate(block) if line.startswith("-- each ")), None)
+        if each is None:
+            yield case_of(name, f"{shown}:{start + 1}", block, {})
+            continue
+        for at, row in enumerate(block[each + 1 :], start + each + 3):
+            if row:
+                yield case_of(name, f"{shown}:{at}", block[:each], dict(zip(block[each].split()[2:], row.split())))
