@@ -95,7 +95,9 @@ impl Part {
             Kind::Layout => layout_failure(alloc, text, wanted),
             Kind::Accepted => accepted_failure(alloc, text),
             Kind::Refused => refused_failure(alloc, text, wanted),
-            Kind::Unknown => Ok(Some(format!(in alloc; "a line of -- says nothing that is known")?)),
+            Kind::Unknown => Ok(Some(format!(in alloc;
+                "a line of -- says nothing that is known"
+            )?)),
         }
     }
     /// The part that a line of `--` with these words begins.

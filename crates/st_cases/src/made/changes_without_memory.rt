@@ -12,8 +12,14 @@ use std::io;
 /// `tools/refuse-allocations` refuses each allocation of these cases in turn.
 pub fn run(cases: &mut Counter<'_>) -> io::Result<()> {
     let alloc = cases.alloc();
-    cases.other("a change without memory, over Cells", survives::<Cells>(alloc))?;
-    cases.other("a change without memory, over Packed", survives::<Packed>(alloc))
+    cases.other(
+        "a change without memory, over Cells",
+        survives::<Cells>(alloc),
+    )?;
+    cases.other(
+        "a change without memory, over Packed",
+        survives::<Packed>(alloc),
+    )
 }
 
 /// A program whose change drops, keeps and adds leaves.

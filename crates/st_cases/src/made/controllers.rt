@@ -18,15 +18,24 @@ const TWO_LEAVES: &[u8] =
 
 pub fn run(cases: &mut Counter<'_>) -> io::Result<()> {
     let alloc = cases.alloc();
-    cases.other("a controller's own calls, over Cells", is_loaded::<Cells>(alloc))?;
-    cases.other("a controller's own calls, over Packed", is_loaded::<Packed>(alloc))?;
+    cases.other(
+        "a controller's own calls, over Cells",
+        is_loaded::<Cells>(alloc),
+    )?;
+    cases.other(
+        "a controller's own calls, over Packed",
+        is_loaded::<Packed>(alloc),
+    )?;
     let Ok(image) = load_image(alloc, TWO_LEAVES, b"Main") else {
         return cases.other("an image of two leaves", false);
     };
     let layout = image.layout();
     cases.other("paths, ignoring case", finds_paths(layout))?;
     cases.other("values and forces in Cells", keeps::<Cells>(alloc, layout)?)?;
-    cases.other("values and forces in Packed", keeps::<Packed>(alloc, layout)?)
+    cases.other(
+        "values and forces in Packed",
+        keeps::<Packed>(alloc, layout)?,
+    )
 }
 
 /// Whether the first program is loaded, and its variables are found.
@@ -75,10 +84,12 @@ fn keeps<M: Memory>(alloc: Global, layout: &Layout) -> Result<bool, AllocError> 
         bits: 32767,
     };
     let memory: M = changed(alloc, layout, value)?;
-    Ok(memory.get(layout, 0).bits == 1
-        && memory.get(layout, 1).bits == 32767
-        && !memory.forced(layout, 0)
-        && memory.forced(layout, 1))
+    Ok(
+        memory.get(layout, 0).bits == 1
+            && memory.get(layout, 1).bits == 32767
+            && !memory.forced(layout, 0)
+            && memory.forced(layout, 1),
+    )
 }
 
 /// A copy of a memory where the second leaf has this value and is forced.

@@ -6,6 +6,7 @@ use std::alloc::Global;
 use std::io;
 
 /// Runs cases, counts them, and names those that fail.
+#[derive(Drop)]
 pub struct Counter<'a> {
     rt: &'a HostRuntime,
     tally: Tally,
@@ -28,7 +29,13 @@ impl<'a> Counter<'a> {
     }
 
     /// A session of these lines over a text, which replies what is wanted.
-    pub fn session(&mut self, name: &str, text: &[u8], lines: &[u8], wanted: &[u8]) -> io::Result<()> {
+    pub fn session(
+        &mut self,
+        name: &str,
+        text: &[u8],
+        lines: &[u8],
+        wanted: &[u8],
+    ) -> io::Result<()> {
         self.session_within(STEPS, name, text, lines, wanted)
     }
 

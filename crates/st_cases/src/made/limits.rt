@@ -39,7 +39,11 @@ fn with_name_of(alloc: Global, bytes: usize) -> Result<Vec<u8>, AllocError> {
     let name = repeated(alloc, b"v", bytes)?;
     joined(
         alloc,
-        &[b"PROGRAM\nMain VAR ", &name, b" : INT; END_VAR END_PROGRAM\n"],
+        &[
+            b"PROGRAM\nMain VAR ",
+            &name,
+            b" : INT; END_VAR END_PROGRAM\n",
+        ],
     )
 }
 

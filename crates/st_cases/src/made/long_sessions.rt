@@ -94,8 +94,7 @@ fn thousand_scans(cases: &mut Counter<'_>) -> io::Result<()> {
 /// Scans with as many pairs as a line holds: 409 for `Main.A`, and 1,363 whose sides are empty. Then a line that is too long.
 fn longest_scans(cases: &mut Counter<'_>) -> io::Result<()> {
     let alloc = cases.alloc();
-    let text =
-        b"PROGRAM Main VAR_INPUT A : INT; END_VAR VAR B : INT; END_VAR B := A; END_PROGRAM";
+    let text = b"PROGRAM Main VAR_INPUT A : INT; END_VAR VAR B : INT; END_VAR B := A; END_PROGRAM";
     let empty_pairs = repeated(alloc, b" :=", 1363)?;
     let lines = joined(
         alloc,
@@ -125,8 +124,18 @@ fn long_lines(cases: &mut Counter<'_>) -> io::Result<()> {
     let alloc = cases.alloc();
     let lengths: [(&str, usize, &[u8], &[u8]); 4] = [
         ("the longest line", 4090, b"\nstatus\n", STATUS),
-        ("a line that is too long", 4091, b"\nstatus\n", b"refused O11\n"),
-        ("the longest line that ends in CR and LF", 4089, b"\r\nstatus\n", STATUS),
+        (
+            "a line that is too long",
+            4091,
+            b"\nstatus\n",
+            b"refused O11\n",
+        ),
+        (
+            "the longest line that ends in CR and LF",
+            4089,
+            b"\r\nstatus\n",
+            STATUS,
+        ),
         (
             "a line that is too long and ends in CR and LF",
             4090,

@@ -10,8 +10,14 @@ use std::io;
 /// `tools/refuse-allocations` refuses each allocation of these cases in turn.
 pub fn run(cases: &mut Counter<'_>) -> io::Result<()> {
     let alloc = cases.alloc();
-    cases.other("a program without memory, over Cells", survives::<Cells>(alloc))?;
-    cases.other("a program without memory, over Packed", survives::<Packed>(alloc))
+    cases.other(
+        "a program without memory, over Cells",
+        survives::<Cells>(alloc),
+    )?;
+    cases.other(
+        "a program without memory, over Packed",
+        survives::<Packed>(alloc),
+    )
 }
 
 /// A program with statements of all forms, invocations, calls of functions and a chart among them.
