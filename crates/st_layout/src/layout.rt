@@ -116,7 +116,7 @@ fn offsets_of(alloc: Global, leaves: &[Leaf]) -> Result<Vec<u32>, AllocError>
     ensures count { IfOk result (λ offsets. length offsets.items ≡ length leaves.now + 1) }
     ensures offsets { IfOk result (λ offsets. EachIndex offsets.items (λ i. slice_index offsets.items i ≡ offset_of leaves.now i)) }
 {
-    let mut offsets = Vec::new(alloc);
+    let mut offsets = Vec::with_capacity(alloc, leaves.len() + 1)?;
     let mut end = 0;
     offsets.push(end)?;
     for leaf in leaves {
