@@ -19,3 +19,4 @@ pub mod Said
 pub mod SmallFunctions
 pub mod Starts
 pub mod Taken
+pub mod Typed

@@ -3,6 +3,7 @@ ghost use Rattle.std.specs.Prelude.{◌≡◌, IfOk, true};
 ghost use Rattle.st_check.specs.Programs.{leaves_of_program};
 ghost use Rattle.st_compile.specs.Programs.{HasRoom, faulty_name, greatest_depth, program_code, program_units};
 ghost use Rattle.st_compile.specs.Small.{functions_are_small};
+ghost use Rattle.st_compile.specs.Typed.{HasTypedCode};
 
 mod apart;
 
@@ -13,6 +14,7 @@ use st_layout::Layout;
 use st_listing::OfProgram;
 use st_machine::{Room, Stacks, Units};
 use st_tree::Name;
+use st_typed::{checked_programs_are_typed, typings_are_one};
 use std::alloc::{AllocError, Global};
 use std::marker::Model;
 
@@ -50,11 +52,17 @@ impl Model for Image {
     ghost invariant = { λ image. (image.layout ≡ leaves_of_program image.program) × (image.code ≡ program_code image.program) × (image.units ≡ program_units image.program) × (image.depth ≡ program_depth image.program) × (image.rooms.items ≡ program_rooms image.program) × (image.names.items ≡ program_names image.program) × (functions_are_small image.program ≡ true) };
 }
 
-/// The image of a program. It is refused for want of memory, and where a function of its text has more than 999,999 variables. No text
-/// of at most 1,048,576 bytes has such a function: each name in it takes two bytes at least, with what stands behind it.
+/// The image of a program. Its code is that of the one typing of the program, which drops nothing of it.
+///
+/// It is refused for want of memory, and where a function of its text has more than 999,999 variables. No text of at most 1,048,576
+/// bytes has such a function: each name in it takes two bytes at least, with what stands behind it.
 pub fn compile(alloc: Global, program: Program) -> Result<Image, AllocError>
-    ensures { IfOk result (λ image. image ≡ program) }
+    ensures program { IfOk result (λ image. image ≡ program) }
+    ensures typed { IfOk result (λ image. HasTypedCode image) }
 {
+    checked_programs_are_typed();
+    typings_are_one();
+    let _main = program.main();
     let layout = Layout::of(alloc, &program)?;
     let made = made_of(alloc, &program)?;
     Ok(Image {

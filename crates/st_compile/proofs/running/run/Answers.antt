@@ -4,6 +4,7 @@ use Rattle.st_check.specs.Programs.{IsChecked, leaves_of_program}
 use Rattle.st_compile.proofs.Known.{Known}
 use Rattle.st_compile.proofs.Runs.{its_run, result_done, result_faulted, room_kept}
 use Rattle.st_compile.proofs.SmallFunctions.{functions_small}
+use Rattle.st_compile.proofs.Typed.{typed_scan}
 use Rattle.st_compile.proofs.running.run.Goals as goal
 use Rattle.st_blocks.proofs.RangeLemmas.{is_time}
 
@@ -94,3 +95,15 @@ returns-in-Err-clause-result g c =
     (g.met.M.Memory.fits (leaves_of_program program) c.args.memory.now c.requires.over) c.args.limit _ c.code.result.now c.units.result.now c.layout.result.now
     (to_z-of_z w64 c.args.now c.ranges.now) c.code.ensures c.units.ensures.units c.layout.ensures c.in-Err.halt c.in-Err.ensures.ends
     ∙ ap (λ n. Err (record { kind = c.in-Err.halt.kind; unit = n; line = c.in-Err.halt.line })) (sym c.faulty.ensures)
+
+pub returns-in-Ok-clause-typed : goal.returns-in-Ok-clause-typed
+returns-in-Ok-clause-typed g c = c.checked_programs_are_typed.ensures c.args.image.now (subst (λ p. IsChecked p) c.program.ensures c.main-main.ensures.checked)
+
+pub returns-in-Err-clause-typed : goal.returns-in-Err-clause-typed
+returns-in-Err-clause-typed g c = c.checked_programs_are_typed.ensures c.args.image.now (subst (λ p. IsChecked p) c.program.ensures c.main-main.ensures.checked)
+
+pub returns-in-Ok-clause-meaning : goal.returns-in-Ok-clause-meaning
+returns-in-Ok-clause-meaning g c = λ unit body is. typed_scan c.typings_are_one.ensures c.args.image.now unit body is _ _ _ ∙ returns-in-Ok-clause-result g c
+
+pub returns-in-Err-clause-meaning : goal.returns-in-Err-clause-meaning
+returns-in-Err-clause-meaning g c = λ unit body is. typed_scan c.typings_are_one.ensures c.args.image.now unit body is _ _ _ ∙ returns-in-Err-clause-result g c
