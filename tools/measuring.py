@@ -1,4 +1,5 @@
-"""What measures of the built program share: the processor time of a run, and its peak of memory."""
+"""What measures of the program share: the processor time of a run, its peak of memory, its instructions, and where figures are kept."""
+import csv
 import os
 import subprocess
 import sys
@@ -32,3 +33,27 @@ def peak(words, lines=os.devnull):
         timed = ["/usr/bin/time", "--format=%M", f"--output={told.name}", *words]
         subprocess.run(timed, stdin=typed, stdout=subprocess.DEVNULL, check=True)
         return int(told.read()) / 1024
+
+
+def instructions(words, lines=os.devnull):
+    """The instructions of a run, as valgrind's callgrind counts them."""
+    tool = ["valgrind", "--tool=callgrind", "--trace-children=yes", "--callgrind-out-file=/dev/null"]
+    with open(lines) as typed:
+        run = subprocess.run(tool + words, stdin=typed, capture_output=True, text=True, check=True)
+    return sum(int(line.split()[-1]) for line in run.stderr.splitlines() if "Collected" in line)
+
+
+def speed_program():
+    """The path of st_speed, which is proved and built first, where that isn't done."""
+    folder = os.path.join(TOP, "crates", "st_speed")
+    built = subprocess.run(["rt", "run"], cwd=folder, stdin=subprocess.DEVNULL, capture_output=True, text=True)
+    if built.returncode:
+        sys.exit(built.stdout + built.stderr)
+    return os.path.join(folder, "out", "st_speed")
+
+
+def record(subject, case, figures):
+    """Puts the figures of a case, by their names with their units, behind the file that MEASURES names, where it names one."""
+    if file := os.environ.get("MEASURES"):
+        with open(file, "a", newline="") as it:
+            csv.writer(it, lineterminator="\n").writerows((subject, case, name, f"{value:.4g}", unit) for name, (value, unit) in figures.items())

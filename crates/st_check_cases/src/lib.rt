@@ -1,22 +1,9 @@
-//! What no clause says of the rules: that they mean what the standard's readers expect, case by case, with answers made by
-//! hand.
+//! What no clause says of the rules: that the examples of the page on refusals are refused as it says, and that memory suffices.
 //!
-//! This crate has tests alone.
+//! This crate has tests alone. Texts that break a rule, and their neighbours that don't, stand in the files of `st_cases`.
 #![tactic(auto)]
 
 #[cfg(test)]
-mod answers;
-#[cfg(test)]
-mod charts;
-#[cfg(test)]
-mod declarations;
-#[cfg(test)]
 mod explained;
 #[cfg(test)]
-mod expressions;
-#[cfg(test)]
-mod manual;
-#[cfg(test)]
-mod programs;
-#[cfg(test)]
-mod statements;
+mod memory;

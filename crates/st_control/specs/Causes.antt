@@ -42,7 +42,7 @@ no_active_step = O 8
 abbrev pub moment_past : Refusal
 moment_past = O 9
 
--- the program was halted by a fault, or it can't be run
+-- the program was halted by a fault
 abbrev pub halted : Refusal
 halted = O 10
 

@@ -294,8 +294,8 @@ impl<M: Memory> Controller<M> {
     /// and it is halted. In both cases nothing is left to undo. It takes no memory.
     ///
     /// Refused as O1 where an input is for a leaf that isn't there, O3 where its value isn't one of the leaf's type, O9 where the
-    /// moment is before the last one or above `MAX_MOMENT`, O10 where the program is halted or can't be run, O12 where an input
-    /// is for a leaf that isn't a process input. The undo list is then as it was.
+    /// moment is before the last one or above `MAX_MOMENT`, O10 where the program is halted, O12 where an input is for a leaf that
+    /// isn't a process input. The undo list is then as it was.
     pub fn scan(&mut self, now: i64, inputs: &[(u32, Value)]) -> Result<Scanned, Refusal>
         ensures step { TakesScan (scan_step now inputs.now (machine_of self.old)) self.old result self.new }
     {

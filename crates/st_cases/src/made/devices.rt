@@ -1,0 +1,123 @@
+//! Sessions, checks and layouts over devices of all kinds, and over those that fail.
+use crate::made::counter::Counter;
+use crate::ways::{ALL_GOOD, LARGE_PIECE, MAIN};
+use st_control::{Controller, Refusal};
+use st_memory::{Cells, Memory, Packed};
+use st_session::{
+    ACCEPTED, Bytes, DEVICE_FAILED, FromReader, NO_PROGRAM, Outcome, Sheet, Sink, Source, ToWriter,
+    check_text, layout_text, run_text, session,
+};
+use st_values::{Elem, Value};
+use std::alloc::Global;
+use std::io;
+
+const PROGRAM: &[u8] = b"PROGRAM Main VAR A : INT := 3; B : BOOL; END_VAR END_PROGRAM";
+
+const SESSION: &[u8] = b"write main.a 5\nshow Main.A\nundo\nshow Main.A\n";
+
+const REPLIES: &[u8] = b"ok\nMain.A = 5\nok\nMain.A = 3\n";
+
+pub fn run(cases: &mut Counter<'_>) -> io::Result<()> {
+    let alloc = cases.alloc();
+    for piece in 1..7 {
+        cases.other("pieces of some bytes", comes_in_pieces(alloc, piece))?;
+    }
+    cases.other("a reader and a writer", comes_by_readers(alloc))?;
+    cases.other("a program that isn't there", is_no_program(alloc))?;
+    cases.other(
+        "a sink that fails, over Cells",
+        ends_with_its_sink::<Cells>(alloc),
+    )?;
+    cases.other(
+        "a sink that fails, over Packed",
+        ends_with_its_sink::<Packed>(alloc),
+    )?;
+    cases.other("a source that fails", loses_no_line(alloc))?;
+    cases.other("a check whose sink fails", checks_fail(alloc))?;
+    cases.other("a layout whose sink fails", layouts_fail(alloc))
+}
+
+/// Whether the session comes out by pieces of so many bytes.
+fn comes_in_pieces(alloc: Global, piece: usize) -> bool
+    requires { 0 < piece }
+{
+    let mut source = Bytes::new(SESSION, piece, ALL_GOOD);
+    let mut sink = Sheet::new(alloc, piece, ALL_GOOD);
+    let status = run_text(alloc, PROGRAM, MAIN, 8, &mut source, &mut sink);
+    status == ACCEPTED && sink.written() == REPLIES && !source.failed() && !sink.failed()
+}
+
+/// Whether it comes out over a reader and a writer of the library.
+fn comes_by_readers(alloc: Global) -> bool {
+    let mut written = Vec::new(alloc);
+    let mut source = FromReader::new(SESSION);
+    let mut sink = ToWriter::new(&mut written);
+    let status = run_text(alloc, PROGRAM, MAIN, 8, &mut source, &mut sink);
+    let has_failed = source.failed() || sink.failed();
+    status == ACCEPTED && !has_failed && written.as_slice() == REPLIES
+}
+
+/// Whether a text without the program is refused.
+fn is_no_program(alloc: Global) -> bool {
+    let mut source = Bytes::new(SESSION, LARGE_PIECE, ALL_GOOD);
+    let mut sink = Sheet::new(alloc, LARGE_PIECE, ALL_GOOD);
+    let status = run_text(alloc, PROGRAM, b"Other", 8, &mut source, &mut sink);
+    status == NO_PROGRAM && sink.written() == b"refused C10 line 0\n".as_slice()
+}
+
+/// Whether a session ends with its sink, which takes five bytes: the first command is done, and a part of the second's reply is written.
+fn ends_with_its_sink<M: Memory>(alloc: Global) -> bool {
+    let loaded: Result<Controller<M>, Refusal> = Controller::load(alloc, PROGRAM, MAIN, 8);
+    let Ok(mut controller) = loaded else {
+        return false;
+    };
+    let mut source = Bytes::new(SESSION, LARGE_PIECE, ALL_GOOD);
+    let mut sink = Sheet::new(alloc, 3, 2);
+    let outcome = session(alloc, &mut controller, &mut source, &mut sink);
+    let five = Value {
+        elem: Elem::Int,
+        bits: 5,
+    };
+    outcome == Outcome::Device
+        && sink.written() == b"ok\nMai".as_slice()
+        && sink.failed()
+        && !source.failed()
+        && controller.get(b"Main.A") == Ok((five, false))
+}
+
+/// Whether of a source that fails the first line is answered, which is read with its line feed, and of the second a part is read.
+fn loses_no_line(alloc: Global) -> bool {
+    let mut source = Bytes::new(SESSION, 20, 1);
+    let mut sink = Sheet::new(alloc, LARGE_PIECE, ALL_GOOD);
+    let status = run_text(alloc, PROGRAM, MAIN, 8, &mut source, &mut sink);
+    status == DEVICE_FAILED
+        && sink.written() == b"ok\n".as_slice()
+        && source.failed()
+        && !sink.failed()
+}
+
+/// Whether a beginning of a check's answer stands where its device failed, and that is the status, whatever the answer is.
+fn checks_fail(alloc: Global) -> bool {
+    for text in [PROGRAM, b"(* open".as_slice()] {
+        for calls in 0..2 {
+            let mut sink = Sheet::new(alloc, 1, calls);
+            let status = check_text(alloc, text, MAIN, &mut sink);
+            if status != DEVICE_FAILED || sink.written().len() as u64 != calls {
+                return false;
+            }
+        }
+    }
+    true
+}
+
+/// Whether a beginning of a layout's lines stands where its device failed, and that is the status.
+fn layouts_fail(alloc: Global) -> bool {
+    for calls in 0..20 {
+        let mut sink = Sheet::new(alloc, 1, calls);
+        let status = layout_text(alloc, PROGRAM, MAIN, &mut sink);
+        if status != DEVICE_FAILED || sink.written().len() as u64 != calls {
+            return false;
+        }
+    }
+    true
+}

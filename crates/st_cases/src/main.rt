@@ -1,0 +1,58 @@
+//! Runs worked cases: sessions, layouts and checks of whole program texts, with what has to come out.
+//!
+//! A word of the command line is a folder. Of each of its files `*.cases`, by name, a line says how many cases it has, with a line
+//! before it for each case that fails. The word `--made` stands for the cases that are made by code, and `--without-memory` for those
+//! of them whose memory `tools/refuse-allocations` refuses. The last line counts all. The status is 0 where none failed, 1 where one
+//! did, and 2 where a folder or a file can't be read. `data/README.md` has the form of a case.
+#![tactic(auto)]
+
+mod blocks;
+mod case;
+mod folder;
+mod made;
+mod tally;
+mod trials;
+mod ways;
+
+use crate::folder::run_folder;
+use crate::made::{run_made, run_without_memory};
+use crate::tally::Tally;
+use std::io;
+use std::process::ExitCode;
+
+/// A case failed.
+const FAILED: u8 = 1;
+
+/// A folder or a file can't be read.
+const UNREADABLE: u8 = 2;
+
+fn main(rt: HostRuntime) -> ExitCode {
+    match run_all(&rt) {
+        Ok(tally) if tally.failed == 0 => ExitCode::SUCCESS,
+        Ok(_) => ExitCode::from(FAILED),
+        Err(error) => {
+            let _ = eprintln!(rt; "error: {error}");
+            ExitCode::from(UNREADABLE)
+        }
+    }
+}
+
+/// Runs the cases that the words name, and counts them.
+fn run_all(rt: &HostRuntime) -> io::Result<Tally> {
+    let mut all = Tally::default();
+    for word in std::env::args(rt)?.skip(1) {
+        all.add(run_word(rt, word.as_str())?);
+    }
+    let Tally { passed, failed } = all;
+    println!(rt; "{passed} passed, {failed} failed")?;
+    Ok(all)
+}
+
+/// Runs the cases that a word names.
+fn run_word(rt: &HostRuntime, word: &str) -> io::Result<Tally> {
+    match word {
+        "--made" => run_made(rt),
+        "--without-memory" => run_without_memory(rt),
+        folder => run_folder(rt, folder),
+    }
+}

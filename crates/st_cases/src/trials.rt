@@ -1,0 +1,150 @@
+//! Whether what comes of a text is what has to come.
+use crate::ways::{LARGE_PIECE, Told, Typed, check, converse, lay_out, run};
+use st_memory::{Cells, Packed};
+use st_session::{ACCEPTED, LINE_REFUSED, NO_PROGRAM};
+use std::alloc::{AllocError, Global};
+
+/// What a check answers to a text that is accepted.
+const OK: &[u8] = b"ok\n";
+
+/// A session in which nothing is typed.
+const SILENCE: Typed<'_> = Typed {
+    lines: b"",
+    steps: 1,
+};
+
+/// What has to be written, and the status.
+#[derive(Clone, Copy)]
+struct Wanted<'a> {
+    status: u8,
+    written: &'a [u8],
+}
+
+/// How a session over a text fails to reply what is wanted, or nothing where it doesn't: it has to do so as the program runs it, by
+/// pieces of any size, and over each kind of memory.
+pub fn session_failure(
+    alloc: Global,
+    text: &[u8],
+    typed: Typed<'_>,
+    written: &[u8],
+) -> Result<Option<String>, AllocError> {
+    let ways = [
+        ("run", run(alloc, text, typed, LARGE_PIECE)?),
+        ("run byte by byte", run(alloc, text, typed, 1)?),
+        ("over Cells", converse::<Cells>(alloc, text, typed)?),
+        ("over Packed", converse::<Packed>(alloc, text, typed)?),
+    ];
+    let status = status_of(written);
+    first_failure(alloc, &ways, Wanted { status, written })
+}
+
+/// How the layout of a text fails to have these lines, or nothing where it has them.
+pub fn layout_failure(
+    alloc: Global,
+    text: &[u8],
+    written: &[u8],
+) -> Result<Option<String>, AllocError> {
+    let ways = [("layout", lay_out(alloc, text)?)];
+    let status = ACCEPTED;
+    first_failure(alloc, &ways, Wanted { status, written })
+}
+
+/// How a text fails to be accepted, or nothing where it is: by its check, by its layout, and by its load over each kind of memory.
+pub fn accepted_failure(alloc: Global, text: &[u8]) -> Result<Option<String>, AllocError> {
+    let ways = [
+        ("check", check(alloc, text)?),
+        ("layout", as_checked(lay_out(alloc, text)?)?),
+        ("run", as_checked(run(alloc, text, SILENCE, LARGE_PIECE)?)?),
+        (
+            "over Cells",
+            as_checked(converse::<Cells>(alloc, text, SILENCE)?)?,
+        ),
+    ];
+    let (status, written) = (ACCEPTED, OK);
+    first_failure(alloc, &ways, Wanted { status, written })
+}
+
+/// How a text fails to be refused so, or nothing where it is: by its check, by its layout, and by its load over each kind of memory.
+pub fn refused_failure(
+    alloc: Global,
+    text: &[u8],
+    written: &[u8],
+) -> Result<Option<String>, AllocError> {
+    let ways = [
+        ("check", check(alloc, text)?),
+        ("layout", lay_out(alloc, text)?),
+        ("run", run(alloc, text, SILENCE, LARGE_PIECE)?),
+        ("over Cells", converse::<Cells>(alloc, text, SILENCE)?),
+        ("over Packed", converse::<Packed>(alloc, text, SILENCE)?),
+    ];
+    let status = NO_PROGRAM;
+    first_failure(alloc, &ways, Wanted { status, written })
+}
+
+/// What a check would tell in the place of this: `ok`, whatever was written of a text that is accepted.
+fn as_checked(mut told: Told) -> Result<Told, AllocError> {
+    if told.status == ACCEPTED {
+        told.written.clear();
+        told.written.extend_from_slice(OK)?;
+    }
+    Ok(told)
+}
+
+/// How the first of several ways that doesn't tell what is wanted differs from it.
+fn first_failure(
+    alloc: Global,
+    ways: &[(&str, Told)],
+    wanted: Wanted<'_>,
+) -> Result<Option<String>, AllocError> {
+    for (way, told) in ways {
+        if let Some(difference) = difference(alloc, told, wanted)? {
+            return Ok(Some(format!(in alloc; "{way}: {difference}")?));
+        }
+    }
+    Ok(None)
+}
+
+/// How what is told differs from what is wanted.
+fn difference(
+    alloc: Global,
+    told: &Told,
+    wanted: Wanted<'_>,
+) -> Result<Option<String>, AllocError> {
+    if told.written.as_slice() != wanted.written {
+        return Ok(Some(first_line(alloc, &told.written, wanted.written)?));
+    }
+    if told.status != wanted.status {
+        let (came, due) = (told.status, wanted.status);
+        return Ok(Some(format!(in alloc; "the status is {came}, not {due}")?));
+    }
+    Ok(None)
+}
+
+/// The first line that differs.
+fn first_line(alloc: Global, written: &[u8], wanted: &[u8]) -> Result<String, AllocError> {
+    let mut lines = written.split(|byte| *byte == b'\n');
+    let mut number: usize = 0;
+    for due in wanted.split(|byte| *byte == b'\n') {
+        number = number.saturating_add(1);
+        let came = lines.next().unwrap_or(b"");
+        if came != due {
+            let came = String::from_utf8_lossy(alloc, came)?;
+            let due = String::from_utf8_lossy(alloc, due)?;
+            return format!(in alloc; "line {number} is '{came}', not '{due}'");
+        }
+    }
+    format!(in alloc; "there are more than {number} lines")
+}
+
+/// The status of a session with these replies.
+fn status_of(replies: &[u8]) -> u8 {
+    let is_refused = replies
+        .split(|byte| *byte == b'\n')
+        .any(|reply| is_refusal(reply));
+    if is_refused { LINE_REFUSED } else { ACCEPTED }
+}
+
+/// Tests whether a reply tells of a line that is refused, or of a scan that a fault ended.
+fn is_refusal(reply: &[u8]) -> bool {
+    reply.starts_with(b"refused") || reply.starts_with(b"fault")
+}
