@@ -11,7 +11,7 @@ use Rattle.st_faults.specs.declared.fault.Rule.{Rule}
 use Rattle.st_faults.specs.declared.fault.Rule.TheVariants as rules
 use Rattle.st_types.specs.Names.{is_among}
 use Rattle.st_types.specs.OwnTypes.{call_own, gives, least_arguments, most_arguments, nth_due, position_due}
-use Rattle.st_types.specs.Scopes.{Scope}
+use Rattle.st_types.specs.Scopes.{Scope, elem_due}
 use Rattle.st_types.specs.Signatures.{Input, Signature, input_number}
 use Rattle.st_types.specs.declared.symbol.Callee.{Callee}
 use Rattle.st_types.specs.declared.symbol.Callee.TheVariants as callees
@@ -132,18 +132,24 @@ is_faulty _ = false
 abbrev pub is_unknown_call : Callee → List ArgumentKnown → Bool
 is_unknown_call callee arguments = is_some (call_rule callee arguments) || is_faulty callee
 
-abbrev pub call_faults : Callee → CallKnown → Position → Elem → List Fault
-call_faults callee c at e =
+-- the callee gives the type that is due, or that can't be known
+abbrev pub gives_due : Callee → Option Elem → Bool
+gives_due callee None = true
+gives_due callee (Some e) = gives callee e
+
+abbrev pub call_faults : Callee → CallKnown → Position → Option Elem → List Fault
+call_faults callee c at due =
     broken c.name.position (call_rule callee c.arguments)
-    ++ arguments_faults callee (dues.Type e) 0 c.arguments
-    ++ when (not (is_unknown_call callee c.arguments || gives callee e)) (fault at rules.TypeMismatch)
+    ++ arguments_faults callee (elem_due due) 0 c.arguments
+    ++ when (not (is_unknown_call callee c.arguments || gives_due callee due)) (fault at rules.TypeMismatch)
 
 abbrev pub called : Callee → CallKnown → Known
 called callee c = record {
   position = c.name.position;
   own = call_own callee (owns_in c.arguments);
   fits_all = is_unknown_call callee c.arguments;
-  faults_at = call_faults callee c;
+  faults_at = λ at e. call_faults callee c at (Some e);
+  faults_open = λ at. call_faults callee c at None;
 }
 
 abbrev pub value_of_call : Scope → CallKnown → Known

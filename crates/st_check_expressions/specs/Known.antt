@@ -1,6 +1,7 @@
 -- What is known of a part of an expression (3.3.1), and what the rules say of it where a type is due.
-use Rattle.std.specs.Prelude.{ℕ, zero, suc, pos, negsuc, Bool, true, false, ◌&&◌, ◌||◌, not, List, [], ◌∷◌, ◌++◌, map, Option, ℤ, if◌then◌else◌}
+use Rattle.std.specs.Prelude.{ℕ, zero, suc, pos, negsuc, Bool, true, false, ◌&&◌, ◌||◌, not, List, [], ◌∷◌, ◌++◌, map, Option, Some, None, ℤ, if◌then◌else◌}
 use Rattle.std.specs.List.{flat_map, list_all}
+use Rattle.std.specs.Option.{is_some}
 use Rattle.st_values.specs.Types.{is_same}
 use Rattle.st_values.specs.Values.{in_range}
 use Rattle.st_values.specs.declared.elem.Elem.{Elem}
@@ -26,6 +27,16 @@ pub record Known : Type 0 where
   pub own : Option Elem  -- its own type
   pub fits_all : Bool  -- its type can't be known, for a fault of its own
   pub faults_at : Position → Elem → List Fault  -- its faults where this type is due, those of its type at this position
+  pub faults_open : Position → List Fault  -- .. where a type is due that can't be known: a literal that some type holds has none
+
+-- its faults where this type is due, or one that can't be known
+abbrev pub faults_due : Known → Position → Option Elem → List Fault
+faults_due x at None = x.faults_open at
+faults_due x at (Some e) = x.faults_at at e
+
+-- .. those of its type at its first token
+abbrev pub faults_here : Known → Option Elem → List Fault
+faults_here x due = faults_due x x.position due
 
 -- the type that a part has without context
 abbrev pub alone : Known → Elem
@@ -35,9 +46,9 @@ alone x = or_lint x.own
 abbrev pub faults_alone : Known → List Fault
 faults_alone x = x.faults_at x.position (alone x)
 
--- its faults where this is due
+-- Its faults where this is due. Where that can't be known, a part has its own type, and a part without one may have any.
 abbrev pub faults_as : Known → Due → List Fault
-faults_as x dues.Any = faults_alone x
+faults_as x dues.Any = faults_here x x.own
 faults_as x (dues.Type e) = x.faults_at x.position e
 faults_as x dues.Integer = faults_alone x ++ when (not (is_integer (alone x) || x.fits_all)) (fault x.position rules.TypeMismatch)
 faults_as x dues.NoValue = faults_alone x ++ when (not x.fits_all) (fault x.position rules.TypeMismatch)
@@ -57,8 +68,13 @@ literal_position (constants.Typed position v) = position
 literal_position (constants.Duration d) = d.position
 literal_position (constants.Bool position b) = position
 
--- out of the range of the type that it names itself
+-- a type holds the number
+abbrev pub is_held : SignedInteger → Bool
+is_held n = in_range elems.Lint (number_of n) || in_range elems.Ulint (number_of n)
+
+-- No type holds it: a number of no type, or what is out of the range of the type that it names itself.
 abbrev pub is_misstated : Constant → Bool
+is_misstated (constants.Integer n) = not (is_held n)
 is_misstated (constants.Typed position v) = not (in_range v.elem v.bits)
 is_misstated (constants.Duration d) = not (in_range elems.Time d.milliseconds)
 is_misstated _ = false
@@ -68,15 +84,40 @@ abbrev pub stated_faults : Bool → Elem → Position → Position → Elem → 
 stated_faults misstated stated position at e =
     if misstated then fault position rules.OutOfRange ∷ [] else when (not (is_same stated e)) (fault at rules.TypeMismatch)
 
+-- a number where TIME is due, which no number fits
+abbrev pub untimed_fault : SignedInteger → Position → Fault
+untimed_fault n at = if is_held n then fault at rules.TypeMismatch else fault n.position rules.OutOfRange
+
 abbrev pub literal_faults : Constant → Position → Elem → List Fault
 literal_faults (constants.Integer n) at e =
-    if is_same e elems.Time then fault at rules.TypeMismatch ∷ [] else when (not (in_range e (number_of n))) (fault n.position rules.OutOfRange)
+    if is_same e elems.Time then untimed_fault n at ∷ [] else when (not (in_range e (number_of n))) (fault n.position rules.OutOfRange)
 literal_faults (constants.Typed position v) at e = stated_faults (not (in_range v.elem v.bits)) v.elem position at e
 literal_faults (constants.Duration d) at e = stated_faults (not (in_range elems.Time d.milliseconds)) elems.Time d.position at e
 literal_faults (constants.Bool position b) at e = stated_faults false elems.Bool position at e
 
+-- where a type is due that can't be known
+abbrev pub open_literal_faults : Constant → List Fault
+open_literal_faults c = when (is_misstated c) (fault (literal_position c) rules.OutOfRange)
+
+-- where this type is due, or one that can't be known
+abbrev pub due_literal_faults : Constant → Position → Option Elem → List Fault
+due_literal_faults c at None = open_literal_faults c
+due_literal_faults c at (Some e) = literal_faults c at e
+
 abbrev pub literal : Constant → Known
-literal c = record { position = literal_position c; own = literal_own c; fits_all = is_misstated c; faults_at = literal_faults c }
+literal c = record {
+  position = literal_position c;
+  own = literal_own c;
+  fits_all = is_misstated c;
+  faults_at = literal_faults c;
+  faults_open = λ at. open_literal_faults c;
+}
+
+-- ---- selectors
+
+-- the type of what a part selects by: its own, or else LINT, where it can be known
+abbrev pub selected : Known → Option Elem
+selected x = if not (is_some x.own) && x.fits_all then None else Some (alone x)
 
 -- ---- operators (table 55)
 
@@ -87,7 +128,7 @@ pub record OperandKnown : Type 0 where
 
 -- A part in parentheses begins at its `(`.
 abbrev pub parenthesized : Position → Known → Known
-parenthesized position x = record { position = position; own = x.own; fits_all = x.fits_all; faults_at = x.faults_at }
+parenthesized position x = record { position = position; own = x.own; fits_all = x.fits_all; faults_at = x.faults_at; faults_open = x.faults_open }
 
 abbrev pub negated : Position → Known → Known
 negated position x = record {
@@ -95,6 +136,7 @@ negated position x = record {
   own = x.own;
   fits_all = false;
   faults_at = λ at e. x.faults_at x.position e ++ when (not (negates e)) (fault at rules.TypeMismatch);
+  faults_open = λ at. x.faults_open x.position;
 }
 
 abbrev pub complemented : Position → Known → Known
@@ -103,6 +145,7 @@ complemented position x = record {
   own = x.own;
   fits_all = false;
   faults_at = λ at e. x.faults_at x.position e ++ when (not (complements e)) (fault at rules.TypeMismatch);
+  faults_open = λ at. x.faults_open x.position;
 }
 
 abbrev pub operators_of : List OperandKnown → List BinOp
@@ -140,5 +183,20 @@ owns_of ls = map (λ l. l.operand.own) ls
 abbrev pub chain_faults : Known → List OperandKnown → Position → Elem → List Fault
 chain_faults x ls at e = if compares (operators_of ls) then comparison_faults (compared_type x.own (owns_of ls)) x ls at e else arithmetic_faults x ls at e
 
+abbrev pub operands_open : List OperandKnown → List Fault
+operands_open ls = flat_map (λ l. l.operand.faults_open l.operand.position) ls
+
+-- Where a type is due that can't be known, so it is with each operand. A comparison is a BOOL.
+abbrev pub open_chain_faults : Known → List OperandKnown → Position → List Fault
+open_chain_faults x ls at =
+    if compares (operators_of ls) then comparison_faults (compared_type x.own (owns_of ls)) x ls at elems.Bool
+    else (x.faults_open x.position ++ operands_open ls)
+
 abbrev pub chain : Position → Known → List OperandKnown → Known
-chain position x ls = record { position = position; own = chain_own (operators_of ls) x.own (owns_of ls); fits_all = false; faults_at = chain_faults x ls }
+chain position x ls = record {
+  position = position;
+  own = chain_own (operators_of ls) x.own (owns_of ls);
+  fits_all = false;
+  faults_at = chain_faults x ls;
+  faults_open = open_chain_faults x ls;
+}

@@ -156,6 +156,7 @@ value_of v = record {
   own = elem_of v.reached.shape;
   fits_all = is_unknown v.reached.shape.base;
   faults_at = λ at e. v.faults ++ misfit (is_unknown v.reached.shape.base) (elem_of v.reached.shape) at e;
+  faults_open = λ at. v.faults ++ when (not (is_unknown v.reached.shape.base || is_value v.reached.shape)) (fault at rules.TypeMismatch);
 }
 
 -- ---- what may be assigned (2.4.3, 2.5.2.2, 2.6.2)

@@ -4,8 +4,9 @@ ghost use Rattle.std.specs.List.{list_all};
 ghost use Rattle.std.specs.Option.{is_some};
 ghost use Rattle.st_faults.specs.Faults.{offer_all};
 ghost use Rattle.st_types.specs.OwnTypes.{gives, is_shift, least_arguments, most_arguments, position_due, standard_due};
+ghost use Rattle.st_types.specs.Scopes.{elem_due};
 ghost use Rattle.st_types.specs.Signatures.{input_number};
-ghost use Rattle.st_check_expressions.specs.Calls.{are_own_arguments, broken, is_at_most, is_faulty, is_input_of, is_repeated, mismatch, name_due, rule_by, takes_arguments};
+ghost use Rattle.st_check_expressions.specs.Calls.{are_own_arguments, broken, gives_due, is_at_most, is_faulty, is_input_of, is_repeated, mismatch, name_due, rule_by, takes_arguments};
 ghost use Rattle.st_check_expressions.specs.Nodes.{rule_of};
 
 use crate::arguments::{count_positionals, input_names, output_names};
@@ -194,6 +195,16 @@ pub fn is_unknown_call(
 
 // ---- what is asked of arguments
 
+/// What is asked where a type is due, or one that can't be known.
+pub fn elem_due(elem: Option<Elem>) -> Due
+    ensures { result ≡ elem_due elem }
+{
+    match elem {
+        Some(elem) => Due::Type(elem),
+        None => Due::Any,
+    }
+}
+
 /// What is asked of the argument of a standard function of this number, from 0, where `whole` is asked of the call.
 fn standard_due(function: StandardFunction, whole: Due, number: usize) -> Due
     ensures { result ≡ standard_due function whole number }
@@ -263,11 +274,21 @@ fn gives(callee: &Callee<'_>, elem: Elem) -> bool
     }
 }
 
-/// Whether a call that breaks this rule gives the type, or can't be known.
-pub fn fits_call(callee: &Callee<'_>, rule: Option<Rule>, elem: Elem) -> bool
-    ensures { result ≡ (is_some rule || is_faulty callee.now || gives callee.now elem) }
+/// Whether a callee gives the type that is due, or that can't be known.
+fn gives_due(callee: &Callee<'_>, due: Option<Elem>) -> bool
+    ensures { result ≡ gives_due callee.now due }
 {
-    rule.is_some() || is_faulty(callee) || gives(callee, elem)
+    match due {
+        Some(elem) => gives(callee, elem),
+        None => true,
+    }
+}
+
+/// Whether a call that breaks this rule gives the type that is due, or that can't be known, or its own type can't be known.
+pub fn fits_call(callee: &Callee<'_>, rule: Option<Rule>, due: Option<Elem>) -> bool
+    ensures { result ≡ (is_some rule || is_faulty callee.now || gives_due callee.now due) }
+{
+    rule.is_some() || is_faulty(callee) || gives_due(callee, due)
 }
 
 /// Offers that a rule is broken at a name.

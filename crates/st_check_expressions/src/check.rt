@@ -3,16 +3,16 @@
 
 ghost use Rattle.std.specs.Prelude.{◌≡◌, IfOk, OnOk, map};
 ghost use Rattle.st_faults.specs.Faults.{offer_all};
-ghost use Rattle.st_types.specs.Scopes.{scope_at};
+ghost use Rattle.st_types.specs.Scopes.{elem_due, scope_at};
 ghost use Rattle.st_check_expressions.specs.Calls.{argument_faults, arguments_faults, value_of_call};
 ghost use Rattle.st_check_expressions.specs.Inside.{operands_from};
-ghost use Rattle.st_check_expressions.specs.Known.{faults_as};
+ghost use Rattle.st_check_expressions.specs.Known.{faults_as, faults_due, faults_here};
 ghost use Rattle.st_check_expressions.specs.Variables.{part_faults, parts_faults, select_all, subscripts_faults, target_faults};
 ghost use Rattle.st_check_expressions.specs.Walk.{known, known_argument, known_arguments, known_call, known_expressions, known_operation, known_operations, known_part, known_parts, known_variable};
 
-use crate::calls::{call_rule, fits_call, name_due, offer_broken, position_due};
+use crate::calls::{call_rule, elem_due, fits_call, name_due, offer_broken, position_due};
 use crate::literals::check_literal;
-use crate::operators::{complements, fits_chain, further_type, negates};
+use crate::operators::{complements_due, fits_chain, further_type, negates_due};
 use crate::own::{chain_type, due_type, meets, position};
 use crate::route::{Route, Start, select, start_of};
 use crate::variables::{
@@ -39,23 +39,23 @@ pub fn check_expression(
     let elem = due_type(scope, expression, due);
     let position = position(expression);
     check_at(alloc, scope, expression, position, elem, first)?;
-    let fits = meets(alloc, scope, expression, elem, due)?;
+    let fits = meets(alloc, scope, expression, due)?;
     // Typing rests on this rule in its cases `subscript`, `case_is` and `shifted`, where an integer is due, and in `input`.
     first.offer_when(!fits, position, Rule::TypeMismatch);
     Ok(())
 }
 
-/// Offers the faults of an expression in a part that begins at `at`, where a type is due.
+/// Offers the faults of an expression in a part that begins at `at`, where a type is due, or one that can't be known.
 #[cycle(check)]
 fn check_at(
     alloc: Global,
     scope: &Scope<'_>,
     expression: &Expression,
     at: Position,
-    due: Elem,
+    due: Option<Elem>,
     first: &mut FirstFault,
 ) -> Result<(), AllocError>
-    ensures { OnOk result (first.new ≡ offer_all first.old ((known (scope_at scope.now) expression.now).faults_at at due)) }
+    ensures { OnOk result (first.new ≡ offer_all first.old (faults_due (known (scope_at scope.now) expression.now) at due)) }
 {
     match expression {
         Expression::Constant(literal) => check_literal(literal, at, due, first),
@@ -66,19 +66,19 @@ fn check_at(
         Expression::Call(call) => check_call(alloc, scope, call, at, due, first)?,
         Expression::Parenthesized(_, inner) => check_at(alloc, scope, inner.get(), at, due, first)?,
         Expression::Negate(_, operand) => {
-            check_expression(alloc, scope, operand.get(), Due::Type(due), first)?;
+            check_operand(alloc, scope, operand.get(), due, first)?;
             // Typing rests on this rule in its case `negate`.
-            first.offer_when(!negates(due), at, Rule::TypeMismatch);
+            first.offer_when(!negates_due(due), at, Rule::TypeMismatch);
         }
         Expression::Not(_, operand) => {
-            check_expression(alloc, scope, operand.get(), Due::Type(due), first)?;
+            check_operand(alloc, scope, operand.get(), due, first)?;
             // Typing rests on this rule in its case `complement`.
-            first.offer_when(!complements(due), at, Rule::TypeMismatch);
+            first.offer_when(!complements_due(due), at, Rule::TypeMismatch);
         }
         Expression::Chain(_, left, operations) => {
             let operations = operations.as_slice();
             let operand_due = chain_type(scope, left.get(), operations, due);
-            check_expression(alloc, scope, left.get(), Due::Type(operand_due), first)?;
+            check_operand(alloc, scope, left.get(), operand_due, first)?;
             let further_due = further_type(operations, operand_due);
             check_operations(alloc, scope, operations, operand_due, further_due, first)?;
             // Typing rests on this rule in its cases `combination` and `comparison`.
@@ -88,18 +88,34 @@ fn check_at(
     Ok(())
 }
 
-/// Offers the faults of an operand behind an operator, where a type is due.
+/// Offers the faults of an operand, where a type is due, or one that can't be known.
 #[cycle(check)]
 fn check_operand(
     alloc: Global,
     scope: &Scope<'_>,
-    operation: &Operation,
-    due: Elem,
+    operand: &Expression,
+    due: Option<Elem>,
     first: &mut FirstFault,
 ) -> Result<(), AllocError>
-    ensures { OnOk result (first.new ≡ offer_all first.old (faults_as (known_operation (scope_at scope.now) operation.now).operand (Due.Type due))) }
+    ensures { OnOk result (first.new ≡ offer_all first.old (faults_here (known (scope_at scope.now) operand.now) due)) }
 {
-    check_expression(alloc, scope, &operation.operand, Due::Type(due), first)?;
+    let position = position(operand);
+    check_at(alloc, scope, operand, position, due, first)?;
+    Ok(())
+}
+
+/// Offers the faults of an operand behind an operator, where a type is due, or one that can't be known.
+#[cycle(check)]
+fn check_operation(
+    alloc: Global,
+    scope: &Scope<'_>,
+    operation: &Operation,
+    due: Option<Elem>,
+    first: &mut FirstFault,
+) -> Result<(), AllocError>
+    ensures { OnOk result (first.new ≡ offer_all first.old (faults_here (known_operation (scope_at scope.now) operation.now).operand due)) }
+{
+    check_operand(alloc, scope, &operation.operand, due, first)?;
     Ok(())
 }
 
@@ -109,15 +125,15 @@ fn check_operations(
     alloc: Global,
     scope: &Scope<'_>,
     operations: &[Operation],
-    due: Elem,
-    further_due: Elem,
+    due: Option<Elem>,
+    further_due: Option<Elem>,
     first: &mut FirstFault,
 ) -> Result<(), AllocError>
     ensures { OnOk result (first.new ≡ offer_all first.old (operands_from (known_operations (scope_at scope.now) operations.now) due further_due)) }
 {
     let mut due = due;
     'operations: for operation in operations {
-        check_operand(alloc, scope, operation, due, first)?;
+        check_operation(alloc, scope, operation, due, first)?;
         due = further_due;
     }
     Ok(())
@@ -224,23 +240,23 @@ pub fn check_target<'a>(
     Ok(route.shape)
 }
 
-/// Offers the faults of a call in a part that begins at `at`, where a type is due.
+/// Offers the faults of a call in a part that begins at `at`, where a type is due, or one that can't be known.
 #[cycle(check)]
 fn check_call(
     alloc: Global,
     scope: &Scope<'_>,
     call: &Call,
     at: Position,
-    due: Elem,
+    due: Option<Elem>,
     first: &mut FirstFault,
 ) -> Result<(), AllocError>
-    ensures { OnOk result (first.new ≡ offer_all first.old ((value_of_call (scope_at scope.now) (known_call (scope_at scope.now) call.now)).faults_at at due)) }
+    ensures { OnOk result (first.new ≡ offer_all first.old (faults_due (value_of_call (scope_at scope.now) (known_call (scope_at scope.now) call.now)) at due)) }
 {
     let callee = scope.callee(call.name.spelling.as_slice());
     let arguments = call.arguments.as_slice();
     let rule = call_rule(alloc, &callee, arguments)?;
     offer_broken(rule, call.name.position, first);
-    check_arguments(alloc, scope, &callee, Due::Type(due), arguments, first)?;
+    check_arguments(alloc, scope, &callee, elem_due(due), arguments, first)?;
     let fits = fits_call(&callee, rule, due);
     // Typing rests on this rule in its cases `absolute`, `shifted`, `conversion` and `own`.
     first.offer_when(!fits, at, Rule::TypeMismatch);

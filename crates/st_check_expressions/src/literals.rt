@@ -1,11 +1,11 @@
 //! Literals (2.2).
 #![tactic(auto, unfolding(st_faults::specs::Faults::offer_all))]
 
-ghost use Rattle.std.specs.Prelude.{◌≡◌};
+ghost use Rattle.std.specs.Prelude.{◌≡◌, Some};
 ghost use Rattle.st_values.specs.Values.{in_range};
 ghost use Rattle.st_faults.specs.Faults.{offer_all};
 ghost use Rattle.st_types.specs.OwnTypes.{literal_own};
-ghost use Rattle.st_check_expressions.specs.Known.{is_misstated, literal_faults, literal_position, number_of, stated_faults};
+ghost use Rattle.st_check_expressions.specs.Known.{due_literal_faults, is_held, is_misstated, literal_faults, literal_position, number_of, stated_faults};
 
 use st_faults::{FirstFault, Rule};
 use st_tree::tree::{Constant, Duration, Position, SignedInteger};
@@ -35,14 +35,16 @@ pub fn literal_own(literal: &Constant) -> Option<Elem>
     }
 }
 
-/// Whether a literal is out of the range of the type that it names itself.
+/// Whether no type holds a literal: a number above 2^64 - 1 or below -2^63, or what is out of the range of the type that it
+/// names itself.
 pub fn is_misstated(literal: &Constant) -> bool
     ensures { result ≡ is_misstated literal.now }
 {
     match literal {
+        Constant::Integer(number) => !is_held(number),
         Constant::Typed(_, value) => !is_value(value.get()),
         Constant::Duration(duration) => !is_value(duration_value(duration)),
-        _ => false,
+        Constant::Bool(_, _) => false,
     }
 }
 
@@ -57,8 +59,23 @@ fn duration_value(duration: &Duration) -> Value
     }
 }
 
-/// Offers the faults of a literal, where a type is due, in a part that begins at `at`.
-pub fn check_literal(literal: &Constant, at: Position, due: Elem, first: &mut FirstFault)
+/// Offers the faults of a literal in a part that begins at `at`, where a type is due, or one that can't be known.
+pub fn check_literal(literal: &Constant, at: Position, due: Option<Elem>, first: &mut FirstFault)
+    ensures { first.new ≡ offer_all first.old (due_literal_faults literal.now at due) }
+{
+    match due {
+        Some(due) => check_typed(literal, at, due, first),
+        // No case of typing rests on this rule.
+        None => first.offer_when(
+            is_misstated(literal),
+            literal_position(literal),
+            Rule::OutOfRange,
+        ),
+    }
+}
+
+/// Offers the faults of a literal in a part that begins at `at`, where a type is due.
+fn check_typed(literal: &Constant, at: Position, due: Elem, first: &mut FirstFault)
     ensures { first.new ≡ offer_all first.old (literal_faults literal.now at due) }
 {
     match literal {
@@ -81,7 +98,11 @@ fn check_number(number: &SignedInteger, at: Position, due: Elem, first: &mut Fir
 {
     if due.is(Elem::Time) {
         // Typing rests on this rule in its case `integer`.
-        first.offer(at, Rule::TypeMismatch);
+        if is_held(number) {
+            first.offer(at, Rule::TypeMismatch);
+        } else {
+            first.offer(number.position, Rule::OutOfRange);
+        }
     } else {
         // Typing rests on this rule in its case `integer`: no number is wrapped.
         first.offer_when(!number_fits(number, due), number.position, Rule::OutOfRange);
@@ -106,6 +127,13 @@ fn check_stated(
         // Typing rests on this rule in its cases `stated`, `duration`, `false_is` and `true_is`.
         first.offer_when(!stated.is(due), at, Rule::TypeMismatch);
     }
+}
+
+/// Whether some type holds a number.
+fn is_held(number: &SignedInteger) -> bool
+    ensures { result ≡ is_held number.now }
+{
+    number_fits(number, Elem::Lint) || number_fits(number, Elem::Ulint)
 }
 
 /// Whether a number is in the range of a type.

@@ -1,7 +1,7 @@
 //! Operators, and the types that they take (3.3.1, table 55).
-ghost use Rattle.std.specs.Prelude.{◌≡◌};
+ghost use Rattle.std.specs.Prelude.{◌≡◌, Some};
 ghost use Rattle.st_types.specs.OwnTypes.{compares, complements, is_bits, is_comparison, is_integer, negates};
-ghost use Rattle.st_check_expressions.specs.Inside.{fits_chain, further_type};
+ghost use Rattle.st_check_expressions.specs.Inside.{complements_due, fits_chain, further_type, negates_due};
 ghost use Rattle.st_check_expressions.specs.Known.{all_combine, all_compare, combines};
 ghost use Rattle.st_check_expressions.specs.Nodes.{operators_in};
 
@@ -24,17 +24,37 @@ pub fn is_bits(elem: Elem) -> bool
 }
 
 /// Whether `-` takes an operand of the type.
-pub fn negates(elem: Elem) -> bool
+fn negates(elem: Elem) -> bool
     ensures { result ≡ negates elem }
 {
     is_integer(elem) || elem.is(Elem::Time)
 }
 
 /// Whether NOT takes an operand of the type.
-pub fn complements(elem: Elem) -> bool
+fn complements(elem: Elem) -> bool
     ensures { result ≡ complements elem }
 {
     elem.is(Elem::Bool) || is_bits(elem)
+}
+
+/// Whether `-` takes an operand of the type that is due, or that can't be known.
+pub fn negates_due(due: Option<Elem>) -> bool
+    ensures { result ≡ negates_due due }
+{
+    match due {
+        Some(elem) => negates(elem),
+        None => true,
+    }
+}
+
+/// Whether NOT takes an operand of the type that is due, or that can't be known.
+pub fn complements_due(due: Option<Elem>) -> bool
+    ensures { result ≡ complements_due due }
+{
+    match due {
+        Some(elem) => complements(elem),
+        None => true,
+    }
 }
 
 /// Whether an operator takes operands of the type and gives a value of it. A comparison gives a BOOL.
@@ -90,20 +110,30 @@ pub fn compares(operations: &[Operation]) -> bool
 }
 
 /// The type at which the operands behind the second are taken: BOOL where the first operator compares.
-pub fn further_type(operations: &[Operation], due: Elem) -> Elem
+pub fn further_type(operations: &[Operation], due: Option<Elem>) -> Option<Elem>
     ensures { result ≡ further_type (operators_in operations.now) due }
 {
     if compares(operations) {
-        Elem::Bool
+        Some(Elem::Bool)
     } else {
         due
     }
 }
 
+/// Whether operators are of one kind and give what is due, or what can't be known.
+pub fn fits_chain(operations: &[Operation], due: Option<Elem>) -> bool
+    ensures { result ≡ fits_chain (operators_in operations.now) due }
+{
+    match due {
+        Some(due) => fits_typed(operations, due),
+        None => !compares(operations) || all_compare(operations),
+    }
+}
+
 /// Whether operators are of one kind and give what is due: all of them combine values of the type that is due, or all compare and a
 /// BOOL is due.
-pub fn fits_chain(operations: &[Operation], due: Elem) -> bool
-    ensures { result ≡ fits_chain (operators_in operations.now) due }
+fn fits_typed(operations: &[Operation], due: Elem) -> bool
+    ensures { result ≡ fits_chain (operators_in operations.now) (Some due) }
 {
     if compares(operations) {
         due.is(Elem::Bool) && all_compare(operations)

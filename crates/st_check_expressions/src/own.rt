@@ -4,7 +4,7 @@ ghost use Rattle.st_types.specs.OwnTypes.{call_own, compared_type, first_own, st
 ghost use Rattle.st_types.specs.Scopes.{scope_at};
 ghost use Rattle.st_check_expressions.specs.Calls.{owns_in};
 ghost use Rattle.st_check_expressions.specs.Inside.{argument_own, chain_type, due_elem, meets, types_call};
-ghost use Rattle.st_check_expressions.specs.Known.{alone, owns_of};
+ghost use Rattle.st_check_expressions.specs.Known.{alone, owns_of, selected};
 ghost use Rattle.st_check_expressions.specs.Nodes.{position_of};
 ghost use Rattle.st_check_expressions.specs.Walk.{known, known_argument, known_arguments, known_operation, known_operations};
 
@@ -167,16 +167,36 @@ fn compared_type(scope: &Scope<'_>, left: &Expression, operations: &[Operation])
     }
 }
 
-/// The type at which the operands of a chain are taken, where this type is due of the whole.
+/// The type at which the operands of a chain are taken, where this type is due of the whole, if it can be known.
 #[tactic(auto, using(crate::proofs::Nodes::operators_known))]
-pub fn chain_type(scope: &Scope<'_>, left: &Expression, operations: &[Operation], due: Elem) -> Elem
+pub fn chain_type(
+    scope: &Scope<'_>,
+    left: &Expression,
+    operations: &[Operation],
+    due: Option<Elem>,
+) -> Option<Elem>
     ensures { result ≡ chain_type (known (scope_at scope.now) left.now) (known_operations (scope_at scope.now) operations.now) due }
 {
     if compares(operations) {
-        compared_type(scope, left, operations)
+        Some(compared_type(scope, left, operations))
     } else {
         due
     }
+}
+
+/// The type of the labels of a selector: its own, or else LINT, if it can be known.
+pub fn selected_type(
+    alloc: Global,
+    scope: &Scope<'_>,
+    selector: &Expression,
+) -> Result<Option<Elem>, AllocError>
+    ensures { IfOk result (λ elem. elem ≡ selected (known (scope_at scope.now) selector.now)) }
+{
+    let found = own(scope, selector);
+    if found.is_none() && fits_all(alloc, scope, selector)? {
+        return Ok(None);
+    }
+    Ok(Some(found.unwrap_or(Elem::Lint)))
 }
 
 /// Whether the type of an expression can't be known, for a fault of its own.
@@ -202,30 +222,30 @@ pub fn fits_all(
     }
 }
 
-/// The type at which an expression is taken where this is due.
-pub fn due_type(scope: &Scope<'_>, expression: &Expression, due: Due) -> Elem
+/// The type at which an expression is taken where this is due, if it can be known.
+pub fn due_type(scope: &Scope<'_>, expression: &Expression, due: Due) -> Option<Elem>
     ensures { result ≡ due_elem (known (scope_at scope.now) expression.now) due }
 {
     match due {
-        Due::Type(elem) => elem,
-        _ => own_type(scope, expression),
+        Due::Type(elem) => Some(elem),
+        Due::Any => own(scope, expression),
+        Due::Integer | Due::NoValue => Some(own_type(scope, expression)),
     }
 }
 
-/// Whether an expression that is taken at a type meets what is due, besides the type itself.
+/// Whether an expression meets what is due, besides the type at which it is taken.
 pub fn meets(
     alloc: Global,
     scope: &Scope<'_>,
     expression: &Expression,
-    elem: Elem,
     due: Due,
 ) -> Result<bool, AllocError>
-    ensures { IfOk result (λ fits. fits ≡ meets (known (scope_at scope.now) expression.now) elem due) }
+    ensures { IfOk result (λ fits. fits ≡ meets (known (scope_at scope.now) expression.now) due) }
 {
     match due {
         Due::Any | Due::Type(_) => Ok(true),
         Due::Integer => {
-            if is_integer(elem) {
+            if is_integer(own_type(scope, expression)) {
                 return Ok(true);
             }
             fits_all(alloc, scope, expression)

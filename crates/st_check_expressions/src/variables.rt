@@ -54,9 +54,20 @@ pub fn check_count(
     first.offer_when(!fits, position, Rule::TypeMismatch);
 }
 
-/// Offers that a variable has another type than is due, or isn't one value, in a part that begins at `at`.
-pub fn check_misfit(shape: &Shape<'_>, at: Position, due: Elem, first: &mut FirstFault)
+/// Offers that a variable isn't one value of the type that is due, or of any where that can't be known, in a part that begins
+/// at `at`.
+pub fn check_misfit(shape: &Shape<'_>, at: Position, due: Option<Elem>, first: &mut FirstFault)
     ensures { first.new ≡ offer_all first.old (shape_misfit shape.now at due) }
+{
+    match due {
+        Some(due) => check_other(shape, at, due, first),
+        None => check_whole(shape, at, first),
+    }
+}
+
+/// Offers that a variable has another type than is due, or isn't one value, in a part that begins at `at`.
+fn check_other(shape: &Shape<'_>, at: Position, due: Elem, first: &mut FirstFault)
+    ensures { first.new ≡ offer_all first.old (shape_misfit shape.now at (Some due)) }
 {
     let fits = match elem_of(shape) {
         Some(elem) => elem.is(due),

@@ -1,5 +1,5 @@
 -- What the rules say of a node is made of what they say of its parts.
-use Rattle.std.proofs.Common.{rules, ◌≡◌, ℕ, List, ◌++◌, map, ap}
+use Rattle.std.proofs.Common.{rules, ◌≡◌, ℕ, List, ◌++◌, map, Option, ap}
 use Rattle.std.specs.List.{flat_map}
 use Rattle.st_values.specs.declared.elem.Elem.{Elem}
 use Rattle.st_tree.specs.declared.tree.expression.Variable.{Variable}
@@ -21,7 +21,7 @@ use Rattle.st_tree.specs.declared.tree.statement.WhileStatement.{WhileStatement}
 use Rattle.st_types.specs.Scopes.{Scope}
 use Rattle.st_types.specs.declared.base.Base.{Base}
 use Rattle.st_types.specs.declared.symbol.Due.TheVariants as dues
-use Rattle.st_check_expressions.specs.Known.{alone, faults_as}
+use Rattle.st_check_expressions.specs.Known.{faults_as, selected}
 use Rattle.st_check_expressions.specs.Variables.{VariableKnown, target_faults}
 use Rattle.st_check_expressions.specs.Walk.{known, known_variable}
 use Rattle.st_check_expressions.proofs.Folds.{known_variable_is}
@@ -38,11 +38,11 @@ part_is scope c a = search (rules, the_part.the_lemmas)
 pub case_is : (scope : Scope) (s : CaseStatement) (a : Around)
     → case_faults scope s a
     ≡ faults_as (known scope (out-CaseStatement s).selector) dues.Integer
-    ++ flat_map (λ c. c (alone (known scope (out-CaseStatement s).selector)) a) (map (element_faults scope) (out-CaseStatement s).cases)
+    ++ flat_map (λ c. c (selected (known scope (out-CaseStatement s).selector)) a) (map (element_faults scope) (out-CaseStatement s).cases)
     ++ all_faults (map (statement_faults scope) (out-CaseStatement s).otherwise) a
 case_is scope s a = search (rules, the_case.the_lemmas)
 
-pub element_is : (scope : Scope) (c : CaseElement) (e : Elem) (a : Around) → element_faults scope c e a ≡ flat_map (label_faults e) c.labels ++ all_faults (map (statement_faults scope) c.statements) a
+pub element_is : (scope : Scope) (c : CaseElement) (e : Option Elem) (a : Around) → element_faults scope c e a ≡ flat_map (label_faults e) c.labels ++ all_faults (map (statement_faults scope) c.statements) a
 element_is scope c e a = search (rules, the_element.the_lemmas)
 
 pub for_is : (scope : Scope) (s : ForStatement) (a : Around)

@@ -27,7 +27,7 @@ use Rattle.st_types.specs.Types.{Shape, elem_of, is_unknown}
 use Rattle.st_types.specs.declared.symbol.Due.{Due}
 use Rattle.st_types.specs.declared.symbol.Due.TheVariants as dues
 use Rattle.st_types.specs.declared.symbol.Symbol.{Symbol}
-use Rattle.st_check_expressions.specs.Known.{alone, faults_as, literal_faults, literal_position}
+use Rattle.st_check_expressions.specs.Known.{due_literal_faults, faults_as, literal_position, selected}
 use Rattle.st_check_expressions.specs.Variables.{is_fixed_purpose, target_faults}
 use Rattle.st_check_expressions.specs.Walk.{known, known_call, known_variable}
 use Rattle.st_check_statements.specs.Invocations.{call_statement_faults}
@@ -69,10 +69,10 @@ assignment_faults scope v x a =
 abbrev pub condition_faults : Scope → Expression → List Fault
 condition_faults scope x = faults_as (known scope x) (dues.Type elems.Bool)
 
--- A label has the type of the selector.
-abbrev pub label_faults : Elem → Label → List Fault
-label_faults e (labels.Value c) = literal_faults c (literal_position c) e
-label_faults e (labels.Range c d) = literal_faults c (literal_position c) e ++ literal_faults d (literal_position d) e
+-- A label has the type of the selector, if that can be known.
+abbrev pub label_faults : Option Elem → Label → List Fault
+label_faults e (labels.Value c) = due_literal_faults c (literal_position c) e
+label_faults e (labels.Range c d) = due_literal_faults c (literal_position c) e ++ due_literal_faults d (literal_position d) e
 
 -- ---- FOR (3.3.2.4)
 
@@ -108,7 +108,7 @@ range_faults scope due first last step = faults_as (known scope first) due ++ fa
 
 -- ---- the fold: the parts of a statement stand for what the rules say of them
 
-abbrev pub statement_step : Scope → Statement-F InStatement (Elem → InStatement) InStatement InStatement InStatement InStatement InStatement InStatement → InStatement
+abbrev pub statement_step : Scope → Statement-F InStatement (Option Elem → InStatement) InStatement InStatement InStatement InStatement InStatement InStatement → InStatement
 statement_step scope (Statement-F.Empty position) a = []
 statement_step scope (Statement-F.Assignment v x) a = assignment_faults scope v x a
 statement_step scope (Statement-F.Call c) a = call_statement_faults scope a.counters (known_call scope c)
@@ -120,57 +120,57 @@ statement_step scope (Statement-F.For s) a = s a
 statement_step scope (Statement-F.While s) a = s a
 statement_step scope (Statement-F.Repeat s) a = s a
 
-abbrev pub element_step : CaseElement-F InStatement (Elem → InStatement) InStatement InStatement InStatement InStatement InStatement InStatement → Elem → InStatement
+abbrev pub element_step : CaseElement-F InStatement (Option Elem → InStatement) InStatement InStatement InStatement InStatement InStatement InStatement → Option Elem → InStatement
 element_step c e a = flat_map (label_faults e) c.labels ++ all_faults c.statements a
 
 -- The selector is an integer.
-abbrev pub case_step : Scope → CaseStatement-F InStatement (Elem → InStatement) InStatement InStatement InStatement InStatement InStatement InStatement → InStatement
+abbrev pub case_step : Scope → CaseStatement-F InStatement (Option Elem → InStatement) InStatement InStatement InStatement InStatement InStatement InStatement → InStatement
 case_step scope s a =
-    faults_as (known scope s.selector) dues.Integer ++ flat_map (λ c. c (alone (known scope s.selector)) a) s.cases ++ all_faults s.otherwise a
+    faults_as (known scope s.selector) dues.Integer ++ flat_map (λ c. c (selected (known scope s.selector)) a) s.cases ++ all_faults s.otherwise a
 
-abbrev pub part_step : Scope → ConditionalPart-F InStatement (Elem → InStatement) InStatement InStatement InStatement InStatement InStatement InStatement → InStatement
+abbrev pub part_step : Scope → ConditionalPart-F InStatement (Option Elem → InStatement) InStatement InStatement InStatement InStatement InStatement InStatement → InStatement
 part_step scope c a = condition_faults scope c.condition ++ all_faults c.statements a
 
-abbrev pub for_step : Scope → ForStatement-F InStatement (Elem → InStatement) InStatement InStatement InStatement InStatement InStatement InStatement → InStatement
+abbrev pub for_step : Scope → ForStatement-F InStatement (Option Elem → InStatement) InStatement InStatement InStatement InStatement InStatement InStatement → InStatement
 for_step scope s a =
     counter_faults a.counters s.variable (scope.variable s.variable.spelling)
     ++ range_faults scope (counter_due (scope.variable s.variable.spelling)) s.first s.last s.step
     ++ all_faults s.statements (inside_for s.variable.spelling a)
 
-abbrev pub if_step : IfStatement-F InStatement (Elem → InStatement) InStatement InStatement InStatement InStatement InStatement InStatement → InStatement
+abbrev pub if_step : IfStatement-F InStatement (Option Elem → InStatement) InStatement InStatement InStatement InStatement InStatement InStatement → InStatement
 if_step s a = all_faults s.parts a ++ all_faults s.otherwise a
 
-abbrev pub repeat_step : Scope → RepeatStatement-F InStatement (Elem → InStatement) InStatement InStatement InStatement InStatement InStatement InStatement → InStatement
+abbrev pub repeat_step : Scope → RepeatStatement-F InStatement (Option Elem → InStatement) InStatement InStatement InStatement InStatement InStatement InStatement → InStatement
 repeat_step scope s a = all_faults s.statements (inside_loop a) ++ condition_faults scope s.condition
 
-abbrev pub while_step : Scope → WhileStatement-F InStatement (Elem → InStatement) InStatement InStatement InStatement InStatement InStatement InStatement → InStatement
+abbrev pub while_step : Scope → WhileStatement-F InStatement (Option Elem → InStatement) InStatement InStatement InStatement InStatement InStatement InStatement → InStatement
 while_step scope s a = condition_faults scope s.condition ++ all_faults s.statements (inside_loop a)
 
 -- ---- what the rules say of each node
 
 abbrev pub statement_faults : Scope → Statement → InStatement
-statement_faults scope s = fold-Statement InStatement (Elem → InStatement) InStatement InStatement InStatement InStatement InStatement InStatement (statement_step scope) element_step (case_step scope) (part_step scope) (for_step scope) if_step (repeat_step scope) (while_step scope) s
+statement_faults scope s = fold-Statement InStatement (Option Elem → InStatement) InStatement InStatement InStatement InStatement InStatement InStatement (statement_step scope) element_step (case_step scope) (part_step scope) (for_step scope) if_step (repeat_step scope) (while_step scope) s
 
-abbrev pub element_faults : Scope → CaseElement → Elem → InStatement
-element_faults scope c = fold-CaseElement InStatement (Elem → InStatement) InStatement InStatement InStatement InStatement InStatement InStatement (statement_step scope) element_step (case_step scope) (part_step scope) (for_step scope) if_step (repeat_step scope) (while_step scope) c
+abbrev pub element_faults : Scope → CaseElement → Option Elem → InStatement
+element_faults scope c = fold-CaseElement InStatement (Option Elem → InStatement) InStatement InStatement InStatement InStatement InStatement InStatement (statement_step scope) element_step (case_step scope) (part_step scope) (for_step scope) if_step (repeat_step scope) (while_step scope) c
 
 abbrev pub case_faults : Scope → CaseStatement → InStatement
-case_faults scope s = fold-CaseStatement InStatement (Elem → InStatement) InStatement InStatement InStatement InStatement InStatement InStatement (statement_step scope) element_step (case_step scope) (part_step scope) (for_step scope) if_step (repeat_step scope) (while_step scope) s
+case_faults scope s = fold-CaseStatement InStatement (Option Elem → InStatement) InStatement InStatement InStatement InStatement InStatement InStatement (statement_step scope) element_step (case_step scope) (part_step scope) (for_step scope) if_step (repeat_step scope) (while_step scope) s
 
 abbrev pub part_faults : Scope → ConditionalPart → InStatement
-part_faults scope c = fold-ConditionalPart InStatement (Elem → InStatement) InStatement InStatement InStatement InStatement InStatement InStatement (statement_step scope) element_step (case_step scope) (part_step scope) (for_step scope) if_step (repeat_step scope) (while_step scope) c
+part_faults scope c = fold-ConditionalPart InStatement (Option Elem → InStatement) InStatement InStatement InStatement InStatement InStatement InStatement (statement_step scope) element_step (case_step scope) (part_step scope) (for_step scope) if_step (repeat_step scope) (while_step scope) c
 
 abbrev pub for_faults : Scope → ForStatement → InStatement
-for_faults scope s = fold-ForStatement InStatement (Elem → InStatement) InStatement InStatement InStatement InStatement InStatement InStatement (statement_step scope) element_step (case_step scope) (part_step scope) (for_step scope) if_step (repeat_step scope) (while_step scope) s
+for_faults scope s = fold-ForStatement InStatement (Option Elem → InStatement) InStatement InStatement InStatement InStatement InStatement InStatement (statement_step scope) element_step (case_step scope) (part_step scope) (for_step scope) if_step (repeat_step scope) (while_step scope) s
 
 abbrev pub if_faults : Scope → IfStatement → InStatement
-if_faults scope s = fold-IfStatement InStatement (Elem → InStatement) InStatement InStatement InStatement InStatement InStatement InStatement (statement_step scope) element_step (case_step scope) (part_step scope) (for_step scope) if_step (repeat_step scope) (while_step scope) s
+if_faults scope s = fold-IfStatement InStatement (Option Elem → InStatement) InStatement InStatement InStatement InStatement InStatement InStatement (statement_step scope) element_step (case_step scope) (part_step scope) (for_step scope) if_step (repeat_step scope) (while_step scope) s
 
 abbrev pub repeat_faults : Scope → RepeatStatement → InStatement
-repeat_faults scope s = fold-RepeatStatement InStatement (Elem → InStatement) InStatement InStatement InStatement InStatement InStatement InStatement (statement_step scope) element_step (case_step scope) (part_step scope) (for_step scope) if_step (repeat_step scope) (while_step scope) s
+repeat_faults scope s = fold-RepeatStatement InStatement (Option Elem → InStatement) InStatement InStatement InStatement InStatement InStatement InStatement (statement_step scope) element_step (case_step scope) (part_step scope) (for_step scope) if_step (repeat_step scope) (while_step scope) s
 
 abbrev pub while_faults : Scope → WhileStatement → InStatement
-while_faults scope s = fold-WhileStatement InStatement (Elem → InStatement) InStatement InStatement InStatement InStatement InStatement InStatement (statement_step scope) element_step (case_step scope) (part_step scope) (for_step scope) if_step (repeat_step scope) (while_step scope) s
+while_faults scope s = fold-WhileStatement InStatement (Option Elem → InStatement) InStatement InStatement InStatement InStatement InStatement InStatement (statement_step scope) element_step (case_step scope) (part_step scope) (for_step scope) if_step (repeat_step scope) (while_step scope) s
 
 -- of a body's statements
 abbrev pub body_faults : Scope → List Statement → List Fault

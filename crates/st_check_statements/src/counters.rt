@@ -1,26 +1,16 @@
 //! The variable that FOR counts (3.3.2.4).
 ghost use Rattle.std.specs.Prelude.{◌≡◌, map};
 ghost use Rattle.st_faults.specs.Faults.{offer_all};
-ghost use Rattle.st_types.specs.Scopes.{elem_due, scope_at};
+ghost use Rattle.st_types.specs.Scopes.{scope_at};
 ghost use Rattle.st_check_expressions.specs.Variables.{is_fixed_purpose};
 ghost use Rattle.st_check_statements.specs.Statements.{counter_due, counter_faults, counts, is_integer_type, may_count};
 
-use st_check_expressions::{elem_of, is_counted, is_integer, is_unknown};
+use st_check_expressions::{elem_due, elem_of, is_counted, is_integer, is_unknown};
 use st_faults::{FirstFault, Rule};
 use st_scopes::Scope;
 use st_tree::tree::Identifier;
 use st_types::{Due, Purpose, Shape, Symbol};
 use st_values::Elem;
-
-/// What is asked where this type is due.
-pub fn elem_due(elem: Option<Elem>) -> Due
-    ensures { result ≡ elem_due elem }
-{
-    match elem {
-        Some(elem) => Due::Type(elem),
-        None => Due::Any,
-    }
-}
 
 /// Whether there is a type, and it is one of SINT to ULINT.
 fn is_integer_type(elem: Option<Elem>) -> bool

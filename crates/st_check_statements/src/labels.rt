@@ -9,9 +9,9 @@ use st_faults::FirstFault;
 use st_tree::tree::Label;
 use st_values::Elem;
 
-/// Offers the faults of labels, which have the type of the selector.
+/// Offers the faults of labels, which have the type of the selector, if that can be known.
 #[tactic(auto, unfolding(st_faults::specs::Faults::offer_all), using(st_faults::proofs::Least::offer_append))]
-pub fn check_labels(labels: &[Label], elem: Elem, first: &mut FirstFault)
+pub fn check_labels(labels: &[Label], elem: Option<Elem>, first: &mut FirstFault)
     ensures { first.new ≡ offer_all first.old (flat_map (label_faults elem) labels.now) }
 {
     'labels: for label in labels {
@@ -19,9 +19,9 @@ pub fn check_labels(labels: &[Label], elem: Elem, first: &mut FirstFault)
     }
 }
 
-/// Offers the faults of a label.
+/// Offers the faults of a label of a selector of this type.
 #[tactic(auto, unfolding(st_faults::specs::Faults::offer_all), using(st_faults::proofs::Least::offer_append))]
-fn check_label(label: &Label, elem: Elem, first: &mut FirstFault)
+fn check_label(label: &Label, elem: Option<Elem>, first: &mut FirstFault)
     ensures { first.new ≡ offer_all first.old (label_faults elem label.now) }
 {
     match label {

@@ -6,10 +6,10 @@ ghost use Rattle.st_types.specs.Scopes.{scope_at};
 ghost use Rattle.st_check_statements.specs.Statements.{all_faults, assignment_faults, body_faults, case_faults, condition_faults, element_faults, for_faults, if_faults, inside_for, optional_faults, part_faults, range_faults, repeat_faults, statement_faults, while_faults};
 
 use crate::around::Around;
-use crate::counters::{check_counter, counter_due, elem_due};
+use crate::counters::{check_counter, counter_due};
 use crate::invocations::check_call_statement;
 use crate::labels::check_labels;
-use st_check_expressions::{check_expression, check_target, elem_of, own_type};
+use st_check_expressions::{check_expression, check_target, elem_due, elem_of, selected_type};
 use st_faults::{FirstFault, Rule};
 use st_scopes::Scope;
 use st_tree::Boxed;
@@ -189,7 +189,7 @@ fn check_case(
 {
     let selector = statement.selector.get();
     check_expression(alloc, scope, selector, Due::Integer, first)?;
-    let elem = own_type(scope, selector);
+    let elem = selected_type(alloc, scope, selector)?;
     check_elements(
         alloc,
         scope,
@@ -202,14 +202,14 @@ fn check_case(
     Ok(())
 }
 
-/// Offers the faults of the cases of a selector of this type.
+/// Offers the faults of the cases of a selector of this type, if that can be known.
 #[cycle(check)]
 #[tactic(auto, unfolding(st_faults::specs::Faults::offer_all), using(st_faults::proofs::Least::offer_append))]
 fn check_elements(
     alloc: Global,
     scope: &Scope<'_>,
     around: &Around<'_>,
-    elem: Elem,
+    elem: Option<Elem>,
     elements: &[CaseElement],
     first: &mut FirstFault,
 ) -> Result<(), AllocError>
@@ -221,14 +221,14 @@ fn check_elements(
     Ok(())
 }
 
-/// Offers the faults of a case of a selector of this type.
+/// Offers the faults of a case of a selector of this type, if that can be known.
 #[cycle(check)]
 #[tactic(auto, unfolding(st_faults::specs::Faults::offer_all), using(st_faults::proofs::Least::offer_append, crate::proofs::Folds::element_is))]
 fn check_element(
     alloc: Global,
     scope: &Scope<'_>,
     around: &Around<'_>,
-    elem: Elem,
+    elem: Option<Elem>,
     element: &CaseElement,
     first: &mut FirstFault,
 ) -> Result<(), AllocError>

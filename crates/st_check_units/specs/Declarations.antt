@@ -32,7 +32,7 @@ use Rattle.st_types.specs.declared.base.Base.{Base}
 use Rattle.st_types.specs.declared.base.Base.TheVariants as bases
 use Rattle.st_types.specs.declared.standard.Standard.{Standard}
 use Rattle.st_types.specs.declared.standard.Standard.TheVariants as standards
-use Rattle.st_check_expressions.specs.Known.{is_misstated, literal_faults, literal_position}
+use Rattle.st_check_expressions.specs.Known.{is_misstated, literal_faults, literal_position, open_literal_faults}
 use Rattle.st_check_units.specs.Repeats.{repeated}
 use Rattle.st_check_units.specs.Subscripts.{array_size, is_more, subrange_faults}
 use Rattle.st_check_units.specs.declared.permitted.Permitted.{Permitted}
@@ -91,7 +91,7 @@ array_literal_faults c = fault (literal_position c) (if is_misstated c then rule
 abbrev pub constant_faults : Base → Constant → List Fault
 constant_faults (bases.Elementary e) c = literal_faults c (literal_position c) e
 constant_faults (bases.Array i) c = array_literal_faults c
-constant_faults _ c = when (is_misstated c) (fault (literal_position c) rules.OutOfRange)
+constant_faults _ c = open_literal_faults c
 
 abbrev pub optional_constant_faults : Base → Option Constant → List Fault
 optional_constant_faults base None = []

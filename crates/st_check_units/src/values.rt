@@ -31,10 +31,9 @@ fn check_constant(base: Base, constant: &Constant, first: &mut FirstFault)
 {
     let position = literal_position(constant);
     match base {
-        Base::Elementary(elem) => check_literal(constant, position, elem, first),
+        Base::Elementary(elem) => check_literal(constant, position, Some(elem), first),
         Base::Array(_) => check_array_literal(constant, first),
-        // No case of typing rests on this rule.
-        _ => first.offer_when(is_misstated(constant), position, Rule::OutOfRange),
+        _ => check_literal(constant, position, None, first),
     }
 }
 

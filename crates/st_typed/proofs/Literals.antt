@@ -1,8 +1,8 @@
 -- A literal without faults isn't wrapped: it is the number that is written.
-use Rattle.std.proofs.Common.{◌≡◌, ℕ, zero, suc, ◌+◌, ◌-◌, ◌%◌, ◌^◌, ◌<◌, ◌≤◌, Bool, true, false, nat_lt, not, if◌then◌else◌, ℤ, pos, negsuc, ◌-ℤ◌, [], ◌∷◌, refl, sym, ap, ◌∙◌, subst, arith}
+use Rattle.std.proofs.Common.{◌≡◌, ℕ, zero, suc, ◌+◌, ◌-◌, ◌%◌, ◌^◌, ◌<◌, ◌≤◌, Bool, true, false, nat_lt, ◌&&◌, ◌||◌, not, if◌then◌else◌, ℤ, pos, negsuc, ◌-ℤ◌, [], ◌∷◌, refl, sym, ap, ◌∙◌, subst, arith}
 use Rattle.std.proofs.Math.Nat.{mod-eq_of_lt}
 use Rattle.std.proofs.lemmas.Int.{ints}
-use Rattle.st_values.proofs.Cases.{below, both, is_not_below}
+use Rattle.st_values.proofs.Cases.{below, both, is_below, is_not_below}
 use Rattle.st_values.specs.Numbers.{capped, negative}
 use Rattle.st_values.specs.Types.{bits_of, is_same, is_signed, limit_of}
 use Rattle.st_values.specs.Values.{in_range, residue, wrapped, wrapped_number}
@@ -16,7 +16,7 @@ use Rattle.st_faults.specs.Faults.{fault, when}
 use Rattle.st_faults.specs.declared.fault.Fault.{Fault}
 use Rattle.st_faults.specs.declared.fault.Rule.TheVariants as rules
 use Rattle.st_types.specs.Initials.{integer_of, value_written}
-use Rattle.st_check_expressions.specs.Known.{below_zero, is_misstated, literal_faults, number_of, stated_faults}
+use Rattle.st_check_expressions.specs.Known.{below_zero, is_held, is_misstated, literal_faults, number_of, stated_faults, untimed_fault}
 use Rattle.st_check.proofs.Apart.{kept_when}
 use Rattle.st_check.proofs.DataTypes.{is_true}
 use Rattle.st_meaning.proofs.TypedTerms.{same_type}
@@ -125,6 +125,46 @@ counted e n h = by n.is_negative h where
   by true h = down_counted e n.magnitude h
   by false h = ap (λ (k : ℕ). pos k) (up_counted e n.magnitude h)
 
+-- ---- a number that some type has as a value
+
+signed_limit : (e : Elem) → (is_signed e && nat_lt 9223372036854775808 (limit_of e)) ≡ false
+signed_limit elems.Bool = refl
+signed_limit elems.Sint = refl
+signed_limit elems.Int = refl
+signed_limit elems.Dint = refl
+signed_limit elems.Lint = refl
+signed_limit elems.Usint = refl
+signed_limit elems.Uint = refl
+signed_limit elems.Udint = refl
+signed_limit elems.Ulint = refl
+signed_limit elems.Byte = refl
+signed_limit elems.Word = refl
+signed_limit elems.Dword = refl
+signed_limit elems.Lword = refl
+signed_limit elems.Time = refl
+
+signed_at_most : (limit : ℕ) → nat_lt 9223372036854775808 limit ≡ false → limit ≤ 9223372036854775808
+signed_at_most limit h = grind arith
+
+or_true : (a b : Bool) → b ≡ true → (a || b) ≡ true
+or_true true b h = refl
+or_true false b h = h
+
+left_true : (a b : Bool) → a ≡ true → (a || b) ≡ true
+left_true true b h = refl
+left_true false b h = absurd (cc)
+
+held : (e : Elem) (z : ℤ) → in_range e z ≡ true → (in_range elems.Lint z || in_range elems.Ulint z) ≡ true
+held e (pos k) h =
+    let few = below k (limit_of e) h in
+    let small = limit_at_most (limit_of e) (limit_small e) in
+    or_true (in_range elems.Lint (pos k)) (in_range elems.Ulint (pos k)) (is_below k 18446744073709551616 (omega (arith, few, small)))
+held e (negsuc k) h =
+    let is = both (is_signed e) (nat_lt k (limit_of e)) h in
+    let few = below k (limit_of e) is.1 in
+    let small = signed_at_most (limit_of e) (sym (ap (λ (b : Bool). b && nat_lt 9223372036854775808 (limit_of e)) is.0) ∙ signed_limit e) in
+    left_true (in_range elems.Lint (negsuc k)) (in_range elems.Ulint (negsuc k)) (is_below k 9223372036854775808 (omega (arith, few, small)))
+
 -- ---- literals without faults
 
 -- what names its type has it, and lies in its range
@@ -138,7 +178,7 @@ integer_parts false inside f g h = (refl, is_true inside (kept_when (not inside)
 
 pub literal_is : (c : Constant) (at : Position) (e : Elem) → literal_faults c at e ≡ [] → IsLiteral e c (value_written e c)
 literal_is (constants.Integer n) at e h =
-    let parts = integer_parts (is_same e elems.Time) (in_range e (number_of n)) (fault at rules.TypeMismatch) (fault n.position rules.OutOfRange) h in
+    let parts = integer_parts (is_same e elems.Time) (in_range e (number_of n)) (untimed_fault n at) (fault n.position rules.OutOfRange) h in
     let same : wrapped e (integer_of n) ≡ value e (number_of n) = ap (wrapped e) (counted e n parts.1) ∙ stays e (number_of n) parts.1 in
     subst (IsLiteral e (constants.Integer n)) (sym same) (integer parts.0 parts.1)
 literal_is (constants.Typed position v) at e h =
@@ -159,7 +199,9 @@ literal_is (constants.Bool position b) at e h =
       by false = false_is
 
 pub literal_known : (c : Constant) (at : Position) (e : Elem) → literal_faults c at e ≡ [] → is_misstated c ≡ false
-literal_known (constants.Integer n) at e h = refl
+literal_known (constants.Integer n) at e h =
+    let parts = integer_parts (is_same e elems.Time) (in_range e (number_of n)) (untimed_fault n at) (fault n.position rules.OutOfRange) h in
+    ap not (held e (number_of n) parts.1)
 literal_known (constants.Typed position v) at e h = ap not (stated_parts (in_range v.elem v.bits) v.elem e position at h).0
 literal_known (constants.Duration d) at e h = ap not (stated_parts (in_range elems.Time d.milliseconds) elems.Time e d.position at h).0
 literal_known (constants.Bool position b) at e h = refl

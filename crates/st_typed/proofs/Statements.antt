@@ -1,6 +1,7 @@
 -- Whole statements: where no fault is found, each has a command by the strict cases, the one that typing gives.
-use Rattle.std.proofs.Common.{◌≡◌, ℕ, Bool, true, ◌||◌, not, List, [], ◌∷◌, ◌++◌, map, Option, Some, None, sym, ap, ◌∙◌, subst}
+use Rattle.std.proofs.Common.{◌≡◌, ℕ, Bool, true, false, ◌&&◌, ◌||◌, if◌then◌else◌, not, List, [], ◌∷◌, ◌++◌, map, Option, Some, None, refl, sym, ap, ◌∙◌, subst}
 use Rattle.std.specs.List.{flat_map}
+use Rattle.std.specs.Option.{is_some}
 use Rattle.st_values.specs.declared.elem.Elem.{Elem}
 use Rattle.st_values.specs.declared.elem.Elem.TheVariants as elems
 use Rattle.st_tree.specs.declared.tree.expression.Expression.{Expression}
@@ -23,7 +24,7 @@ use Rattle.st_types.specs.Scopes.{Scope, elem_due}
 use Rattle.st_types.specs.Types.{elem_of}
 use Rattle.st_types.specs.declared.symbol.Due.{Due}
 use Rattle.st_types.specs.declared.symbol.Due.TheVariants as dues
-use Rattle.st_check_expressions.specs.Known.{Known, alone, faults_alone, faults_as, literal_faults, literal_position}
+use Rattle.st_check_expressions.specs.Known.{Known, alone, faults_alone, faults_as, literal_faults, literal_position, selected}
 use Rattle.st_check_expressions.specs.Variables.{VariableKnown, target_faults}
 use Rattle.st_check_expressions.specs.Walk.{known, known_variable}
 use Rattle.st_check_statements.specs.Statements.{Around, InStatement, all_faults, case_faults, condition_faults, counter_due, counter_faults, element_faults, for_faults, if_faults, inside_for, inside_loop, label_faults, optional_faults, part_faults, range_faults, repeat_faults, statement_faults, while_faults}
@@ -45,13 +46,13 @@ use Rattle.st_typed.proofs.Targets.{counter_is}
 
 -- ---- labels
 
-labels_strict : (e : Elem) (ls : List Label) → flat_map (label_faults e) ls ≡ [] → AreLabels e ls (map (label_range e) ls)
+labels_strict : (e : Elem) (ls : List Label) → flat_map (label_faults (Some e)) ls ≡ [] → AreLabels e ls (map (label_range e) ls)
 labels_strict e [] h = strict.no_label
 labels_strict e (label_kinds.Value c ∷ ls) h =
-    let parts = nothing_parts (literal_faults c (literal_position c) e) (flat_map (label_faults e) ls) h in
+    let parts = nothing_parts (literal_faults c (literal_position c) e) (flat_map (label_faults (Some e)) ls) h in
     strict.single (literal_is c (literal_position c) e parts.0) (labels_strict e ls parts.1)
 labels_strict e (label_kinds.Range a b ∷ ls) h =
-    let parts = nothing_parts (literal_faults a (literal_position a) e ++ literal_faults b (literal_position b) e) (flat_map (label_faults e) ls) h in
+    let parts = nothing_parts (literal_faults a (literal_position a) e ++ literal_faults b (literal_position b) e) (flat_map (label_faults (Some e)) ls) h in
     let two = nothing_parts (literal_faults a (literal_position a) e) (literal_faults b (literal_position b) e) parts.0 in
     strict.range (literal_is a (literal_position a) e two.0) (literal_is b (literal_position b) e two.1) (labels_strict e ls parts.1)
 
@@ -60,9 +61,14 @@ module _ (scope : Scope) (w : Whole) (ties : Ties scope w) where
   term_as : (x : Expression) (e : Elem) → faults_as (known scope x) (dues.Type e) ≡ [] → IsTerm w e x ((typed w x).as_type e)
   term_as x e h = (expression_fits scope w ties x (Known.position (known scope x)) e h).term
 
+  -- the type of what a part selects by can be known
+  selected_alone : (own : Option Elem) (unknown : Bool) → unknown ≡ false → (if not (is_some own) && unknown then None else Some (or_lint own)) ≡ Some (or_lint own)
+  selected_alone None unknown h = ap (λ (b : Bool). if b then None else Some elems.Lint) h
+  selected_alone (Some e) unknown h = refl
+
   -- of an integer type of its own
   record Selects (x : Expression) : Type 0 where
-    pub own : alone (known scope x) ≡ or_lint (own_type w x)
+    pub own : selected (known scope x) ≡ Some (or_lint (own_type w x))
     pub integer : is_integer (or_lint (own_type w x)) ≡ true
     pub term : IsTerm w (or_lint (own_type w x)) x (alone_term (typed w x))
 
@@ -74,7 +80,7 @@ module _ (scope : Scope) (w : Whole) (ties : Ties scope w) where
       let whole_number = either_true (is_integer (alone k)) k.fits_all (holds (is_integer (alone k) || k.fits_all) (fault k.position rules.TypeMismatch) own.1) is.known in
       let same : alone k ≡ or_lint (typed w x).own = ap or_lint is.own in
       record {
-        own = same;
+        own = selected_alone k.own k.fits_all is.known ∙ ap (λ (e : Elem). Some e) same;
         integer = subst (λ (e : Elem). is_integer e ≡ true) same whole_number;
         term = subst (λ (e : Elem). IsTerm w e x ((typed w x).as_type e)) same is.term;
       }
@@ -89,7 +95,7 @@ module _ (scope : Scope) (w : Whole) (ties : Ties scope w) where
   OfStatement s = (a : Around) → statement_faults scope s a ≡ [] → IsCommand w a.in_loop s (command_of w s)
 
   abbrev OfCaseElement : CaseElement → Type 0
-  OfCaseElement c = (e : Elem) (a : Around) → element_faults scope c e a ≡ [] → (cs : List CaseElement) (more : Cases) → AreCases w a.in_loop e cs more → AreCases w a.in_loop e (c ∷ cs) (case_of w c e more)
+  OfCaseElement c = (e : Elem) (a : Around) → element_faults scope c (Some e) a ≡ [] → (cs : List CaseElement) (more : Cases) → AreCases w a.in_loop e cs more → AreCases w a.in_loop e (c ∷ cs) (case_of w c e more)
 
   abbrev OfCaseStatement : CaseStatement → Type 0
   OfCaseStatement s = (a : Around) → case_faults scope s a ≡ [] → IsCommand w a.in_loop (roll-Statement (Statement-F.Case s)) (case_statement_of w s)
@@ -150,10 +156,10 @@ module _ (scope : Scope) (w : Whole) (ties : Ties scope w) where
       x.1 a parts.0 (map (λ e. e.0) xs) (branches_of (map (branch_of w) (map (λ e. e.0) xs))) (each_branch xs a parts.1)
 
   each_case : (e : Elem) (xs : List DoneCaseElement) → (a : Around)
-      → flat_map (λ (c : Elem → InStatement). c e a) (map (element_faults scope) (map (λ e. e.0) xs)) ≡ [] → AreCases w a.in_loop e (map (λ e. e.0) xs) (cases_of e (map (case_of w) (map (λ e. e.0) xs)))
+      → flat_map (λ (c : Option Elem → InStatement). c (Some e) a) (map (element_faults scope) (map (λ e. e.0) xs)) ≡ [] → AreCases w a.in_loop e (map (λ e. e.0) xs) (cases_of e (map (case_of w) (map (λ e. e.0) xs)))
   each_case e [] a h = strict.no_case
   each_case e (x ∷ xs) a h =
-      let parts = nothing_parts (element_faults scope x.0 e a) (flat_map (λ (c : Elem → InStatement). c e a) (map (element_faults scope) (map (λ e. e.0) xs))) h in
+      let parts = nothing_parts (element_faults scope x.0 (Some e) a) (flat_map (λ (c : Option Elem → InStatement). c (Some e) a) (map (element_faults scope) (map (λ e. e.0) xs))) h in
       x.1 e a parts.0 (map (λ e. e.0) xs) (cases_of e (map (case_of w) (map (λ e. e.0) xs))) (each_case e xs a parts.1)
 
   -- the folds at a node
@@ -190,8 +196,8 @@ module _ (scope : Scope) (w : Whole) (ties : Ties scope w) where
   element_made : (y : CaseElement-F DoneStatement DoneCaseElement DoneCaseStatement DoneConditionalPart DoneForStatement DoneIfStatement DoneRepeatStatement DoneWhileStatement) → OfCaseElement (roll-CaseElement (map-CaseElement _ _ _ _ _ _ _ _ Statement CaseElement CaseStatement ConditionalPart ForStatement IfStatement RepeatStatement WhileStatement (λ e. e.0) (λ e. e.0) (λ e. e.0) (λ e. e.0) (λ e. e.0) (λ e. e.0) (λ e. e.0) (λ e. e.0) y))
   element_made y e a h cs more rest =
       let c = map-CaseElement _ _ _ _ _ _ _ _ Statement CaseElement CaseStatement ConditionalPart ForStatement IfStatement RepeatStatement WhileStatement (λ z. z.0) (λ z. z.0) (λ z. z.0) (λ z. z.0) (λ z. z.0) (λ z. z.0) (λ z. z.0) (λ z. z.0) y in
-      let none = subst (λ (f : Elem → InStatement). f e a ≡ []) (fold-roll-CaseElement _ _ _ _ _ _ _ _ _ _ _ _ _ _ _ _ _) h in
-      let parts = nothing_parts (flat_map (label_faults e) y.labels) (all_faults (map (statement_faults scope) (map (λ z. z.0) y.statements)) a) none in
+      let none = subst (λ (f : Option Elem → InStatement). f (Some e) a ≡ []) (fold-roll-CaseElement _ _ _ _ _ _ _ _ _ _ _ _ _ _ _ _ _) h in
+      let parts = nothing_parts (flat_map (label_faults (Some e)) y.labels) (all_faults (map (statement_faults scope) (map (λ z. z.0) y.statements)) a) none in
       subst (λ (f : Elem → Cases → Cases). AreCases w a.in_loop e (roll-CaseElement c ∷ cs) (f e more)) (sym (fold-roll-CaseElement _ _ _ _ _ _ _ _ _ _ _ _ _ _ _ _ _))
       (strict.case_then c (labels_strict e y.labels parts.0) (each_command y.statements a parts.1) rest)
 
@@ -216,11 +222,11 @@ module _ (scope : Scope) (w : Whole) (ties : Ties scope w) where
       let s = map-CaseStatement _ _ _ _ _ _ _ _ Statement CaseElement CaseStatement ConditionalPart ForStatement IfStatement RepeatStatement WhileStatement (λ e. e.0) (λ e. e.0) (λ e. e.0) (λ e. e.0) (λ e. e.0) (λ e. e.0) (λ e. e.0) (λ e. e.0) y in
       let none = subst (λ (f : InStatement). f a ≡ []) (fold-roll-CaseStatement _ _ _ _ _ _ _ _ _ _ _ _ _ _ _ _ _) h in
       let k = known scope y.selector in
-      let bodies = flat_map (λ (c : Elem → InStatement). c (alone k) a) (map (element_faults scope) (map (λ e. e.0) y.cases)) in
+      let bodies = flat_map (λ (c : Option Elem → InStatement). c (selected k) a) (map (element_faults scope) (map (λ e. e.0) y.cases)) in
       let parts = nothing_parts (faults_as k dues.Integer ++ bodies) (all_faults (map (statement_faults scope) (map (λ e. e.0) y.otherwise)) a) none in
       let two = nothing_parts (faults_as k dues.Integer) bodies parts.0 in
       let selector = selects y.selector two.0 in
-      let at_own = subst (λ (e : Elem). flat_map (λ (c : Elem → InStatement). c e a) (map (element_faults scope) (map (λ z. z.0) y.cases)) ≡ []) selector.own two.1 in
+      let at_own = subst (λ (e : Option Elem). flat_map (λ (c : Option Elem → InStatement). c e a) (map (element_faults scope) (map (λ z. z.0) y.cases)) ≡ []) selector.own two.1 in
       subst (IsCommand w a.in_loop (roll-Statement (Statement-F.Case (roll-CaseStatement s)))) (sym (fold-roll-CaseStatement _ _ _ _ _ _ _ _ _ _ _ _ _ _ _ _ _))
       (strict.case_is s selector.integer selector.term (each_case (or_lint (own_type w y.selector)) y.cases a at_own) (each_command y.otherwise a parts.1))
 

@@ -3,11 +3,11 @@ use Rattle.st_types.specs.Scopes.{scope_at}
 use Rattle.st_types.specs.declared.symbol.Due.TheVariants as dues
 use Rattle.st_check_expressions.specs.Calls.{argument_faults, arguments_faults}
 use Rattle.st_check_expressions.specs.Inside.{operands_from}
-use Rattle.st_check_expressions.specs.Known.{Known, OperandKnown, faults_as}
+use Rattle.st_check_expressions.specs.Known.{OperandKnown, faults_as, faults_here}
 use Rattle.st_check_expressions.specs.Variables.{part_faults, parts_faults, select_all, subscripts_faults}
 use Rattle.st_check_expressions.specs.Walk.{known, known_argument, known_arguments, known_expressions, known_operation, known_operations, known_part, known_parts}
 use Rattle.st_faults.proofs.Offers.{split_turn, step}
-use Rattle.st_check_expressions.proofs.Steps.{call_done, chain_done, due_done, negate_done, not_done, subscripts_done, target_done, variable_done}
+use Rattle.st_check_expressions.proofs.Steps.{call_done, chain_done, due_done, here_done, negate_done, not_done, subscripts_done, target_done, variable_done}
 use Rattle.st_check_expressions.proofs.check.+check.Goals as goal
 
 -- ---- loops
@@ -22,9 +22,9 @@ pub check_operations-operations-preserved : goal.check_operations-operations-pre
 check_operations-operations-preserved t c =
     split_turn (λ ls. operands_from (known_operations (scope_at c.args.scope.now) ls) c.operations.due c.args.further_due)
     (λ ls. operands_from (known_operations (scope_at c.args.scope.now) ls) c.args.further_due c.args.further_due)
-    (Known.faults_at (OperandKnown.operand (known_operation (scope_at c.args.scope.now) c.operation-item.result)) (Known.position (OperandKnown.operand (known_operation (scope_at c.args.scope.now) c.operation-item.result))) c.operations.due)
-    c.args.operations.now c.operations.operation-index c.operation-item.result c.operations.first c.check_operand.new.first _ refl
-    c.operations-test.true c.operation-item.is c.in_ok-check_operand.ensures c.operations.invariant
+    (faults_here (OperandKnown.operand (known_operation (scope_at c.args.scope.now) c.operation-item.result)) c.operations.due)
+    c.args.operations.now c.operations.operation-index c.operation-item.result c.operations.first c.check_operation.new.first _ refl
+    c.operations-test.true c.operation-item.is c.in_ok-check_operation.ensures c.operations.invariant
 
 pub check_parts-parts-preserved : goal.check_parts-parts-preserved
 check_parts-parts-preserved t c = record {
@@ -61,22 +61,27 @@ check_at-returns-in_ok-route-in-Variable t c =
     variable_done (scope_at c.args.scope.now) c.args.expression.now c.in-Variable.variable c.in_ok-route-in-Variable.route c.args.at c.args.due c.args.first.now c.check_variable.new.first c.check_misfit.new.first
     c.in-Variable.is c.in_ok-route-in-Variable.ensures.route c.in_ok-route-in-Variable.ensures.first c.check_misfit.ensures
 
-pub check_at-returns-in_ok-check_expression-in-Negate : goal.check_at-returns-in_ok-check_expression-in-Negate
-check_at-returns-in_ok-check_expression-in-Negate t c =
-    negate_done (scope_at c.args.scope.now) c.args.expression.now c.in-Negate.operand c.get-in-Negate.result.now c.in-Negate.field-0 c.args.at c.args.due c.negates.result c.args.first.now c.check_expression.new.first c.offer_when.new.self
-    c.in-Negate.is c.get-in-Negate.ensures c.in_ok-check_expression-in-Negate.ensures c.negates.ensures c.offer_when.ensures
+pub check_at-returns-in_ok-check_operand-in-Negate : goal.check_at-returns-in_ok-check_operand-in-Negate
+check_at-returns-in_ok-check_operand-in-Negate t c =
+    negate_done (scope_at c.args.scope.now) c.args.expression.now c.in-Negate.operand c.get-in-Negate.result.now c.in-Negate.field-0 c.args.at c.args.due c.negates_due.result c.args.first.now c.check_operand.new.first c.offer_when.new.self
+    c.in-Negate.is c.get-in-Negate.ensures c.in_ok-check_operand-in-Negate.ensures c.negates_due.ensures c.offer_when.ensures
 
-pub check_at-returns-in_ok-check_expression-in-Not : goal.check_at-returns-in_ok-check_expression-in-Not
-check_at-returns-in_ok-check_expression-in-Not t c =
-    not_done (scope_at c.args.scope.now) c.args.expression.now c.in-Not.operand c.get-in-Not.result.now c.in-Not.field-0 c.args.at c.args.due c.complements.result c.args.first.now c.check_expression-in-Not.new.first c.offer_when-in-Not.new.self
-    c.in-Not.is c.get-in-Not.ensures c.in_ok-check_expression-in-Not.ensures c.complements.ensures c.offer_when-in-Not.ensures
+pub check_at-returns-in_ok-check_operand-in-Not : goal.check_at-returns-in_ok-check_operand-in-Not
+check_at-returns-in_ok-check_operand-in-Not t c =
+    not_done (scope_at c.args.scope.now) c.args.expression.now c.in-Not.operand c.get-in-Not.result.now c.in-Not.field-0 c.args.at c.args.due c.complements_due.result c.args.first.now c.check_operand-in-Not.new.first c.offer_when-in-Not.new.self
+    c.in-Not.is c.get-in-Not.ensures c.in_ok-check_operand-in-Not.ensures c.complements_due.ensures c.offer_when-in-Not.ensures
+
+pub check_operand-returns : goal.check_operand-returns
+check_operand-returns t c =
+    here_done (scope_at c.args.scope.now) c.args.operand.now c.args.due c.position-position.result c.args.first.now c.check_at.new.first
+    c.position-position.ensures c.in_ok-check_at.ensures
 
 pub check_at-returns-in_ok-check_operations-in-Chain : goal.check_at-returns-in_ok-check_operations-in-Chain
 check_at-returns-in_ok-check_operations-in-Chain t c =
     chain_done (scope_at c.args.scope.now) c.args.expression.now c.in-Chain.left c.get-in-Chain.result.now c.get-in-Chain-2.result.now c.in-Chain.operations c.as_slice-operations.result.now c.in-Chain.field-0 c.args.at c.args.due c.chain_type-operand_due.result c.further_type-further_due.result c.fits_chain.result
-    c.args.first.now c.check_expression-in-Chain.new.first c.check_operations.new.first c.offer_when-in-Chain.new.self
+    c.args.first.now c.check_operand-in-Chain.new.first c.check_operations.new.first c.offer_when-in-Chain.new.self
     c.in-Chain.is c.get-in-Chain.ensures c.get-in-Chain-2.ensures c.as_slice-operations.ensures c.chain_type-operand_due.ensures c.further_type-further_due.ensures
-    c.in_ok-check_expression-in-Chain.ensures c.in_ok-check_operations-in-Chain.ensures c.fits_chain.ensures c.offer_when-in-Chain.ensures
+    c.in_ok-check_operand-in-Chain.ensures c.in_ok-check_operations-in-Chain.ensures c.fits_chain.ensures c.offer_when-in-Chain.ensures
 
 pub check_part-returns-in_ok-check_subscripts-in-Subscripts : goal.check_part-returns-in_ok-check_subscripts-in-Subscripts
 check_part-returns-in_ok-check_subscripts-in-Subscripts t c =
@@ -92,4 +97,4 @@ pub check_call-returns : goal.check_call-returns
 check_call-returns t c =
     call_done (scope_at c.args.scope.now) c.args.call.now c.as_slice.result.now c.callee-callee.result c.as_slice-arguments.result.now c.in_ok-rule.rule c.fits_call-fits.result c.args.at c.args.due
     c.args.first.now c.offer_broken.new.first c.check_arguments.new.first c.offer_when.new.self
-    c.as_slice.ensures c.callee-callee.ensures c.as_slice-arguments.ensures c.in_ok-rule.ensures c.offer_broken.ensures c.in_ok-check_arguments.ensures c.fits_call-fits.ensures c.offer_when.ensures
+    c.as_slice.ensures c.callee-callee.ensures c.as_slice-arguments.ensures c.in_ok-rule.ensures c.offer_broken.ensures (rw c.elem_due.ensures at c.in_ok-check_arguments.ensures) c.fits_call-fits.ensures c.offer_when.ensures

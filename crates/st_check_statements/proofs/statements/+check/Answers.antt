@@ -27,7 +27,7 @@ check_if-returns t c =
 pub check_case-returns : goal.check_case-returns
 check_case-returns t c =
     rw (case_is, ← c.get-selector.ensures, ← c.as_slice.ensures, ← c.as_slice-2.ensures)
-    (three _ _ _ _ _ _ _ c.in_ok-check_expression.ensures (rw c.own_type-elem.ensures at c.in_ok-check_elements.ensures) c.in_ok-check_statements.ensures)
+    (three _ _ _ _ _ _ _ c.in_ok-check_expression.ensures (rw c.in_ok-elem.ensures at c.in_ok-check_elements.ensures) c.in_ok-check_statements.ensures)
 
 pub check_element-returns : goal.check_element-returns
 check_element-returns t c =
