@@ -3,7 +3,9 @@ _stc() {
     local word=${COMP_WORDS[COMP_CWORD]} before=${COMP_WORDS[COMP_CWORD - 1]} text=
     COMPREPLY=()
     if ((COMP_CWORD == 1)); then
-        mapfile -t COMPREPLY < <(compgen -W 'check layout run --help --version' -- "$word")
+        local first='check layout run --help --version'
+        [[ ${COMP_WORDS[0]} == */* ]] && first+=' build' # of a checkout
+        mapfile -t COMPREPLY < <(compgen -W "$first" -- "$word")
         return
     fi
     case $before in

@@ -1,4 +1,5 @@
 pub mod Checked
+pub mod Deeper
 pub mod Elementary
 pub mod Levels
 pub mod NamedExpressions
@@ -6,3 +7,4 @@ pub mod NamedStatements
 pub mod NamedTerms
 pub mod Passing
 pub mod Ranks
+pub mod Turns

@@ -1,3 +1,4 @@
+pub mod Bounds
 pub mod Checked
 pub mod Named
 pub mod Passing

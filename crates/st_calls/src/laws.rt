@@ -1,4 +1,5 @@
 //! The laws.
+ghost use Rattle.st_calls.specs.Bounds.{MoreCountTurnsChangeNothing, MoreRepeatTurnsChangeNothing, MoreUnitsChangeNothing, MoreWhileTurnsChangeNothing};
 ghost use Rattle.st_calls.specs.Checked.{CheckedCallsAreThoseOfTheirBodies, CheckedFunctionsCallBelow, CheckedFunctionsHaveNoBlocks, CheckedFunctionsHaveNoInstances};
 ghost use Rattle.st_calls.specs.Named.{TypingCallsWhatIsNamed};
 ghost use Rattle.st_calls.specs.Passing.{SoundBodiesCallWhatPasses, SoundCommandsCallWhatPasses};
@@ -38,4 +39,13 @@ pub fn checked_calls_are_those_of_their_bodies()
 pub fn checked_functions_have_no_instances()
     ensures own { CheckedFunctionsHaveNoInstances }
     ensures standard { CheckedFunctionsHaveNoBlocks }
+{}
+
+/// The bounds that the meaning of calls and loops is defined with are never met: with any greater one a function of a checked program
+/// gives the same, and a loop of sound statements does the same. A loop has as many turns as there are steps left, and one more.
+pub fn bounds_are_never_met()
+    ensures units { MoreUnitsChangeNothing }
+    ensures while_turns { MoreWhileTurnsChangeNothing }
+    ensures repeat_turns { MoreRepeatTurnsChangeNothing }
+    ensures count_turns { MoreCountTurnsChangeNothing }
 {}

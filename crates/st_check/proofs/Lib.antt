@@ -8,7 +8,7 @@ pub mod ElementaryFunctions
 mod Firsts
 mod Kept
 mod Named
-mod NamesStored
+pub mod NamesStored
 mod Passing
 mod ShortRanges
 mod ShortSubscripts

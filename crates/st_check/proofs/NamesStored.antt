@@ -49,7 +49,7 @@ among (d ∷ ds) name is =
     (Contains-append_right (d ∷ []) ds (as_declared ds name) (among ds name (ap (λ b. b || list_any (λ e. is_word e name) ds) (sym t) ∙ is))))
 
 -- what holds of names holds of each of them once
-each_named : (P : List ℕ → Type 0) (names : List (List ℕ)) → Each P names → Each P (each_once names)
+pub each_named : (P : List ℕ → Type 0) (names : List (List ℕ)) → Each P names → Each P (each_once names)
 each_named P [] each = tt
 each_named P (name ∷ names) each = (each.0, each_filter P (λ other. not (is_word name other)) (each_once names) (each_named P names each.1))
 

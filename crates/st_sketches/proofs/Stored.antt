@@ -12,14 +12,14 @@ use Rattle.st_sketches.proofs.Lists.{any_below}
 
 -- ---- names are among themselves
 
-abbrev IsAmong : List (List ℕ) → List ℕ → Type 0
+abbrev pub IsAmong : List (List ℕ) → List ℕ → Type 0
 IsAmong names name = list_any (is_word name) names ≡ true
 
 either : (a b : Bool) → b ≡ true → (a || b) ≡ true
 either true b h = refl
 either false b h = h
 
-each_among : (names : List (List ℕ)) → Each (IsAmong names) names
+pub each_among : (names : List (List ℕ)) → Each (IsAmong names) names
 each_among [] = tt
 each_among (n ∷ names) = (
   ap (λ b. b || list_any (is_word n) names) (itself n),
@@ -27,7 +27,7 @@ each_among (n ∷ names) = (
 )
 
 -- the names that are stored are among those that are associated
-all_among : (associations : List Association) → All (IsAmong (associated_names associations)) (stored_names associations)
+pub all_among : (associations : List Association) → All (IsAmong (associated_names associations)) (stored_names associations)
 all_among associations =
     let names = associated_names associations in
     All-filter (is_stored_by associations) (IsAmong names) names (All-from_recursion (IsAmong names) names (each_among names))
