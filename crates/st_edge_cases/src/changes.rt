@@ -1,6 +1,4 @@
 //! What online changes save, and the ranges of their plans, over each kind of memory.
-#![tactic(auto)]
-
 use st_control::check_program;
 use st_layout::{Layout, Plan};
 use st_listing::OfProgram;
