@@ -1,4 +1,4 @@
-"""Makes random programs that keep the rules, most of them: all elementary types, arrays, structures, timers, functions, blocks, charts."""
+"""Makes random programs, most of which keep the rules: all elementary types, arrays, structures, timers, functions, blocks, charts."""
 
 import random
 from dataclasses import dataclass, field
