@@ -12,8 +12,14 @@ fn each_read_fails(rt: HostRuntime) -> Result<(), Fail> {
     let bytes = session_lines(rt.alloc())?.len();
     for piece in 1..17 {
         for calls in 0..bytes.div_ceil(piece).saturating_add(1) {
-            assert!(rt; loses_its_source::<Cells>(rt.alloc(), piece, calls)?, "{piece}, {calls}");
-            assert!(rt; loses_its_source::<Packed>(rt.alloc(), piece, calls)?, "{piece}, {calls}");
+            assert!(rt;
+                loses_its_source::<Cells>(rt.alloc(), piece, calls)?,
+                "{piece}, {calls}"
+            );
+            assert!(rt;
+                loses_its_source::<Packed>(rt.alloc(), piece, calls)?,
+                "{piece}, {calls}"
+            );
         }
     }
     Ok(())
@@ -41,8 +47,14 @@ fn loses_its_source<M: Memory>(alloc: Global, piece: usize, calls: usize) -> Res
 fn each_write_fails(rt: HostRuntime) -> Result<(), Fail> {
     let bytes = replies_to(rt.alloc(), LAST)?.len();
     for calls in 0..bytes {
-        assert!(rt; loses_its_sink::<Cells>(rt.alloc(), calls)?, "over Cells, {calls}");
-        assert!(rt; loses_its_sink::<Packed>(rt.alloc(), calls)?, "over Packed, {calls}");
+        assert!(rt;
+            loses_its_sink::<Cells>(rt.alloc(), calls)?,
+            "over Cells, {calls}"
+        );
+        assert!(rt;
+            loses_its_sink::<Packed>(rt.alloc(), calls)?,
+            "over Packed, {calls}"
+        );
     }
     Ok(())
 }

@@ -7,20 +7,20 @@ use st_values::wrap;
 use std::alloc::Global;
 use std::test::Fail;
 
-const FIRST: &[u8] =
-    b"PROGRAM Main VAR A : INT := 3; B : BOOL; END_VAR A := A + 1; END_PROGRAM";
+const FIRST: &[u8] = b"PROGRAM Main VAR A : INT := 3; B : BOOL; END_VAR A := A + 1; END_PROGRAM";
 
 /// The first program with a DINT in the place of its INT.
-const WIDER: &[u8] =
-    b"PROGRAM Main VAR A : DINT := 1; B : BOOL; END_VAR A := A + 1; END_PROGRAM";
+const WIDER: &[u8] = b"PROGRAM Main VAR A : DINT := 1; B : BOOL; END_VAR A := A + 1; END_PROGRAM";
 
 /// The first program without its BOOL.
 const SHORTER: &[u8] = b"PROGRAM Main VAR A : INT := 3; END_VAR A := A + 1; END_PROGRAM";
 
-const TIMER: &[u8] = b"PROGRAM Main VAR Go : BOOL := TRUE; T1 : TON; END_VAR T1(IN := Go, PT := T#100ms); END_PROGRAM";
+const TIMER: &[u8] =
+    b"PROGRAM Main VAR Go : BOOL := TRUE; T1 : TON; END_VAR T1(IN := Go, PT := T#100ms); END_PROGRAM";
 
 /// A timer of another kind.
-const OTHER_TIMER: &[u8] = b"PROGRAM Main VAR Go : BOOL := TRUE; T1 : TOF; END_VAR T1(IN := Go, PT := T#100ms); END_PROGRAM";
+const OTHER_TIMER: &[u8] =
+    b"PROGRAM Main VAR Go : BOOL := TRUE; T1 : TOF; END_VAR T1(IN := Go, PT := T#100ms); END_PROGRAM";
 
 const CHART: &[u8] = b"PROGRAM Main VAR Go : BOOL; Lamp : BOOL; END_VAR
 INITIAL_STEP S1: END_STEP
@@ -75,7 +75,11 @@ fn saves<M: Memory>(alloc: Global) -> Result<bool, Fail> {
             && shorter.bytes.items.as_slice() == [1].as_slice()
             && shorter.forced.items.as_slice() == [1].as_slice()
             && timer.bytes.items.len() == 27
-            && timer.bytes.items.as_slice().starts_with(&[0, 0, 0, 0, 0, 0, 0, 0, 0, 0, 40, 0])
+            && timer
+                .bytes
+                .items
+                .as_slice()
+                .starts_with(&[0, 0, 0, 0, 0, 0, 0, 0, 0, 0, 40, 0])
             && step.bytes.items.len() == 17
             && step.bytes.items.as_slice().starts_with(&[0, 40, 0])
             && step.forced.items.is_empty(),
@@ -100,7 +104,8 @@ fn ranges(alloc: Global, old: &[u8], new: &[u8]) -> Result<u32, Fail> {
 fn plans_have_few_ranges(rt: HostRuntime) -> Result<(), Fail> {
     let longer = b"PROGRAM Main VAR N : DINT; A : INT := 3; B : BOOL; END_VAR END_PROGRAM";
     assert_eq!(rt; ranges(rt.alloc(), FIRST, longer)?, 1);
-    let array = b"PROGRAM Main VAR R : ARRAY [1..4] OF INT := [10, 20, 30, 40]; END_VAR END_PROGRAM";
+    let array =
+        b"PROGRAM Main VAR R : ARRAY [1..4] OF INT := [10, 20, 30, 40]; END_VAR END_PROGRAM";
     let moved = b"PROGRAM Main VAR R : ARRAY [2..5] OF INT; END_VAR END_PROGRAM";
     assert_eq!(rt; ranges(rt.alloc(), array, moved)?, 1);
     let turned = b"PROGRAM Main VAR B : BOOL; A : INT := 3; END_VAR END_PROGRAM";

@@ -24,17 +24,61 @@ struct Stage {
 
 /// The session. It begins with the load, which has neither lines nor a reply.
 const STAGES: &[Stage] = &[
-    Stage { lines: b"", reply: b"", now: (3, false, 0) },
-    Stage { lines: b"write Main.A 7\n", reply: b"ok\n", now: (7, false, 1) },
-    Stage { lines: CHANGE, reply: b"ok kept 2 dropped 0 new 1\n", now: (7, true, 2) },
-    Stage { lines: b"show Main.A\n", reply: b"Main.A = 7\n", now: (7, true, 2) },
-    Stage { lines: b"write Main.A 8\n", reply: b"ok\n", now: (8, true, 3) },
-    Stage { lines: b"undo\n", reply: b"ok\n", now: (7, true, 2) },
-    Stage { lines: b"show Main.A\n", reply: b"Main.A = 7\n", now: (7, true, 2) },
-    Stage { lines: b"undo\n", reply: b"ok\n", now: (7, false, 1) },
-    Stage { lines: b"undo\n", reply: b"ok\n", now: (3, false, 0) },
-    Stage { lines: b"show Main.A\n", reply: b"Main.A = 3\n", now: (3, false, 0) },
-    Stage { lines: b"show Main.N\n", reply: b"refused O1\n", now: (3, false, 0) },
+    Stage {
+        lines: b"",
+        reply: b"",
+        now: (3, false, 0),
+    },
+    Stage {
+        lines: b"write Main.A 7\n",
+        reply: b"ok\n",
+        now: (7, false, 1),
+    },
+    Stage {
+        lines: CHANGE,
+        reply: b"ok kept 2 dropped 0 new 1\n",
+        now: (7, true, 2),
+    },
+    Stage {
+        lines: b"show Main.A\n",
+        reply: b"Main.A = 7\n",
+        now: (7, true, 2),
+    },
+    Stage {
+        lines: b"write Main.A 8\n",
+        reply: b"ok\n",
+        now: (8, true, 3),
+    },
+    Stage {
+        lines: b"undo\n",
+        reply: b"ok\n",
+        now: (7, true, 2),
+    },
+    Stage {
+        lines: b"show Main.A\n",
+        reply: b"Main.A = 7\n",
+        now: (7, true, 2),
+    },
+    Stage {
+        lines: b"undo\n",
+        reply: b"ok\n",
+        now: (7, false, 1),
+    },
+    Stage {
+        lines: b"undo\n",
+        reply: b"ok\n",
+        now: (3, false, 0),
+    },
+    Stage {
+        lines: b"show Main.A\n",
+        reply: b"Main.A = 3\n",
+        now: (3, false, 0),
+    },
+    Stage {
+        lines: b"show Main.N\n",
+        reply: b"refused O1\n",
+        now: (3, false, 0),
+    },
 ];
 
 /// The number of the last stage.

@@ -10,8 +10,14 @@ use std::test::Fail;
 #[test]
 fn pieces_make_no_difference(rt: HostRuntime) -> Result<(), Fail> {
     for piece in 1..17 {
-        assert!(rt; comes_in_pieces::<Cells>(rt.alloc(), piece)?, "over Cells, by {piece}");
-        assert!(rt; comes_in_pieces::<Packed>(rt.alloc(), piece)?, "over Packed, by {piece}");
+        assert!(rt;
+            comes_in_pieces::<Cells>(rt.alloc(), piece)?,
+            "over Cells, by {piece}"
+        );
+        assert!(rt;
+            comes_in_pieces::<Packed>(rt.alloc(), piece)?,
+            "over Packed, by {piece}"
+        );
     }
     Ok(())
 }
@@ -40,8 +46,14 @@ fn sessions_end_at_each_byte(rt: HostRuntime) -> Result<(), Fail> {
         let (read, rest) = stage_read(end);
         let cut = stage_cut(read, rest);
         for piece in [1, 4096] {
-            assert!(rt; ends_early::<Cells>(rt.alloc(), &lines[..end], piece, read, cut)?, "{end}");
-            assert!(rt; ends_early::<Packed>(rt.alloc(), &lines[..end], piece, read, cut)?, "{end}");
+            assert!(rt;
+                ends_early::<Cells>(rt.alloc(), &lines[..end], piece, read, cut)?,
+                "{end}"
+            );
+            assert!(rt;
+                ends_early::<Packed>(rt.alloc(), &lines[..end], piece, read, cut)?,
+                "{end}"
+            );
         }
     }
     Ok(())
@@ -70,9 +82,5 @@ fn ends_early<M: Memory>(
     } else {
         Outcome::Clean
     };
-    Ok(
-        outcome == wanted
-            && sink.written() == replies.as_slice()
-            && stands_at(&controller, stage),
-    )
+    Ok(outcome == wanted && sink.written() == replies.as_slice() && stands_at(&controller, stage))
 }
