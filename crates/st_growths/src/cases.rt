@@ -27,8 +27,7 @@ pub struct Case {
     pub undone: Typed,
 }
 
-const FIRST: &[u8] =
-    b"PROGRAM Main VAR A : INT := 3; B : BOOL; END_VAR A := A + 1; END_PROGRAM";
+const FIRST: &[u8] = b"PROGRAM Main VAR A : INT := 3; B : BOOL; END_VAR A := A + 1; END_PROGRAM";
 
 const CHART: &[u8] = b"PROGRAM Main VAR Go : BOOL; Lamp : BOOL; END_VAR
 INITIAL_STEP S1: END_STEP
@@ -102,8 +101,14 @@ const TIMER: Case = Case {
     name: "timer",
     text: b"PROGRAM Main VAR Go : BOOL := TRUE; T1 : TON; END_VAR T1(IN := Go, PT := T#100ms); END_PROGRAM",
     paths: &[
-        b"Main.Go", b"Main.T1.IN", b"Main.T1.PT", b"Main.T1.Q", b"Main.T1.ET", b"Main.T1.$M",
-        b"Main.T1.$RUN", b"Main.T1.$START",
+        b"Main.Go",
+        b"Main.T1.IN",
+        b"Main.T1.PT",
+        b"Main.T1.Q",
+        b"Main.T1.ET",
+        b"Main.T1.$M",
+        b"Main.T1.$RUN",
+        b"Main.T1.$START",
     ],
     before: Typed {
         lines: b"scan 10\nscan 50\nshow Main.T1.ET\n",
@@ -130,8 +135,18 @@ const STEP_ADDED: Case = Case {
     name: "chart",
     text: CHART,
     paths: &[
-        b"Main.Go", b"Main.Lamp", b"Main.$CHART", b"Main.S0.X", b"Main.S0.T", b"Main.S0.$M",
-        b"Main.S1.X", b"Main.S1.T", b"Main.S1.$M", b"Main.S2.X", b"Main.S2.T", b"Main.S2.$M",
+        b"Main.Go",
+        b"Main.Lamp",
+        b"Main.$CHART",
+        b"Main.S0.X",
+        b"Main.S0.T",
+        b"Main.S0.$M",
+        b"Main.S1.X",
+        b"Main.S1.T",
+        b"Main.S1.$M",
+        b"Main.S2.X",
+        b"Main.S2.T",
+        b"Main.S2.$M",
     ],
     before: Typed {
         lines: b"scan 0\nwrite Main.Go TRUE\nscan 5\nscan 25\n",

@@ -15,8 +15,13 @@ pub fn changes_by_call<M: Memory>(tries: &mut Tries, case: &Case) -> Result<bool
     };
     let before = case.before;
     Ok(
-        replies(tries, &mut controller, case.paths, before.lines, before.replies)?
-            && makes_changes(tries, &mut controller, case)?
+        replies(
+            tries,
+            &mut controller,
+            case.paths,
+            before.lines,
+            before.replies,
+        )? && makes_changes(tries, &mut controller, case)?
             && undoes_changes(tries, &mut controller, case)?,
     )
 }
@@ -112,11 +117,28 @@ pub fn changes_by_session<M: Memory>(tries: &mut Tries, case: &Case) -> Result<b
     };
     let (before, after, undone) = (case.before, case.after, case.undone);
     Ok(
-        replies(tries, &mut controller, case.paths, before.lines, before.replies)?
-            && types_changes(tries, &mut controller, case)?
-            && replies(tries, &mut controller, case.paths, after.lines, after.replies)?
+        replies(
+            tries,
+            &mut controller,
+            case.paths,
+            before.lines,
+            before.replies,
+        )? && types_changes(tries, &mut controller, case)?
+            && replies(
+                tries,
+                &mut controller,
+                case.paths,
+                after.lines,
+                after.replies,
+            )?
             && types_undos(tries, &mut controller, case)?
-            && replies(tries, &mut controller, case.paths, undone.lines, undone.replies)?,
+            && replies(
+                tries,
+                &mut controller,
+                case.paths,
+                undone.lines,
+                undone.replies,
+            )?,
     )
 }
 

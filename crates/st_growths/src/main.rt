@@ -108,8 +108,7 @@ fn call_comes_out(tries: &mut Tries, name: &str) -> Result<bool, AllocError> {
 fn session_comes_out(tries: &mut Tries, name: &str) -> Result<bool, AllocError> {
     match case_of(name) {
         Some(case) => Ok(
-            changes_by_session::<Cells>(tries, case)?
-                && changes_by_session::<Packed>(tries, case)?,
+            changes_by_session::<Cells>(tries, case)? && changes_by_session::<Packed>(tries, case)?,
         ),
         None => Ok(false),
     }

@@ -6,7 +6,8 @@ use std::alloc::{AllocError, Global};
 const TEXT: &[u8] = b"PROGRAM Main VAR_INPUT Go : BOOL; END_VAR VAR T1 : TP; END_VAR
 T1(IN := Go, PT := T#100ms); END_PROGRAM";
 
-const LEAVES: &[u8] = b"0 1 BOOL Main.Go\n1 1 BOOL Main.T1.IN\n2 8 TIME Main.T1.PT\n10 1 BOOL Main.T1.Q
+const LEAVES: &[u8] =
+    b"0 1 BOOL Main.Go\n1 1 BOOL Main.T1.IN\n2 8 TIME Main.T1.PT\n10 1 BOOL Main.T1.Q
 11 8 TIME Main.T1.ET\n19 1 BOOL Main.T1.$M\n20 1 BOOL Main.T1.$RUN\n21 8 TIME Main.T1.$START\n";
 
 /// The same with a fault in its second line.
@@ -33,8 +34,10 @@ pub fn lays_out(tries: &mut Tries) -> Result<bool, AllocError> {
 /// Whether the faulty text is refused for its fault in the end, and never accepted.
 pub fn refuses(tries: &mut Tries) -> Result<bool, AllocError> {
     let wanted = (1, b"refused C3 line 2\n".as_slice());
-    Ok(is_answered(tries, Verb::Check, FAULTY, wanted)?
-        && is_answered(tries, Verb::Layout, FAULTY, wanted)?)
+    Ok(
+        is_answered(tries, Verb::Check, FAULTY, wanted)?
+            && is_answered(tries, Verb::Layout, FAULTY, wanted)?,
+    )
 }
 
 /// Whether this status and this text are the answer. Where there is no memory for it, that is said, and it is asked for again.
