@@ -1,4 +1,6 @@
 //! Sessions, checks and layouts over devices of all kinds, and over those that fail.
+ghost use Rattle.std.specs.Prelude.{◌<◌};
+
 use crate::made::counter::Counter;
 use crate::ways::{ALL_GOOD, LARGE_PIECE, MAIN};
 use st_control::{Controller, Refusal};
