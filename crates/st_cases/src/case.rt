@@ -138,7 +138,7 @@ impl Part {
         let mut words = row
             .split(|byte| *byte == b' ')
             .filter(|word| !word.is_empty());
-        put_all(&mut self.typed, &[b"scan ", words.next().unwrap_or(b"")])?;
+        put_moment(&mut self.typed, words.next().unwrap_or(b""))?;
         let mut columns = self
             .columns
             .split(|byte| *byte == b' ')
@@ -148,17 +148,35 @@ impl Part {
             let column = columns.next().unwrap_or(b"");
             if word == b"=>".as_slice() {
                 is_shown = true;
-                put_all(&mut self.typed, &[b"\n"])?;
-                put_all(&mut self.wanted, &[b"ok\n"])?;
+                self.typed.push(b'\n')?;
+                self.wanted.extend_from_slice(b"ok\n")?;
             } else if is_shown {
-                put_all(&mut self.typed, &[b"show ", column, b"\n"])?;
+                put_show(&mut self.typed, column)?;
                 put_shown(&mut self.wanted, column, word)?;
-            } else if word != b"-".as_slice() {
-                put_all(&mut self.typed, &[b" ", column, b":=", word])?;
+            } else {
+                put_input(&mut self.typed, column, word)?;
             }
         }
         Ok(())
     }
+}
+
+/// Puts the beginning of a line that scans at a moment.
+fn put_moment(lines: &mut Vec<u8>, moment: &[u8]) -> Result<(), AllocError> {
+    put_all(lines, &[b"scan ", moment])
+}
+
+/// Puts the value of an input behind a scan, if it isn't left out.
+fn put_input(lines: &mut Vec<u8>, path: &[u8], value: &[u8]) -> Result<(), AllocError> {
+    if value == b"-".as_slice() {
+        return Ok(());
+    }
+    put_all(lines, &[b" ", path, b":=", value])
+}
+
+/// Puts a line that asks for a value.
+fn put_show(lines: &mut Vec<u8>, path: &[u8]) -> Result<(), AllocError> {
+    put_all(lines, &[b"show ", path, b"\n"])
 }
 
 /// Puts the reply that shows a value, behind which a `!` stands where it is forced.

@@ -6,6 +6,7 @@ use std::io;
 
 /// Runs the cases of a folder's files, names those that fail, and says how many each file has.
 pub fn run_folder(rt: &HostRuntime, folder: &str) -> io::Result<Tally> {
+    let folder = folder.strip_suffix('/').unwrap_or(folder);
     let mut all = Tally::default();
     for name in &case_files(rt, folder)? {
         let path = format!(in rt.alloc(); "{folder}/{name}")?;

@@ -1,4 +1,6 @@
 //! How many cases came out, and how many failed.
+ghost use Rattle.std.specs.Prelude.{◌≡◌, ◌<◌, IsSome, false};
+
 use std::io;
 
 /// Counts of cases.
@@ -10,7 +12,10 @@ pub struct Tally {
 
 impl Tally {
     /// Adds the counts of others.
-    pub fn add(&mut self, other: Tally) {
+    pub fn add(&mut self, other: Tally)
+        ensures failed { 0 < other.failed → 0 < self.new.failed }
+        ensures kept { 0 < self.old.failed → 0 < self.new.failed }
+    {
         self.passed = self.passed.saturating_add(other.passed);
         self.failed = self.failed.saturating_add(other.failed);
     }
@@ -21,7 +26,10 @@ impl Tally {
         rt: &HostRuntime,
         place: &str,
         failure: Option<String>,
-    ) -> io::Result<()> {
+    ) -> io::Result<()>
+        ensures failed { IsSome failure → 0 < self.new.failed }
+        ensures kept { 0 < self.old.failed → 0 < self.new.failed }
+    {
         match failure {
             None => {
                 self.passed = self.passed.saturating_add(1);
@@ -35,7 +43,10 @@ impl Tally {
     }
 
     /// Counts a case of which nothing is known but whether it comes out, and names it where it doesn't.
-    pub fn count_whether(&mut self, rt: &HostRuntime, place: &str, holds: bool) -> io::Result<()> {
+    pub fn count_whether(&mut self, rt: &HostRuntime, place: &str, holds: bool) -> io::Result<()>
+        ensures failed { holds ≡ false → 0 < self.new.failed }
+        ensures kept { 0 < self.old.failed → 0 < self.new.failed }
+    {
         if holds {
             self.passed = self.passed.saturating_add(1);
             Ok(())

@@ -1,4 +1,7 @@
 //! Whether what comes of a text is what has to come.
+ghost use Rattle.std.specs.Prelude.{◌≡◌, IfOk, IsNone};
+ghost use Rattle.std.specs.List.{All};
+
 use crate::ways::{LARGE_PIECE, Told, Typed, check, converse, lay_out, run};
 use st_memory::{Cells, Packed};
 use st_session::{ACCEPTED, LINE_REFUSED, NO_PROGRAM};
@@ -95,7 +98,12 @@ fn first_failure(
     alloc: Global,
     ways: &[(&str, Told)],
     wanted: Wanted<'_>,
-) -> Result<Option<String>, AllocError> {
+) -> Result<Option<String>, AllocError>
+    ensures status { IfOk result (λ failure. IsNone failure
+        → All (λ way. way.1.status ≡ wanted.entry.status) ways.now) }
+    ensures written { IfOk result (λ failure. IsNone failure
+        → All (λ way. way.1.written.items ≡ wanted.entry.written.now) ways.now) }
+{
     for (way, told) in ways {
         if let Some(difference) = difference(alloc, told, wanted)? {
             return Ok(Some(format!(in alloc; "{way}: {difference}")?));
@@ -105,11 +113,11 @@ fn first_failure(
 }
 
 /// How what is told differs from what is wanted.
-fn difference(
-    alloc: Global,
-    told: &Told,
-    wanted: Wanted<'_>,
-) -> Result<Option<String>, AllocError> {
+fn difference(alloc: Global, told: &Told, wanted: Wanted<'_>) -> Result<Option<String>, AllocError>
+    ensures status { IfOk result (λ failure. IsNone failure → told.now.status ≡ wanted.entry.status) }
+    ensures written { IfOk result (λ failure. IsNone failure
+        → told.now.written.items ≡ wanted.entry.written.now) }
+{
     if told.written.as_slice() != wanted.written {
         return Ok(Some(first_line(alloc, &told.written, wanted.written)?));
     }

@@ -1,4 +1,6 @@
 //! Sessions, checks and layouts over devices of all kinds, and over those that fail.
+ghost use Rattle.std.specs.Prelude.{◌<◌};
+
 use crate::made::counter::Counter;
 use crate::ways::{ALL_GOOD, LARGE_PIECE, MAIN};
 use st_control::{Controller, Refusal};
@@ -33,8 +35,20 @@ pub fn run(cases: &mut Counter<'_>) -> io::Result<()> {
         ends_with_its_sink::<Packed>(alloc),
     )?;
     cases.other("a source that fails", loses_no_line(alloc))?;
-    cases.other("a check whose sink fails", checks_fail(alloc))?;
-    cases.other("a layout whose sink fails", layouts_fail(alloc))
+    for calls in 0..2 {
+        cases.other(
+            "a check whose sink fails",
+            check_fails(alloc, PROGRAM, calls),
+        )?;
+        cases.other(
+            "a refusal whose sink fails",
+            check_fails(alloc, b"(* open", calls),
+        )?;
+    }
+    for calls in 0..20 {
+        cases.other("a layout whose sink fails", layout_fails(alloc, calls))?;
+    }
+    Ok(())
 }
 
 /// Whether the session comes out by pieces of so many bytes.
@@ -96,28 +110,16 @@ fn loses_no_line(alloc: Global) -> bool {
         && !sink.failed()
 }
 
-/// Whether a beginning of a check's answer stands where its device failed, and that is the status, whatever the answer is.
-fn checks_fail(alloc: Global) -> bool {
-    for text in [PROGRAM, b"(* open".as_slice()] {
-        for calls in 0..2 {
-            let mut sink = Sheet::new(alloc, 1, calls);
-            let status = check_text(alloc, text, MAIN, &mut sink);
-            if status != DEVICE_FAILED || sink.written().len() as u64 != calls {
-                return false;
-            }
-        }
-    }
-    true
+/// Whether a beginning of a check's answer stands where its device failed behind so many bytes, and that is the status.
+fn check_fails(alloc: Global, text: &[u8], calls: u64) -> bool {
+    let mut sink = Sheet::new(alloc, 1, calls);
+    let status = check_text(alloc, text, MAIN, &mut sink);
+    status == DEVICE_FAILED && sink.written().len() as u64 == calls
 }
 
-/// Whether a beginning of a layout's lines stands where its device failed, and that is the status.
-fn layouts_fail(alloc: Global) -> bool {
-    for calls in 0..20 {
-        let mut sink = Sheet::new(alloc, 1, calls);
-        let status = layout_text(alloc, PROGRAM, MAIN, &mut sink);
-        if status != DEVICE_FAILED || sink.written().len() as u64 != calls {
-            return false;
-        }
-    }
-    true
+/// Whether a beginning of a layout's lines stands where its device failed behind so many bytes, and that is the status.
+fn layout_fails(alloc: Global, calls: u64) -> bool {
+    let mut sink = Sheet::new(alloc, 1, calls);
+    let status = layout_text(alloc, PROGRAM, MAIN, &mut sink);
+    status == DEVICE_FAILED && sink.written().len() as u64 == calls
 }

@@ -15,11 +15,12 @@ pub fn run(cases: &mut Counter<'_>) -> io::Result<()> {
 /// 999 functions, one in each line, of which each calls the next; in the line behind them a program calls the first.
 fn calling_text(alloc: Global) -> Result<Vec<u8>, AllocError> {
     let links: [&[u8]; 4] = [b" := F", b"(); END_FUNCTION\nFUNCTION F", b" : INT F", b""];
+    let functions = numbered(alloc, 2..1000, &links)?;
     joined(
         alloc,
         &[
             b"FUNCTION F1 : INT F1",
-            &numbered(alloc, 2..1000, &links)?,
+            &functions,
             b" := 1; END_FUNCTION\nPROGRAM Main VAR A : INT; END_VAR A := F1(); END_PROGRAM\n",
         ],
     )
@@ -50,13 +51,14 @@ fn deepest_calls(cases: &mut Counter<'_>) -> io::Result<()> {
 fn many_inputs(cases: &mut Counter<'_>) -> io::Result<()> {
     let alloc = cases.alloc();
     let names = numbered(alloc, 0..676, &[b", C", b""])?;
+    let summands = numbered(alloc, 0..676, &[b" + C", b""])?;
     let text = joined(
         alloc,
         &[
             b"FUNCTION Sum : INT VAR_INPUT C",
             &names,
             b" : INT; END_VAR\nSum := C",
-            &numbered(alloc, 0..676, &[b" + C", b""])?,
+            &summands,
             b"; END_FUNCTION\nPROGRAM Main VAR A, B, C",
             &names,
             b" : INT := 1; END_VAR\nA := Sum(C",
@@ -75,13 +77,15 @@ fn many_inputs(cases: &mut Counter<'_>) -> io::Result<()> {
 /// A program with 677 counters, of which it invokes all but one.
 fn many_counters(cases: &mut Counter<'_>) -> io::Result<()> {
     let alloc = cases.alloc();
+    let names = numbered(alloc, 0..676, &[b", C", b""])?;
+    let invocations = numbered(alloc, 0..676, &[b"C", b"(CU := Up, PV := 2);\n"])?;
     let text = joined(
         alloc,
         &[
             b"PROGRAM Main VAR_INPUT Up : BOOL; END_VAR VAR C",
-            &numbered(alloc, 0..676, &[b", C", b""])?,
+            &names,
             b" : CTU; END_VAR\n",
-            &numbered(alloc, 0..676, &[b"C", b"(CU := Up, PV := 2);\n"])?,
+            &invocations,
             b"END_PROGRAM\n",
         ],
     )?;
@@ -103,13 +107,15 @@ fn branching_text(alloc: Global) -> Result<Vec<u8>, AllocError> {
         b" := S",
         b".T >= T#10ms; END_TRANSITION\n",
     ];
+    let names = numbered(alloc, 0..1000, &[b", S", b""])?;
+    let branches = numbered(alloc, 0..1000, &steps)?;
     joined(
         alloc,
         &[
             b"PROGRAM Main VAR Lamp : BOOL; END_VAR INITIAL_STEP First: END_STEP TRANSITION FROM First TO (First",
-            &numbered(alloc, 0..1000, &[b", S", b""])?,
+            &names,
             b") := NOT S0.X; END_TRANSITION\n",
-            &numbered(alloc, 0..1000, &steps)?,
+            &branches,
             b"END_PROGRAM\n",
         ],
     )
@@ -138,11 +144,12 @@ fn many_branches(cases: &mut Counter<'_>) -> io::Result<()> {
 /// and its input among them, and gives the input and 1, by the last of them.
 fn many_variables(cases: &mut Counter<'_>) -> io::Result<()> {
     let alloc = cases.alloc();
+    let names = numbered(alloc, 0..67_600, &[b", X", b""])?;
     let text = joined(
         alloc,
         &[
             b"FUNCTION F : INT VAR_INPUT Y : INT; END_VAR VAR X",
-            &numbered(alloc, 0..67_600, &[b", X", b""])?,
+            &names,
             b" : INT; END_VAR X67599 := X67599 + Y; F := X67599 + 1; END_FUNCTION\n\
             PROGRAM Main VAR_INPUT X : INT; END_VAR VAR A : INT := 6; END_VAR A := A + F(X); END_PROGRAM\n",
         ],

@@ -49,11 +49,12 @@ fn with_name_of(alloc: Global, bytes: usize) -> Result<Vec<u8>, AllocError> {
 
 /// So many types in the second line, and a function in the third. It has no fault but those of its units' names, and no program.
 fn types_and(alloc: Global, count: u32, name: &[u8]) -> Result<Vec<u8>, AllocError> {
+    let types = numbered(alloc, 0..count, &[b"T", b" : INT;"])?;
     joined(
         alloc,
         &[
             b"TYPE\n",
-            &numbered(alloc, 0..count, &[b"T", b" : INT;"])?,
+            &types,
             b"END_TYPE FUNCTION\n",
             name,
             b" : INT END_FUNCTION\n",

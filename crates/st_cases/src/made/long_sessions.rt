@@ -95,12 +95,13 @@ fn thousand_scans(cases: &mut Counter<'_>) -> io::Result<()> {
 fn longest_scans(cases: &mut Counter<'_>) -> io::Result<()> {
     let alloc = cases.alloc();
     let text = b"PROGRAM Main VAR_INPUT A : INT; END_VAR VAR B : INT; END_VAR B := A; END_PROGRAM";
+    let pairs = repeated(alloc, b" Main.A:=1", 408)?;
     let empty_pairs = repeated(alloc, b" :=", 1363)?;
     let lines = joined(
         alloc,
         &[
             b"scan 0",
-            &repeated(alloc, b" Main.A:=1", 408)?,
+            &pairs,
             b" Main.A:=7\nshow Main.B\nscan 0",
             &empty_pairs,
             b"\nscan 00",
@@ -144,7 +145,8 @@ fn long_lines(cases: &mut Counter<'_>) -> io::Result<()> {
         ),
     ];
     for (name, blanks, end, first) in lengths {
-        let lines = joined(alloc, &[b"status", &repeated(alloc, b" ", blanks)?, end])?;
+        let padding = repeated(alloc, b" ", blanks)?;
+        let lines = joined(alloc, &[b"status", &padding, end])?;
         let wanted = joined(alloc, &[first, STATUS])?;
         cases.session(name, FIRST, &lines, &wanted)?;
     }
@@ -169,11 +171,12 @@ fn last_lines(cases: &mut Counter<'_>) -> io::Result<()> {
 /// Lines with many blanks, unknown ones, and one that is too long, between others.
 fn blanks_in_lines(cases: &mut Counter<'_>) -> io::Result<()> {
     let alloc = cases.alloc();
+    let blanks = repeated(alloc, b" ", 4097)?;
     let lines = joined(
         alloc,
         &[
             b"\t show \t Main.B \r\n\r\n\nShow Main.B\nshow\nundo now\n",
-            &repeated(alloc, b" ", 4097)?,
+            &blanks,
             b"\nforce Main.B 1\nshow Main.B\nwrite Main.A x\nwrite Main.B x\nstatus",
         ],
     )?;

@@ -1,6 +1,7 @@
 //! Texts that are as long as a text may be, that end early, and whose blanks are of all kinds.
 use crate::made::counter::Counter;
 use crate::made::texts::{FIRST, joined, repeated};
+use std::alloc::{AllocError, Global};
 use std::io;
 
 /// The most bytes that a text has.
@@ -70,16 +71,17 @@ fn long_changes(cases: &mut Counter<'_>) -> io::Result<()> {
         ),
     ];
     for (name, blanks, wanted) in lengths {
-        let lines = joined(
-            alloc,
-            &[
-                b"change\n",
-                FIRST,
-                &repeated(alloc, b" ", blanks)?,
-                b"\nend_change\nshow Main.A\n",
-            ],
-        )?;
+        let lines = changing_lines(alloc, blanks)?;
         cases.session(name, FIRST, &lines, wanted)?;
     }
     Ok(())
+}
+
+/// A change to the first program's own text with so many blanks behind it, and a look at a variable.
+fn changing_lines(alloc: Global, blanks: usize) -> Result<Vec<u8>, AllocError> {
+    let padding = repeated(alloc, b" ", blanks)?;
+    joined(
+        alloc,
+        &[b"change\n", FIRST, &padding, b"\nend_change\nshow Main.A\n"],
+    )
 }
