@@ -9,6 +9,7 @@ pub mod OnePath
 pub mod Open
 pub mod RaisedRenames
 pub mod Records
+pub mod RefusedPairs
 pub mod Resets
 pub mod ScanStates
 pub mod Steps

@@ -1,4 +1,5 @@
 pub mod Causes
+pub mod ChangeRefusals
 pub mod Changes
 pub mod Controllers
 pub mod Laws

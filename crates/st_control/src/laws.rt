@@ -1,4 +1,5 @@
 //! What holds of all lists of commands, and of all scans and resets.
+ghost use Rattle.st_control.specs.ChangeRefusals.{NoPairsByPath, RefusedForCharts, RefusedForPairs, StopsByPath};
 ghost use Rattle.st_control.specs.ScanLaws.{ResetsGiveInitialValues, ResetsKeepWhole, ResetsStartAnew, ScansKeepTheFrame, ScansKeepWhole, ScansStartAnew};
 ghost use Rattle.st_control.specs.Laws.{ChangesByPath, GoesThroughStates, IsGivenBack, LoadStays, RecordFits, RecordUndoesCommand, StepsKeepWhole};
 
@@ -15,6 +16,16 @@ pub fn undos_give_back_states()
 /// change carries values and forces from path to path.
 pub fn command_changes_by_path()
     ensures { ChangesByPath }
+{}
+
+/// When an online change is refused for its pairs (O13) and for its charts (O8), by the paths of leaves. For its pairs: the renames name
+/// what they may not, two leaves would go to one, or a step would leave its chart. For its charts: one is kept, and of its steps none that
+/// is active.
+pub fn changes_are_refused_by_path()
+    ensures pairs { NoPairsByPath }
+    ensures charts { StopsByPath }
+    ensures refused_pairs { RefusedForPairs }
+    ensures refused_charts { RefusedForCharts }
 {}
 
 /// What a command that is accepted leaves in its record fits the state after, and gives back the state before from it alone.
