@@ -1,3 +1,4 @@
+pub mod Associated
 pub mod Bounds
 pub mod Charts
 pub mod Compositions

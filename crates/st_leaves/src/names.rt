@@ -1,8 +1,8 @@
 //! The names that the steps of a chart are associated with (2.6.4.3).
-ghost use Rattle.std.specs.Prelude.{◌≡◌, ◌<◌, ◌++◌, ◌∷◌, [], IfOk, IfSome, List, OnOk, Some, length, slice_get};
+ghost use Rattle.std.specs.Prelude.{◌≡◌, ◌<◌, ◌∷◌, [], IfOk, IfSome, OnOk, Some, length, slice_get};
 ghost use Rattle.std.specs.List.{position};
+ghost use Rattle.st_leaves.specs.Associated.{HasNamesOf};
 ghost use Rattle.st_leaves.specs.Charts.{associated_names, associations_in, spelled};
-ghost use Rattle.st_tree.specs.declared.tree.unit.Association.{Association as TheAssociation};
 ghost use Rattle.st_values.specs.Words.{is_word};
 
 use st_names::NameTable;
@@ -59,7 +59,7 @@ impl<'a> AssociatedNames<'a> {
 
     /// Adds the names of further associations.
     fn add_all(&mut self, associations: &'a [Association]) -> Result<(), AllocError>
-        ensures { OnOk result ((before : List TheAssociation) → self.old ≡ associated_names before → self.new ≡ associated_names (before ++ associations.now)) }
+        ensures { OnOk result (HasNamesOf associations.now self.old self.new) }
     {
         'associations: for association in associations {
             self.add(association)?;
@@ -69,7 +69,7 @@ impl<'a> AssociatedNames<'a> {
 
     /// Adds the name of one more association, if it isn't there yet.
     fn add(&mut self, association: &'a Association) -> Result<(), AllocError>
-        ensures { OnOk result ((before : List TheAssociation) → self.old ≡ associated_names before → self.new ≡ associated_names (before ++ association.now ∷ [])) }
+        ensures { OnOk result (HasNamesOf (association.now ∷ []) self.old self.new) }
     {
         let name = association.name.spelling.as_slice();
         if self.find(name).is_some() {

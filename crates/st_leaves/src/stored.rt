@@ -1,10 +1,9 @@
 //! The names that a chart stores (2.6.4.4).
-ghost use Rattle.std.specs.Prelude.{◌≡◌, ◌++◌, ◌&&◌, IfOk, OnOk, filter, map};
-ghost use Rattle.std.specs.List.{list_any};
+ghost use Rattle.std.specs.Prelude.{◌≡◌, ◌++◌, IfOk, OnOk};
 ghost use Rattle.st_sizes.specs.Sizes.{IsSize};
+ghost use Rattle.st_leaves.specs.Associated.{names_among};
 ghost use Rattle.st_leaves.specs.Charts.{associations_in, has_qualifier, set_names, spelled, stored_leaves, stored_names};
 ghost use Rattle.st_leaves.specs.Limits.{sizes_of};
-ghost use Rattle.st_values.specs.Words.{is_word};
 
 use crate::names::AssociatedNames;
 use crate::size::{named_leaf_size, named_size};
@@ -36,7 +35,7 @@ fn words_among<'a>(
     words: &[&'a Word],
     names: &NameTable<'_>,
 ) -> Result<Vec<&'a Word>, AllocError>
-    ensures { IfOk result (λ among. spelled among.items ≡ filter (λ name. list_any (is_word name) names.now) (spelled words.now)) }
+    ensures { IfOk result (λ among. spelled among.items ≡ names_among names.now (spelled words.now)) }
 {
     let mut among = Vec::new(alloc);
     'words: for word in words {

@@ -1,8 +1,7 @@
-use Rattle.std.proofs.Common.{◌≡◌, ◌++◌, List, take}
-use Rattle.st_tree.specs.declared.tree.unit.Association.{Association}
-use Rattle.st_leaves.specs.Charts.{associated_names}
+use Rattle.std.proofs.Common.{take}
+use Rattle.st_leaves.specs.Associated.{HasNamesOf}
 use Rattle.st_leaves.proofs.names.AssociatedNames.add_all.Given as goal
 
 -- the names of the associations so far
 abbrev pub invariant-associations : goal.invariant-associations
-invariant-associations l = (before : List Association) → l.initial.self ≡ associated_names before → l.self ≡ associated_names (before ++ take l.association-index l.associations)
+invariant-associations l = HasNamesOf (take l.association-index l.associations) l.initial.self l.self
