@@ -9,9 +9,9 @@ use crate::refusal::{HALTED, MOMENT_PAST, NO_SUCH_PATH, NOT_AN_INPUT, NOT_OF_TYP
 use crate::state::{State, Status, is_value_of};
 use st_compile::{Image, run};
 use st_layout::Layout;
-use st_memory::Memory;
 use st_machine::Stacks;
 use st_meaning::RunFault;
+use st_memory::Memory;
 use st_tree::Role;
 use st_values::Value;
 use std::alloc::{AllocError, Global};

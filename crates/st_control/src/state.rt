@@ -12,9 +12,9 @@ use crate::refusal::{
     IS_FORCED, NO_SUCH_PATH, NOT_FORCED, NOT_OF_TYPE, NOT_OPEN, Refusal, UNDO_FULL,
 };
 use st_compile::Image;
-use st_memory::Memory;
 use st_machine::Stacks;
 use st_meaning::RunFault;
+use st_memory::Memory;
 use st_tree::{Leaf, Role};
 use st_values::{Value, is_value};
 use std::marker::Model;

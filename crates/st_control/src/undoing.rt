@@ -13,8 +13,8 @@ use crate::scanning::room_for;
 use crate::state::State;
 use st_compile::Image;
 use st_layout::{Layout, Plan, PlanFault, Rename};
-use st_memory::{Memory, Saved};
 use st_machine::Stacks;
+use st_memory::{Memory, Saved};
 use std::alloc::{AllocError, Global};
 
 /// Gives back the state before the command that left this record. Only where that is an online change it may be refused, for

@@ -91,7 +91,11 @@ fn emit_action(
 }
 
 /// Stores whether each of the names is on that is a BOOL variable.
-fn emit_variables(code: &mut Code, scope: &Scope<'_>, names: &AssociatedNames<'_>) -> Result<(), AllocError>
+fn emit_variables(
+    code: &mut Code,
+    scope: &Scope<'_>,
+    names: &AssociatedNames<'_>,
+) -> Result<(), AllocError>
     ensures { OnOk result (code.new ≡ code.old ++ reverse (variables_code (whole_of scope.now).variables (map (variable_named (whole_of scope.now).variables) names.now))) }
 {
     let mut number = names.len();

@@ -12,8 +12,8 @@ use crate::moves::Move;
 use crate::stack::Stack;
 use st_code::Instr;
 use st_layout::Layout;
-use st_memory::Memory;
 use st_meaning::RunFaultKind;
+use st_memory::Memory;
 use st_values::Elem;
 
 /// Does `Step`.

@@ -16,8 +16,8 @@ use crate::reply::Reply;
 use crate::scanning::{reset, scan};
 use st_control::{Controller, NO_SUCH_LINE, NO_SUCH_PATH, Refusal};
 use st_devices::{DeviceFault, Found, Input, MAX_LINE_BYTES, Sink, Source, write_all};
-use st_memory::Memory;
 use st_lines::{Request, ScanValues, read_renames, read_request};
+use st_memory::Memory;
 use st_values::{Elem, Value, read_value};
 use std::alloc::{AllocError, Global};
 

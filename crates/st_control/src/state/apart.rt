@@ -4,8 +4,8 @@ ghost use Rattle.st_control.specs.States.{leaves_of};
 
 use crate::state::{State, Status};
 use st_compile::Image;
-use st_memory::Memory;
 use st_machine::Stacks;
+use st_memory::Memory;
 
 /// Takes a state apart. The pattern names all its fields.
 fn state_apart<M: Memory>(state: &State<M>) -> (&Image, &M, i64, Status, &M, &Stacks)

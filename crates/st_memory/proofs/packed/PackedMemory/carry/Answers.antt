@@ -29,7 +29,7 @@ returns-clause-over c =
     record {
       held = holds_encoded c.args.new.now (map (moved_pair c.args.plan.now.sources content.values) (zip c.args.new.now c.args.plan.now.sources)) c.in_ok-bytes.bytes.items fits.types are;
       count = c.in_ok-marks.ensures.count
-      ∙ (ap (λ (them : List (Option ℕ)). mark_bytes (length them)) c.sources.ensures ∙ ap mark_bytes c.requires.plan.sources);
+          ∙ (ap (λ (them : List (Option ℕ)). mark_bytes (length them)) c.sources.ensures ∙ ap mark_bytes c.requires.plan.sources);
     }
 
 pub returns-clause-moved : goal.returns-clause-moved
