@@ -4,6 +4,7 @@ ghost use Rattle.st_check.specs.Programs.{leaves_of_program};
 ghost use Rattle.st_compile.specs.Programs.{HasRoom, faulty_name, greatest_depth, program_code, program_units};
 ghost use Rattle.st_compile.specs.Small.{functions_are_small};
 ghost use Rattle.st_compile.specs.Typed.{HasTypedCode};
+ghost use Rattle.st_listing.specs.Worded.{IsWorded};
 
 mod apart;
 
@@ -40,6 +41,7 @@ impl Model for Image {
     ghost use Rattle.st_check.specs.Programs.{ProgramView, leaves_of_program};
     ghost use Rattle.st_compile.specs.Programs.{program_code, program_depth, program_names, program_rooms, program_units};
     ghost use Rattle.st_compile.specs.Small.{functions_are_small};
+    ghost use Rattle.st_listing.specs.Worded.{IsWorded};
     ghost use Rattle.st_tree.specs.contracts.tree.expression.Expression as expression;
     ghost use Rattle.st_tree.specs.contracts.tree.statement.Statement as statement;
 
@@ -49,7 +51,7 @@ impl Model for Image {
 
     ghost view = { λ image. image.program };
 
-    ghost invariant = { λ image. (image.layout ≡ leaves_of_program image.program) × (image.code ≡ program_code image.program) × (image.units ≡ program_units image.program) × (image.depth ≡ program_depth image.program) × (image.rooms.items ≡ program_rooms image.program) × (image.names.items ≡ program_names image.program) × (functions_are_small image.program ≡ true) };
+    ghost invariant = { λ image. (image.layout ≡ leaves_of_program image.program) × (image.code ≡ program_code image.program) × (image.units ≡ program_units image.program) × (image.depth ≡ program_depth image.program) × (image.rooms.items ≡ program_rooms image.program) × (image.names.items ≡ program_names image.program) × (functions_are_small image.program ≡ true) × IsWorded image.program };
 }
 
 /// The image of a program. Its code is that of the one typing of the program, which drops nothing of it.
@@ -82,6 +84,13 @@ impl Image {
         ensures { result.now ≡ self.now }
     {
         &self.program
+    }
+
+    /// Tells that the program is checked, and that all names on the ways to its leaves are words.
+    pub fn tell_worded(&self)
+        ensures { IsWorded self.now }
+    {
+        let _program = &self.program;
     }
 
     /// The layout of the program's leaves.

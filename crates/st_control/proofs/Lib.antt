@@ -15,3 +15,4 @@ pub mod ScanStates
 pub mod Steps
 pub mod Texts
 pub mod Undone
+pub mod Unrenamed

@@ -1,5 +1,5 @@
 //! Online changes: their renames in upper case, their counts, the charts that they would stop, and what they make of a state.
-ghost use Rattle.std.specs.Prelude.{◌≡◌, ◌<◌, ◌&&◌, ◌||◌, ℕ, IfOk, OnErr, OnOk, false, length, not, replicate, true};
+ghost use Rattle.std.specs.Prelude.{◌≡◌, ◌<◌, ◌&&◌, ◌||◌, ℕ, [], IfOk, OnErr, OnOk, false, length, not, replicate, true};
 ghost use Rattle.st_check.specs.Programs.{leaves_of_program};
 ghost use Rattle.st_control.specs.Changes.{AreMarks, active_chart, changed, counts_of_pairs, gives_pairs, is_chart, is_kept, loses_active_step, mark_at, pairs_of, raised_renames};
 ghost use Rattle.st_control.specs.Controllers.{is_of_change};
@@ -16,6 +16,7 @@ use crate::scanning::room_for;
 use crate::state::State;
 use st_compile::Image;
 use st_layout::{Layout, Plan, Rename};
+use st_listing::changes_without_renames_pair;
 use st_memory::{Memory, carry_over};
 use st_tree::{List, Role};
 use std::alloc::{AllocError, Global};
@@ -46,6 +47,15 @@ impl Counts {
 }
 
 impl<M: Memory> State<M> {
+    /// Tells that without renames the leaves of the state and those of a program give pairs.
+    pub(crate) fn tell_pairs(&self, image: &Image)
+        ensures { gives_pairs self.entry.now [] image.now ≡ true }
+    {
+        changes_without_renames_pair();
+        self.image.tell_worded();
+        image.tell_worded();
+    }
+
     /// The plan of an online change to a program, or why it is refused.
     pub(crate) fn plan_of_change(
         &self,

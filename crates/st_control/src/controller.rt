@@ -1,5 +1,6 @@
 //! The controller.
-ghost use Rattle.std.specs.Prelude.{◌≡◌, ◌+◌, ◌<◌, ◌≤◌, ◌^◌, ◌++◌, ◌∷◌, [], Err, IfErr, IfOk, IfSome, List, MatchResult, Ok, OnOk, length, vec_capacity, vec_len};
+ghost use Rattle.std.specs.Prelude.{◌≡◌, ◌≢◌, ◌+◌, ◌<◌, ◌≤◌, ◌^◌, ◌++◌, ◌∷◌, [], Err, IfErr, IfOk, IfSome, List, MatchResult, Ok, OnOk, length, vec_capacity, vec_len};
+ghost use Rattle.st_control.specs.Causes.{not_paired};
 ghost use Rattle.st_control.specs.Changes.{counts_of};
 ghost use Rattle.st_control.specs.Controllers.{DropsNewest, GoesOver, Keeps, Takes, TakesChange, TakesUndo, change_record, first_controller, force_count, machine_of, record_of, shown_to};
 ghost use Rattle.st_control.specs.Loads.{IsLoaded};
@@ -84,6 +85,7 @@ impl<M: Memory> Controller<M> {
         ensures ok { IfOk result (λ controller. IsLoaded text.now main.now limit controller) }
         ensures refused { IfErr result (λ refusal. IsCheckedAs text.now main.now (Err refusal)) }
         ensures long { 2 ^ 20 < length text.now → result ≡ Err (Refusal.S 4 1) }
+        ensures whole { IfOk result (λ controller. IsWhole controller.state) }
 
         // A text that is accepted is loaded with its units, unless memory runs out.
         ensures only { (units : List ProgramUnit) → IsCheckedAs text.now main.now (Ok units)
@@ -98,7 +100,8 @@ impl<M: Memory> Controller<M> {
     ///
     /// Room for all its records is made here. It is refused for want of memory alone.
     fn start(alloc: Global, image: Image, main: Name, limit: u32) -> Result<Self, AllocError>
-        ensures { IfOk result (λ controller. controller ≡ first_controller image main limit) }
+        ensures first { IfOk result (λ controller. controller ≡ first_controller image main limit) }
+        ensures whole { IfOk result (λ controller. IsWhole controller.state) }
     {
         let memory = M::fresh(alloc, image.layout())?;
         let (second, stacks) = room_for(alloc, &image)?;
@@ -111,6 +114,7 @@ impl<M: Memory> Controller<M> {
             second,
             stacks,
         };
+        state.tell_whole();
         Ok(Controller {
             state,
             records,
@@ -216,10 +220,12 @@ impl<M: Memory> Controller<M> {
     }
 
     /// Goes over to the program that another text is, as `change_named` with no renames does. It isn't refused as O13: without
-    /// renames two programs always have pairs (the law `changes_without_renames_pair` of `st_layout`).
+    /// renames two programs always have pairs.
     pub fn change(&mut self, alloc: Global, text: &[u8]) -> Result<Counts, Refusal>
         ensures step { TakesChange text.now [] self.old result self.new }
         ensures counts { IfOk result (λ counts. counts ≡ counts_of self.old.state [] self.new.state.program) }
+        ensures whole { OnOk result (IsWhole self.new.state) }
+        ensures paired { IfErr result (λ refusal. refusal ≢ not_paired) }
         ensures record { OnOk result (Keeps self.old self.new (record_of (change [] (Ok self.new.state.program)) self.old.state)) }
     {
         self.change_named(alloc, text, Vec::new(alloc))
@@ -240,6 +246,8 @@ impl<M: Memory> Controller<M> {
     ) -> Result<Counts, Refusal>
         ensures step { TakesChange text.now renames.items self.old result self.new }
         ensures counts { IfOk result (λ counts. counts ≡ counts_of self.old.state renames.items self.new.state.program) }
+        ensures whole { OnOk result (IsWhole self.new.state) }
+        ensures paired { renames.items ≡ [] → IfErr result (λ refusal. refusal ≢ not_paired) }
         ensures record { OnOk result (Keeps self.old self.new (record_of (change renames.items (Ok self.new.state.program)) self.old.state)) }
     {
         let image = load_image(alloc, text, self.main.bytes())?;
@@ -257,8 +265,11 @@ impl<M: Memory> Controller<M> {
     ) -> Result<Counts, Refusal>
         ensures step { GoesOver image renames self.old result self.new }
         ensures counts { IfOk result (λ counts. counts ≡ counts_of self.old.state renames self.new.state.program) }
+        ensures whole { OnOk result (IsWhole self.new.state) }
+        ensures paired { renames ≡ [] → IfErr result (λ refusal. refusal ≢ not_paired) }
         ensures record { OnOk result (Keeps self.old self.new (change_record self.old.state renames self.new.state.program)) }
     {
+        self.state.tell_pairs(&image);
         let full = self.records.len() >= MAX_RECORDS;
         let plan = self
             .state
@@ -266,6 +277,7 @@ impl<M: Memory> Controller<M> {
         let counts = Counts::of(&plan);
         let newest = self.state.change(alloc, &plan, image, renames)?;
         keep(&mut self.records, newest);
+        self.state.tell_whole();
         Ok(counts)
     }
 

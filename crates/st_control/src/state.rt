@@ -202,6 +202,14 @@ impl<M: Memory> State<M> {
         Record::Release { leaf }
     }
 
+    /// Tells that the state is whole, as each is.
+    pub(crate) fn tell_whole(&self)
+        ensures { IsWhole self.entry.now }
+    {
+        let _checked = self.image.program().main();
+        let _sound = self.image.layout().len();
+    }
+
     /// How many leaves are forced.
     pub(crate) fn force_count(&self) -> u32
         ensures count { result ≡ count_by (λ forced. forced) self.entry.now.content.forced }

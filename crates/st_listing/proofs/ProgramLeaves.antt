@@ -20,6 +20,7 @@ use Rattle.st_chart_parts.proofs.Units.{same_unit}
 use Rattle.st_check.specs.Laws.{CheckedHasSoundLeaves}
 use Rattle.st_check.specs.Programs.{IsChecked, ProgramView, leaves_of_program, main_of, optional_leaves, text_of}
 use Rattle.st_listing.specs.Listings.{AreWays, ListingView, leaves_behind, listed}
+use Rattle.st_listing.specs.Worded.{IsWorded}
 
 -- where nothing is listed yet
 abbrev pub begun : List ℕ → ListingView
@@ -95,3 +96,14 @@ module _ (p : ProgramView) (text : List Section) (main : ℕ) (text_is : text �
   main_sound (Ok v) items law each ways =
       subst IsSound (sym (listed_are (items v) each))
       (law p checked checked.unit checked.found (subst (λ (t : List Section). AreWays (leaves_of_whole (composition_of (units_of t) checked.unit.declares))) text_is (ways checked.unit there)))
+
+  -- and all names on the ways to its leaves are words
+  pub main_worded : {V E : Type 0} (r : Result V E) → IfOk r (λ v. (u : Named) → unit_at (units_of text) main ≡ Some u → AreWays (leaves_of_whole (composition_of (units_of text) u.declares)))
+      → IfOk r (λ v. IsWorded p)
+  main_worded (Err e) ways = tt
+  main_worded (Ok v) ways = record {
+    checked = checked;
+    unit = checked.unit;
+    found = checked.found;
+    words = subst (λ (t : List Section). AreWays (leaves_of_whole (composition_of (units_of t) checked.unit.declares))) text_is (ways checked.unit there);
+  }

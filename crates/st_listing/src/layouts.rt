@@ -1,7 +1,7 @@
 //! The layouts of checked programs.
 ghost use Rattle.std.specs.Prelude.{◌≡◌, IfOk};
 ghost use Rattle.st_check.specs.Programs.{leaves_of_program};
-ghost use Rattle.st_listing.specs.Worded.{ChangesWithoutRenamesPair};
+ghost use Rattle.st_listing.specs.Worded.{ChangesWithoutRenamesPair, IsWorded};
 
 use crate::leaves::leaves_of;
 use st_check::{Program, checked_program_has_sound_leaves};
@@ -17,7 +17,8 @@ pub trait OfProgram: Sized {
 impl OfProgram for Layout {
     /// The layout of a program's leaves. It is refused for want of memory alone.
     fn of(alloc: Global, program: &Program) -> Result<Layout, AllocError>
-        ensures { IfOk result (λ layout. layout ≡ leaves_of_program program.now) }
+        ensures leaves { IfOk result (λ layout. layout ≡ leaves_of_program program.now) }
+        ensures worded { IfOk result (λ _. IsWorded program.now) }
     {
         let leaves = leaves_of(alloc, program)?;
         Layout::new(alloc, leaves)

@@ -6,6 +6,7 @@ ghost use Rattle.st_leaves.specs.Programs.{program_leaves};
 ghost use Rattle.st_leaves.specs.Sound.{IsSound};
 ghost use Rattle.st_listing.specs.Listings.{AreWays};
 ghost use Rattle.st_listing.specs.Walks.{IsWalk, units_in};
+ghost use Rattle.st_listing.specs.Worded.{IsWorded};
 ghost use Rattle.st_order.specs.Graphs.{IsOrder};
 ghost use Rattle.st_references.specs.References.{graph_of};
 ghost use Rattle.st_types.specs.Compositions.{composition_of};
@@ -31,6 +32,7 @@ use std::alloc::{AllocError, Global};
 pub fn leaves_of(alloc: Global, program: &Program) -> Result<Vec<Leaf>, AllocError>
     ensures leaves { IfOk result (λ leaves. leaves.items ≡ leaves_of_program program.now) }
     ensures sound { IfOk result (λ leaves. IsSound leaves.items) }
+    ensures worded { IfOk result (λ _. IsWorded program.now) }
 {
     leaves_follow_the_composition();
     checked_program_has_sound_leaves();

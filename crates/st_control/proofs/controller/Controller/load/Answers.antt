@@ -16,4 +16,4 @@ unwrap-name-requires g c = c.of.ensures.short.1 (main_short c.args.text.now c.ar
 
 pub returns-clause-only : goal.returns-clause-only
 returns-clause-only g c = λ units accepted.
-    ap (λ (it : ControllerView). text_of it.state.program) c.in_ok-start.ensures ∙ c.in_ok-image.ensures.only units accepted
+    ap (λ (it : ControllerView). text_of it.state.program) c.in_ok-start.ensures.first ∙ c.in_ok-image.ensures.only units accepted
