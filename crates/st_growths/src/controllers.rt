@@ -2,7 +2,7 @@
 use crate::tries::{MOST_TRIES, Tries};
 use st_control::{Controller, Refusal, Report, Status};
 use st_memory::Memory;
-use st_session::{Bytes, Outcome, ToWriter, session};
+use st_session::{Bytes, Outcome, Source, ToWriter, session};
 use st_values::Value;
 use std::alloc::{AllocError, Global};
 
@@ -86,6 +86,9 @@ pub fn replies<M: Memory>(
     let mut written = Vec::with_capacity(tries.alloc(), PIECE)?;
     let mut source = Bytes::new(lines, PIECE, ALL_GOOD);
     for _ in 0..MOST_TRIES {
+        if source.failed() {
+            return Ok(false);
+        }
         let mut sink = ToWriter::new(&mut written);
         let outcome = session(tries.alloc(), controller, &mut source, &mut sink);
         if outcome != Outcome::Memory {
