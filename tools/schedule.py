@@ -7,6 +7,7 @@ from pathlib import Path
 Crates = dict[str, list[str]]  # each with the crates of the repository that it names, lowest first
 
 PARTS = ("src", "specs", "proofs")
+SHARED = 1.7  # how much sooner a check ends that several processors share
 UNKNOWN = 30.0, 0.007  # the seconds of a check that wasn't measured: of any crate, and of each byte of its code
 
 
@@ -27,6 +28,19 @@ def crates_below(root: Path, top: str) -> Crates:
 
     walk(top)
     return {it: [other for other in named[it] if other in named] for it in sorted(below, key=lambda it: len(below[it]))}
+
+
+def narrow_end(crates: Crates) -> list[str]:
+    """The crates at the end each of which stands on the one before it, so that no two of them can be proved at a time."""
+    below: dict[str, set[str]] = {}
+    for name, mine in crates.items():
+        below[name] = set(mine).union(*(below.get(it, set()) for it in mine))
+    end: list[str] = []
+    for name in reversed(crates):
+        if end and name not in below[end[0]]:
+            break
+        end.insert(0, name)
+    return end
 
 
 def files_of(root: Path, crate: str, parts: tuple[str, ...] = PARTS) -> list[Path]:
@@ -51,16 +65,19 @@ def seconds_of(root: Path, crate: str, measured: dict[str, float]) -> float:
 
 
 class Schedule:
-    """When each of these crates is likely to be proved, so many at a time, each after those that it stands on."""
+    """When each of these crates is likely to be proved, so many at a time, each after those that it stands on. Those at the end share
+    the processors once nothing else is left."""
 
     def __init__(self, root: Path, crates: Crates, lanes: int) -> None:
         with open(root / "docs" / "checks.csv", newline="", encoding="utf-8") as file:
             measured = {row["crate"]: float(row["seconds"]) for row in csv.DictReader(file)}
-        free, self.ends = [0.0] * lanes, dict[str, float]()
+        free, end = [0.0] * lanes, set(narrow_end(crates))
+        self.ends: dict[str, float] = {}
         for name, below in crates.items():
             lane = free.index(min(free))
             start = max([free[lane], *(self.ends[it] for it in below if it in self.ends)])
-            free[lane] = self.ends[name] = start + seconds_of(root, name, measured)
+            is_shared = lanes > 1 and name in end and start >= max(free)
+            free[lane] = self.ends[name] = start + seconds_of(root, name, measured) / (SHARED if is_shared else 1)
 
     def left(self, done: set[str], seconds: float) -> float:
         """About how many seconds the others take, where these took so many."""

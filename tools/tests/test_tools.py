@@ -13,7 +13,7 @@ sys.path.insert(0, str(Path(__file__).resolve().parent.parent))
 from cases import cases_in  # noqa: E402
 from figures import filled, shown  # noqa: E402
 from judging import ACCEPTED, Program, first_difference, status_of  # noqa: E402
-from schedule import Schedule, crates_below, kept_crates  # noqa: E402
+from schedule import SHARED, Schedule, crates_below, kept_crates, narrow_end  # noqa: E402
 
 CASES = """What the file is about.
 
@@ -126,10 +126,18 @@ class BuildsArePlanned(unittest.TestCase):
         (self.root / "crates" / "low" / "src" / "lib.rt").write_text("// changed\n")
         self.assertEqual(kept_crates(self.root, self.crates), set())
 
+    def test_the_end_is_narrow_where_each_crate_stands_on_all_before_it(self) -> None:
+        self.assertEqual(narrow_end(self.crates), ["low", "high", "stc"])
+        self.assertEqual(narrow_end({"low": [], "one": ["low"], "other": ["low"], "top": ["one", "other"], "stc": ["top"]}), ["other", "top", "stc"])
+
     def test_the_rest_takes_as_long_as_the_chain(self) -> None:
-        schedule = Schedule(self.root, self.crates, 4)
+        schedule = Schedule(self.root, self.crates, 1)
         self.assertEqual(schedule.left({"low"}, 5), 25)
         self.assertEqual(schedule.left({"low", "high", "stc"}, 30), 0)
+
+    def test_side_by_side_two_take_as_long_as_the_longer(self) -> None:
+        crates = {"low": [], "high": [], "stc": ["low", "high"]}
+        self.assertEqual(Schedule(self.root, crates, 2).ends, {"low": 10, "high": 20, "stc": 20 + 30 / SHARED})
 
 
 class FiguresAreShown(unittest.TestCase):
