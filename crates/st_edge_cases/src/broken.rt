@@ -1,4 +1,6 @@
 //! Devices that fail: a beginning of the replies is written, and the commands that were read whole are done.
+ghost use Rattle.std.specs.Prelude.{◌<◌};
+
 use crate::stages::{
     ALL_GOOD, LAST, loaded, replies_to, session_lines, stage_read, stage_replied, stands_at,
 };

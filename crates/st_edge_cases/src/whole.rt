@@ -1,4 +1,6 @@
 //! Devices that don't fail: the replies don't depend on the pieces.
+ghost use Rattle.std.specs.Prelude.{◌<◌};
+
 use crate::stages::{
     ALL_GOOD, LAST, loaded, replies_to, session_lines, stage_cut, stage_read, stands_at,
 };
