@@ -8,6 +8,7 @@ import fcntl
 import gc
 import selectors
 import signal
+import subprocess
 import sys
 import time
 from pathlib import Path
@@ -22,7 +23,7 @@ from .journal import Damaged, Journal, pieces
 from .modbus_server import ModbusServer
 from .plant import Plant, PlantError, find, load
 from .replay import Differs, Unreachable
-from .session import Gone, Session
+from .session import Gone, Session, program
 from .web import Web
 
 
@@ -101,6 +102,7 @@ def main() -> int:
         lock = (plant.state / "lock").open("w")
         fcntl.flock(lock, fcntl.LOCK_EX | fcntl.LOCK_NB)
         access.make(plant.tokens)
+        subprocess.run([program(), "--version"], check=True, stdout=subprocess.DEVNULL)  # builds it, where it isn't built
         if words.fresh:
             set_aside(plant.state / "journal")
         sys.setswitchinterval(0.0005)  # the thread of scans waits no longer than this for the other one
@@ -109,7 +111,7 @@ def main() -> int:
     except BlockingIOError:
         print(f"{words.plant}: another host runs this plant", file=sys.stderr)
         return 1
-    except (PlantError, Refusal, Gone, OSError, Unreachable, Differs) as error:
+    except (PlantError, Refusal, Gone, OSError, Unreachable, Differs, subprocess.SubprocessError) as error:
         print(f"{words.plant}: {error}", file=sys.stderr)
         return 1
     except Damaged as error:

@@ -96,6 +96,8 @@ class FakeSession:
 
 
 if __name__ == "__main__":
+    if sys.argv[1] == "--version":
+        sys.exit()
     with open(sys.argv[2], encoding="utf-8") as file:
         controller = FakeController(file.read())
     if sys.argv[1] == "check":
