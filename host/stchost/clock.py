@@ -41,7 +41,7 @@ class Figures:
     cycles: int = 0
     late: int = 0  # began late by a millisecond and by a tenth of the cycle
     overruns: int = 0  # weren't over when the next one was due
-    skipped: int = 0  # places that had no cycle, since the one before took that long
+    skipped: int = 0  # places that had no cycle
     lateness_sum: float = 0.0
     lateness_worst: float = 0.0
     work_sum: float = 0.0
@@ -64,35 +64,35 @@ class Cycle:
         self.period = period / 1000
         self.figures = Figures()
         self.moment = first  # the newest one that was given
-        self._origin = clock.now() - first / 1000
-        self._place = clock.now()
-        self._began = 0.0
+        self._start = self._began = clock.now()
+        self._first = first
+        self._number = 0
 
     def place(self) -> float:
-        """When the next cycle is due."""
-        return self._place
+        """When the cycle is due."""
+        return self._start + self._number * self.period
 
     def begin(self) -> int:
-        """Begins the cycle that is due. Its moment is the time since the start in ms, and never before the last one."""
+        """Begins the cycle that is due, or the newest one where several are. Its moment is the time since the start in ms, and
+        never before the last one."""
         self._began = self.clock.now()
-        late = max(0.0, self._began - self._place) * 1000
         figures = self.figures
+        passed = max(0, int((self._began - self.place()) / self.period))
+        self._number += passed
+        late = max(0.0, self._began - self.place()) * 1000
         figures.cycles += 1
+        figures.skipped += passed
         figures.lateness_sum += late
         figures.lateness_worst = max(figures.lateness_worst, late)
         figures.late += late >= max(1.0, self.period * 100)
-        self.moment = max(self.moment, int((self._began - self._origin) * 1000 + 0.001))
+        self.moment = max(self.moment, self._first + int((self._began - self._start) * 1000 + 0.001))
         return self.moment
 
     def end(self) -> None:
-        """Ends the cycle. Of the places that it took the newest one is due at once, and the others had no cycle."""
+        """Ends the cycle."""
         now = self.clock.now()
         figures = self.figures
         figures.work_sum += (now - self._began) * 1000
         figures.work_worst = max(figures.work_worst, (now - self._began) * 1000)
-        self._place += self.period
-        if now > self._place:
-            passed = int((now - self._place) / self.period)
-            figures.overruns += 1
-            figures.skipped += passed
-            self._place += passed * self.period
+        self._number += 1
+        figures.overruns += now > self.place()

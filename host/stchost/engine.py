@@ -191,7 +191,8 @@ class Engine:
             while not self._stopping:
                 try:
                     await self._serve(self.cycle.place())
-                    await self._turn()
+                    if not self._stopping:
+                        await self._turn()
                 except Gone as error:
                     await self._restart(str(error))
         finally:
