@@ -48,11 +48,16 @@ class Link:
             task, self._writing = self._writing, None
             self._went_well(task)
 
-    async def close(self) -> None:
-        for task in (self._reading, self._writing):
-            if task is not None:
-                task.cancel()
-                await asyncio.wait({task}, timeout=1)
+    async def end(self, numbers: dict[str, int]) -> None:
+        """Gives the device its last numbers, behind those that are on their way, and closes it."""
+        if self._writing is not None:
+            await asyncio.wait({self._writing}, timeout=2)
+        try:
+            await asyncio.wait_for(self.device.write(numbers), 2)
+        except Exception as error:  # whatever a device does, the others get theirs
+            self.trouble = str(error)
+        if self._reading is not None:
+            self._reading.cancel()
         await self.device.close()
 
     async def _waited(self, task: asyncio.Task, trouble: str) -> bool:

@@ -199,9 +199,7 @@ class Engine:
             await self._end()
 
     async def _end(self) -> None:
-        await self._push(self.safe)
-        for link in self.links:
-            await link.close()
+        await asyncio.gather(*(link.end(self._numbers(self.safe)) for link in self.links))
         if self.session is not None:
             await self.session.close()
         self.journal.close()
@@ -398,8 +396,11 @@ class Engine:
 
     async def _push(self, texts: dict[str, str]) -> None:
         self.driven = dict(texts)
-        numbers = {path: to_number(self.types[path], text) for path, text in texts.items() if path in self.types}
+        numbers = self._numbers(texts)
         await asyncio.gather(*(link.push(numbers) for link in self.links))
+
+    def _numbers(self, texts: dict[str, str]) -> dict[str, int]:
+        return {path: to_number(self.types[path], text) for path, text in texts.items() if path in self.types}
 
     # how it begins, and begins again
 

@@ -122,7 +122,7 @@ class Client:
 
     async def until(self, what: Callable[[dict[str, Any]], bool]) -> dict[str, Any]:
         """The next status of which something is true."""
-        return (await self._next(lambda news: "status" in news and what(news["status"])))["status"]
+        return (await self._next(lambda news: bool(news.get("status")) and what(news["status"])))["status"]
 
     async def preview(self, text: str, *renames: str) -> dict[str, Any]:
         async with self.http.post(f"{self.url}/preview", params=[("rename", word) for word in renames], data=text.encode(),

@@ -159,4 +159,4 @@ def test_inputs_are_given_once_and_again_behind_a_command(tmp_path: Path) -> Non
 
     run(engine, clock, 0.05, [(0.012, visit)])
     assert [line for line in session.controller.lines if line.startswith("scan")] == [
-        "scan 0 Main.In:=0", "scan 10", "scan 20 Main.In:=41", "scan 30", "scan 40", "scan 50"]
+        "scan 0 Main.In:=0", "scan 10", "scan 20 Main.In:=41", "scan 30", "scan 40"]
