@@ -6,6 +6,7 @@ import argparse
 import asyncio
 import fcntl
 import gc
+import os
 import selectors
 import signal
 import subprocess
@@ -36,8 +37,16 @@ def engine_of(plant: Plant) -> Engine:
     """The engine of a plant over the machine's clock."""
     clock = Monotonic()
     file = plant.journal
-    journal = Journal(plant.state / "journal", file.piece, file.limit, file.sync)
+    journal = Journal(plant.state_folder / "journal", file.piece, file.limit, file.sync)
     return Engine(plant, clock, journal, Session.start, lambda types: links(plant, types, clock.now))
+
+
+def prefer(priority: int) -> None:
+    """Lets this thread, and what it starts, run before the machine's other work. Where that isn't permitted it is told."""
+    try:
+        os.sched_setscheduler(0, os.SCHED_RR, os.sched_param(priority))
+    except OSError as error:
+        print(f"priority {priority}: {error}", file=sys.stderr)
 
 
 def set_aside(folder: Path) -> None:
@@ -49,7 +58,7 @@ def set_aside(folder: Path) -> None:
 async def serve(plant: Plant, engine: Engine, loop: asyncio.AbstractEventLoop, ended: asyncio.Event) -> None:
     """Serves the page and Modbus until the engine has ended."""
     bridge = Bridge(engine, loop)
-    web = Web(plant.page, bridge, access.Gate(access.load(plant.tokens)))
+    web = Web(plant.page, bridge, access.Gate(access.load(plant.tokens_file)))
     server = ModbusServer(plant.server, bridge) if plant.server else None
     await web.start()
     if server is not None:
@@ -72,6 +81,8 @@ async def main_loop(plant: Plant) -> None:
 
     async def scans() -> None:
         try:
+            if plant.priority:
+                prefer(plant.priority + 1)
             await engine.run()
         except BaseException as error:  # told below, in the thread that can end the program
             failure.append(error)
@@ -100,13 +111,15 @@ def main() -> int:
         plant = load(find(words.plant))
         if words.check:
             return 0
-        plant.state.mkdir(mode=0o700, parents=True, exist_ok=True)
-        lock = (plant.state / "lock").open("w")
+        plant.state_folder.mkdir(mode=0o700, parents=True, exist_ok=True)
+        lock = (plant.state_folder / "lock").open("w")
         fcntl.flock(lock, fcntl.LOCK_EX | fcntl.LOCK_NB)
-        access.make(plant.tokens)
+        access.make(plant.tokens_file)
         subprocess.run([program(), "--version"], check=True, stdout=subprocess.DEVNULL)  # builds it, where it isn't built
         if words.fresh:
-            set_aside(plant.state / "journal")
+            set_aside(plant.state_folder / "journal")
+        if plant.priority:
+            prefer(plant.priority)
         sys.setswitchinterval(0.0005)  # the thread of scans waits no longer than this for the other one
         gc.freeze()
         asyncio.run(main_loop(plant))

@@ -157,11 +157,11 @@ def _compare(before: Sequence[Leaf], settable: set[str], kept: set[str], pairs: 
 async def connections(plant: Plant, text: str, leaves: Sequence[Leaf], start: Start) -> None:
     """Refusal where the text hasn't what the plant's file connects: inputs under VAR_INPUT, outputs, types that fit."""
     types = {leaf.path: leaf.type for leaf in leaves}
-    wanted = [point.quality for point in plant.inputs if point.quality]
-    for path in [point.path for point in plant.inputs + plant.outputs] + wanted:
+    wanted = [point.quality for point in plant.input if point.quality]
+    for path in [point.path for point in plant.input + plant.output] + wanted:
         if path not in types:
             raise Refusal(f"the program has no {path}, written like this, which the plant's file connects")
-    for point in plant.outputs:
+    for point in plant.output:
         try:
             to_number(types[point.path], point.fault or "")
         except ValueError as error:
@@ -170,7 +170,7 @@ async def connections(plant: Plant, text: str, leaves: Sequence[Leaf], start: St
         if types[path] != "BOOL":
             raise Refusal(f"{path} is to be a BOOL: it tells whether an input is good")
     _forms(plant, types)
-    paths = [point.path for point in plant.inputs] + wanted
+    paths = [point.path for point in plant.input] + wanted
     if sum(len(path) + 28 for path in paths) > 3_900 + 256 * 280:
         raise Refusal("these are more inputs than can be given before one scan")
     session = await start(text, plant.main, 1)
@@ -185,15 +185,14 @@ async def connections(plant: Plant, text: str, leaves: Sequence[Leaf], start: St
 
 def _forms(plant: Plant, types: dict[str, str]) -> None:
     """Whether each variable at a register has a form: TIME and types of 64 bits need one of the plant's file."""
-    mapped = [(point.path, point.register) for point in plant.inputs + plant.outputs if point.register]
-    mapped += [(item.path, item.register) for item in (plant.server.mapped if plant.server else ())]
-    for path, register in mapped:
-        if path in types:
-            is_bit = register.table in ("coil", "discrete")
-            if is_bit is not (types[path] == "BOOL") and (is_bit or register.form is None):
-                raise Refusal(f"{path} is a {types[path]}, and doesn't fit the table {register.table}")
-            if not is_bit and register.form is None and limits(types[path])[1] >= 1 << 32:
-                raise Refusal(f"{path} is a {types[path]}: `form` is to say how it lies in registers")
+    placed = [point for point in plant.input + plant.output if point.table]
+    for item in [*placed, *(plant.server.map if plant.server else ())]:
+        if (type_name := types.get(item.path)) is not None:
+            is_bit = item.table in ("coil", "discrete")
+            if is_bit is not (type_name == "BOOL") and (is_bit or item.form is None):
+                raise Refusal(f"{item.path} is a {type_name}, and doesn't fit the table {item.table}")
+            if not is_bit and item.form is None and limits(type_name)[1] >= 1 << 32:
+                raise Refusal(f"{item.path} is a {type_name}: `form` is to say how it lies in registers")
 
 
 __all__ = ["Gone", "Preview", "Refusal", "Unfit", "change_line", "connections", "preview"]

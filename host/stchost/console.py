@@ -136,7 +136,7 @@ async def talk(console: Console, plant: Plant) -> None:
                 return
         return
     completer = WordCompleter(VERBS + await console.paths(), ignore_case=True, WORD=True)
-    prompt: PromptSession[str] = PromptSession(history=FileHistory(str(plant.state / "console.history")), completer=completer,
+    prompt: PromptSession[str] = PromptSession(history=FileHistory(str(plant.state_folder / "console.history")), completer=completer,
                                                complete_while_typing=False)
     with patch_stdout():
         while True:
@@ -166,10 +166,10 @@ async def connect(plant: Plant, token: str) -> int:
 
 def token_of(plant: Plant, name: str | None) -> str:
     """A token of the plant's file: that of a name, or else the first one to act."""
-    data = tomllib.loads(plant.tokens.read_text("utf-8"))
+    data = tomllib.loads(plant.tokens_file.read_text("utf-8"))
     tokens = {**data.get("act", {}), **data.get("look", {})}
     if name is not None and name not in tokens:
-        raise PlantError(f"{plant.tokens}: there is no `{name}`")
+        raise PlantError(f"{plant.tokens_file}: there is no `{name}`")
     return tokens[name] if name else next(iter(tokens.values()))
 
 

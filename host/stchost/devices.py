@@ -138,9 +138,9 @@ def links(plant: Plant, types: dict[str, str], now: Callable[[], float]) -> list
     from .modbus_client import Remote  # only here: a plant without such a device needs no pymodbus
 
     made = []
-    for file in plant.devices:
-        inputs = [point for point in plant.inputs if point.device == file.name]
-        outputs = [point for point in plant.outputs if point.device == file.name]
+    for file in plant.device:
+        inputs = [point for point in plant.input if point.device == file.name]
+        outputs = [point for point in plant.output if point.device == file.name]
         device = Simulation(file, inputs, outputs, now) if file.kind == "simulation" else Remote(file, inputs, outputs, types)
-        made.append(Link(file.name, device, file.share * plant.cycle / 1000))
+        made.append(Link(file.name, device, file.share / 100 * plant.cycle / 1000))
     return made

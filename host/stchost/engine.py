@@ -65,7 +65,7 @@ class Engine:
         self.spelled: dict[str, str] = {}  # each leaf's path, by the same in capitals
         self.values: dict[str, Value] = {}
         self.inputs = Inputs((), {})
-        self.safe = {point.path: point.fault or "0" for point in plant.outputs}
+        self.safe = {point.path: point.fault or "0" for point in plant.output}
         self.driven: dict[str, str] = {}  # what the outputs are given
         self.watched: dict[object, Sequence[str]] = {}  # the leaves that each client looks at
         self.trend: deque[tuple[int, list[str]]] = deque(maxlen=max(1, plant.trend_keep * 1000 // plant.page.refresh))
@@ -345,7 +345,7 @@ class Engine:
 
     def _always(self) -> list[str]:
         """The leaves that are shown behind each scan."""
-        server = self.plant.server.mapped if self.plant.server else ()
+        server = self.plant.server.map if self.plant.server else ()
         return list(dict.fromkeys([*self.safe, *(mapped.path for mapped in server if mapped.path in self.types)]))
 
     async def _show(self, paths: Sequence[str]) -> None:
@@ -416,7 +416,7 @@ class Engine:
         """Starts where the journal ends; or loads the program where there is no journal."""
         replay = await restore(self.start, self.journal.folder)
         if replay is None:
-            text = self.plant.program.read_bytes().decode("utf-8", "surrogateescape")
+            text = self.plant.text.read_bytes().decode("utf-8", "surrogateescape")
             self.session = await self.start(text, self.plant.main, self.plant.steps)
             base = Base(text, self.plant.main, self.plant.steps, 0, (), 1, journals.wall_ms())
             self.journal.load(base)
@@ -433,7 +433,7 @@ class Engine:
         if not self.links:
             self.links = self._make_links(self.types)
         good, numbers = self.inputs.good, self.inputs.numbers
-        self.inputs = Inputs(self.plant.inputs, self.types)
+        self.inputs = Inputs(self.plant.input, self.types)
         self.inputs.good.update(good)
         self.inputs.numbers.update(numbers)
         if not numbers:

@@ -10,7 +10,7 @@ from collections.abc import Sequence
 from pymodbus.client.base import ModbusClientProtocol
 from pymodbus.framer.socket_framer import ModbusSocketFramer
 
-from .plant import DeviceFile, Point, Register
+from .plant import DeviceFile, Point
 from .registers import pack, size_of, unpack
 
 logging.getLogger("pymodbus").setLevel(logging.CRITICAL)
@@ -30,7 +30,6 @@ class Remote:
         self.file, self.types = file, types
         self.inputs = self._runs(inputs)
         self.outputs = self._runs(outputs)
-        self.written: dict[str, int] = {}
         self._protocol: ModbusClientProtocol | None = None
         self._next_try = 0.0
         self._turn = asyncio.Lock()  # one request at a time: many devices take no more
@@ -41,10 +40,9 @@ class Remote:
             table, first, count = self._span(run)
             answer = await self._ask(READ[table], first, count)
             words = answer.bits[:count] if table in ("coil", "discrete") else answer.registers
-            for path, register in run:
-                size = size_of(register, self.types[path])
-                place = register.address - first
-                numbers[path] = unpack(register, self.types[path], words[place:place + size])
+            for point in run:
+                place = point.address - first
+                numbers[point.path] = unpack(point, self.types[point.path], words[place:place + self._size(point)])
         return numbers
 
     async def write(self, numbers: dict[str, int]) -> None:
@@ -52,8 +50,8 @@ class Remote:
         for run in self.outputs:
             table, first, count = self._span(run)
             words: list[int] = []
-            for path, register in run:
-                words += pack(register, self.types[path], numbers[path])
+            for point in run:
+                words += pack(point, self.types[point.path], numbers[point.path])
             if len(words) == count:
                 await self._ask("write_coils" if table == "coil" else "write_registers", first, words)
 
@@ -61,23 +59,23 @@ class Remote:
         if self._protocol is not None:
             await self._protocol.close()
 
-    def _runs(self, points: Sequence[Point]) -> list[list[tuple[str, Register]]]:
+    def _runs(self, points: Sequence[Point]) -> list[list[Point]]:
         """The points with neighbouring addresses together, as one request takes them."""
-        rows = [(point.path, point.register) for point in points if point.register is not None]
-        rows.sort(key=lambda row: (row[1].table, row[1].address))
-        runs: list[list[tuple[str, Register]]] = []
-        for row in rows:
+        runs: list[list[Point]] = []
+        for point in sorted(points, key=lambda point: (point.table, point.address)):
             if runs:
                 table, first, count = self._span(runs[-1])
-                if row[1].table == table and row[1].address == first + count and count + 2 <= AT_ONCE[table]:
-                    runs[-1].append(row)
+                if point.table == table and point.address == first + count and count + 2 <= AT_ONCE[table]:
+                    runs[-1].append(point)
                     continue
-            runs.append([row])
+            runs.append([point])
         return runs
 
-    def _span(self, run: Sequence[tuple[str, Register]]) -> tuple[str, int, int]:
-        (_, first), (path, last) = run[0], run[-1]
-        return first.table, first.address, last.address + size_of(last, self.types[path]) - first.address
+    def _size(self, point: Point) -> int:
+        return size_of(point, self.types[point.path])
+
+    def _span(self, run: Sequence[Point]) -> tuple[str, int, int]:
+        return run[0].table or "", run[0].address, run[-1].address + self._size(run[-1]) - run[0].address
 
     async def _ask(self, call: str, *words: object):
         async with self._turn:

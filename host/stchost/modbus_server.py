@@ -37,7 +37,7 @@ class ModbusServer:
 
     def __init__(self, file: ServerFile, bridge: Bridge) -> None:
         self.file, self.bridge = file, bridge
-        self.places = {(item.register.table, item.register.address): item for item in file.mapped}
+        self.places = {(item.table, item.address): item for item in file.map}
         self.clients = 0
         self.port = 0
         self._decoder = ServerDecoder()
@@ -105,12 +105,12 @@ class ModbusServer:
             return self._read(function, items)
         words = [int(request.value)] if function in (5, 6) else [int(value) for value in request.values[:count]]
         for item in items:
-            place = item.register.address - first
+            place = item.address - first
             await self._write(item, words[place:place + self._size(item)], who)
         return _written(function, first, count, words)
 
     def _size(self, item: Mapped) -> int:
-        return size_of(item.register, self._type(item))
+        return size_of(item, self._type(item))
 
     def _type(self, item: Mapped) -> str:
         type_name = self.bridge.engine.types.get(item.path)
@@ -138,7 +138,7 @@ class ModbusServer:
             if value is None:
                 raise Refused(FAILURE)
             type_name = self._type(item)
-            words += pack(item.register, type_name, to_number(type_name, value.text))
+            words += pack(item, type_name, to_number(type_name, value.text))
         answers = {1: bit_read_message.ReadCoilsResponse, 2: bit_read_message.ReadDiscreteInputsResponse,
                    3: register_read_message.ReadHoldingRegistersResponse, 4: register_read_message.ReadInputRegistersResponse}
         return answers[function](words)
@@ -146,7 +146,7 @@ class ModbusServer:
     async def _write(self, item: Mapped, words: list[int], who: str) -> None:
         """An input that people set has its number with the next scan; all else is written by a line of the session."""
         type_name = self._type(item)
-        number = unpack(item.register, type_name, words)
+        number = unpack(item, type_name, words)
         if not fits(type_name, number):
             raise Refused(VALUE)
         engine = self.bridge.engine

@@ -4,275 +4,227 @@ from __future__ import annotations
 
 import ipaddress
 import tomllib
-from collections.abc import Callable, Sequence
-from dataclasses import dataclass
+from collections.abc import Sequence
+from dataclasses import dataclass, field, fields, is_dataclass
 from pathlib import Path
-from typing import Any
+from typing import Any, TypeVar, get_args, get_type_hints
 
-TABLES = ("coil", "discrete", "input", "holding")
 FORMS = {"BIT": 1, "INT16": 1, "UINT16": 1, "INT32": 2, "UINT32": 2}  # how many coils or registers each takes
 READING, WRITING = (1, 2, 3, 4), (5, 6, 15, 16)
+Kind = TypeVar("Kind")
 
 
 class PlantError(Exception):
     """The plant's file can't be used; the text says where and why."""
 
 
-@dataclass(frozen=True)
+def key(default: Any = ..., low: int = -(1 << 63), high: int = 1 << 63, among: Sequence[str] = ()) -> Any:
+    """A key of the file: what it is where it isn't given, and which values it may have."""
+    given = {} if default is ... or isinstance(default, dict) else {"default": default}
+    return field(metadata={"default": default, "low": low, "high": high, "among": among}, **given)
+
+
+@dataclass(frozen=True, kw_only=True)
 class Register:
-    """A place in the tables of Modbus, and how a number lies there."""
+    """A place in the tables of Modbus, and how a number lies there. Without a form the variable's type decides."""
 
-    table: str
-    address: int
-    form: str | None  # of FORMS; where it isn't given the type of the variable decides
-    words: str
-    bytes: str
+    table: str | None = key(None, among=("coil", "discrete", "input", "holding"))
+    address: int = key(0, 0, 65_535)
+    form: str | None = key(None, among=tuple(FORMS))
+    words: str = key("big", among=("big", "little"))
+    bytes: str = key("big", among=("big", "little"))
 
 
-@dataclass(frozen=True)
-class Point:
+@dataclass(frozen=True, kw_only=True)
+class Mapped(Register):
+    path: str = key()
+
+
+@dataclass(frozen=True, kw_only=True)
+class Point(Register):
     """A process input or output: a variable, and what it is at its device."""
 
-    path: str
-    device: str | None
-    name: str  # of a simulation
-    register: Register | None  # of a Modbus device
-    title: str
-    unit: str
-    low: int | None
-    high: int | None
-    fault: str | None  # of an output: what the plant gets where the program doesn't run
-    quality: str | None  # of an input: the BOOL input that tells the program whether it is good
+    path: str = key()
+    device: str | None = key(None)
+    name: str = key("")  # of a simulation
+    title: str = key("")
+    unit: str = key("")
+    low: int | None = key(None)
+    high: int | None = key(None)
+    fault: str | None = key(None)  # of an output: what the plant gets where the program doesn't run
+    quality: str | None = key(None)  # of an input: the BOOL input that tells the program whether it is good
+
+    @property
+    def label(self) -> str:
+        return self.title or self.path.split(".", 1)[-1].replace("_", " ")
 
 
-@dataclass(frozen=True)
+@dataclass(frozen=True, kw_only=True)
 class DeviceFile:
-    name: str
-    kind: str
-    model: str
-    host: str
-    port: int
-    unit: int
-    share: float
+    name: str = key()
+    kind: str = key(among=("simulation", "modbus"))
+    model: str = key("tank", among=("tank", "conveyor"))
+    host: str = key("127.0.0.1")
+    port: int = key(502, 1, 65_535)
+    unit: int = key(1, 0, 255)
+    share: int = key(30, 1, 90)  # percent of the cycle
 
 
-@dataclass(frozen=True)
-class Mapped:
-    path: str
-    register: Register
-
-
-@dataclass(frozen=True)
+@dataclass(frozen=True, kw_only=True)
 class Allowed:
-    network: ipaddress.IPv4Network | ipaddress.IPv6Network
-    functions: frozenset[int]
+    address: str = key()
+    functions: tuple[int, ...] = key(READING)
+
+    @property
+    def network(self) -> ipaddress.IPv4Network | ipaddress.IPv6Network:
+        return ipaddress.ip_network(self.address)
 
 
-@dataclass(frozen=True)
+@dataclass(frozen=True, kw_only=True)
 class ServerFile:
-    host: str
-    port: int
-    clients: int
-    idle: float
-    allow: tuple[Allowed, ...]
-    mapped: tuple[Mapped, ...]
+    host: str = key("127.0.0.1")
+    port: int = key(502, 0, 65_535)
+    clients: int = key(8, 1, 64)
+    idle: int = key(60, 1, 3_600)
+    allow: tuple[Allowed, ...] = key(())
+    map: tuple[Mapped, ...] = key(())
 
 
-@dataclass(frozen=True)
+@dataclass(frozen=True, kw_only=True)
 class JournalFile:
-    sync: str
-    piece: int
-    limit: int
+    sync: str = key("second", among=("never", "second", "always"))
+    piece: int = key(16_000_000, 4_096, 1 << 30)
+    limit: int = key(4_000_000_000, 65_536, 1 << 50)
 
 
-@dataclass(frozen=True)
+@dataclass(frozen=True, kw_only=True)
 class PageFile:
-    host: str
-    port: int
-    names: tuple[str, ...]
-    clients: int
-    refresh: int
+    host: str = key("127.0.0.1")
+    port: int = key(8080, 0, 65_535)
+    names: tuple[str, ...] = key(())
+    clients: int = key(16, 1, 100)
+    refresh: int = key(250, 50, 10_000)
 
 
-@dataclass(frozen=True)
+@dataclass(frozen=True, kw_only=True)
 class Plant:
-    file: Path
-    name: str
-    about: str
-    program: Path
-    main: str
-    steps: int
-    cycle: int
-    state: Path
-    tokens: Path
-    journal: JournalFile
-    page: PageFile
-    devices: tuple[DeviceFile, ...]
-    inputs: tuple[Point, ...]
-    outputs: tuple[Point, ...]
-    trend: tuple[str, ...]
-    trend_keep: int
-    server: ServerFile | None
+    file: Path = field(metadata={"skip": True})
+    name: str = key("")
+    about: str = key("")
+    program: str = key()
+    main: str = key("Main")
+    steps: int = key(100_000, 1, 10_000_000)
+    cycle: int = key(low=1, high=60_000)
+    priority: int = key(0, 0, 90)
+    state: str = key("")
+    tokens: str = key("")
+    trend: tuple[str, ...] = key(())
+    trend_keep: int = key(600, 10, 86_400)
+    journal: JournalFile = key({})
+    page: PageFile = key({})
+    device: tuple[DeviceFile, ...] = key(())
+    input: tuple[Point, ...] = key(())
+    output: tuple[Point, ...] = key(())
+    server: ServerFile | None = key(None)
 
+    @property
+    def state_folder(self) -> Path:
+        return self.file.parent / (self.state or self.file.stem + ".state")
 
-class Keys:
-    """Takes the keys of one table of the file, with their types and ranges, and refuses those that are left."""
+    @property
+    def tokens_file(self) -> Path:
+        return self.file.parent / self.tokens if self.tokens else self.state_folder / "tokens.toml"
 
-    def __init__(self, table: Any, where: str) -> None:
-        if not isinstance(table, dict):
-            raise PlantError(f"{where}: a table is due")
-        self.left, self.where = dict(table), where
-
-    def take(self, key: str, kind: type, default: Any = ...) -> Any:
-        value = self.left.pop(key, default)
-        if value is ...:
-            raise PlantError(f"{self.where}: the key `{key}` is missing")
-        if value is not default and (not isinstance(value, kind) or isinstance(value, bool) is not (kind is bool)):
-            raise PlantError(f"{self.where}: `{key}` is to be of type {kind.__name__}")
-        return value
-
-    def text(self, key: str, default: Any = ..., among: Sequence[str] = ()) -> Any:
-        value = self.take(key, str, default)
-        if among and value not in among and value is not default:
-            raise PlantError(f"{self.where}: `{key}` is one of {', '.join(among)}")
-        return value
-
-    def number(self, key: str, low: int, high: int, default: Any = ...) -> Any:
-        value = self.take(key, int, default)
-        if value is not None and not low <= value <= high:
-            raise PlantError(f"{self.where}: `{key}` is from {low} to {high}")
-        return value
-
-    def tables(self, key: str) -> list[Keys]:
-        items = self.take(key, list, [])
-        return [Keys(item, f"{self.where}: [[{key}]] {number}") for number, item in enumerate(items, 1)]
-
-    def table(self, key: str) -> Keys:
-        return Keys(self.take(key, dict, {}), f"{self.where}: [{key}]")
-
-    def done(self) -> None:
-        if self.left:
-            raise PlantError(f"{self.where}: there is no key `{next(iter(self.left))}`")
+    @property
+    def text(self) -> Path:
+        return self.file.parent / self.program
 
 
 def find(name: str) -> Path:
     """The file of a plant: as it is named, or with `.toml` behind it."""
     path = Path(name)
-    return path if path.is_file() else Path(name + ".toml")
+    return path if path.is_file() and path.suffix == ".toml" else Path(name + ".toml")
 
 
 def load(path: Path) -> Plant:
     """Reads a plant's file. PlantError where it can't be used."""
     try:
-        keys = Keys(tomllib.loads(path.read_text("utf-8")), path.name)
+        plant = _read(Plant, tomllib.loads(path.read_text("utf-8")), path.name, file=path.resolve())
     except (OSError, UnicodeDecodeError, tomllib.TOMLDecodeError) as error:
         raise PlantError(f"{path}: {error}") from error
-    folder = path.resolve().parent
-    devices = _all(keys.tables("device"), _device)
-    kinds = {device.name: device.kind for device in devices}
-    if len(kinds) < len(devices):
+    kinds = {device.name: device.kind for device in plant.device}
+    if len(kinds) < len(plant.device):
         raise PlantError(f"{path.name}: two devices have one name")
-    state = folder / keys.text("state", path.stem + ".state")
-    plant = Plant(
-        file=path.resolve(), name=keys.text("name", path.stem), about=keys.text("about", "").strip(),
-        program=folder / keys.text("program"), main=keys.text("main", "Main"),
-        steps=keys.number("steps", 1, 10_000_000, 100_000), cycle=keys.number("cycle", 1, 60_000),
-        state=state, tokens=folder / keys.text("tokens", str(state / "tokens.toml")),
-        journal=_one(keys.table("journal"), _journal), page=_one(keys.table("page"), _page), devices=tuple(devices),
-        inputs=tuple(_all(keys.tables("input"), lambda table: _point(table, kinds, True))),
-        outputs=tuple(_all(keys.tables("output"), lambda table: _point(table, kinds, False))),
-        trend=_texts(keys, "trend"), trend_keep=keys.number("trend_keep", 10, 86_400, 600),
-        server=_one(keys.table("server"), _server) if "server" in keys.left else None,
-    )
-    keys.done()
-    _refuse_twice(plant)
+    seen: set[str] = set()
+    for point in plant.input + plant.output:
+        where = f"{path.name}: {point.path}"
+        if point.path.upper() in seen:
+            raise PlantError(f"{where} stands twice")
+        seen.add(point.path.upper())
+        _check_point(point, kinds, where, point in plant.output)
+    for item in plant.server.map if plant.server else ():
+        _check_register(item, f"{path.name}: {item.path}", ("coil", "discrete", "input", "holding"))
+    for entry in plant.server.allow if plant.server else ():
+        if not set(entry.functions) <= set(READING + WRITING):
+            raise PlantError(f"{path.name}: `functions` are among {', '.join(map(str, READING + WRITING))}")
+        try:
+            entry.network
+        except ValueError as error:
+            raise PlantError(f"{path.name}: {error}") from error
     return plant
 
 
-def _all(tables: list[Keys], read: Callable[[Keys], Any]) -> list[Any]:
-    return [_one(table, read) for table in tables]
+def _check_point(point: Point, kinds: dict[str, str], where: str, is_output: bool) -> None:
+    if point.device is not None and point.device not in kinds:
+        raise PlantError(f"{where}: there is no device `{point.device}`")
+    if is_output and (point.device is None or point.fault is None):
+        raise PlantError(f"{where}: the key `{'device' if point.device is None else 'fault'}` is missing")
+    if kinds.get(point.device or "") == "modbus":
+        _check_register(point, where, ("coil", "holding") if is_output else ("coil", "discrete", "input", "holding"))
 
 
-def _one(table: Keys, read: Callable[[Keys], Any]) -> Any:
-    value = read(table)
-    table.done()
+def _check_register(register: Register, where: str, tables: Sequence[str]) -> None:
+    if register.table not in tables:
+        raise PlantError(f"{where}: `table` is one of {', '.join(tables)}")
+    if register.form is not None and (register.table in ("coil", "discrete")) is not (register.form == "BIT"):
+        raise PlantError(f"{where}: `form` doesn't fit the table {register.table}")
+
+
+def _read(kind: type[Kind], table: Any, where: str, **given: Any) -> Kind:
+    """A table of the file as what it is to be. Keys that are left are refused."""
+    if not isinstance(table, dict):
+        raise PlantError(f"{where}: a table is due")
+    left, hints, values = dict(table), get_type_hints(kind), dict(given)
+    for item in fields(kind):
+        if "skip" not in item.metadata:
+            values[item.name] = _value(left, item.name, hints[item.name], item.metadata, where)
+    if left:
+        raise PlantError(f"{where}: there is no key `{next(iter(left))}`")
+    return kind(**values)
+
+
+def _value(left: dict[str, Any], name: str, hint: Any, rule: Any, where: str) -> Any:
+    value = left.pop(name, rule["default"])
+    if value is ...:
+        raise PlantError(f"{where}: the key `{name}` is missing")
+    if value is None or value == ():
+        return value
+    kinds = [kind for kind in get_args(hint) if kind not in (type(None), ...)] or [hint]
+    kind, many = kinds[0], str(hint).startswith("tuple")
+    if many:
+        items = value if isinstance(value, (list, tuple)) else [None]
+        return tuple(_one(item, name, kind, rule, f"{where}: [[{name}]] {number}" if is_dataclass(kind) else where)
+                     for number, item in enumerate(items, 1))
+    return _one(value, name, kind, rule, f"{where}: [{name}]" if is_dataclass(kind) else where)
+
+
+def _one(value: Any, name: str, kind: Any, rule: Any, where: str) -> Any:
+    if is_dataclass(kind):
+        return _read(kind, value, where)
+    if not isinstance(value, kind) or isinstance(value, bool):
+        raise PlantError(f"{where}: `{name}` is to be of type {kind.__name__}")
+    if kind is int and not rule["low"] <= value <= rule["high"]:
+        raise PlantError(f"{where}: `{name}` is from {rule['low']} to {rule['high']}")
+    if rule["among"] and value not in rule["among"]:
+        raise PlantError(f"{where}: `{name}` is one of {', '.join(rule['among'])}")
     return value
-
-
-def _texts(keys: Keys, key: str) -> tuple[str, ...]:
-    items = keys.take(key, list, [])
-    if not all(isinstance(item, str) for item in items):
-        raise PlantError(f"{keys.where}: `{key}` is a list of texts")
-    return tuple(items)
-
-
-def _refuse_twice(plant: Plant) -> None:
-    seen: set[str] = set()
-    for point in plant.inputs + plant.outputs:
-        if point.path.upper() in seen:
-            raise PlantError(f"{plant.file.name}: {point.path} stands twice")
-        seen.add(point.path.upper())
-
-
-def _journal(keys: Keys) -> JournalFile:
-    return JournalFile(
-        keys.text("sync", "second", ("never", "second", "always")),
-        keys.number("piece", 4_096, 1 << 30, 16_000_000), keys.number("limit", 65_536, 1 << 50, 4_000_000_000))
-
-
-def _page(keys: Keys) -> PageFile:
-    return PageFile(
-        keys.text("host", "127.0.0.1"), keys.number("port", 0, 65_535, 8080), _texts(keys, "names"),
-        keys.number("clients", 1, 100, 16), keys.number("refresh", 50, 10_000, 250))
-
-
-def _device(keys: Keys) -> DeviceFile:
-    kind = keys.text("kind", among=("simulation", "modbus"))
-    modbus = kind == "modbus"
-    return DeviceFile(
-        keys.text("name"), kind, "" if modbus else keys.text("model", among=("tank", "conveyor")),
-        keys.text("host") if modbus else "", keys.number("port", 1, 65_535, 502) if modbus else 0,
-        keys.number("unit", 0, 255, 1) if modbus else 0, keys.number("share", 1, 90, 30) / 100 if modbus else 0.3)
-
-
-def _register(keys: Keys, tables: Sequence[str]) -> Register:
-    register = Register(
-        keys.text("table", among=tables), keys.number("address", 0, 65_535), keys.text("form", None, tuple(FORMS)),
-        keys.text("words", "big", ("big", "little")), keys.text("bytes", "big", ("big", "little")))
-    bits = register.table in ("coil", "discrete")
-    if register.form is not None and bits is not (register.form == "BIT"):
-        raise PlantError(f"{keys.where}: `form` doesn't fit the table {register.table}")
-    return register
-
-
-def _point(keys: Keys, kinds: dict[str, str], is_input: bool) -> Point:
-    path, device = keys.text("path"), keys.text("device", None)
-    if device is None and not is_input:
-        raise PlantError(f"{keys.where}: the key `device` is missing")
-    if device is not None and device not in kinds:
-        raise PlantError(f"{keys.where}: there is no device `{device}`")
-    kind = kinds.get(device or "")
-    tables = TABLES if is_input else ("coil", "holding")
-    return Point(
-        path, device, keys.text("name") if kind == "simulation" else "",
-        _register(keys, tables) if kind == "modbus" else None,
-        keys.text("title", path.split(".", 1)[-1].replace("_", " ")), keys.text("unit", ""),
-        keys.number("low", -(1 << 63), 1 << 63, None), keys.number("high", -(1 << 63), 1 << 63, None),
-        None if is_input else keys.text("fault"), keys.text("quality", None) if is_input and device else None)
-
-
-def _server(keys: Keys) -> ServerFile:
-    return ServerFile(
-        keys.text("host", "127.0.0.1"), keys.number("port", 0, 65_535, 502), keys.number("clients", 1, 64, 8),
-        keys.number("idle", 1, 3_600, 60), tuple(_all(keys.tables("allow"), _allowed)),
-        tuple(_all(keys.tables("map"), lambda table: Mapped(table.text("path"), _register(table, TABLES)))))
-
-
-def _allowed(keys: Keys) -> Allowed:
-    functions = keys.take("functions", list, list(READING))
-    if not set(functions) <= set(READING + WRITING):
-        raise PlantError(f"{keys.where}: `functions` are among {', '.join(map(str, READING + WRITING))}")
-    try:
-        return Allowed(ipaddress.ip_network(keys.text("address")), frozenset(functions))
-    except ValueError as error:
-        raise PlantError(f"{keys.where}: {error}") from error

@@ -186,11 +186,11 @@ class Web:
 
     def _hello(self, person: Person) -> dict[str, Any]:
         plant = self.engine.plant
-        point = ("path", "title", "unit", "low", "high", "device", "fault")
+        keys = ("path", "unit", "low", "high", "device", "fault")
         return {
             "who": person.name, "acts": person.acts, "plant": plant.name, "about": plant.about, "main": plant.main,
-            "inputs": [{key: getattr(item, key) for key in point} for item in plant.inputs],
-            "outputs": [{key: getattr(item, key) for key in point} for item in plant.outputs],
+            "inputs": [{"title": item.label, **{key: getattr(item, key) for key in keys}} for item in plant.input],
+            "outputs": [{"title": item.label, **{key: getattr(item, key) for key in keys}} for item in plant.output],
             "trend": plant.trend, "past": list(self.engine.trend)[-2_000:],
         }
 

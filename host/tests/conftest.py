@@ -46,6 +46,37 @@ def wait_for(what: Callable[[], Any], seconds: float = 20.0) -> Any:
     return found
 
 
+NOISE = """
+import os, sys, threading, time
+os.sched_setscheduler(0, os.SCHED_RR, os.sched_param(21)) if os.geteuid() == 0 else None
+worst, ended = 0.0, threading.Event()
+threading.Thread(target=lambda: (sys.stdin.read(), ended.set()), daemon=True).start()
+while not ended.is_set():
+    due = time.monotonic() + 0.01
+    time.sleep(0.01)
+    worst = max(worst, time.monotonic() - due)
+print(worst * 1000)
+"""
+
+
+class Noise:
+    """How late the machine is by itself, in ms, while something else is looked at."""
+
+    def __enter__(self) -> Noise:
+        self.process = subprocess.Popen([sys.executable, "-c", NOISE], stdin=subprocess.PIPE, stdout=subprocess.PIPE, text=True)
+        return self
+
+    def __exit__(self, *words: object) -> None:
+        self.worst = float(self.process.communicate("")[0])
+
+
+def scans_went_on(before: dict[str, Any], after: dict[str, Any], noise: Noise) -> None:
+    """No scan came later than a cycle, and what the machine was late by itself."""
+    allowed = before["period"] + 3 * noise.worst
+    assert after["cycles"] > before["cycles"] and after["lateness_worst"] < max(allowed, before["lateness_worst"] + 1), (noise.worst, before, after)
+    assert after["skipped"] - before["skipped"] <= (after["cycles"] - before["cycles"]) * noise.worst / 100, (noise.worst, before, after)
+
+
 class Host:
     """A plant in a folder of its own, and the process that runs it."""
 
@@ -156,6 +187,7 @@ FILE = """
 name = "Test"
 program = "plant.st"
 cycle = 10
+priority = 20
 [page]
 port = PAGE_PORT
 refresh = 50

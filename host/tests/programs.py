@@ -36,6 +36,7 @@ FILE = """
 name = "Test"
 program = "plant.st"
 cycle = 10
+priority = 20
 [page]
 port = PAGE_PORT
 refresh = 50
