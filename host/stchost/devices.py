@@ -4,6 +4,7 @@ from __future__ import annotations
 
 import asyncio
 import math
+import time
 from collections.abc import Callable, Sequence
 from typing import Protocol
 
@@ -30,9 +31,11 @@ class Link:
         self._reading: asyncio.Task[dict[str, int]] | None = None
         self._writing: asyncio.Task[None] | None = None
         self.behind = 0  # how often the device was too slow for its share
+        self._left = share  # of this cycle
 
     async def poll(self) -> dict[str, int]:
         """What the device gives within its share; nothing where it doesn't, and then it isn't good."""
+        self._left = self.share
         if self._reading is None:
             self._reading = asyncio.create_task(self.device.read())
         if not await self._waited(self._reading, "it gives no values in its share of the cycle"):
@@ -62,7 +65,9 @@ class Link:
 
     async def _waited(self, task: asyncio.Task, trouble: str) -> bool:
         if not task.done():
-            await asyncio.wait({task}, timeout=self.share)
+            began = time.monotonic()
+            await asyncio.wait({task}, timeout=max(0.0, self._left))
+            self._left -= time.monotonic() - began
         if not task.done():
             self.good, self.trouble = False, trouble
             self.behind += 1

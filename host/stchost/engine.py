@@ -78,11 +78,12 @@ class Engine:
         self.status: dict[str, Any] = {}
         self.version = 0  # of the program's text
         self.cycle = Cycle(clock, plant.cycle)
+        self.refresh = plant.page.refresh / 1000
         self.guard = min(0.002, self.cycle.period / 5)  # no operator's line is begun so shortly before a scan
         self._queue: deque[Job] = deque()
         self._event = asyncio.Event()
         self._sweep = 0
-        self._refreshed = -1e9
+        self._refreshed = clock.now() - self.refresh
         self._stopping = False
 
     # what others ask for, between two scans
@@ -209,18 +210,22 @@ class Engine:
         self._event.set()
 
     async def _serve(self, until: float) -> None:
-        """Does what waits, and shows the leaves that are looked at, as long as there is time before the next scan."""
-        while not self._stopping and (left := until - self.clock.now()) > 0:
-            if left > self.guard and self._queue:
+        """Does what waits, and shows the leaves that are looked at, as long as there is time before the next scan. Where scans
+        leave no time one line is done all the same, and leaves are shown once a second."""
+        served = False
+        while not self._stopping:
+            now = self.clock.now()
+            time_left, age = until - now > self.guard, now - self._refreshed
+            if self._queue and (time_left or not served):
+                served = True
                 await self._do(self._queue.popleft())
-                continue
-            if left > self.guard and self.clock.now() - self._refreshed >= self.plant.page.refresh / 1000:
+            elif age >= 1.0 + self.refresh or (time_left and age >= self.refresh):
                 await self._refresh()
-                continue
-            self._event.clear()
-            if self._queue and left > self.guard:
-                continue
-            await self.clock.wait(self._event, until - self.guard if left > self.guard else until)
+            elif now >= until:
+                return
+            else:
+                self._event.clear()
+                await self.clock.wait(self._event, until - self.guard if time_left else until)
 
     async def _do(self, job: Job) -> None:
         if job.done.cancelled():
@@ -247,7 +252,7 @@ class Engine:
             await self._show(self._always())
         else:
             await self._scan(moment)
-        await self._push(self.safe if self.fault else self._program_outputs())
+        await self._push(self.safe if self.fault or self.trouble else self._program_outputs())
         self.cycle.end()
 
     async def _scan(self, moment: int) -> None:
@@ -258,12 +263,12 @@ class Engine:
             self._keep(lambda line=line, reply=reply: self.journal.scan(line, reply))
             self.story.scan(line, reply)
         answer = replies[len(lines) - 1]
+        self.trouble = f"a scan is answered `{answer}`" if answer.startswith("refused") else ""
         if answer == "ok":
             self.inputs.given(changed)
         else:
             self.inputs.forget()
             self.fault = answer.removeprefix("fault ") if answer.startswith("fault") else self.fault
-            self.trouble = "" if self.fault else f"a scan is answered `{answer}`"
         self._store(reads, replies[len(lines):])
         await self._settle()
 
@@ -288,7 +293,7 @@ class Engine:
                     self._take_program(await self.layout(self.story.text, self.plant.main))
                 await self._read_hand_inputs()
             await self._read_status()
-            self._refreshed = -1e9
+            self._refreshed = min(self._refreshed, self.clock.now() - self.refresh)  # what changed is shown soon
         await self._settle()
         return reply
 
@@ -339,7 +344,7 @@ class Engine:
     def _note(self, who: str, line: str) -> None:
         """What the host did for an operator, for the list of who did what; the controller knows nothing of it."""
         self.notes.append((journals.wall_ms(), who, line))
-        self._refreshed = -1e9
+        self._refreshed = min(self._refreshed, self.clock.now() - self.refresh)
 
     # what the program shows
 

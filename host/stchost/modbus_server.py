@@ -6,7 +6,10 @@ import asyncio
 import ipaddress
 import struct
 
-from pymodbus import bit_read_message, bit_write_message, register_read_message, register_write_message
+from pymodbus import bit_read_message as bits
+from pymodbus import bit_write_message as bit_writes
+from pymodbus import register_read_message as words
+from pymodbus import register_write_message as word_writes
 from pymodbus.factory import ServerDecoder
 from pymodbus.pdu import ExceptionResponse, ModbusResponse
 
@@ -20,6 +23,9 @@ from .values import fits, to_number, to_text
 FUNCTION, ADDRESS, VALUE, FAILURE, BUSY = 1, 2, 3, 4, 6  # the exceptions of Modbus
 CODES = {"O1": ADDRESS, "O2": ADDRESS, "O3": VALUE}
 FRAME_TIME = 5.0  # seconds in which a frame that has begun is to end, and in which an answer is to be taken
+READ = {1: bits.ReadCoilsResponse, 2: bits.ReadDiscreteInputsResponse, 3: words.ReadHoldingRegistersResponse, 4: words.ReadInputRegistersResponse}
+WRITTEN = {5: bit_writes.WriteSingleCoilResponse, 15: bit_writes.WriteMultipleCoilsResponse,
+           6: word_writes.WriteSingleRegisterResponse, 16: word_writes.WriteMultipleRegistersResponse}
 TABLE = {1: "coil", 2: "discrete", 3: "holding", 4: "input", 5: "coil", 6: "holding", 15: "coil", 16: "holding"}
 MOST = {1: 2_000, 2: 2_000, 3: 125, 4: 125, 5: 1, 6: 1, 15: 1_968, 16: 123}
 
@@ -95,19 +101,18 @@ class ModbusServer:
             request = None
         if request is None or len(pdu) < 5 or (function == 5 and pdu[3:5] not in (b"\xff\x00", b"\0\0")):
             raise Refused(VALUE)
-        first, count = request.address, 1 if function in (5, 6) else request.count
-        if not 1 <= count <= MOST[function] or (function in (15, 16) and pdu[5] != len(pdu) - 6):
-            raise Refused(VALUE)
-        if function in (15, 16) and len(request.values) < count:
+        single, first = function in (5, 6), request.address
+        count = 1 if single else request.count
+        if not 1 <= count <= MOST[function] or (function in (15, 16) and (pdu[5] != len(pdu) - 6 or len(request.values) < count)):
             raise Refused(VALUE)
         items = self._items(TABLE[function], first, count)
-        if function in (1, 2, 3, 4):
-            return self._read(function, items)
-        words = [int(request.value)] if function in (5, 6) else [int(value) for value in request.values[:count]]
+        if function in READ:
+            return READ[function](self._words(items))
+        words = [int(request.value)] if single else [int(value) for value in request.values[:count]]
         for item in items:
             place = item.address - first
             await self._write(item, words[place:place + self._size(item)], who)
-        return _written(function, first, count, words)
+        return WRITTEN[function](first, words[0] if single else count)
 
     def _size(self, item: Mapped) -> int:
         return size_of(item, self._type(item))
@@ -131,17 +136,15 @@ class ModbusServer:
             raise Refused(ADDRESS)
         return items
 
-    def _read(self, function: int, items: list[Mapped]) -> ModbusResponse:
+    def _words(self, items: list[Mapped]) -> list[int]:
+        """What the variables have behind the last scan, as it lies in coils or registers."""
         words: list[int] = []
         for item in items:
             value = self.bridge.engine.values.get(item.path)
             if value is None:
                 raise Refused(FAILURE)
-            type_name = self._type(item)
-            words += pack(item, type_name, to_number(type_name, value.text))
-        answers = {1: bit_read_message.ReadCoilsResponse, 2: bit_read_message.ReadDiscreteInputsResponse,
-                   3: register_read_message.ReadHoldingRegistersResponse, 4: register_read_message.ReadInputRegistersResponse}
-        return answers[function](words)
+            words += pack(item, self._type(item), to_number(self._type(item), value.text))
+        return words
 
     async def _write(self, item: Mapped, words: list[int], who: str) -> None:
         """An input that people set has its number with the next scan; all else is written by a line of the session."""
@@ -161,13 +164,3 @@ class ModbusServer:
             raise Refused(FAILURE) from error
         if reply != "ok":
             raise Refused(CODES.get(reply.removeprefix("refused "), FAILURE))
-
-
-def _written(function: int, first: int, count: int, words: list[int]) -> ModbusResponse:
-    if function == 5:
-        return bit_write_message.WriteSingleCoilResponse(first, bool(words[0]))
-    if function == 6:
-        return register_write_message.WriteSingleRegisterResponse(first, words[0])
-    if function == 15:
-        return bit_write_message.WriteMultipleCoilsResponse(first, count)
-    return register_write_message.WriteMultipleRegistersResponse(first, count)

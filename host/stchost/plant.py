@@ -67,7 +67,7 @@ class DeviceFile:
     host: str = key("127.0.0.1")
     port: int = key(502, 1, 65_535)
     unit: int = key(1, 0, 255)
-    share: int = key(30, 1, 90)  # percent of the cycle
+    share: int = key(30, 1, 80)  # percent of the cycle
 
 
 @dataclass(frozen=True, kw_only=True)

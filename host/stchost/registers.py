@@ -5,56 +5,40 @@ from __future__ import annotations
 from .plant import FORMS, Register
 from .values import limits
 
-PLAIN = {"INT": "INT16", "SINT": "INT16", "DINT": "INT32"}
 
-
-def form_of(register: Register, type_name: str) -> str:
+def form_of(place: Register, type_name: str) -> str:
     """The form of a variable at this place: the file's, or the one that its type has."""
-    if register.table in ("coil", "discrete"):
+    if place.table in ("coil", "discrete"):
         return "BIT"
-    if register.form is not None:
-        return register.form
-    return PLAIN.get(type_name, "UINT16" if limits(type_name)[1] < 1 << 16 else "UINT32")
+    plain = {"INT": "INT16", "SINT": "INT16", "DINT": "INT32"}
+    return place.form or plain.get(type_name, "UINT16" if limits(type_name)[1] < 1 << 16 else "UINT32")
 
 
-def size_of(register: Register, type_name: str) -> int:
+def size_of(place: Register, type_name: str) -> int:
     """How many coils or registers it takes."""
-    return FORMS[form_of(register, type_name)]
+    return FORMS[form_of(place, type_name)]
 
 
-def range_of(form: str) -> tuple[int, int]:
-    """The least and the greatest number of a form."""
-    if form == "BIT":
-        return 0, 1
-    bits = 16 * FORMS[form]
-    return (-(1 << (bits - 1)), (1 << (bits - 1)) - 1) if form.startswith("I") else (0, (1 << bits) - 1)
-
-
-def pack(register: Register, type_name: str, number: int) -> list[int]:
+def pack(place: Register, type_name: str, number: int) -> list[int]:
     """The coil or registers of a number. One that the form doesn't have is held at the form's end."""
-    form = form_of(register, type_name)
-    least, most = range_of(form)
-    number = min(most, max(least, number))
+    form = form_of(place, type_name)
     if form == "BIT":
-        return [number]
-    words = [(number >> (16 * place)) & 0xFFFF for place in reversed(range(FORMS[form]))]
-    return _ordered(register, words)
+        return [int(number != 0)]
+    bits, signed = 16 * FORMS[form], form.startswith("I")
+    least, most = (-(1 << (bits - 1)), (1 << (bits - 1)) - 1) if signed else (0, (1 << bits) - 1)
+    data = min(most, max(least, number)).to_bytes(bits // 8, "big", signed=signed)
+    return _ordered(place, [int.from_bytes(data[at:at + 2], "big") for at in range(0, len(data), 2)])
 
 
-def unpack(register: Register, type_name: str, words: list[int]) -> int:
+def unpack(place: Register, type_name: str, words: list[int]) -> int:
     """The number in a coil or in registers."""
-    form = form_of(register, type_name)
+    form = form_of(place, type_name)
     if form == "BIT":
         return int(bool(words[0]))
-    number = 0
-    for word in _ordered(register, words):
-        number = number << 16 | word
-    return number - (1 << (16 * len(words))) if form.startswith("I") and number > range_of(form)[1] else number
+    data = b"".join(word.to_bytes(2, "big") for word in _ordered(place, words))
+    return int.from_bytes(data, "big", signed=form.startswith("I"))
 
 
-def _ordered(register: Register, words: list[int]) -> list[int]:
-    if register.words == "little":
-        words = words[::-1]
-    if register.bytes == "little":
-        words = [(word & 0xFF) << 8 | word >> 8 for word in words]
-    return words
+def _ordered(place: Register, words: list[int]) -> list[int]:
+    words = words[::-1] if place.words == "little" else words
+    return [(word & 0xFF) << 8 | word >> 8 for word in words] if place.bytes == "little" else words

@@ -1,4 +1,4 @@
-"""Values of the language: as session lines write them, and as whole numbers."""
+"""Values of the language: as `stc` shows them and takes them, and as whole numbers."""
 
 from __future__ import annotations
 
@@ -9,22 +9,16 @@ BITS = {
     "BYTE": 8, "WORD": 16, "DWORD": 32, "LWORD": 64, "TIME": 64,
 }
 SIGNED = {"SINT", "INT", "DINT", "LINT", "TIME"}
-
-_TYPED = re.compile(r"([A-Za-z]+)#(?=[-+0-9A-Za-z])")
-_PART = re.compile(r"_?(\d+(?:_\d+)*)(\.\d+)?(d|h|ms|m|s)")
-_UNITS = {"d": 86_400_000, "h": 3_600_000, "m": 60_000, "s": 1_000, "ms": 1}
+DURATION = re.compile(r"T#(-?\d+)ms", re.I)
 
 
 def limits(type_name: str) -> tuple[int, int]:
     """The least and the greatest number of a type; of TIME in milliseconds."""
     bits = BITS[type_name]
-    if type_name in SIGNED:
-        return -(1 << (bits - 1)), (1 << (bits - 1)) - 1
-    return 0, (1 << bits) - 1
+    return (-(1 << (bits - 1)), (1 << (bits - 1)) - 1) if type_name in SIGNED else (0, (1 << bits) - 1)
 
 
 def fits(type_name: str, number: int) -> bool:
-    """Whether a type has this number."""
     least, most = limits(type_name)
     return least <= number <= most
 
@@ -37,37 +31,14 @@ def to_text(type_name: str, number: int) -> str:
 
 
 def to_number(type_name: str, text: str) -> int:
-    """The number of a value as `stc` shows it or a plant's file has it. ValueError where it is none of the type."""
-    number = _parsed(type_name, text)
-    if not fits(type_name, number):
+    """The number of a value as `stc` shows it. ValueError where it is none of the type."""
+    if type_name == "TIME":
+        match = DURATION.fullmatch(text)
+        number = int(match[1]) if match else None
+    elif type_name == "BOOL":
+        number = {"TRUE": 1, "FALSE": 0, "1": 1, "0": 0}.get(text.upper())
+    else:
+        number = int(text[3:], 16) if text.startswith("16#") else int(text)
+    if number is None or not fits(type_name, number):
         raise ValueError(f"{text} is no {type_name}")
     return number
-
-
-def _parsed(type_name: str, text: str) -> int:
-    upper = text.upper()
-    if type_name == "TIME":
-        return _duration(text)
-    if type_name == "BOOL" and upper in ("TRUE", "FALSE"):
-        return int(upper == "TRUE")
-    if (typed := _TYPED.match(text)) is not None and typed[1].upper() == type_name:
-        return _parsed(type_name, text[typed.end():])
-    for prefix, base in (("16#", 16), ("8#", 8), ("2#", 2)):
-        if text.startswith(prefix):
-            return int(text[len(prefix):], base)
-    return int(text, 10)
-
-
-def _duration(text: str) -> int:
-    head, _, rest = text.partition("#")
-    if head.upper() not in ("T", "TIME"):
-        raise ValueError(f"{text} is no TIME")
-    sign, rest = (-1, rest[1:]) if rest.startswith("-") else (1, rest)
-    total, place = 0.0, 0
-    while (part := _PART.match(rest.lower(), place)) is not None:
-        whole = int(part[1].replace("_", "")) * _UNITS[part[3]]
-        total = total + whole if part[2] is None else total + whole + float(part[2]) * _UNITS[part[3]]
-        place = part.end()
-    if place == 0 or place < len(rest) or total != int(total):
-        raise ValueError(f"{text} is no TIME")
-    return sign * int(total)

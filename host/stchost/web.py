@@ -136,7 +136,7 @@ class Web:
     async def _preview(self, request: web.Request) -> web.StreamResponse:
         """What the text in the request's body would do as a change. Who asked may then do just this."""
         person = await self._person(request, True)
-        text = decoded(await request.read())
+        text = decoded(await asyncio.wait_for(request.read(), SEND_TIME))
         engine = self.engine
         forced = [path for path, value in list(engine.values.items()) if value.forced]
         self.previews.pop(person.name, None)

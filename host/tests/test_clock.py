@@ -3,17 +3,15 @@
 from __future__ import annotations
 
 import asyncio
-from collections.abc import Callable
+from collections.abc import Callable, Sequence
 from pathlib import Path
 
-from fake import FakeSession
 from stchost.clock import Cycle
 from stchost.engine import Engine
 from stchost.journal import Journal
 from stchost.plant import load
 from stchost.session import Leaf
 
-TEXT = "PROGRAM Main VAR_INPUT In : INT; END_VAR VAR Out : INT; N : DINT; END_VAR\nOut := In + 1;\nN := N + 1;\nEND_PROGRAM"
 FILE = 'program = "p.st"\ncycle = 10\n[[input]]\npath = "Main.In"\n[page]\nrefresh = 10000\n'
 
 
@@ -41,19 +39,30 @@ class FakeClock:
         await asyncio.sleep(0)
 
 
-class SlowSession(FakeSession):
-    """A session whose lines take some time of the clock."""
+class FakeSession:
+    """Stands in for `stc` over a program without statements. Each line takes some time of the clock."""
 
     def __init__(self, clock: FakeClock, cost: Callable[[str], float]) -> None:
-        super().__init__(TEXT)
-        self.clock, self.cost, self.scans = clock, cost, list[tuple[float, int]]()
+        self.clock, self.cost = clock, cost
+        self.lines, self.scans, self.values = list[str](), list[tuple[float, int]](), {"Main.In": "0", "Main.Out": "0"}
 
-    async def exchange(self, lines):
-        for line in lines:
-            if line.startswith("scan"):
-                self.scans.append((round(self.clock.time - 100.0, 6), int(line.split()[1])))
-            self.clock.time += self.cost(line)
-        return await super().exchange(lines)
+    async def exchange(self, lines: Sequence[str]) -> list[str]:
+        return [self.answer(line) for line in lines]
+
+    def answer(self, line: str) -> str:
+        self.lines.append(line)
+        verb, *words = line.split()
+        if verb == "scan":
+            self.scans.append((round(self.clock.time - 100.0, 6), int(words[0])))
+        self.clock.time += self.cost(line)
+        if verb in ("show", "write", "force") and words[0] not in self.values:
+            return "refused O1"
+        if verb in ("write", "force"):
+            self.values[words[0]] = words[1] + " forced" * (verb == "force")
+        return {"show": f"{words[0]} = {self.values.get(words[0])}" if words else "", "status": "running 0 forces 0 undo 0"}.get(verb, "ok")
+
+    async def close(self) -> None:
+        pass
 
 
 def cycles(lateness: list[float], work: list[float]) -> tuple[Cycle, list[int], list[float]]:
@@ -90,18 +99,18 @@ def test_what_takes_too_long_is_an_overrun_and_no_moment_goes_back() -> None:
     assert (cycle.figures.overruns, cycle.figures.skipped) == (1, 2)
 
 
-def engine_over(folder: Path, cost: Callable[[str], float] = lambda line: 0.0) -> tuple[Engine, FakeClock, SlowSession]:
-    (folder / "p.st").write_text(TEXT)
+def engine_over(folder: Path, cost: Callable[[str], float] = lambda line: 0.0) -> tuple[Engine, FakeClock, FakeSession]:
+    (folder / "p.st").write_text("PROGRAM Main\nEND_PROGRAM\n")
     (folder / "p.toml").write_text(FILE)
     clock = FakeClock()
-    session = SlowSession(clock, cost)
+    session = FakeSession(clock, cost)
     sessions = iter([session])
 
-    async def start(text: str, main: str, steps: int) -> SlowSession:
-        return next(sessions, SlowSession(clock, lambda line: 0.0))  # the first one is the plant's
+    async def start(text: str, main: str, steps: int) -> FakeSession:
+        return next(sessions, FakeSession(clock, lambda line: 0.0))  # the first one is the plant's
 
     async def layout(text: str, main: str) -> list[Leaf]:
-        return [Leaf(path, kind) for path, kind in session.controller.layout()]
+        return [Leaf(path, "INT") for path in session.values]
 
     plant = load(folder / "p.toml")
     return Engine(plant, clock, Journal(folder / "journal", 1 << 20, 1 << 30, "never"), start, lambda types: [], layout), clock, session
@@ -125,7 +134,7 @@ def test_lines_wait_for_the_gap_between_two_scans(tmp_path: Path) -> None:
     run(engine, clock, 0.1, [(0.0145, visit("force Main.Out 7", "show Main.Out", "write Main.Nope 1"))])
     assert replies == ["force Main.Out 7: ok", "show Main.Out: Main.Out = 7 forced", "write Main.Nope 1: refused O1"]
     assert [round(at - session.scans[0][0], 6) for at, _ in session.scans] == [round(0.01 * place, 6) for place in range(10)]
-    order = [line for line in session.controller.lines if not line.startswith("show Main.In")]
+    order = [line for line in session.lines if not line.startswith("show Main.In")]
     assert order.index("force Main.Out 7") < next(i for i, line in enumerate(order) if line.startswith("scan 20"))
 
 
@@ -155,8 +164,8 @@ def test_inputs_are_given_once_and_again_behind_a_command(tmp_path: Path) -> Non
 
     def visit() -> None:
         asyncio.get_running_loop().create_task(engine.set_input("anna", "Main.In", 41))
-        asyncio.get_running_loop().create_task(engine.operate("anna", "write Main.N 0"))
+        asyncio.get_running_loop().create_task(engine.operate("anna", "write Main.Out 0"))
 
     run(engine, clock, 0.05, [(0.012, visit)])
-    assert [line for line in session.controller.lines if line.startswith("scan")] == [
+    assert [line for line in session.lines if line.startswith("scan")] == [
         "scan 0 Main.In:=0", "scan 10", "scan 20 Main.In:=41", "scan 30", "scan 40"]

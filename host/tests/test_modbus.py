@@ -27,7 +27,7 @@ Total := UDINT_TO_DINT(Count) + 1;
 END_PROGRAM
 """
 PAGE = '\nname = "M"\nprogram = "plant.st"\ncycle = 20\npriority = 20\n[page]\nport = PAGE_PORT\nrefresh = 50\n'
-SERVER = "[server]\nport = MODBUS_PORT\nclients = 4\nidle = 2\n"
+SERVER = "[server]\nport = MODBUS_PORT\nclients = 4\nidle = 30\n"
 ALLOW = '[[server.allow]]\naddress = "127.0.0.1"\nfunctions = [1, 2, 3, 4, 5, 6, 15, 16]\n'
 INPUT = '[[input]]\npath = "Main.Start"\n'
 
@@ -109,7 +109,7 @@ def test_who_may_by_address_and_function(make_host) -> None:
 
 
 def test_bad_frames_half_open_and_slow_clients_delay_no_scan(make_host) -> None:
-    host = make_host(PROGRAM, PAGE + INPUT + SERVER + ALLOW + MAPS)
+    host = make_host(PROGRAM, PAGE + INPUT + SERVER.replace("idle = 30", "idle = 2") + ALLOW + MAPS)
     first = with_client(host, lambda client: client.until(lambda status: status["cycles"] > 20))
 
     def talk(data: bytes) -> bytes:
