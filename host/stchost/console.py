@@ -18,18 +18,17 @@ from prompt_toolkit.history import FileHistory
 from prompt_toolkit.patch_stdout import patch_stdout
 
 from .plant import Plant, PlantError, find, load
-from .session import Unfit
 
-HELP = """show P | write P V | force P V | release P | undo | reset | status     as a session has them
-list [WORDS]             variables whose path has all of these words, with their values
-watch P ..               shows each new value of these; `watch` alone ends it
+HELP = """show P | write P V | force P V | release P | undo | reset | status   as a session has them
+list [WORDS]                variables whose path has all of these words, with their values
+watch P ..                  shows each new value of these; `watch` alone ends it
 preview FILE [OLD=NEW ..]   what a change to this text would do
 change FILE [OLD=NEW ..]    does it
-hold | go                holds the scans, or lets them go on
-log | takeback N         who did what; takes command N back
-# ..                     a comment; quit ends the console"""
-VERBS = ["show", "write", "force", "release", "undo", "reset", "status", "list", "watch", "preview", "change", "hold", "go", "log",
-         "takeback", "help", "quit"]
+hold | go                   holds the scans, or lets them go on
+log | takeback N            who did what; takes command N back
+# ..                        a comment; quit ends the console"""
+OWN = ("list", "watch", "preview", "change", "hold", "go", "log", "takeback")
+VERBS = ["show", "write", "force", "release", "undo", "reset", "status", *OWN, "help", "quit"]
 
 
 class Console:
@@ -71,8 +70,7 @@ class Console:
         if verb == "help":
             print(HELP)
         elif not verb.startswith("#"):
-            method = getattr(self, f"_{verb}", None) if verb in VERBS else None
-            answer = await (method(words) if method else self.ask("line", line=line))
+            answer = await (getattr(self, f"_{verb}")(words) if verb in OWN else self.ask("line", line=line))
             self.failed |= bool(answer.get("bad"))
             if "reply" in answer:
                 print(answer["reply"] + (f"  ({answer['why']})" if answer.get("why") else ""), flush=True)
@@ -94,7 +92,10 @@ class Console:
     async def _preview(self, words: list[str]) -> dict[str, Any]:
         if not words:
             return {"reply": "which file?", "bad": True}
-        text = Path(words[0]).read_bytes()
+        try:
+            text = Path(words[0]).read_bytes()
+        except OSError as error:
+            return {"reply": str(error), "bad": True}
         query = "&".join(f"rename={quote(word)}" for word in words[1:])
         async with self.http.post(f"{self.url}/preview?{query}", data=text) as response:
             if response.status != 200:
@@ -135,42 +136,36 @@ async def talk(console: Console, plant: Plant) -> None:
             if not await console.obey(line.strip()):
                 return
         return
-    completer = WordCompleter(VERBS + await console.paths(), ignore_case=True, WORD=True)
-    prompt: PromptSession[str] = PromptSession(history=FileHistory(str(plant.state_folder / "console.history")), completer=completer,
-                                               complete_while_typing=False)
+    words = WordCompleter(VERBS + await console.paths(), ignore_case=True, WORD=True)
+    history = FileHistory(str(plant.state_folder / "console.history"))
+    prompt: PromptSession[str] = PromptSession(history=history, completer=words, complete_while_typing=False)
     with patch_stdout():
-        while True:
+        going = True
+        while going:
             try:
-                if not await console.obey(await prompt.prompt_async(f"{plant.name}> ")):
-                    return
+                going = await console.obey(await prompt.prompt_async(f"{plant.name}> "))
             except KeyboardInterrupt:
                 continue
             except EOFError:
                 return
 
 
-async def connect(plant: Plant, token: str) -> int:
+async def connect(plant: Plant, name: str | None) -> int:
+    """Talks to the host of a plant, with the token of a name, or else the first one to act."""
+    data = tomllib.loads(plant.tokens_file.read_text("utf-8"))
+    tokens = {**data.get("act", {}), **data.get("look", {})}
+    token = tokens[name or next(iter(tokens))]
     url = f"http://{plant.page.host}:{plant.page.port}"
     async with aiohttp.ClientSession(headers={"Authorization": f"Bearer {token}"}) as http, http.ws_connect(url + "/live") as socket:
         await socket.send_json({"token": token})
         hello = await socket.receive_json()
         if "refused" in hello:
-            print(hello["refused"], file=sys.stderr)
-            return 1
+            raise PlantError(hello["refused"])
         console = Console(http, socket, url)
         listener = asyncio.create_task(console.listen())
         await talk(console, plant)
         listener.cancel()
     return 3 if console.failed else 0
-
-
-def token_of(plant: Plant, name: str | None) -> str:
-    """A token of the plant's file: that of a name, or else the first one to act."""
-    data = tomllib.loads(plant.tokens_file.read_text("utf-8"))
-    tokens = {**data.get("act", {}), **data.get("look", {})}
-    if name is not None and name not in tokens:
-        raise PlantError(f"{plant.tokens_file}: there is no `{name}`")
-    return tokens[name] if name else next(iter(tokens.values()))
 
 
 def main() -> int:
@@ -179,10 +174,7 @@ def main() -> int:
     parser.add_argument("--as", dest="name", help="whose token of the plant's file of tokens")
     words = parser.parse_args()
     try:
-        plant = load(find(words.plant))
-        return asyncio.run(connect(plant, token_of(plant, words.name)))
-    except (PlantError, OSError, aiohttp.ClientError, Unfit, tomllib.TOMLDecodeError) as error:
+        return asyncio.run(connect(load(find(words.plant)), words.name))
+    except (PlantError, OSError, KeyError, aiohttp.ClientError, tomllib.TOMLDecodeError) as error:
         print(f"{words.plant}: {error}", file=sys.stderr)
         return 1
-
-

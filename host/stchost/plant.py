@@ -177,8 +177,8 @@ def load(path: Path) -> Plant:
 def _check_point(point: Point, kinds: dict[str, str], where: str, is_output: bool) -> None:
     if point.device is not None and point.device not in kinds:
         raise PlantError(f"{where}: there is no device `{point.device}`")
-    if is_output and (point.device is None or point.fault is None):
-        raise PlantError(f"{where}: the key `{'device' if point.device is None else 'fault'}` is missing")
+    if is_output and point.fault is None:
+        raise PlantError(f"{where}: the key `fault` is missing")
     if kinds.get(point.device or "") == "modbus":
         _check_register(point, where, ("coil", "holding") if is_output else ("coil", "discrete", "input", "holding"))
 

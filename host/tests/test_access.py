@@ -96,7 +96,7 @@ def test_the_file_of_tokens_is_its_owners_alone(make_host, tmp_path) -> None:
 
 @pytest.mark.parametrize("line, error", [
     ("cycle = 0", "`cycle` is from 1 to 60000"), ("cycle = 10\nspeed = 3", "there is no key `speed`"), ("cycle = true", "`cycle` is to be of type int"),
-    ('cycle = 10\n[[output]]\npath = "Main.A"\nfault = "0"', "`device` is missing"), ("cycle = 10\n[journal]\nsync = \"often\"", "`sync` is one of"),
+    ('cycle = 10\n[[output]]\npath = "Main.A"\ndevice = "d"', "there is no device"), ('cycle = 10\n[[output]]\npath = "Main.A"', "`fault` is missing"), ("cycle = 10\n[journal]\nsync = \"often\"", "`sync` is one of"),
     ('cycle = 10\n[[input]]\npath = "Main.A"\ndevice = "d"', "there is no device"), ("cycle = ", "Invalid value")])
 def test_a_plants_file_that_is_wrong_is_refused_with_its_place(tmp_path, line: str, error: str) -> None:
     (tmp_path / "p.toml").write_text('program = "p.st"\n' + line)
