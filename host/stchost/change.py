@@ -7,7 +7,7 @@ from collections.abc import Iterable, Sequence
 from dataclasses import asdict, dataclass, field
 from typing import Any
 
-from .plant import Plant
+from .plant import Mapped, Plant, Point
 from .replay import Start
 from .session import TEXT_LIMIT, Gone, Leaf, Session, Unfit, ask, checked, encoded, layout_of
 from .values import limits, to_number, to_text
@@ -185,8 +185,9 @@ async def connections(plant: Plant, text: str, leaves: Sequence[Leaf], start: St
 
 def _forms(plant: Plant, types: dict[str, str]) -> None:
     """Whether each variable at a register has a form: TIME and types of 64 bits need one of the plant's file."""
-    placed = [point for point in plant.input + plant.output if point.table]
-    for item in [*placed, *(plant.server.map if plant.server else ())]:
+    placed: list[Point | Mapped] = [point for point in plant.input + plant.output if point.table]
+    placed += plant.server.map if plant.server else ()
+    for item in placed:
         if (type_name := types.get(item.path)) is not None:
             is_bit = item.table in ("coil", "discrete")
             if is_bit is not (type_name == "BOOL") and (is_bit or item.form is None):

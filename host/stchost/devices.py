@@ -146,6 +146,8 @@ def links(plant: Plant, types: dict[str, str], now: Callable[[], float]) -> list
     for file in plant.device:
         inputs = [point for point in plant.input if point.device == file.name]
         outputs = [point for point in plant.output if point.device == file.name]
-        device = Simulation(file, inputs, outputs, now) if file.kind == "simulation" else Remote(file, inputs, outputs, types)
+        device: Device = Remote(file, inputs, outputs, types)
+        if file.kind == "simulation":
+            device = Simulation(file, inputs, outputs, now)
         made.append(Link(file.name, device, file.share / 100 * plant.cycle / 1000))
     return made

@@ -6,6 +6,7 @@ import asyncio
 from collections import deque
 from collections.abc import Awaitable, Callable, Sequence
 from dataclasses import dataclass
+from functools import partial
 from typing import Any
 
 from . import journal as journals
@@ -260,7 +261,7 @@ class Engine:
         reads = self._always()
         replies = await self._exchange([*lines, *(f"show {path}" for path in reads)])
         for line, reply in zip(lines, replies):
-            self._keep(lambda line=line, reply=reply: self.journal.scan(line, reply))
+            self._keep(partial(self.journal.scan, line, reply))
             self.story.scan(line, reply)
         answer = replies[len(lines) - 1]
         self.trouble = f"a scan is answered `{answer}`" if answer.startswith("refused") else ""

@@ -48,7 +48,8 @@ class Base:
 
     @classmethod
     def of(cls, data: dict[str, Any]) -> Base:
-        return cls(**{**data, "forces": tuple((path, value) for path, value in data["forces"])})
+        forces: Any = tuple((path, value) for path, value in data["forces"])
+        return cls(**{**data, "forces": forces})
 
 
 @dataclass(frozen=True)

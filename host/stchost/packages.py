@@ -8,6 +8,7 @@ import shutil
 import subprocess
 import sys
 from collections.abc import Iterable
+from typing import Any
 
 MODULES = {"aiohttp": "python3-aiohttp", "pymodbus": "python3-pymodbus", "serial_asyncio": "python3-serial-asyncio",
            "prompt_toolkit": "python3-prompt-toolkit",
@@ -28,7 +29,7 @@ def install(names: Iterable[str]) -> list[str]:
     packages = missing(names)
     if packages and os.geteuid() == 0 and shutil.which("apt-get"):
         print(f"installing {' '.join(packages)}", file=sys.stderr)
-        quiet = {"stdout": subprocess.DEVNULL, "stderr": subprocess.DEVNULL, "env": {**os.environ, "DEBIAN_FRONTEND": "noninteractive"}}
+        quiet: dict[str, Any] = {"stdout": subprocess.DEVNULL, "stderr": subprocess.DEVNULL, "env": {**os.environ, "DEBIAN_FRONTEND": "noninteractive"}}
         command = ["apt-get", "install", "-y", "--no-install-recommends"]
         if subprocess.run([*command, *packages], check=False, **quiet).returncode:
             subprocess.run(["apt-get", "update"], check=False, **quiet)

@@ -10,8 +10,10 @@ def form_of(place: Register, type_name: str) -> str:
     """The form of a variable at this place: the file's, or the one that its type has."""
     if place.table in ("coil", "discrete"):
         return "BIT"
+    if place.form is not None:
+        return place.form
     plain = {"INT": "INT16", "SINT": "INT16", "DINT": "INT32"}
-    return place.form or plain.get(type_name, "UINT16" if limits(type_name)[1] < 1 << 16 else "UINT32")
+    return plain.get(type_name, "UINT16" if limits(type_name)[1] < 1 << 16 else "UINT32")
 
 
 def size_of(place: Register, type_name: str) -> int:

@@ -289,4 +289,4 @@ class Web:
         rows = [[item.number, item.wall, item.who, item.line.split("\n", 1)[0][:300], item.reply, item.state,
                  item.number >= story.began] for item in list(story.commands.values())[-300:]]
         rows += [[0, wall, who, line, "", "", False] for wall, who, line in self.engine.notes]
-        return {"rows": sorted(rows, key=lambda row: -row[1])[:300]}
+        return {"rows": sorted(rows, key=lambda row: -int(str(row[1])))[:300]}
