@@ -108,13 +108,12 @@ function tell() {
   if (sheet) tellSheet();
 }
 function tellBanner() {
-  const box = $("banner"), [kind, unit, , at] = status.fault.split(" ");
-  const why = {F1: "The scan took more steps than it may.", F2: "A divisor was 0.", F3: "A subscript was outside of its bounds."}[kind];
+  const box = $("banner"), [, unit, , at] = status.fault.split(" ");
   box.hidden = status.state === "running"; box.className = status.state;
   const key = status.state + status.fault + status.trouble + text.length;
   if (box.key === key) return;
   box.key = key; box.replaceChildren();
-  if (status.state === "halted") box.append(`${why} The program is halted in ${unit}, line ${at}. Outputs have their values for a fault, until a reset. `,
+  if (status.state === "halted") box.append(`${status.why} The program is halted in ${unit}, line ${at}. Outputs have their values for a fault, until a reset. `,
     el("button", {onclick: () => { show("program"); $("program").children[at - 1]?.scrollIntoView({block: "center"}); }}, "Show the line"),
     el("code", {}, (text[at - 1] || "").trim()));
   else if (status.state === "held") box.append("Scans are held. Outputs stay as they are, and what is done now can be undone.");

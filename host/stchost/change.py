@@ -36,6 +36,7 @@ class Preview:
     renamed: list[tuple[str, str]] = field(default_factory=list)
     lost: list[str] = field(default_factory=list)
     leaves: list[Leaf] = field(default_factory=list)
+    version: int = 0  # of the program that it would change
 
     @property
     def ok(self) -> bool:

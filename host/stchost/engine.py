@@ -16,12 +16,13 @@ from .devices import Link
 from .inputs import Inputs
 from .journal import Base, Journal
 from .plant import Plant
-from .replay import Replay, Start, Story, restore, taken_back
+from .replay import Differs, Replay, Start, Story, Unreachable, restore, taken_back
+from .refusals import explain
 from .session import Gone, Leaf, Session, Unfit, checked, layout_of, words_of
 from .values import to_number
 
 QUEUE_LIMIT = 1_000
-CHUNK = 400  # leaves that are shown at one go
+CHUNK = 200  # leaves that are shown at one go
 CATCH_UP = 200  # records that a replay beside the plant may be behind when it takes over
 VERBS = ("show", "write", "force", "release", "reset", "undo", "status")
 QUIET = ("show", "status")  # these change nothing, and aren't kept
@@ -84,6 +85,9 @@ class Engine:
         self._queue: deque[Job] = deque()
         self._event = asyncio.Event()
         self._sweep = 0
+        self._chunks: deque[list[str]] = deque()  # of leaves that are to be shown until the next status
+        self._taking_back = asyncio.Lock()
+        self._closing: set[asyncio.Task[None]] = set()
         self._refreshed = clock.now() - self.refresh
         self._stopping = False
 
@@ -133,7 +137,11 @@ class Engine:
     async def take_back(self, who: str, number: int) -> list[str]:
         """Makes the state what it would be if a command had never been given: the journal without it is replayed beside the
         plant, and takes over between two scans. The answer has the later commands that are now answered otherwise."""
-        self._may_take_back(number)
+        async with self._taking_back:
+            self._may_take_back(number)
+            return await self._replay_without(who, number)
+
+    async def _replay_without(self, who: str, number: int) -> list[str]:
         found = journals.bases(self.journal.folder)
         if self.journal.trouble or not found:
             raise Unfit("the journal doesn't reach back to the load")
@@ -152,14 +160,14 @@ class Engine:
             if replay.session is not None and replay.session is not self.session:
                 await replay.session.close()
             raise
-        return [f"{other.line.splitlines()[0]}: {other.reply}" for other in replay.refused]
+        return [f"{other.line}: {other.reply}" for other in replay.refused]
 
     def _may_take_back(self, number: int) -> None:
         """Unfit where a command can't be taken back."""
         command = self.story.commands.get(number)
         if command is None or number < self.story.began or command.state or command.reply.startswith("refused"):
             raise Unfit("this command can't be taken back")
-        verb, *words = words_of(command.line.split("\n", 1)[0])
+        verb, *words = words_of(command.line)
         if verb not in ("write", "force", "release", "change"):
             raise Unfit("writes, forces, releases and changes can be taken back")
         if verb == "write" and self.inputs.by_hand(self.spelled.get(words[0].upper(), "")):
@@ -180,8 +188,10 @@ class Engine:
         await self._read_status()
         self.inputs.forget()
         self._note(who, f"take back {number}")
-        if old is not None:
-            await old.close()
+        if old is not None:  # nobody waits for its end
+            task = asyncio.create_task(old.close())
+            self._closing.add(task)
+            task.add_done_callback(self._closing.discard)
 
     # the writer
 
@@ -217,11 +227,16 @@ class Engine:
         while not self._stopping:
             now = self.clock.now()
             time_left, age = until - now > self.guard, now - self._refreshed
+            overdue = age >= 1.0 + self.refresh
             if self._queue and (time_left or not served):
                 served = True
                 await self._do(self._queue.popleft())
-            elif age >= 1.0 + self.refresh or (time_left and age >= self.refresh):
-                await self._refresh()
+            elif self._chunks and (time_left or overdue):
+                await self._show(self._chunks.popleft())
+                if not self._chunks:
+                    await self._tell()
+            elif overdue or (time_left and age >= self.refresh):
+                self._plan()
             elif now >= until:
                 return
             else:
@@ -284,19 +299,28 @@ class Engine:
         self.story.operation(number, journals.wall_ms(), who, line, reply)
         self.journal.command = number + 1
         if not reply.startswith("refused"):
-            self.inputs.forget()
-            if verb == "reset":
-                await self._begin_again()
-            elif verb == "write" and self.inputs.by_hand(self.spelled.get(words[0].upper(), "")):
-                await self._read_hand_inputs()
-            if verb == "undo":
-                if self.story.text is not text:
-                    self._take_program(await self.layout(self.story.text, self.plant.main))
-                await self._read_hand_inputs()
-            await self._read_status()
-            self._refreshed = min(self._refreshed, self.clock.now() - self.refresh)  # what changed is shown soon
+            try:
+                await self._follow(verb, words, text)
+            except Gone:  # the line is kept, so that it counts; the next one finds that `stc` has ended
+                pass
         await self._settle()
         return reply
+
+    async def _follow(self, verb: str, words: list[str], text: str) -> None:
+        """What an accepted line means for the host. `text` is that of the program before it."""
+        self.inputs.forget()
+        if verb == "reset":
+            await self._begin_again()
+        elif verb == "undo" and self.story.text is not text:
+            self._take_program(await self.layout(self.story.text, self.plant.main))
+        if verb == "undo" or (verb == "write" and self.inputs.by_hand(self.spelled.get(words[0].upper(), ""))):
+            await self._read_hand_inputs()
+        await self._read_status()
+        self._soon()
+
+    def _soon(self) -> None:
+        """What has changed is shown as soon as there is time."""
+        self._refreshed = min(self._refreshed, self.clock.now() - self.refresh)
 
     async def _read_hand_inputs(self) -> None:
         """What the program has for the inputs that people set counts as what they were set to; but a force doesn't."""
@@ -345,7 +369,7 @@ class Engine:
     def _note(self, who: str, line: str) -> None:
         """What the host did for an operator, for the list of who did what; the controller knows nothing of it."""
         self.notes.append((journals.wall_ms(), who, line))
-        self._refreshed = min(self._refreshed, self.clock.now() - self.refresh)
+        self._soon()
 
     # what the program shows
 
@@ -363,15 +387,17 @@ class Engine:
             if (value := shown(reply)) is not None:
                 self.values[path] = value
 
-    async def _refresh(self) -> None:
-        """Shows what clients look at, and a few of the other leaves in turn, so that all are shown in time."""
+    def _plan(self) -> None:
+        """What is to be shown next: what clients look at, and a few of the other leaves in turn, so that all are shown in time."""
         self._refreshed = self.clock.now()
-        paths = [path for wanted in list(self.watched.values()) for path in wanted if path in self.types]
-        paths += [path for path in self.plant.trend if path in self.types] + list(self.inputs.points)
-        for first in range(0, len(paths), CHUNK):
-            await self._show(list(dict.fromkeys(paths))[first:first + CHUNK])
-        await self._show([leaf.path for leaf in self.leaves[self._sweep:self._sweep + CHUNK]])
+        wanted = [path for paths in list(self.watched.values()) for path in paths] + [*self.plant.trend, *self.inputs.points]
+        wanted += [leaf.path for leaf in self.leaves[self._sweep:self._sweep + CHUNK]]
         self._sweep = self._sweep + CHUNK if self._sweep + CHUNK < len(self.leaves) else 0
+        paths = [path for path in dict.fromkeys(wanted) if path in self.types]
+        self._chunks = deque(paths[first:first + CHUNK] for first in range(0, max(1, len(paths)), CHUNK))
+
+    async def _tell(self) -> None:
+        """All that was planned has been shown: clients are told."""
         await self._read_status()
         none = Value("", False)
         self.trend.append((self.cycle.moment, [self.values.get(path, none).text for path in self.plant.trend]))
@@ -389,7 +415,7 @@ class Engine:
         state = "trouble" if self.trouble or self.session is None else "halted" if self.fault else "held" if self.held else "running"
         undo = self.story.commands.get(self.story.undoable[-1]) if self.story.undoable else None
         return {
-            "state": state, "fault": self.fault, "trouble": self.trouble, "moment": self.story.moment, "version": self.version,
+            "state": state, "fault": self.fault, "why": explain(f"fault {self.fault}"), "trouble": self.trouble, "moment": self.story.moment, "version": self.version,
             "forces": self.forces, "undos": self.undos, "undo": undo.line.split("\n", 1)[0] if undo else "",
             "undo_who": undo.who if undo else "", "period": self.plant.cycle, **self.cycle.figures.told(),
             "waiting": len(self._queue), "restarts": self.restarts, "journal": self.journal.told(),
@@ -421,6 +447,7 @@ class Engine:
     async def _recover(self) -> None:
         """Starts where the journal ends; or loads the program where there is no journal."""
         replay = await restore(self.start, self.journal.folder)
+        self.journal.resume()
         if replay is None:
             text = self.plant.text.read_bytes().decode("utf-8", "surrogateescape")
             self.session = await self.start(text, self.plant.main, self.plant.steps)
@@ -430,7 +457,6 @@ class Engine:
             self.story.begin(base)
         else:
             self.session, self.story = replay.session, replay.story
-            self.journal.resume()
             self.journal.command = max([self.story.began - 1, *self.story.commands]) + 1
         leaves = await self.layout(self.story.text, self.plant.main)
         await connections(self.plant, self.story.text, leaves, self.start)
@@ -454,12 +480,16 @@ class Engine:
         self.restarts += 1
         self.status = self.told()
         await self._push(self.safe)
-        pause = 0.0
+        pause = retry = 0.0
         while self.session is None and not self._stopping:
-            await asyncio.sleep(pause)
-            pause = min(30.0, pause * 2 + 0.5)
-            try:
-                await self._recover()
-            except (Gone, OSError) as error:
-                self.trouble, self.session = str(error), None
-                self.status = self.told()
+            while self._queue:
+                self._queue.popleft().done.set_exception(Unfit(f"the program doesn't run: {self.trouble}"))
+            if (retry := retry - 0.1) < 0:
+                retry = pause = min(30.0, pause * 2 + 0.5)
+                try:
+                    await self._recover()
+                    break
+                except (Gone, OSError, Differs, Unreachable, journals.Damaged) as error:
+                    self.trouble, self.session = str(error), None
+                    self.status = self.told()
+            await asyncio.sleep(0.1)

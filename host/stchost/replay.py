@@ -68,12 +68,12 @@ class Story:
 
     def operation(self, number: int, wall: int, who: str, line: str, reply: str) -> Command:
         """An operator's line was answered."""
-        command = Command(number, wall, who, line, reply, self.moment)
+        command = Command(number, wall, who, line.split("\n", 1)[0], reply, self.moment)
         self.commands[number] = command
         if len(self.commands) > 2_000:
             del self.commands[next(iter(self.commands))]
         if not reply.startswith("refused"):
-            self._take_effect(command)
+            self._take_effect(command, line)
         return command
 
     def taken_back(self, number: int) -> None:
@@ -81,8 +81,8 @@ class Story:
         if number in self.commands:
             self.commands[number].state = "taken back"
 
-    def _take_effect(self, command: Command) -> None:
-        verb = command.line.split(None, 1)[0]
+    def _take_effect(self, command: Command, line: str) -> None:
+        verb = line.split(None, 1)[0]
         if verb == "reset":
             self._forget_undos()
         elif verb == "undo":
@@ -94,7 +94,7 @@ class Story:
         elif verb in ("write", "force", "release", "change"):
             self.undoable.append(command.number)
             if verb == "change":
-                self.texts.append(text_of(command.line))
+                self.texts.append(text_of(line))
 
     def _forget_undos(self) -> None:
         if self.undoable:
@@ -182,7 +182,7 @@ class Replay:
             if reply != wanted:
                 self.refused.append(command)
         else:
-            self.story.commands[number] = Command(number, wall, who, line, wanted, self.story.moment, "taken back")
+            self.story.commands[number] = Command(number, wall, who, line.split("\n", 1)[0], wanted, self.story.moment, "taken back")
 
 
 def taken_back(folder: Path, first: int) -> set[int]:

@@ -140,12 +140,14 @@ class Web:
         engine = self.engine
         forced = [path for path, value in list(engine.values.items()) if value.forced]
         self.previews.pop(person.name, None)
+        version = engine.version
         try:
             async with self._previewing:
                 found = await preview(engine.plant, engine.story.text, forced, text, request.query.getall("rename", []), engine.start)
         except ERRORS as error:
             return web.json_response({"ok": False, "answer": str(error), "messages": str(error)})
         if found.ok:
+            found.version = version
             self.previews[person.name] = found
         return web.json_response(found.told())
 
@@ -273,8 +275,8 @@ class Web:
         """Does the change that this person had a preview of last."""
         self._acting(client)
         found = self.previews.pop(client.person.name, None)
-        if found is None:
-            raise Unfit("a change is done after its preview")
+        if found is None or found.version != self.engine.version:
+            raise Unfit("a change is done after its preview, if no other one came between")
         reply = await self.bridge.call(self.engine.change(client.person.name, found.line, found.leaves))
         return {"reply": reply, "bad": reply.startswith("refused"), "why": explain(reply)}
 
