@@ -46,8 +46,7 @@ class Preview:
         """The preview for a page: lists are cut, and their lengths told."""
         lists = ("dropped", "new", "renamed", "lost")
         plain = {key: value for key, value in asdict(self).items() if key not in ("text", "line", "leaves")}
-        return {**plain, "ok": self.ok, "counts": {key: len(plain[key]) for key in lists},
-                **{key: plain[key][:LISTED] for key in lists}}
+        return {**plain, "ok": self.ok, "counts": {key: len(plain[key]) for key in lists}, **{key: plain[key][:LISTED] for key in lists}}
 
 
 def change_line(text: str, renames: Iterable[str]) -> str:

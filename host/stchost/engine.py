@@ -341,8 +341,7 @@ class Engine:
                 if (value := self.values.get(leaf.path)) and value.forced:
                     forces.append((leaf.path, value.text))
             story = self.story
-            base = Base(story.text, story.main, story.steps, story.moment, tuple(forces), self.journal.command,
-                        journals.wall_ms(), False)
+            base = Base(story.text, story.main, story.steps, story.moment, tuple(forces), self.journal.command, journals.wall_ms(), False)
             self._keep(lambda: self.journal.load(base))
             story.began = self.journal.command
 

@@ -11,8 +11,7 @@ from collections.abc import Iterable
 from typing import Any
 
 MODULES = {"aiohttp": "python3-aiohttp", "pymodbus": "python3-pymodbus", "serial_asyncio": "python3-serial-asyncio",
-           "prompt_toolkit": "python3-prompt-toolkit",
-           "pytest": "python3-pytest", "selenium": "python3-selenium"}
+           "prompt_toolkit": "python3-prompt-toolkit", "pytest": "python3-pytest", "selenium": "python3-selenium"}
 COMMANDS = {"chromium": "chromium", "chromedriver": "chromium-driver", "mbpoll": "mbpoll"}
 
 

@@ -7,17 +7,15 @@ from functools import cache
 
 from .session import ROOT
 
-FAULTS = {"F1": "The scan took more steps than it may.", "F2": "A divisor was 0.", "F3": "A subscript was outside of its bounds."}
-
 
 @cache
 def _sentences() -> dict[str, str]:
     try:
         page = (ROOT / "docs" / "REFUSALS.md").read_text("utf-8")
     except OSError:
-        return FAULTS
+        return {}
     found = re.findall(r"^### ([A-Z]\d+)\n\n(.+?)(?=\n\nExample|\n\n#|\Z)", page, re.S | re.M)
-    return {**FAULTS, **{number: " ".join(text.split()) for number, text in found}}
+    return {number: " ".join(text.split()) for number, text in found}
 
 
 def explain(reply: str) -> str:

@@ -91,7 +91,7 @@ def test_a_refused_text_and_a_fault_say_where(make_host, browser) -> None:
     page.press("#leave")
     page.host.console("write Main.Z 0")
     seen = page.sees("#banner", "Q := 10 / Z;")
-    assert "A divisor was 0" in seen and "line 20" in seen
+    assert "divided by zero" in seen and "line 20" in seen
     assert page.text("#state") == "Halted by a fault"
     page.press("#banner button")
     assert page.text("#program li.fault") == "Q := 10 / Z;"
