@@ -57,6 +57,7 @@ function heard(news) {
   }
 }
 function ask(what, words = {}) {
+  if (socket.readyState !== WebSocket.OPEN) return Promise.resolve({reply: "there is no connection", bad: true, rows: []});
   return new Promise(done => { asked.set(++number, done); socket.send(JSON.stringify({id: number, do: what, ...words})); });
 }
 async function act(what, words, said) {
@@ -303,14 +304,14 @@ function drawChart(owner, steps, unit, same) {
   });
   const deepest = Math.max(0, ...layer), lines = Array.from({length: deepest + 2}, () => []);
   steps.forEach((_, i) => { if (layer[i] < 0) layer[i] = deepest + 1; lines[layer[i]].push(i); });
-  const wide = 190, high = 104, width = Math.max(1, ...lines.map(row => row.length)) * wide + 60;
+  const wide = 220, high = 104, width = Math.max(1, ...lines.map(row => row.length)) * wide + 160;
   const place = steps.map((_, i) => [width / 2 + (lines[layer[i]].indexOf(i) - (lines[layer[i]].length - 1) / 2) * wide, 26 + layer[i] * high]);
   const parts = [], used = new Map();
   ways.forEach((way, k) => {
     const ahead = way.to.filter(step => !back.has(`${k} ${step}`)), sources = way.from.map(step => place[step]), targets = ahead.map(step => place[step]);
     const ends = ahead.length ? targets : sources, slot = way.from.join(), shift = used.get(slot) || 0; used.set(slot, shift + 1);
     const rivals = ways.filter(other => other.from.join() === slot).length, mean = ends.reduce((sum, point) => sum + point[0], 0) / ends.length;
-    const x = (ahead.length ? mean : sources[0][0]) + (rivals > 1 && !ahead.length ? 26 : 0), y = Math.max(...sources.map(point => point[1])) + 52 + (rivals > 1 ? shift * 14 : 0);
+    const x = way.from.length > 1 ? mean : sources[0][0] + (shift - (rivals - 1) / 2) * 44, y = Math.max(...sources.map(point => point[1])) + 52 + shift * 16;
     for (const [sx, sy] of sources) parts.push(svg("line", {x1: sx, y1: sy + 20, x2: sx, y2: y - 8}), svg("line", {x1: sx, y1: y - 8, x2: x, y2: y - 8}));
     parts.push(svg("line", {x1: x, y1: y - 8, x2: x, y2: y + 8}), svg("line", {class: "bar", x1: x - 11, x2: x + 11, y1: y, y2: y}));
     for (const [tx, ty] of targets) parts.push(svg("line", {x1: x, y1: y + 8, x2: tx, y2: y + 8}), svg("line", {x1: tx, y1: y + 8, x2: tx, y2: ty - 20}));
@@ -320,12 +321,13 @@ function drawChart(owner, steps, unit, same) {
   });
   const boxes = steps.map((step, i) => {
     const stay = svg("text", {class: "time", x: place[i][0], y: place[i][1] + 15});
-    const box = svg("g", {}, svg("rect", {x: place[i][0] - 70, y: place[i][1] - 20, width: 140, height: 40, rx: 5}),
-      svg("text", {x: place[i][0], y: place[i][1] - 1}, step.replaceAll("_", " ")), stay);
+    const name = svg("text", {x: place[i][0]}, step.replaceAll("_", " "));
+    const box = svg("g", {}, svg("rect", {x: place[i][0] - 70, y: place[i][1] - 20, width: 140, height: 40, rx: 5}), name, stay);
     if (i === first) box.prepend(svg("rect", {x: place[i][0] - 74, y: place[i][1] - 24, width: 148, height: 48, rx: 7}));
     box.refresh = () => {
       const active = values.get(`${owner}.${step}.X`)?.[0] === "TRUE";
       box.setAttribute("class", active ? "active" : "");
+      name.setAttribute("y", place[i][1] + (active ? -1 : 5));
       stay.textContent = active ? human(values.get(`${owner}.${step}.T`)?.[0] || "") : "";
     };
     return box;
