@@ -9,7 +9,7 @@ from typing import Any
 
 from .plant import Mapped, Plant, Point
 from .replay import Start
-from .session import TEXT_LIMIT, Gone, Leaf, Session, Unfit, ask, checked, encoded, layout_of
+from .session import TEXT_LIMIT, Leaf, Session, ask, checked, encoded, layout_of
 from .values import limits, to_number, to_text
 
 AT_ONCE = 250  # commands between two resets: 256 can be undone at most
@@ -195,5 +195,3 @@ def _forms(plant: Plant, types: dict[str, str]) -> None:
             if not is_bit and item.form is None and limits(type_name)[1] >= 1 << 32:
                 raise Refusal(f"{item.path} is a {type_name}: `form` is to say how it lies in registers")
 
-
-__all__ = ["Gone", "Preview", "Refusal", "Unfit", "change_line", "connections", "preview"]

@@ -16,7 +16,7 @@ import zlib
 from collections.abc import Iterator
 from dataclasses import dataclass
 from pathlib import Path
-from typing import Any, BinaryIO, NoReturn
+from typing import Any, BinaryIO, NamedTuple, NoReturn
 
 NAME = re.compile(r"(\d{8})\.journal")
 BASE_AT_RESET = 65_536  # bytes of a piece from which on a reset begins a new one
@@ -52,8 +52,7 @@ class Base:
         return cls(**{**data, "forces": forces})
 
 
-@dataclass(frozen=True)
-class Record:
+class Record(NamedTuple):
     kind: str
     fields: tuple[str, ...]
     base: Base | None = None
@@ -79,7 +78,7 @@ _ESCAPED = re.compile(r"\\(.)")
 
 
 def _plain(field: str) -> str:
-    return _ESCAPED.sub(lambda match: {"t": "\t", "n": "\n"}.get(match[1], match[1]), field) if "\\" in field else field
+    return _ESCAPED.sub(lambda match: {"t": "\t", "n": "\n"}.get(match[1], match[1]), field)
 
 
 def encode(fields: tuple[str, ...], before: int) -> tuple[bytes, int]:
@@ -90,10 +89,13 @@ def encode(fields: tuple[str, ...], before: int) -> tuple[bytes, int]:
 
 
 def _decode(line: bytes, before: int) -> tuple[Record, int]:
-    crc, body = int(line[:8], 16), line[9:-1]
-    if line[8:9] != b" " or crc != zlib.crc32(body, before):
+    body = line[9:-1]
+    crc = zlib.crc32(body, before)
+    if line[:9] != b"%08x " % crc:
         raise ValueError("its checksum doesn't fit")
-    kind, *fields = map(_plain, body.decode("utf-8", "surrogateescape").split("\t"))
+    kind, *fields = body.decode("utf-8", "surrogateescape").split("\t")
+    if b"\\" in body:
+        fields = [_plain(field) for field in fields]
     return Record(kind, tuple(fields), Base.of(json.loads(fields[0])) if kind == LOAD else None), crc
 
 

@@ -22,8 +22,6 @@ HOST = Path(__file__).resolve().parents[1]
 sys.path[:0] = [str(HOST), str(HOST / "tests")]
 from stchost import packages  # noqa: E402
 
-EXAMPLES = HOST.parent / "examples"
-
 
 def needs(*names: str) -> pytest.MarkDecorator:
     """Skips a test where a package isn't there, and names it."""
@@ -159,9 +157,6 @@ class Client:
         async with self.http.post(f"{self.url}/preview", params=[("rename", word) for word in renames], data=text.encode(),
                                   headers={"Authorization": f"Bearer {self.token}"}) as response:
             return json.loads(await response.text())
-
-    async def leaves(self) -> list[str]:
-        return [row[0] for row in (await self.ask("list"))["rows"]]
 
     async def _next(self, what: Callable[[dict[str, Any]], bool]) -> dict[str, Any]:
         async def search() -> dict[str, Any]:

@@ -3,7 +3,6 @@
 from __future__ import annotations
 
 import asyncio
-import json
 import random
 import shutil
 import signal
@@ -240,4 +239,3 @@ def test_replies_are_those_of_the_manual(make_host) -> None:
     assert [line.split("  (")[0] for line in out.splitlines()] == [
         "ok", "Main.A = 5", "ok", "refused O4", "ok", "refused O5", "refused O1", "refused O3", "Main.A : INT = 5", "Main.B : BOOL = FALSE", "2 variables"]
     assert answers("PROGRAM Main\nVAR A : INT; END_VAR\nEND_PROGRAM\n", ["show Main.A"]) == ["Main.A = 0"]
-    json.dumps(out)
