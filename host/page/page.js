@@ -1,7 +1,7 @@
 "use strict";
 const $ = id => document.getElementById(id);
 const COLOURS = ["#2f7fd1", "#d1662f", "#2c8a4b", "#9a4fc4", "#b8901a", "#c23b6b", "#3aa6a6", "#7a7f86"];
-const VIEWS = [["plant", "Plant"], ["values", "Variables"], ["charts", "Charts"], ["program", "Program"], ["log", "Who did what"]];
+const VIEWS = [["plant", "Plant"], ["values", "Variables"], ["charts", "Charts"], ["program", "Program"], ["log", "Log"]];
 const SHOWN = 200; // rows of a search
 let socket, token = "", hello = null, status = {}, values = new Map(), asked = new Map(), number = 0, view = "plant";
 let rows = [], charts = [], chosen = [], past = [], text = [], sheet = null, logged = "", typing = 0;

@@ -35,7 +35,7 @@ def free_port() -> int:
         return made.getsockname()[1]
 
 
-def wait_for(what: Callable[[], Any], seconds: float = 20.0) -> Any:
+def wait_for(what: Callable[[], Any], seconds: float = 45.0) -> Any:
     """What it gives once that is true."""
     end = time.monotonic() + seconds
     while not (found := what()):
@@ -165,7 +165,7 @@ class Client:
                 if what(news):
                     return news
 
-        return await asyncio.wait_for(search(), 30)
+        return await asyncio.wait_for(search(), 45)
 
 
 def with_client(host: Host, work: Callable[[Client], Awaitable[Any]], kind: str = "act") -> Any:

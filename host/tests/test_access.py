@@ -3,6 +3,7 @@
 from __future__ import annotations
 
 import asyncio
+import dataclasses
 import json
 import os
 import socket
@@ -13,6 +14,7 @@ import pytest
 
 from conftest import FILE, HOST, Client, Noise, needs, scans_went_on, with_client
 from stchost import access
+from stchost import plant as plants
 from stchost.plant import PlantError, load
 
 pytestmark = needs("aiohttp")
@@ -175,3 +177,10 @@ def test_sizes_and_numbers_are_bounded(make_host) -> None:
             assert await client.line("show Main.A") == "Main.A = 0"
 
     asyncio.run(work())
+
+
+def test_the_manual_has_every_key() -> None:
+    page = (HOST.parent / "docs" / "HOST.md").read_text()
+    kinds = (plants.Plant, plants.JournalFile, plants.PageFile, plants.DeviceFile, plants.Point, plants.ServerFile, plants.Allowed, plants.Mapped)
+    keys = {item.name for kind in kinds for item in dataclasses.fields(kind)} - {"file", "journal", "page", "device", "input", "output", "server", "allow", "map"}
+    assert [name for name in sorted(keys) if f"`{name}`" not in page] == []

@@ -22,7 +22,13 @@ def browser() -> Iterator:
     options.binary_location = "/usr/bin/chromium"
     for word in ["--headless=new", "--disable-gpu", "--disable-dev-shm-usage"] + ["--no-sandbox"] * (os.geteuid() == 0):
         options.add_argument(word)
-    made = webdriver.Chrome(service=Service("/usr/bin/chromedriver"), options=options)
+    for left in (2, 1, 0):  # on a busy machine it may end as it begins
+        try:
+            made = webdriver.Chrome(service=Service("/usr/bin/chromedriver"), options=options)
+            break
+        except Exception:
+            if not left:
+                raise
     yield made
     made.quit()
 
