@@ -2,12 +2,12 @@
 
 from __future__ import annotations
 
-import re
 from collections.abc import Iterable, Sequence
 from dataclasses import asdict, dataclass, field
 from typing import Any
 
 from .plant import Mapped, Plant, Point
+from .refusals import explain
 from .replay import Start
 from .session import TEXT_LIMIT, Leaf, Session, ask, checked, encoded, layout_of
 from .values import limits, to_number, to_text
@@ -56,15 +56,6 @@ def change_line(text: str, renames: Iterable[str]) -> str:
     return checked(" ".join(["change", *renames]) + "\n" + body + end + "end_change")
 
 
-def message_of(answer: str, text: str) -> str:
-    """A refusal of a text with its line, for people."""
-    found = re.fullmatch(r"refused (\S+)(?: line (\d+))?", answer)
-    lines = text.split("\n")
-    if found is None or not found[2] or not 1 <= int(found[2]) <= len(lines):
-        return answer
-    return f"{answer}\n    {lines[int(found[2]) - 1].strip()}"
-
-
 async def preview(plant: Plant, old: str, forced: Sequence[str], text: str, renames: Sequence[str], start: Start) -> Preview:
     """What a change from the text `old` would do. `forced` are the leaves that are forced now."""
     found = Preview(text=text)
@@ -75,7 +66,7 @@ async def preview(plant: Plant, old: str, forced: Sequence[str], text: str, rena
     answer, found.messages = await ask("check", text, plant.main)
     if answer.strip() != "ok":
         found.answer = answer.strip()
-        found.messages = found.messages or message_of(found.answer, text)
+        found.messages = found.messages or found.answer
         return found
     found.leaves = await layout_of(text, plant.main)
     await _try(plant, old, renames, found, start)
@@ -96,7 +87,7 @@ async def _try(plant: Plant, old: str, renames: Sequence[str], found: Preview, s
         settable = await _force_all(session, before)
         found.answer = (await session.exchange([found.line]))[0]
         if not found.answer.startswith("ok"):
-            found.messages = message_of(found.answer, found.text)
+            found.messages = f"{found.answer}: {explain(found.answer)}"
             return
         shown = await session.exchange([f"show {leaf.path}" for leaf in found.leaves])
     finally:

@@ -55,7 +55,7 @@ def main() -> int:
     parser.add_argument("journal", type=Path, help="the folder of the journal, or the plant's state folder")
     parser.add_argument("--at", type=int, metavar="MOMENT", help="in ms, as scans have it; the end where it isn't given")
     parser.add_argument("words", nargs="*", help="what the paths that are shown have in them")
-    words = parser.parse_args()
+    words = parser.parse_intermixed_args()
     folder = words.journal / "journal" if (words.journal / "journal").is_dir() else words.journal
     try:
         asyncio.run(show(folder, words.at, words.words))

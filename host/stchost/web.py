@@ -14,9 +14,10 @@ from .access import Gate, Person
 from .bridge import Bridge
 from .change import Preview, Refusal, preview
 from .engine import Busy
+from .journal import Damaged
 from .plant import PageFile
 from .refusals import explain
-from .replay import Unreachable
+from .replay import Differs, Unreachable
 from .session import TEXT_LIMIT, Gone, Unfit, decoded
 
 PAGE = Path(__file__).resolve().parents[1] / "page"
@@ -31,7 +32,7 @@ HEADERS = {
                                "connect-src 'self'; base-uri 'none'; form-action 'none'; frame-ancestors 'none'",
     "X-Content-Type-Options": "nosniff", "Referrer-Policy": "no-referrer", "Cache-Control": "no-store",
 }
-ERRORS = (Unfit, Busy, Refusal, Gone, Unreachable)
+ERRORS = (Unfit, Busy, Refusal, Gone, Unreachable, Differs, Damaged, OSError)
 
 
 class Closed(asyncio.Protocol):

@@ -237,5 +237,5 @@ def test_replies_are_those_of_the_manual(make_host) -> None:
     host = make_host("PROGRAM Main\nVAR A : INT := 3; B : BOOL; END_VAR\nEND_PROGRAM\n")
     out = host.console("write Main.A 5\nshow main.a\nforce Main.B TRUE\nwrite Main.B FALSE\nrelease Main.B\nrelease Main.B\nshow Main.C\nwrite Main.A 40000\n# x\nlist a\n")
     assert [line.split("  (")[0] for line in out.splitlines()] == [
-        "ok", "Main.A = 5", "ok", "refused O4", "ok", "refused O5", "refused O1", "refused O3", "Main.A : INT = 5", "Main.B : BOOL = FALSE", "2 variables"]
+        "ok", "Main.A = 5", "ok", "refused O4", "ok", "refused O5", "refused O1", "refused O3", "Main.A : INT = 5", "Main.B : BOOL = TRUE", "2 variables"]
     assert answers("PROGRAM Main\nVAR A : INT; END_VAR\nEND_PROGRAM\n", ["show Main.A"]) == ["Main.A = 0"]
