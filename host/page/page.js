@@ -218,7 +218,7 @@ function plot() {
 async function search() {
   const only = $("only-forced").checked ? "forced" : $("hidden").checked ? "" : "plain";
   const found = await ask("list", {search: $("search").value, only, count: SHOWN});
-  $("found").textContent = found.count > SHOWN ? `${SHOWN} of ${found.count} variables: narrow the search` : `${found.count} variables`;
+  $("found").textContent = found.count > SHOWN ? `${SHOWN} of ${found.count} variables: narrow the search` : `${found.count} variable${found.count === 1 ? "" : "s"}`;
   rows = found.rows.map(([path, type, value, forced]) => {
     values.set(path, [value, forced]);
     const cell = el("td"), made = el("tr", {tabIndex: 0, onclick: () => openSheet(path)}, el("td", {}, path), el("td", {}, type), cell);

@@ -313,7 +313,10 @@ class Engine:
             await self._begin_again()
         elif verb == "undo" and self.story.text is not text:
             self._take_program(await self.layout(self.story.text, self.plant.main))
-        if verb == "undo" or (verb == "write" and self.inputs.by_hand(self.spelled.get(words[0].upper(), ""))):
+        path = self.spelled.get(words[0].upper(), "") if verb in ("write", "force", "release") else ""
+        if path:
+            await self._show([path])
+        if verb == "undo" or (verb == "write" and self.inputs.by_hand(path)):
             await self._read_hand_inputs()
         await self._read_status()
         self._soon()

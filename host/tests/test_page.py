@@ -62,7 +62,7 @@ class Page:
 def test_a_force_a_change_and_what_is_taken_back(make_host, browser) -> None:
     page = Page(browser, make_host(BLOCKS, FILE))
     page.keys("/", "band")
-    page.sees("#rows", "Main.Band")
+    wait_for(lambda: page.text("#rows").startswith("Main.Band"))
     page.press("#rows tr")
     page.sees("#sheet-path", "Main.Band")
     page.find("#sheet-input").send_keys("55")
