@@ -152,7 +152,7 @@ function card(point) {
     if (forced) marks.push(["forced", "forced"]);
     if (status.good?.[point.path] === false) marks.push(["bad", "bad: last value"]);
     if (driven !== undefined && driven !== now && status.state !== "running") marks.push(["bad", `for the fault; program: ${now}`]);
-    if (!point.device) marks.push(["", "set by hand"]);
+    if (!point.device && point.fault === null) marks.push(["", "set by hand"]);
     tags.replaceChildren(...marks.map(([kind, words]) => el("span", {className: `tag ${kind}`}, words)));
   };
   return box;
