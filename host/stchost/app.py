@@ -65,7 +65,8 @@ async def serve(plant: Plant, engine: Engine, loop: asyncio.AbstractEventLoop, e
         await server.start()
     while not engine.status and not ended.is_set():  # a long journal takes its time
         await asyncio.sleep(0.02)
-    print(f"{plant.name}: http://{plant.page.host}:{web.port}/" + (f", Modbus at port {server.port}" if server else ""), flush=True)
+    if engine.status:
+        print(f"{plant.name}: http://{plant.page.host}:{web.port}/" + (f", Modbus at port {server.port}" if server else ""), flush=True)
     await ended.wait()
     if server is not None:
         await server.close()

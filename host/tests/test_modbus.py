@@ -20,7 +20,7 @@ pytestmark = needs("aiohttp", "pymodbus", "serial_asyncio")
 PROGRAM = """PROGRAM Main
 VAR_INPUT Start : BOOL; Level : INT; Count : UDINT; Level_Ok : BOOL; END_VAR
 VAR_OUTPUT Motor : BOOL; Speed : INT; Total : DINT; END_VAR
-VAR Wanted : INT := 70; Big : DINT := -70000; Time : TIME := T#90s; Small : SINT := -5; Locked : INT; END_VAR
+VAR Wanted : INT := 70; Big : DINT := -70000; Age : TIME := T#90s; Small : SINT := -5; Locked : INT; END_VAR
 Motor := Start;
 Speed := Level + Wanted;
 Total := UDINT_TO_DINT(Count) + 1;
@@ -38,7 +38,7 @@ def mapped(path: str, table: str, address: int, more: str = "") -> str:
 
 MAPS = "".join([
     mapped("Start", "coil", 0), mapped("Motor", "discrete", 0), mapped("Speed", "input", 0), mapped("Big", "input", 1),
-    mapped("Wanted", "holding", 0), mapped("Big", "holding", 1), mapped("Time", "holding", 3, 'form = "UINT32"\nwords = "little"'),
+    mapped("Wanted", "holding", 0), mapped("Big", "holding", 1), mapped("Age", "holding", 3, 'form = "UINT32"\nwords = "little"'),
     mapped("Small", "holding", 5), mapped("Locked", "holding", 6)])
 
 
