@@ -12,7 +12,7 @@ from .journal import Base, Record
 from .session import Session
 
 Start = Callable[[str, str, int], Awaitable[Session]]
-BATCH = 500  # lines that are sent at one go
+BATCH = 2_000  # lines that are sent at one go
 
 
 class Differs(Exception):

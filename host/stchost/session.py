@@ -100,17 +100,19 @@ class Session:
     async def exchange(self, lines: Sequence[str]) -> list[str]:
         """Sends lines, each of which gets one reply, and gives the replies in order."""
         assert self.process.stdin is not None and self.process.stdout is not None
-        replies: list[str] = []
+        count, data = len(lines), bytearray()
         try:
             self.process.stdin.write(b"".join(encoded(line) + b"\n" for line in lines))
-            while len(replies) < len(lines):
-                reply = await asyncio.wait_for(self.process.stdout.readline(), PATIENCE)
-                if not reply.endswith(b"\n"):
-                    raise Gone("stc ended")
-                replies.append(decoded(reply[:-1]))
-        except (OSError, ValueError, asyncio.TimeoutError) as error:
+            async with asyncio.timeout(PATIENCE):
+                while count > 0:
+                    some = await self.process.stdout.read(1 << 16)
+                    if not some:
+                        raise Gone("stc ended")
+                    count -= some.count(b"\n")
+                    data += some
+        except (OSError, asyncio.TimeoutError) as error:
             raise Gone(f"stc gives no reply: {error}") from error
-        return replies
+        return decoded(bytes(data)).split("\n")[:-1]
 
     async def close(self) -> None:
         """Ends the session, and the process with it."""
