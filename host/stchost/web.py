@@ -27,6 +27,7 @@ LIST_LIMIT = 200  # leaves that one search gives
 FIRST_TIME = 15.0  # seconds in which a connection has to ask for something, and a client has to tell its token
 SEND_TIME = 10.0  # seconds in which a client has to take what it is sent
 PREVIEWS = 2  # that are worked out side by side
+SPARE = 100  # connections beside two for each client
 HEADERS = {
     "Content-Security-Policy": "default-src 'none'; script-src 'self'; style-src 'self'; img-src 'self' data:; "
                                "connect-src 'self'; base-uri 'none'; form-action 'none'; frame-ancestors 'none'",
@@ -62,7 +63,7 @@ class Web:
         self.port = 0
         self.previews: dict[str, Preview] = {}  # by the person's name: the one that may be done
         self._previewing = asyncio.Semaphore(PREVIEWS)
-        self._connections: set[asyncio.BaseProtocol] = set()
+        self._connections: dict[Any, float] = {}  # with when each was made
         app = web.Application(middlewares=[self._guard], client_max_size=TEXT_LIMIT + 1)
         app.router.add_get("/", self._file("index.html"))
         app.router.add_get("/page.css", self._file("page.css"))
@@ -88,14 +89,14 @@ class Web:
 
     def _protocol(self) -> asyncio.BaseProtocol:
         """A connection, if there aren't too many. One that asks for nothing in time is closed."""
-        self._connections = {made for made in self._connections if getattr(made, "transport", None) is not None}
-        if len(self._connections) >= 2 * self.file.clients + 16:
+        loop = asyncio.get_running_loop()
+        self._connections = {made: at for made, at in self._connections.items() if made.transport is not None or loop.time() < at + 1}
+        if len(self._connections) >= 2 * self.file.clients + SPARE:
             return Closed()
         assert self._runner.server is not None
         protocol = self._runner.server()
-        loop = asyncio.get_running_loop()
         loop.call_later(FIRST_TIME, self._close_idle, protocol)
-        loop.call_soon(self._connections.add, protocol)
+        self._connections[protocol] = loop.time()
         return protocol
 
     def _close_idle(self, protocol: Any) -> None:

@@ -35,6 +35,17 @@ def free_port() -> int:
         return made.getsockname()[1]
 
 
+def ended(made: socket.socket) -> bool:
+    """Whether the other end has closed a connection."""
+    made.setblocking(False)
+    try:
+        return made.recv(1) == b""
+    except BlockingIOError:
+        return False
+    except OSError:
+        return True
+
+
 def wait_for(what: Callable[[], Any], seconds: float = 45.0) -> Any:
     """What it gives once that is true."""
     end = time.monotonic() + seconds

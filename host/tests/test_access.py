@@ -12,7 +12,7 @@ import time
 
 import pytest
 
-from conftest import FILE, HOST, Client, Noise, needs, scans_went_on, with_client
+from conftest import FILE, HOST, Client, Noise, ended, needs, scans_went_on, wait_for, with_client
 from stchost import access
 from stchost import plant as plants
 from stchost.plant import PlantError, load
@@ -155,6 +155,15 @@ def test_floods_slow_readers_and_half_open_connections_delay_no_scan(make_host) 
         before, after, counts = asyncio.run(work())
     assert counts[-1] > 100, counts
     scans_went_on(before, after, noise)
+
+
+def test_connections_are_bounded_and_idle_ones_closed(make_host) -> None:
+    host = make_host(PROGRAM, FILE + "clients = 1\n")
+    made = [socket.create_connection(("127.0.0.1", host.port)) for _ in range(150)]
+    closed = lambda: sum(ended(one) for one in made)  # noqa: E731
+    assert 20 <= wait_for(lambda: closed() >= 20 and closed()) < 150
+    wait_for(lambda: closed() == 150)  # the others asked for nothing in time
+    assert asyncio.run(http(host, "GET", "/"))[0] == 200
 
 
 def test_sizes_and_numbers_are_bounded(make_host) -> None:

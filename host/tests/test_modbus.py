@@ -12,7 +12,7 @@ import time
 
 import pytest
 
-from conftest import Noise, free_port, needs, scans_went_on, wait_for, with_client
+from conftest import Noise, ended, free_port, needs, scans_went_on, wait_for, with_client
 from stchost.plant import Register
 from stchost.registers import pack, unpack
 
@@ -127,7 +127,7 @@ def test_bad_frames_half_open_and_slow_clients_delay_no_scan(make_host) -> None:
             answer = talk(struct.pack(">HHHBBHH", 1, 0, 6, 1, function, 0, 0xFFFF))
             assert answer == b"" or answer[7] & 0x80 or function in (5, 6), function
         held = [socket.create_connection(("127.0.0.1", host.modbus)) for _ in range(12)]  # half-open: eight of them above the limit
-        wait_for(lambda: sum(_closed(made) for made in held) == 12)
+        wait_for(lambda: sum(ended(made) for made in held) == 12)
         slow = socket.create_connection(("127.0.0.1", host.modbus))
         slow.setblocking(False)
         request, end = struct.pack(">HHHBBHH", 1, 0, 6, 1, 3, 0, 7) * 200, time.monotonic() + 2
@@ -140,16 +140,6 @@ def test_bad_frames_half_open_and_slow_clients_delay_no_scan(make_host) -> None:
                 break
         last = with_client(host, lambda client: client.until(lambda status: status["cycles"] > first["cycles"] + 50))
     scans_went_on(first, last, noise)
-
-
-def _closed(made: socket.socket) -> bool:
-    made.setblocking(False)
-    try:
-        return made.recv(1) == b""
-    except BlockingIOError:
-        return False
-    except OSError:
-        return True
 
 
 class Rack:
