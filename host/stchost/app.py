@@ -67,7 +67,12 @@ async def serve(plant: Plant, engine: Engine, loop: asyncio.AbstractEventLoop, e
         await asyncio.sleep(0.02)
     if engine.status:
         print(f"{plant.name}: http://{plant.page.host}:{web.port}/" + (f", Modbus at port {server.port}" if server else ""), flush=True)
-    await ended.wait()
+    state = "running"
+    while not ended.is_set():
+        if (now := engine.status.get("state", state)) != state:
+            print(f"{plant.name}: {now} {engine.status['fault']}{engine.status['trouble']}", file=sys.stderr, flush=True)
+            state = now
+        await asyncio.sleep(0.2)
     if server is not None:
         await server.close()
     await web.close()

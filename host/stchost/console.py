@@ -39,6 +39,7 @@ class Console:
         self.answers: asyncio.Queue[dict[str, Any]] = asyncio.Queue()
         self.watched: set[str] = set()
         self.failed = False
+        self.state = "running"
 
     async def listen(self) -> None:
         """Takes what the host sends: answers, and new values of what is watched."""
@@ -46,6 +47,10 @@ class Console:
             news = json.loads(message.data)
             if "id" in news:
                 self.answers.put_nowait(news)
+            status = news.get("status") or {}
+            if (state := status.get("state", self.state)) != self.state:
+                print(f"the program is {state} {status['fault']}{status['trouble']}", flush=True)
+                self.state = state
             for path, (text, forced) in news.get("values", {}).items():
                 if path in self.watched:
                     print(f"{path} = {text}" + " forced" * forced, flush=True)

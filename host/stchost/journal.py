@@ -11,6 +11,7 @@ import asyncio
 import json
 import os
 import re
+import threading
 import time
 import zlib
 from collections.abc import Iterator
@@ -276,6 +277,10 @@ class Journal:
         self._sizes[self._number] = self._size
 
     def _next_piece(self) -> None:
+        if self._file >= 0 and self.sync == "second":  # nobody waits for the disk
+            threading.Thread(target=_flush, args=(os.dup(self._file),)).start()
+            os.close(self._file)
+            self._file = -1
         self.close()
         self._number = max(self._sizes, default=0) + 1
         self._file = os.open(self._path(self._number), os.O_WRONLY | os.O_CREAT | os.O_EXCL | os.O_APPEND, 0o600)

@@ -14,7 +14,7 @@ from pymodbus.factory import ServerDecoder
 from pymodbus.pdu import ExceptionResponse, ModbusResponse
 
 from .bridge import Bridge
-from .engine import Busy
+from .engine import Busy, Value
 from .plant import Mapped, ServerFile
 from .registers import pack, size_of, unpack
 from .session import Unfit
@@ -22,6 +22,7 @@ from .values import fits, to_number, to_text
 
 FUNCTION, ADDRESS, VALUE, FAILURE, BUSY = 1, 2, 3, 4, 6  # the exceptions of Modbus
 CODES = {"O1": ADDRESS, "O2": ADDRESS, "O3": VALUE}
+RUNNING = "$running"  # in place of a path: whether the program runs
 FRAME_TIME = 5.0  # seconds in which a frame that has begun is to end, and in which an answer is to be taken
 READ = {1: bits.ReadCoilsResponse, 2: bits.ReadDiscreteInputsResponse, 3: words.ReadHoldingRegistersResponse, 4: words.ReadInputRegistersResponse}
 WRITTEN = {5: bit_writes.WriteSingleCoilResponse, 15: bit_writes.WriteMultipleCoilsResponse,
@@ -118,7 +119,7 @@ class ModbusServer:
         return size_of(item, self._type(item))
 
     def _type(self, item: Mapped) -> str:
-        type_name = self.bridge.engine.types.get(item.path)
+        type_name = "BOOL" if item.path == RUNNING else self.bridge.engine.types.get(item.path)
         if type_name is None:
             raise Refused(ADDRESS)
         return type_name
@@ -140,7 +141,10 @@ class ModbusServer:
         """What the variables have behind the last scan, as it lies in coils or registers."""
         words: list[int] = []
         for item in items:
-            value = self.bridge.engine.values.get(item.path)
+            engine = self.bridge.engine
+            value = engine.values.get(item.path)
+            if item.path == RUNNING:
+                value = Value("TRUE" if engine.status.get("state") == "running" else "FALSE", False)
             if value is None:
                 raise Refused(FAILURE)
             words += pack(item, self._type(item), to_number(self._type(item), value.text))

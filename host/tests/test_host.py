@@ -35,6 +35,7 @@ def test_a_fault_halts_and_the_host_goes_on_serving(make_host) -> None:
         cycles = status["cycles"]
         await client.until(lambda status: status["cycles"] > cycles + 5)
         assert (await client.line("status")).startswith("halted F2 Main line 20")
+        assert "the program is halted F2 Main line 20" in await asyncio.to_thread(host.console, "show Main.Z")
         assert await client.line("show Main.Z") == "Main.Z = 0"
         assert await client.line("reset") == "ok"
         status = await client.until(lambda status: status["state"] == "running")

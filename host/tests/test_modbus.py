@@ -37,7 +37,7 @@ def mapped(path: str, table: str, address: int, more: str = "") -> str:
 
 
 MAPS = "".join([
-    mapped("Start", "coil", 0), mapped("Motor", "discrete", 0), mapped("Speed", "input", 0), mapped("Big", "input", 1),
+    mapped("Start", "coil", 0), mapped("$running", "discrete", 8).replace("Main.", ""), mapped("Motor", "discrete", 0), mapped("Speed", "input", 0), mapped("Big", "input", 1),
     mapped("Wanted", "holding", 0), mapped("Big", "holding", 1), mapped("Age", "holding", 3, 'form = "UINT32"\nwords = "little"'),
     mapped("Small", "holding", 5), mapped("Locked", "holding", 6)])
 
@@ -82,6 +82,9 @@ def test_pymodbus_reads_and_writes_what_is_mapped(make_host) -> None:
                          (client.read_holding_registers(5, 9), 2), (client.read_coils(3, 1), 2), (client.mask_write_register(0, 1, 1), 1)]:
         assert answer.isError() and answer.exception_code == code
     assert "modbus 127.0.0.1: write Main.Locked 4: refused O4" in host.console("log")
+    assert client.read_discrete_inputs(8, 1).bits[0]
+    host.console("hold")
+    wait_for(lambda: not client.read_discrete_inputs(8, 1).bits[0])
     client.close()
 
 
