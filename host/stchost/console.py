@@ -49,7 +49,7 @@ class Console:
                 self.answers.put_nowait(news)
             status = news.get("status") or {}
             if (state := status.get("state", self.state)) != self.state:
-                print(f"the program is {state} {status['fault']}{status['trouble']}", flush=True)
+                print(f"the program is {state} {status['fault']}{status['trouble']}", file=sys.stderr)
                 self.state = state
             for path, (text, forced) in news.get("values", {}).items():
                 if path in self.watched:
