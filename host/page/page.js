@@ -114,7 +114,7 @@ function tellBanner() {
   const key = status.state + status.fault + status.trouble + text.length;
   if (box.key === key) return;
   box.key = key; box.replaceChildren();
-  if (status.state === "halted") box.append(`${status.why} The program is halted in ${unit}, line ${at}. Outputs have their values for a fault, until a reset. `,
+  if (status.state === "halted") box.append(`${status.why.replaceAll("`", "")} The program is halted in ${unit}, line ${at}. Outputs have their values for a fault, until a reset. `,
     el("button", {onclick: () => { show("program"); $("program").children[at - 1]?.scrollIntoView({block: "center"}); }}, "Show the line"),
     el("code", {}, (text[at - 1] || "").trim()));
   else if (status.state === "held") box.append("Scans are held. Outputs stay as they are, and what is done now can be undone.");
