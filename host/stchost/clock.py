@@ -1,0 +1,98 @@
+"""The clock of scans: places of equal distance on the monotonic clock, and what is told of how late they were."""
+
+from __future__ import annotations
+
+import asyncio
+import time
+from dataclasses import dataclass
+from typing import Protocol
+
+
+class Clock(Protocol):
+    """What tells the time, in seconds, and waits."""
+
+    def now(self) -> float: ...
+
+    async def wait(self, event: asyncio.Event, until: float) -> None:
+        """Returns once the event is set, or at the moment `until`."""
+
+
+class Monotonic:
+    """The machine's monotonic clock."""
+
+    def now(self) -> float:
+        return time.monotonic()
+
+    async def wait(self, event: asyncio.Event, until: float) -> None:
+        left = until - time.monotonic()
+        if left > 0 and not event.is_set():
+            loop = asyncio.get_running_loop()
+            alarm = loop.call_later(left, event.set)
+            await event.wait()
+            alarm.cancel()
+        else:
+            await asyncio.sleep(0)  # whoever else waits for the loop has a turn
+
+
+@dataclass
+class Figures:
+    """What is told of the cycles that were, in milliseconds."""
+
+    cycles: int = 0
+    late: int = 0  # began late by a millisecond and by a tenth of the cycle
+    overruns: int = 0  # weren't over when the next one was due
+    skipped: int = 0  # places that had no cycle
+    lateness_sum: float = 0.0
+    lateness_worst: float = 0.0
+    work_sum: float = 0.0
+    work_worst: float = 0.0
+
+    def told(self) -> dict[str, float]:
+        count = max(1, self.cycles)
+        return {
+            "cycles": self.cycles, "late": self.late, "overruns": self.overruns, "skipped": self.skipped,
+            "lateness_mean": round(self.lateness_sum / count, 3), "lateness_worst": round(self.lateness_worst, 3),
+            "work_mean": round(self.work_sum / count, 3), "work_worst": round(self.work_worst, 3),
+        }
+
+
+class Cycle:
+    """Cycles of `period` ms. The n-th has its place n periods behind the start, however late the ones before it came."""
+
+    def __init__(self, clock: Clock, period: int, first: int = 0) -> None:
+        self.clock = clock
+        self.period = period / 1000
+        self.figures = Figures()
+        self.moment = first  # the newest one that was given
+        self._start = self._began = clock.now()
+        self._first = first
+        self._number = 0
+
+    def place(self) -> float:
+        """When the cycle is due."""
+        return self._start + self._number * self.period
+
+    def begin(self) -> int:
+        """Begins the cycle that is due, or the newest one where several are. Its moment is the time since the start in ms, and
+        never before the last one."""
+        self._began = self.clock.now()
+        figures = self.figures
+        passed = max(0, int((self._began - self.place()) / self.period))
+        self._number += passed
+        late = max(0.0, self._began - self.place()) * 1000
+        figures.cycles += 1
+        figures.skipped += passed
+        figures.lateness_sum += late
+        figures.lateness_worst = max(figures.lateness_worst, late)
+        figures.late += late >= max(1.0, self.period * 100)
+        self.moment = max(self.moment, self._first + int((self._began - self._start) * 1000 + 0.001))
+        return self.moment
+
+    def end(self) -> None:
+        """Ends the cycle."""
+        now = self.clock.now()
+        figures = self.figures
+        figures.work_sum += (now - self._began) * 1000
+        figures.work_worst = max(figures.work_worst, (now - self._began) * 1000)
+        self._number += 1
+        figures.overruns += now > self.place()

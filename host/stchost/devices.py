@@ -1,0 +1,153 @@
+"""What stands at the other end of process inputs and outputs, and the simulated plants among it."""
+
+from __future__ import annotations
+
+import asyncio
+import math
+import time
+from collections.abc import Callable, Sequence
+from typing import Protocol
+
+from .plant import DeviceFile, Plant, PlantError, Point
+
+
+class Device(Protocol):
+    """A device gives the numbers of inputs and takes those of outputs, by their paths."""
+
+    async def read(self) -> dict[str, int]: ...
+
+    async def write(self, numbers: dict[str, int]) -> None: ...
+
+    async def close(self) -> None: ...
+
+
+class Link:
+    """A device that is waited for no longer than its share of a cycle."""
+
+    def __init__(self, name: str, device: Device, share: float) -> None:
+        self.name, self.device, self.share = name, device, share
+        self.good = False
+        self.trouble = "nothing was read yet"
+        self._reading: asyncio.Task[dict[str, int]] | None = None
+        self._writing: asyncio.Task[None] | None = None
+        self.behind = 0  # how often the device was too slow for its share
+        self._left = share  # of this cycle
+
+    async def poll(self) -> dict[str, int]:
+        """What the device gives within its share; nothing where it doesn't, and then it isn't good."""
+        self._left = self.share
+        if self._reading is None:
+            self._reading = asyncio.create_task(self.device.read())
+        if not await self._waited(self._reading, "it gives no values in its share of the cycle"):
+            return {}
+        task, self._reading = self._reading, None
+        return task.result() if self._went_well(task) else {}
+
+    async def push(self, numbers: dict[str, int]) -> None:
+        """Gives the device these numbers, unless it is still busy with those before."""
+        if self._writing is None:
+            self._writing = asyncio.create_task(self.device.write(numbers))
+        if await self._waited(self._writing, "it takes no values in its share of the cycle"):
+            task, self._writing = self._writing, None
+            self._went_well(task)
+
+    async def end(self, numbers: dict[str, int]) -> None:
+        """Gives the device its last numbers, behind those that are on their way, and closes it."""
+        if self._writing is not None:
+            await asyncio.wait({self._writing}, timeout=2)
+        try:
+            await asyncio.wait_for(self.device.write(numbers), 2)
+        except Exception as error:  # whatever a device does, the others get theirs
+            self.trouble = str(error)
+        if self._reading is not None:
+            self._reading.cancel()
+        await self.device.close()
+
+    async def _waited(self, task: asyncio.Task, trouble: str) -> bool:
+        if not task.done():
+            began = time.monotonic()
+            await asyncio.wait({task}, timeout=max(0.0, self._left))
+            self._left -= time.monotonic() - began
+        if not task.done():
+            self.good, self.trouble = False, trouble
+            self.behind += 1
+        return task.done()
+
+    def _went_well(self, task: asyncio.Task) -> bool:
+        error = asyncio.CancelledError() if task.cancelled() else task.exception()
+        self.good = error is None
+        self.trouble = "" if error is None else f"{type(error).__name__}: {error}"
+        return self.good
+
+
+class Tank:
+    """A tank of 1,000 mm with a pump and a drain whose flow rises and falls. `level` is measured; `pump` and the lamp `alarm` are switched."""
+
+    inputs, outputs = ("level",), ("pump", "alarm")
+
+    def __init__(self) -> None:
+        self.level, self.age = 500.0, 0.0
+
+    def step(self, seconds: float, outputs: dict[str, int]) -> dict[str, int]:
+        self.age += seconds
+        flow = 22.0 + 10.0 * math.sin(self.age / 9)
+        self.level += seconds * ((60.0 if outputs.get("pump") else 0.0) - flow)
+        self.level = min(1000.0, max(0.0, self.level))
+        return {"level": round(self.level)}
+
+
+class Conveyor:
+    """A belt with a part each 1.5 s before a light barrier. `barrier` is measured; `belt`, `pusher`, `fan` and `alarm` are switched."""
+
+    inputs, outputs = ("barrier",), ("belt", "pusher", "fan", "alarm")
+
+    def __init__(self) -> None:
+        self.way = 0.0
+
+    def step(self, seconds: float, outputs: dict[str, int]) -> dict[str, int]:
+        self.way += seconds if outputs.get("belt") else 0.0
+        return {"barrier": int(self.way % 1.5 > 1.2)}
+
+
+MODELS: dict[str, type[Tank] | type[Conveyor]] = {"tank": Tank, "conveyor": Conveyor}
+
+
+class Simulation:
+    """A simulated plant: it goes on by the clock, and sees the outputs that it was given last."""
+
+    def __init__(self, file: DeviceFile, inputs: Sequence[Point], outputs: Sequence[Point], now: Callable[[], float]) -> None:
+        self.model = MODELS[file.model]()
+        for points, names in ((inputs, self.model.inputs), (outputs, self.model.outputs)):
+            for point in points:
+                if point.name not in names:
+                    raise PlantError(f"{point.path}: the model {file.model} has here {', '.join(names)}")
+        self.inputs, self.outputs = inputs, outputs
+        self.now, self.then = now, now()
+        self.given: dict[str, int] = {}
+
+    async def read(self) -> dict[str, int]:
+        now = self.now()
+        shown = self.model.step(min(1.0, now - self.then), self.given)
+        self.then = now
+        return {point.path: shown[point.name] for point in self.inputs}
+
+    async def write(self, numbers: dict[str, int]) -> None:
+        self.given = {point.name: numbers[point.path] for point in self.outputs if point.path in numbers}
+
+    async def close(self) -> None:
+        pass
+
+
+def links(plant: Plant, types: dict[str, str], now: Callable[[], float]) -> list[Link]:
+    """The devices of a plant. `types` has the type of each variable that is connected, by its path."""
+    from .modbus_client import Remote  # only here: a plant without such a device needs no pymodbus
+
+    made = []
+    for file in plant.device:
+        inputs = [point for point in plant.input if point.device == file.name]
+        outputs = [point for point in plant.output if point.device == file.name]
+        device: Device = Remote(file, inputs, outputs, types)
+        if file.kind == "simulation":
+            device = Simulation(file, inputs, outputs, now)
+        made.append(Link(file.name, device, file.share / 100 * plant.cycle / 1000))
+    return made

@@ -1,0 +1,66 @@
+"""The process inputs: the newest number of each, whether it is good, and what a scan's line gives the program of it."""
+
+from __future__ import annotations
+
+from collections.abc import Sequence
+
+from .plant import Point
+from .session import encoded
+from .values import fits, to_text
+
+LINE_LIMIT = 4_096
+
+
+class Inputs:
+    """Inputs with a device follow it. Those without one keep what an operator or a Modbus client gave them."""
+
+    def __init__(self, points: Sequence[Point], types: dict[str, str]) -> None:
+        self.points = {point.path: point for point in points}
+        self.types = types
+        self.numbers: dict[str, int] = {}
+        self.good: dict[str, bool] = {point.path: point.device is None for point in points}
+        self._given: dict[str, str] = {}
+
+    def by_hand(self, path: str) -> bool:
+        """Whether this is an input that people set."""
+        return path in self.points and self.points[path].device is None
+
+    def take(self, path: str, number: int) -> bool:
+        """A new number. One that the variable's type doesn't have isn't taken: the last one stays, and isn't good."""
+        self.good[path] = fits(self.types[path], number)
+        if self.good[path]:
+            self.numbers[path] = number
+        return self.good[path]
+
+    def poll(self, device: str, numbers: dict[str, int]) -> None:
+        """What a device gave; the inputs that it didn't give aren't good."""
+        for point in self.points.values():
+            if point.device == device:
+                if point.path in numbers:
+                    self.take(point.path, numbers[point.path])
+                else:
+                    self.good[point.path] = False
+
+    def forget(self) -> None:
+        """Something else than a scan may have changed the inputs of the program: the next scan gives all of them."""
+        self._given.clear()
+
+    def lines(self, moment: int) -> tuple[list[str], dict[str, str]]:
+        """The scan of a moment, behind writes of what has no room in its line; and what the program has then been given."""
+        wanted = {path: to_text(self.types[path], number) for path, number in self.numbers.items()}
+        for path, point in self.points.items():
+            if point.quality is not None:
+                wanted[point.quality] = "TRUE" if self.good[path] else "FALSE"
+        changed = {path: text for path, text in wanted.items() if self._given.get(path) != text}
+        words, writes, room = [f"scan {moment}"], [], LINE_LIMIT - 32
+        for path, text in changed.items():
+            room -= len(encoded(path)) + len(text) + 3
+            if room >= 0:
+                words.append(f"{path}:={text}")
+            else:
+                writes.append(f"write {path} {text}")
+        return [*writes, " ".join(words)], changed
+
+    def given(self, changed: dict[str, str]) -> None:
+        """The scan was accepted."""
+        self._given.update(changed)

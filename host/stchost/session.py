@@ -1,0 +1,153 @@
+"""The program `stc`: how it is found, one session with it, and what it says of a text."""
+
+from __future__ import annotations
+
+import asyncio
+import os
+import tempfile
+from collections.abc import Sequence
+from dataclasses import dataclass
+from pathlib import Path
+
+ROOT = Path(__file__).resolve().parents[2]
+PATIENCE = 120.0  # seconds in which a reply has to come
+TEXT_LIMIT = 1_048_576
+
+
+def program() -> str:
+    """The program's file: what STC names, or the repository's own `stc`."""
+    return os.environ.get("STC") or str(ROOT / "stc")
+
+
+def encoded(text: str) -> bytes:
+    return text.encode("utf-8", "surrogateescape")
+
+
+def decoded(data: bytes) -> str:
+    return data.decode("utf-8", "surrogateescape")
+
+
+class Gone(Exception):
+    """The program ended, or gave no reply in time. The text is what it wrote on standard error."""
+
+
+class Unfit(Exception):
+    """The host doesn't send this line, and why."""
+
+
+@dataclass(frozen=True)
+class Leaf:
+    path: str
+    type: str
+
+    @property
+    def hidden(self) -> bool:
+        """Whether a block or a chart keeps it for itself: no operator sets it."""
+        return "$" in self.path
+
+
+def words_of(line: str) -> list[str]:
+    """The words of a line, as `stc` cuts it."""
+    return [word for word in line.replace("\t", " ").split(" ") if word]
+
+
+def checked(line: str) -> str:
+    """A line that gets exactly one reply. A change has its text and `end_change` behind line feeds. Unfit for any other."""
+    first, *rest = line.split("\n")
+    words = words_of(first)
+    if "\0" in line or "\r" in first or not words:
+        raise Unfit("a line has words, and no control characters")
+    if len(encoded(first)) > 4_096:
+        raise Unfit("a line has at most 4,096 bytes")
+    if words[0] != "change":
+        if rest:
+            raise Unfit("a line ends where it ends")
+    elif not all("=" in word for word in words[1:]):
+        raise Unfit("each word behind `change` is OLD=NEW")
+    elif not rest or rest[-1] != "end_change" or any(words_of(text.rstrip("\r")) == ["end_change"] for text in rest[:-1]):
+        raise Unfit("the text of a change has no line `end_change`")
+    return line
+
+
+class Session:
+    """One process `stc run`, which a single writer speaks to."""
+
+    def __init__(self, process: asyncio.subprocess.Process) -> None:
+        self.process = process
+        self.said = b""  # the end of standard error
+        self._drain = asyncio.create_task(self._read_errors())
+
+    @classmethod
+    async def start(cls, text: str, main: str, steps: int) -> Session:
+        """Loads a text. Gone where it is refused."""
+        with tempfile.NamedTemporaryFile(prefix="stc-host-", suffix=".st") as file:
+            file.write(encoded(text))
+            file.flush()
+            process = await asyncio.create_subprocess_exec(
+                program(), "run", file.name, "--program", main, "--steps", str(steps), limit=1 << 20,
+                stdin=asyncio.subprocess.PIPE, stdout=asyncio.subprocess.PIPE, stderr=asyncio.subprocess.PIPE)
+            session = cls(process)
+            try:
+                reply = (await session.exchange(["status"]))[0]
+            except BaseException:
+                await session.close()
+                raise
+        if reply.startswith("refused"):
+            await session.close()
+            raise Gone(reply + "\n" + decoded(session.said).replace(file.name, "program"))
+        return session
+
+    async def exchange(self, lines: Sequence[str]) -> list[str]:
+        """Sends lines, each of which gets one reply, and gives the replies in order."""
+        assert self.process.stdin is not None and self.process.stdout is not None
+        count, data = len(lines), bytearray()
+        try:
+            self.process.stdin.write(b"".join(encoded(line) + b"\n" for line in lines))
+            async with asyncio.timeout(PATIENCE):
+                while count > 0:
+                    some = await self.process.stdout.read(1 << 16)
+                    if not some:
+                        raise Gone("stc ended")
+                    count -= some.count(b"\n")
+                    data += some
+        except (OSError, asyncio.TimeoutError) as error:
+            raise Gone(f"stc gives no reply: {error}") from error
+        return decoded(bytes(data)).split("\n")[:-1]
+
+    async def close(self) -> None:
+        """Ends the session, and the process with it."""
+        if self.process.returncode is None:
+            assert self.process.stdin is not None
+            self.process.stdin.close()
+            try:
+                await asyncio.wait_for(self.process.wait(), 2)
+            except asyncio.TimeoutError:
+                self.process.kill()
+                await self.process.wait()
+        await self._drain
+
+    async def _read_errors(self) -> None:
+        assert self.process.stderr is not None
+        while data := await self.process.stderr.read(65_536):
+            self.said = (self.said + data)[-4_096:]
+
+
+async def ask(verb: str, text: str, main: str) -> tuple[str, str]:
+    """What `stc check` or `stc layout` writes of a text on standard output, and what it says for people."""
+    with tempfile.NamedTemporaryFile(prefix="stc-host-", suffix=".st") as file:
+        file.write(encoded(text))
+        file.flush()
+        process = await asyncio.create_subprocess_exec(
+            program(), verb, file.name, "--program", main, stdin=asyncio.subprocess.DEVNULL,
+            stdout=asyncio.subprocess.PIPE, stderr=asyncio.subprocess.PIPE)
+        answer, said = await asyncio.wait_for(process.communicate(), PATIENCE)
+    return decoded(answer), decoded(said).replace(file.name, "program")
+
+
+async def layout_of(text: str, main: str) -> list[Leaf]:
+    """The leaves of a text, in order. Gone where it is refused."""
+    answer, said = await ask("layout", text, main)
+    if answer.startswith("refused"):
+        raise Gone(answer + said)
+    rows = (line.split(" ", 3) for line in answer.splitlines())
+    return [Leaf(row[3], row[2]) for row in rows]

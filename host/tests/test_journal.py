@@ -1,0 +1,95 @@
+"""The journal as a file: torn and damaged records, pieces, and how far back it reaches."""
+
+from __future__ import annotations
+
+import shutil
+from pathlib import Path
+
+import pytest
+
+from stchost import journal
+from stchost.journal import Base, Damaged, Journal, read
+from stchost.values import to_number, to_text
+
+BASE = Base("PROGRAM Main\nEND_PROGRAM\n", "Main", 1_000, 0, (("Main.A", "5"),), 1, 0)
+
+
+def write(folder: Path, piece: int = 1 << 20, count: int = 5, limit: int = 1 << 30) -> Journal:
+    made = Journal(folder, piece, limit, "never")
+    made.load(BASE)
+    for moment in range(count):
+        made.scan(f"scan {moment}", "ok")
+        made.operation("anna", f"change\nA\t\\{moment}\nend_change", "ok kept 1 dropped 0 new 0")
+    return made
+
+
+def test_records_come_back_as_they_were_written(tmp_path: Path) -> None:
+    write(tmp_path).close()
+    records = list(read(tmp_path))
+    assert records[0].base == BASE
+    assert records[1].fields == ("scan 0", "ok")
+    assert records[2].fields[0] == "1" and records[2].fields[2:] == ("anna", "change\nA\t\\0\nend_change", "ok kept 1 dropped 0 new 0")
+
+
+def test_a_cut_in_the_last_records_drops_what_is_torn_and_no_more(tmp_path: Path) -> None:
+    write(tmp_path / "whole").close()
+    records = list(read(tmp_path / "whole"))
+    data = (tmp_path / "whole" / "00000001.journal").read_bytes()
+    ends = [place + 1 for place, byte in enumerate(data) if byte == 10]
+    for cut in range(ends[-4], len(data) + 1):
+        folder = tmp_path / "cut"
+        shutil.rmtree(folder, ignore_errors=True)
+        folder.mkdir()
+        (folder / "00000001.journal").write_bytes(data[:cut])
+        whole = sum(end <= cut for end in ends)
+        assert list(read(folder)) == records[:whole]
+        again = Journal(folder, 1 << 20, 1 << 30, "never")
+        again.resume()
+        again.scan("scan 99", "ok")
+        again.close()
+        assert [*read(folder)] == [*records[:whole], journal.Record("S", ("scan 99", "ok"))]
+
+
+def test_each_damaged_byte_is_found_with_its_place(tmp_path: Path) -> None:
+    write(tmp_path, count=2).close()
+    path = tmp_path / "00000001.journal"
+    data = path.read_bytes()
+    for place in range(len(data) - 1):
+        if data[place] != 10:
+            path.write_bytes(data[:place] + bytes([data[place] ^ 1]) + data[place + 1:])
+            number = data[:place].count(b"\n") + 1
+            with pytest.raises(Damaged, match=f"00000001.journal: record {number}, from byte {data.rfind(10, 0, place) + 1} on"):
+                list(read(tmp_path))
+
+
+@pytest.mark.parametrize("loss", ["a record", "a piece", "the end of a piece"])
+def test_what_is_missing_is_found(tmp_path: Path, loss: str) -> None:
+    write(tmp_path, piece=200, count=20).close()
+    paths = [path for _, path in journal.pieces(tmp_path)]
+    assert len(paths) > 4 and len(list(read(tmp_path))) > 41
+    lines = paths[2].read_bytes().splitlines(keepends=True)
+    if loss == "a piece":
+        paths[2].unlink()
+    else:
+        paths[2].write_bytes(b"".join(lines[:1] + lines[2:] if loss == "a record" else lines[:-1]))
+    with pytest.raises(Damaged):
+        list(read(tmp_path))
+
+
+def test_at_its_limit_it_drops_the_oldest_pieces_and_says_how_far_it_reaches(tmp_path: Path) -> None:
+    made = write(tmp_path, piece=4_096, count=400, limit=16_384)
+    told = made.told()
+    assert told["bytes"] <= 16_384 and told["reaches"] is False and journal.bases(tmp_path) == []
+    made.load(BASE)
+    assert made.told()["reaches"] is True
+    made.close()
+
+
+def test_values_as_lines_have_them() -> None:
+    for type_name, text, number in [("BOOL", "TRUE", 1), ("INT", "-32768", -32768), ("WORD", "16#FF", 255), ("TIME", "T#-90000ms", -90000),
+                                    ("UDINT", "4294967295", 4294967295), ("LINT", "-9223372036854775808", -(1 << 63))]:
+        assert to_number(type_name, text) == number
+        assert to_number(type_name, to_text(type_name, number)) == number
+    for type_name, text in [("INT", "32768"), ("BOOL", "2"), ("TIME", "5"), ("UINT", "-1"), ("INT", "x")]:
+        with pytest.raises(ValueError):
+            to_number(type_name, text)
