@@ -1,9 +1,12 @@
 //! What online changes save, and the ranges of their plans, over each kind of memory.
+ghost use Rattle.std.specs.Prelude.{◌<◌, length};
+ghost use Rattle.st_layout.specs.Layout.{IsValueAt};
+
 use st_control::check_program;
 use st_layout::{Layout, Plan};
 use st_listing::OfProgram;
 use st_memory::{Cells, Memory, Packed, Saved};
-use st_values::wrap;
+use st_values::{Value, wrap};
 use std::alloc::Global;
 use std::test::Fail;
 
@@ -43,6 +46,14 @@ fn layout_of(alloc: Global, text: &[u8]) -> Result<Layout, Fail> {
     Ok(Layout::of(alloc, &program)?)
 }
 
+/// A number as a value of a leaf's type.
+fn value_of(layout: &Layout, leaf: u32, number: i128) -> Value
+    requires { leaf < length layout.now }
+    ensures { IsValueAt layout.now leaf result }
+{
+    wrap(layout.at(leaf).elem, number)
+}
+
 /// What a change saves of a program of which one leaf has this number, and may be forced.
 fn saved<M: Memory>(
     alloc: Global,
@@ -56,7 +67,7 @@ fn saved<M: Memory>(
     let plan = Plan::between(alloc, &old, &new, &[])?;
     let mut memory = M::fresh(alloc, &old)?;
     if let Some(leaf) = old.leaf(leaf) {
-        let value = wrap(old.at(leaf).elem, number);
+        let value = value_of(&old, leaf, number);
         memory.set(&old, leaf, value);
         memory.mark(&old, leaf, forced);
     }

@@ -122,35 +122,46 @@ const STATUS: &[u8] = b"running 0 forces 0 undo 0\n";
 
 /// At most 4,096 bytes stand before a line feed, and a carriage return directly before it is one of them.
 fn long_lines(cases: &mut Counter<'_>) -> io::Result<()> {
+    let refused = b"refused O11\n";
+    long_line(cases, "the longest line", 4090, b"\nstatus\n", STATUS)?;
+    long_line(
+        cases,
+        "a line that is too long",
+        4091,
+        b"\nstatus\n",
+        refused,
+    )?;
+    long_line(
+        cases,
+        "the longest line that ends in CR and LF",
+        4089,
+        b"\r\nstatus\n",
+        STATUS,
+    )?;
+    long_line(
+        cases,
+        "a line that is too long and ends in CR and LF",
+        4090,
+        b"\r\nstatus\n",
+        refused,
+    )
+}
+
+/// A session of `status` with so many blanks behind it, and of what stands behind these, with the first reply.
+fn long_line(
+    cases: &mut Counter<'_>,
+    name: &str,
+    blanks: usize,
+    end: &[u8],
+    first: &[u8],
+) -> io::Result<()> {
     let alloc = cases.alloc();
-    let lengths: [(&str, usize, &[u8], &[u8]); 4] = [
-        ("the longest line", 4090, b"\nstatus\n", STATUS),
-        (
-            "a line that is too long",
-            4091,
-            b"\nstatus\n",
-            b"refused O11\n",
-        ),
-        (
-            "the longest line that ends in CR and LF",
-            4089,
-            b"\r\nstatus\n",
-            STATUS,
-        ),
-        (
-            "a line that is too long and ends in CR and LF",
-            4090,
-            b"\r\nstatus\n",
-            b"refused O11\n",
-        ),
-    ];
-    for (name, blanks, end, first) in lengths {
-        let padding = repeated(alloc, b" ", blanks)?;
-        let lines = joined(alloc, &[b"status", &padding, end])?;
-        let wanted = joined(alloc, &[first, STATUS])?;
-        cases.session(name, FIRST, &lines, &wanted)?;
-    }
-    Ok(())
+    let padding = repeated(alloc, b" ", blanks)?;
+    let lines = joined(alloc, &[b"status", &padding, end]);
+    let lines = lines?;
+    let wanted = joined(alloc, &[first, STATUS]);
+    let wanted = wanted?;
+    cases.session(name, FIRST, &lines, &wanted)
 }
 
 /// The last line may lack its line feed. A carriage return is then a byte as others are.
