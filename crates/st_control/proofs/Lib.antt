@@ -7,6 +7,8 @@ pub mod Inputs
 pub mod Names
 pub mod OnePath
 pub mod Open
+pub mod Pulses
+pub mod PulsesIn
 pub mod RaisedRenames
 pub mod Records
 pub mod RefusedPairs

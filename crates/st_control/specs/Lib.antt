@@ -5,6 +5,7 @@ pub mod Controllers
 pub mod Laws
 pub mod Loads
 pub mod Machine
+pub mod Pulses
 pub mod ScanLaws
 pub mod Scans
 pub mod States

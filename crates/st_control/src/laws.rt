@@ -1,6 +1,7 @@
 //! What holds of all lists of commands, and of all scans and resets.
 ghost use Rattle.st_control.specs.ChangeRefusals.{NoPairsByPath, RefusedForCharts, RefusedForPairs, StopsByPath};
 ghost use Rattle.st_control.specs.ScanLaws.{ResetsGiveInitialValues, ResetsKeepWhole, ResetsStartAnew, ScansKeepTheFrame, ScansKeepWhole, ScansStartAnew};
+ghost use Rattle.st_control.specs.Pulses.{PulsesNameTheirSteps};
 ghost use Rattle.st_control.specs.Laws.{ChangesByPath, GoesThroughStates, IsGivenBack, LoadStays, RecordFits, RecordUndoesCommand, StepsKeepWhole};
 
 /// Whatever commands are given, as many undos that are accepted as commands were give back the states before, in order, and the
@@ -16,6 +17,12 @@ pub fn undos_give_back_states()
 /// change carries values and forces from path to path.
 pub fn command_changes_by_path()
     ensures { ChangesByPath }
+{}
+
+/// The leaf that tells whether a step has given its pulses names two others: by their paths these are the flag of this very step, and
+/// the one that tells whether its chart has begun. An online change that gives a running step its first pulse asks for these two.
+pub fn pulses_name_their_steps()
+    ensures { PulsesNameTheirSteps }
 {}
 
 /// When an online change is refused for its pairs (O13) and for its charts (O8), by the paths of leaves. For its pairs: the renames name

@@ -17,9 +17,9 @@ pub use check::{check_program, texts_give_one_list};
 pub use controller::{Controller, MAX_RECORDS, Report};
 pub use image::load_image;
 pub use laws::{
-    changes_are_refused_by_path, command_changes_by_path, record_undoes_command,
-    resets_give_initial_values, scans_keep_the_frame, steps_keep_states_whole,
-    undos_give_back_states,
+    changes_are_refused_by_path, command_changes_by_path, pulses_name_their_steps,
+    record_undoes_command, resets_give_initial_values, scans_keep_the_frame,
+    steps_keep_states_whole, undos_give_back_states,
 };
 pub use record::Record;
 pub use refusal::{

@@ -1,5 +1,5 @@
 //! From the words of the command line, over the source file and standard input and output, to the status of the process.
-ghost use Rattle.std.specs.Prelude.{◌≡◌, ◌≢◌, ◌⊎◌, ◌↔◌, ◌||◌, ◌+◌, ◌<◌, ◌^◌, List, [], false, true, IfOk, IfSome, IsTrue, codes, length, map, take};
+ghost use Rattle.std.specs.Prelude.{◌≡◌, ◌≢◌, ◌⊎◌, ◌↔◌, ◌||◌, ◌+◌, ◌<◌, ◌^◌, List, Ok, false, true, IfOk, IfSome, IsTrue, codes, length, map, take};
 ghost use Rattle.std.specs.Io.KnownBytes.{Appends};
 ghost use Rattle.std.specs.IoError.{error_kind};
 ghost use Rattle.clap.specs.Words.{Text, kind_of};
@@ -206,15 +206,19 @@ pub fn obey_text<R: Source, W: Sink>(
         → OfLayout text.now order.entry.main.now (ListsPart (W.taken sink.old) (W.taken sink.new)) }
     ensures layout_source { order.entry.verb ≡ Verb.Layout → source.new ≡ source.old }
 
-    // The replies to all commands are written, or the refusal of the load; but for want of memory for the session's own
-    // buffers nothing is.
+    // The replies to all commands are written, or the refusal of the load, and then nothing is read.
     ensures run_all { order.entry.verb ≡ Verb.Run → result ≢ device_failed → result ≢ no_memory
         → OnBytes (R.rest source.old) (λ bytes. OfLoad text.now order.entry.main.now order.entry.steps
         (WritesAll bytes result (W.taken sink.old) (W.taken sink.new))) }
+    ensures run_refused { order.entry.verb ≡ Verb.Run → result ≡ no_program → source.new ≡ source.old }
+
+    // There was no memory for some command, and the replies to all are written; or there was none before the first command was
+    // read, and then nothing is read, and either that is written or nothing.
     ensures run_memory { order.entry.verb ≡ Verb.Run → result ≡ no_memory
-        → OnBytes (R.rest source.old) (λ bytes. OfLoad text.now order.entry.main.now order.entry.steps
-        (WritesAll bytes no_memory (W.taken sink.old) (W.taken sink.new)))
-        ⊎ Appends (W.taken sink.old) (W.taken sink.new) [] }
+        → OnBytes (R.rest source.old) (λ bytes. OfProgram text.now order.entry.main.now order.entry.steps
+        (λ c. WritesAll bytes no_memory (W.taken sink.old) (W.taken sink.new) (Ok c)))
+        ⊎ ((source.new ≡ source.old) × ((sink.new ≡ sink.old)
+        ⊎ Appends (W.taken sink.old) (W.taken sink.new) (ended (codes "refused M")))) }
 
     // A device has failed, and the run ended there. Where it is the source, the text was loaded, and of the commands that were
     // read whole none is lost.

@@ -47,13 +47,17 @@ pub fn run_text<R: Source, W: Sink>(
     requires source { R.has_failed source.old ≡ false }
     requires sink { W.has_failed sink.old ≡ false }
 
-    // The replies to all commands are written, or the refusal of the load; but for want of memory for the session's own
-    // buffers nothing is.
+    // The replies to all commands are written, or the refusal of the load, and then nothing is read.
     ensures all { result ≢ device_failed → result ≢ no_memory → OnBytes (R.rest source.old) (λ bytes.
         OfLoad text.now main.now steps (WritesAll bytes result (W.taken sink.old) (W.taken sink.new))) }
-    ensures memory { result ≡ no_memory → OnBytes (R.rest source.old) (λ bytes.
-        OfLoad text.now main.now steps (WritesAll bytes no_memory (W.taken sink.old) (W.taken sink.new)))
-        ⊎ Appends (W.taken sink.old) (W.taken sink.new) [] }
+    ensures refused { result ≡ no_program → source.new ≡ source.old }
+
+    // There was no memory for some command, and the replies to all are written; or there was none before the first command was
+    // read, and then nothing is read, and either that is written or nothing.
+    ensures memory { result ≡ no_memory → OnBytes (R.rest source.old) (λ bytes. OfProgram text.now main.now steps
+        (λ c. WritesAll bytes no_memory (W.taken sink.old) (W.taken sink.new) (Ok c)))
+        ⊎ ((source.new ≡ source.old) × ((sink.new ≡ sink.old)
+        ⊎ Appends (W.taken sink.old) (W.taken sink.new) (ended (codes "refused M")))) }
 
     // A text that is too long is refused for that alone, also where there is no memory.
     ensures long { 2 ^ 20 < length text.now → result ≢ device_failed → (result ≡ no_program)
@@ -88,9 +92,10 @@ fn serve<R: Source, W: Sink>(
     requires sink { W.has_failed sink.old ≡ false }
     ensures all { result ≢ device_failed → result ≢ no_memory → OnBytes (R.rest source.old) (λ bytes.
         WritesAll bytes result (W.taken sink.old) (W.taken sink.new) (Ok controller.old)) }
+    ensures loaded { result ≢ no_program }
     ensures memory { result ≡ no_memory → OnBytes (R.rest source.old) (λ bytes.
         WritesAll bytes no_memory (W.taken sink.old) (W.taken sink.new) (Ok controller.old))
-        ⊎ Appends (W.taken sink.old) (W.taken sink.new) [] }
+        ⊎ ((source.new ≡ source.old) × (sink.new ≡ sink.old)) }
     ensures part { result ≡ device_failed → OnBytes (R.rest source.old) (λ bytes.
         WritesPart bytes (W.taken sink.old) (W.taken sink.new) (Ok controller.old)) }
     ensures read { R.has_failed source.new ≡ true → OnReading (R.rest source.old) (R.rest source.new) (λ bytes rest.

@@ -1,9 +1,10 @@
-use Rattle.std.proofs.Common.{inl}
-use Rattle.std.specs.Prelude.{Err}
+use Rattle.std.proofs.Common.{inl, inr, refl}
+use Rattle.std.specs.Prelude.{Err, Ok}
 use Rattle.st_control.specs.Loads.{OfLoad}
-use Rattle.st_session.specs.Runs.{WritesAll}
-use Rattle.st_session.proofs.ServeLemmas.{WritesAll-memory, WritesPart-refused, long_checked, long_written}
-use Rattle.st_devices.proofs.TakingLemmas.{OnBytes-all}
+use Rattle.st_session.specs.Runs.{OfProgram, WritesAll}
+use Rattle.st_session.specs.Statuses.{no_memory}
+use Rattle.st_session.proofs.ServeLemmas.{WritesPart-refused, long_checked, long_written}
+use Rattle.st_devices.proofs.TakingLemmas.{OnBytes-all, OnBytes-then}
 use Rattle.st_session.proofs.run.run_text.Goals as goal
 
 pub returns-in-Err-clause-all : goal.returns-in-Err-clause-all
@@ -24,8 +25,14 @@ returns-in-Err-clause-part g c = λ failed.
     WritesPart-refused c.args.text.now c.args.main.now c.args.steps c.in-Err.refusal (g.R.Source.rest c.args.source.now) (g.W.Sink.taken c.args.sink.now) (g.W.Sink.taken c.refuse.new.sink)
     c.in-Err.ensures.refused (c.refuse.ensures.part failed)
 
+pub returns-in-Ok-clause-memory : goal.returns-in-Ok-clause-memory
+returns-in-Ok-clause-memory g c = λ memory. elim (c.serve.ensures.memory memory) [
+  | inl answers ↦ inl (OnBytes-then (g.R.Source.rest c.args.source.now)
+      (λ bytes. WritesAll bytes no_memory (g.W.Sink.taken c.args.sink.now) (g.W.Sink.taken c.serve.new.sink) (Ok c.in-Ok.controller))
+      (λ bytes. OfProgram c.args.text.now c.args.main.now c.args.steps (λ d. WritesAll bytes no_memory (g.W.Sink.taken c.args.sink.now) (g.W.Sink.taken c.serve.new.sink) (Ok d)))
+      (λ bytes all. (c.in-Ok.controller, c.in-Ok.ensures.loaded, all)) answers)
+  | inr same ↦ inr (same.0, inl same.1)
+]
+
 pub returns-in-Err-clause-memory : goal.returns-in-Err-clause-memory
-returns-in-Err-clause-memory g c = λ memory.
-    let refused = c.refuse.ensures.memory memory in
-    inl (WritesAll-memory c.args.text.now c.args.main.now c.args.steps c.in-Err.refusal (g.R.Source.rest c.args.source.now) (g.W.Sink.taken c.args.sink.now) (g.W.Sink.taken c.refuse.new.sink)
-    c.in-Err.ensures.refused refused.0 refused.1)
+returns-in-Err-clause-memory g c = λ memory. inr (refl, inr (c.refuse.ensures.memory memory).1)

@@ -1,5 +1,4 @@
 use Rattle.std.proofs.Common.{inl, inr, refl}
-use Rattle.std.proofs.KnownBytes.{Appends-nil}
 use Rattle.st_control.specs.Controllers.{machine_of}
 use Rattle.st_session.specs.declared.grade.Grade.TheVariants.{Accepted, Memory, Refused}
 use Rattle.st_session.proofs.ServeLemmas.{WritesAll-answers, WritesPart-stops, WritesRead-answers}
@@ -19,7 +18,7 @@ pub returns-in-Memory-clause-memory : goal.returns-in-Memory-clause-memory
 returns-in-Memory-clause-memory g c = λ _. elim (c.in-Memory.ensures.memory refl) [
   | inl answers ↦ inl (WritesAll-answers (g.R.Source.rest c.args.source.now) Memory c.args.controller.now (machine_of c.session.new.controller) (g.W.Sink.taken c.args.sink.now) (g.W.Sink.taken c.session.new.sink)
       answers)
-  | inr same ↦ inr (rw same.2 (Appends-nil (g.W.Sink.taken c.args.sink.now)))
+  | inr same ↦ inr (same.1, same.2)
 ]
 
 pub returns-in-Device-clause-part : goal.returns-in-Device-clause-part
