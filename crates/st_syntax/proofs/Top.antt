@@ -16,10 +16,13 @@ use Rattle.st_parser.specs.declared.fault.ReadFault.TheVariants as read_faults
 use Rattle.st_parser.proofs.Exact.{Exact, Always, Any, Ends}
 use Rattle.st_parser.proofs.Levels.{At, fits_from, within_from}
 use Rattle.st_parser.proofs.Loops.{ok_parts}
+use Rattle.st_parser.proofs.TokenLemmas.{length_numbered}
+use Rattle.st_lengths.specs.Lengths.{IsShort}
 use Rattle.st_syntax.specs.Grammar.Texts.{IsTextOf, IsOutside, Explains}
 use Rattle.st_syntax.specs.Grammar.Units.{IsUnit, AreUnits}
 use Rattle.st_syntax.specs.Reader.Declarations.{in_brackets}
 use Rattle.st_syntax.specs.Reader.Units.{units, begins_unit}
+use Rattle.st_syntax.proofs.UnitLengths.{units_take}
 use Rattle.st_syntax.proofs.UnitsExact.{units_exact}
 
 top : Exact 0 (units in_brackets) Always (IsMany IsUnit) (Ends begins_unit Any) (At 64) (At 64)
@@ -44,6 +47,15 @@ found text tokens us rest has read last =
       are = subst (λ r. IsMany IsUnit (numbered 0 tokens) us r) empty u.is;
       within = within_from (numbered 0 tokens) 64 (u.before (subst (At 64) (sym empty) tt));
     }
+
+-- each token counts for no more than itself
+pub short_text : (text : List ℕ) (tokens : List Token) (us : List names.Unit) (rest : List Tok) → HasTokens 1 text tokens
+    → units in_brackets (numbered 0 tokens) ≡ Ok (us, rest) → line rest ≡ None → length tokens ≤ 2 ^ 20 → IsShort us
+unfolding IsShort found
+short_text text tokens us rest has read last few =
+    let are : AreUnits (numbered 0 tokens) us = (found text tokens us rest has read last).are in
+    let takes = units_take are in
+    omega (arith, takes, length_numbered 0 tokens, few)
 
 pub left_over : (text : List ℕ) (tokens : List Token) (us : List names.Unit) (rest : List Tok) (n : ℕ) → HasTokens 1 text tokens
     → units in_brackets (numbered 0 tokens) ≡ Ok (us, rest) → line rest ≡ Some n → IsOutside text

@@ -1,5 +1,6 @@
 //! The units of a text.
 ghost use Rattle.std.specs.Prelude.{◌≡◌, ◌<◌, ◌≤◌, ◌^◌, ℕ, List, length, IfErr, IfOk, MatchResult};
+ghost use Rattle.st_lengths.specs.Lengths.{IsShort};
 ghost use Rattle.st_parser.specs.Names as names;
 ghost use Rattle.st_syntax.specs.Grammar.Texts.{Explains, IsTextOf};
 
@@ -32,6 +33,7 @@ fn last_line(text: &[u8]) -> u32 {
 pub fn parse(alloc: Global, text: &[u8]) -> Result<Vec<Unit>, SyntaxFault>
     ensures found { IfOk result (λ found. IsTextOf text.now found.items) }
     ensures fault { IfErr result (λ fault. Explains fault text.now) }
+    ensures short { IfOk result (λ found. IsShort found.items) }
 
     // A text of units that isn't too long is read as these units, unless memory runs out.
     ensures only { (us : List names.Unit) → length text.now ≤ 2 ^ 20 → IsTextOf text.now us

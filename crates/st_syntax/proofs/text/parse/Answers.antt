@@ -1,5 +1,5 @@
 use Rattle.std.proofs.Common.{sym, ◌∙◌}
-use Rattle.st_syntax.proofs.Top.{found, left_over, refused, one_text, only_memory}
+use Rattle.st_syntax.proofs.Top.{found, left_over, refused, one_text, only_memory, short_text}
 use Rattle.st_syntax.proofs.text.parse.Goals as goal
 
 pub returns-in-Err-clause-fault : goal.returns-in-Err-clause-fault
@@ -12,6 +12,10 @@ returns-in-Err-clause-only c = λ us short t. only_memory c.args.text.now _ us (
 pub returns-in-None-clause-found : goal.returns-in-None-clause-found
 returns-in-None-clause-found c = rw c.found.view_is (found c.args.text.now c.in_ok-tokens.tokens.items c.in-Ok.found c.units.new.ts c.in_ok-tokens.ensures.found
     (rw (c.new-cursor.ensures, c.as_slice.ensures.value) at c.in-Ok.ensures.reads) (sym c.line.ensures ∙ c.in-None.is))
+
+pub returns-in-None-clause-short : goal.returns-in-None-clause-short
+returns-in-None-clause-short c = rw c.found.view_is (short_text c.args.text.now c.in_ok-tokens.tokens.items c.in-Ok.found c.units.new.ts c.in_ok-tokens.ensures.found
+    (rw (c.new-cursor.ensures, c.as_slice.ensures.value) at c.in-Ok.ensures.reads) (sym c.line.ensures ∙ c.in-None.is) c.in_ok-tokens.ensures.count)
 
 pub returns-in-None-clause-only : goal.returns-in-None-clause-only
 returns-in-None-clause-only c = λ us short t. one_text c.args.text.now _ us (returns-in-None-clause-found c) t
