@@ -3,9 +3,13 @@ _stc() {
     local word=${COMP_WORDS[COMP_CWORD]} before=${COMP_WORDS[COMP_CWORD - 1]} text=
     COMPREPLY=()
     if ((COMP_CWORD == 1)); then
-        local first='check layout run --help --version'
+        local first='check layout run help --help --version'
         [[ ${COMP_WORDS[0]} == */* ]] && first+=' build' # of a checkout
         mapfile -t COMPREPLY < <(compgen -W "$first" -- "$word")
+        return
+    fi
+    if [[ ${COMP_WORDS[1]} == help ]]; then
+        ((COMP_CWORD == 2)) && mapfile -t COMPREPLY < <(compgen -W 'check layout run' -- "$word")
         return
     fi
     case $before in
@@ -19,7 +23,8 @@ _stc() {
         ;;
     esac
     if [[ $word == -* ]]; then
-        local options='--program --help'
+        local options='--program --quiet --help'
+        [[ ${COMP_WORDS[1]} == check ]] && options+=' --all'
         [[ ${COMP_WORDS[1]} == run ]] && options+=' --steps'
         mapfile -t COMPREPLY < <(compgen -W "$options" -- "$word")
     else

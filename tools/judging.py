@@ -90,6 +90,17 @@ class Program:
         wanted = Wanted(REFUSED_TEXT, None, told=text.with_suffix(".told").read_text())
         return Program(self.file, text.parent).failure([verb, text.name, "--program", "Main"], wanted)
 
+    def failure_in_explained(self, session: Path) -> str | None:
+        """A session is explained on standard error as stands beside it, and isn't where it is to be quiet; its replies are the same."""
+        words, typed = ["run", f"{session.stem}.st", "--program", "Main"], session.read_text()
+        replies, told = (session.with_suffix(suffix).read_text() for suffix in (".replies", ".told"))
+        here, status = Program(self.file, session.parent), status_of(replies)
+        return here.failure(words, Wanted(status, replies, told), typed) or here.failure([*words, "--quiet"], Wanted(status, replies, ""), typed)
+
+    def failure_in_words(self, command: Path) -> str | None:
+        """A command, run in its folder, writes on both streams and ends as stands beside it, its status last."""
+        return Program(self.file, command.parent).failure_in_command(f"{{ {command.read_text().strip()}\n}} 2>&1; echo $?", command.with_suffix(".written").read_text())
+
     def failure_in_command(self, command: str, written: str) -> str | None:
         """A command that a page shows writes what stands below it there."""
         how = {"capture_output": True, "text": True, "timeout": SECONDS, "cwd": self.folder, "stdin": subprocess.DEVNULL}

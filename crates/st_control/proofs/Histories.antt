@@ -1,7 +1,8 @@
 -- The states that the records of a controller lead back to.
-use Rattle.std.proofs.Common.{ℕ, suc, Bool, true, nat_le, ◌≡◌, List, [], ◌∷◌, ◌++◌, length, inl, refl, sym, ◌∙◌, ap, subst}
-use Rattle.std.specs.Prelude.{Err, Ok, Result, false, reverse}
-use Rattle.std.proofs.lemmas.List.{length-reverse, reverse-append}
+use Rattle.std.proofs.Common.{ℕ, suc, Bool, true, nat_le, ◌≡◌, ◌<◌, ◌-◌, List, [], ◌∷◌, ◌++◌, length, inl, refl, sym, ◌∙◌, ap, subst, arith, get_or}
+use Rattle.std.specs.Prelude.{Err, Ok, Result, Some, false, reverse, slice_get}
+use Rattle.std.proofs.lemmas.List.{get_or-reverse, length-reverse, reverse-append}
+use Rattle.std.proofs.lemmas.Option.{get_or_from_slice_get, slice_get_within}
 use Rattle.st_control.specs.Controllers.{ControllerView, FitsChain, IsCoherent, Takes, TakesUndo, is_of_change, machine_of, states_before}
 use Rattle.st_control.specs.Machine.{accept, accept_at, is_full}
 use Rattle.st_control.specs.States.{FitsRecord, StateView, undone}
@@ -55,3 +56,21 @@ pub takes_undo : (c : ControllerView) (records : List Record) (newest : Record) 
 takes_undo c records newest s all back =
     rw (all, reverse-append records (newest ∷ []))
     (true, inl refl, (refl, ap (λ (t : StateView). machine_of (record { state = t; records = records; main = c.main; limit = c.limit })) back))
+
+-- the newest record is the one that an undo takes, so it fits the state
+pub newest_fits : (s : StateView) (records : List Record) (newest : Record) → slice_get records (length records - 1) ≡ Some newest → IsCoherent s records → FitsRecord s newest
+newest_fits s records newest is coherent = go (reverse records) refl coherent
+  where
+    within : length records - 1 < length records
+    within = slice_get_within records (length records - 1) newest is
+
+    go : (back : List Record) → reverse records ≡ back → FitsChain s back → FitsRecord s newest
+    go [] same fits =
+        let none : length records ≡ 0 = sym (length-reverse records) ∙ ap length same in
+        absurd (omega (arith, none, within))
+    go (first ∷ others) same fits =
+        let some : 0 < length records = omega (arith, within) in
+        let last : length records - 1 - 0 ≡ length records - 1 = omega arith in
+        let is_first : get_or (reverse records) 0 newest ≡ newest =
+            get_or-reverse records 0 newest some ∙ ap (λ i. get_or records i newest) last ∙ get_or_from_slice_get records (length records - 1) newest newest is in
+        subst (FitsRecord s) (sym (ap (λ xs. get_or xs 0 newest) same) ∙ is_first) fits.0

@@ -15,6 +15,7 @@ ghost use Rattle.st_tree.specs.declared.tree.unit.Unit.{Unit as ProgramUnit};
 ghost use Rattle.st_values.specs.Values.{IsValue};
 
 mod apart;
+mod before;
 
 use crate::changing::{Counts, raised};
 use crate::image::load_image;

@@ -92,7 +92,7 @@ fn go_back<M: Memory>(
 
 /// Moves a memory back to the layout before an online change, by the plan that its renames give again. It is refused for want
 /// of memory alone, and then all is as before.
-fn move_back<M: Memory>(
+pub(crate) fn move_back<M: Memory>(
     alloc: Global,
     memory: &mut M,
     old: &Layout,

@@ -1,5 +1,5 @@
 -- The bytes that are still to be taken from an input over its source.
-use Rattle.std.specs.Prelude.{ℕ, Bool, ◌*◌, ◌+◌, ◌-◌, List, Option, Some, slice_range, if◌then◌else◌}
+use Rattle.std.specs.Prelude.{ℕ, Bool, ◌*◌, ◌+◌, ◌-◌, ◌%◌, ◌^◌, ◌==◌, List, Option, Some, None, slice_range, if◌then◌else◌}
 use Rattle.std.specs.Io.KnownBytes.{prepend_known}
 use Rattle.st_devices.specs.declared.input.Input.{Input}
 
@@ -18,3 +18,12 @@ pending input rest = if input.at_end then Some (unread input) else prepend_known
 -- a number that falls with each byte that is taken
 abbrev pub left : Input → ℕ → ℕ
 left input reads_left = reads_left * 4096 + (input.end - input.at)
+
+-- how many lines were ended, modulo 2^64
+abbrev pub lines_of : Input → ℕ
+lines_of input = input.lines
+
+-- the same once a byte is taken, or there is none
+abbrev pub lines_after : ℕ → Option ℕ → ℕ
+lines_after lines None = lines
+lines_after lines (Some byte) = (lines + (if byte == 10 then 1 else 0)) % 2 ^ 64

@@ -31,25 +31,37 @@ pub struct Input {
     end: usize,
     /// The source has answered that it has no more, and is not read again.
     at_end: bool,
+    /// How many LFs were taken.
+    lines: u64,
     ghost size: { vec_len buffer ≡ 4096 },
     ghost ordered: { at ≤ end },
     ghost within: { end ≤ 4096 },
 }
 
 impl Input {
-    ghost use Rattle.st_devices.specs.Inputs.{has_ended, left, pending, unread};
+    ghost use Rattle.st_devices.specs.Inputs.{has_ended, left, lines_after, lines_of, pending, unread};
 
     /// An input of which nothing is read yet.
     pub fn new(alloc: Global) -> Result<Self, AllocError>
         ensures empty { IfOk result (λ input. unread input ≡ []) }
         ensures not_ended { IfOk result (λ input. has_ended input ≡ false) }
+        ensures lines { IfOk result (λ input. lines_of input ≡ 0) }
     {
         Ok(Input {
             buffer: vec![in alloc; 0; MAX_LINE_BYTES]?,
             at: 0,
             end: 0,
             at_end: false,
+            lines: 0,
         })
+    }
+
+    /// How many lines were ended by an LF so far, those of a change's text too, modulo 2^64. The next line has the number
+    /// after that.
+    pub fn lines(&self) -> u64
+        ensures { result ≡ lines_of self.now }
+    {
+        self.lines
     }
 
     /// Reads a piece if none is unread.
@@ -59,6 +71,7 @@ impl Input {
             (pending self.new (R.rest source.new))) }
         ensures end { OnOk result (self.new.at ≡ self.new.end → IsAtEnd (pending self.new (R.rest source.new))) }
         ensures at_end { OnOk result (self.new.at ≡ self.new.end → has_ended self.new ≡ true) }
+        ensures lines { OnOk result (lines_of self.new ≡ lines_of self.old) }
         ensures err { OnErr result (Keeps (R.rest source.old) (R.rest source.new)) }
         ensures empty { OnErr result ((unread self.old ≡ []) × (has_ended self.old ≡ false)) }
         ensures progress { OnOk result (left self.new (R.reads_left source.new)
@@ -76,12 +89,13 @@ impl Input {
         Ok(())
     }
 
-    /// Takes the next byte.
+    /// Takes the next byte, and counts it where it is an LF.
     pub fn next_byte<R: Source>(&mut self, source: &mut R) -> Result<Option<u8>, DeviceFault>
         requires { R.has_failed source.old ≡ false }
         ensures bytes { IfOk result (λ byte. OnReading (pending self.old (R.rest source.old))
             (pending self.new (R.rest source.new)) (TakesByte byte)) }
         ensures at_end { IfOk result (λ byte. byte ≡ None → has_ended self.new ≡ true) }
+        ensures lines { IfOk result (λ byte. lines_of self.new ≡ lines_after (lines_of self.old) byte) }
         ensures err { OnErr result (Keeps (R.rest source.old) (R.rest source.new)) }
         ensures empty { OnErr result ((unread self.old ≡ []) × (has_ended self.old ≡ false)) }
         ensures steady { OnOk result (left self.new (R.reads_left source.new)
@@ -97,6 +111,7 @@ impl Input {
         }
         let byte = self.buffer[self.at];
         self.at += 1;
+        self.lines = self.lines.wrapping_add(u64::from(byte == b'\n'));
         Ok(Some(byte))
     }
 

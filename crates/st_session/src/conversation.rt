@@ -1,5 +1,5 @@
 //! A session: each command of a source is acted on, and its reply written to a sink.
-ghost use Rattle.std.specs.Prelude.{◌≡◌, ◌≤◌, ◌<◌, ◌↔◌, ◌||◌, ◌⊎◌, [], true, false, IfOk, IsTrue, OnErr, OnOk, OnSome, is_err, length, vec_capacity};
+ghost use Rattle.std.specs.Prelude.{◌≡◌, ◌≢◌, ◌≤◌, ◌<◌, ◌↔◌, ◌||◌, ◌⊎◌, [], true, false, IfOk, IsTrue, OnErr, OnOk, OnSome, is_err, length, vec_capacity};
 ghost use Rattle.st_control.specs.Controllers.{machine_of};
 ghost use Rattle.st_control.specs.States.{leaves_of};
 ghost use Rattle.st_devices.specs.Inputs.{has_ended, left, pending, unread};
@@ -7,11 +7,13 @@ ghost use Rattle.st_devices.specs.Pending.{OnBytes, OnReading};
 ghost use Rattle.st_devices.specs.Words.{words_of};
 ghost use Rattle.st_lines.specs.Commands.{TakesPartOf};
 ghost use Rattle.st_lines.specs.Requests.{RequestView, request_in, request_of};
+ghost use Rattle.st_session.specs.Hearings.{HearsOver, HearsPart, HearsSession};
 ghost use Rattle.st_session.specs.Sessions.{AnswersAll, AnswersRead, Does, DoesAsked, DoesOver, LosesPart, LosesText, StopsIn, TurnsOver};
 ghost use Rattle.st_session.specs.Turns.{CanBeAsked, answer, leaf_value, value_given};
 
 use crate::change::take_change;
 use crate::grade::{Grade, worse};
+use crate::observer::{Exchange, Observer, Silent};
 use crate::reply::Reply;
 use crate::scanning::{reset, scan};
 use st_control::{Controller, NO_SUCH_LINE, NO_SUCH_PATH, Refusal};
@@ -149,9 +151,13 @@ struct Buffers {
     input: Input,
     /// The line that was taken last.
     line: Vec<u8>,
+    /// The number of that line.
+    number: u64,
     /// The values of the scan that was done last.
     values: ScanValues,
     reply: Reply,
+    /// The text of the change that was done or refused last, until the next command is read.
+    text: Option<Vec<u8>>,
     ghost capacity: { 4096 ≤ vec_capacity line },
 }
 
@@ -164,8 +170,10 @@ impl Buffers {
         Ok(Buffers {
             input: Input::new(alloc)?,
             line: Vec::with_capacity(alloc, MAX_LINE_BYTES)?,
+            number: 0,
             values: ScanValues::new(alloc)?,
             reply: Reply::new(alloc)?,
+            text: None,
         })
     }
 }
@@ -190,6 +198,8 @@ fn take_command<M: Memory, R: Source>(
     ensures ended { has_ended buffers.old.input ≡ true → has_ended buffers.new.input ≡ true }
     ensures failed { R.has_failed source.new ≡ is_err result }
 {
+    buffers.text = None;
+    buffers.number = buffers.input.lines().wrapping_add(1);
     match buffers.input.next_line(source, &mut buffers.line)? {
         Found::End => Ok(None),
         Found::TooLong => Ok(Some(buffers.reply.answer(Err(Refusal::O(NO_SUCH_LINE))))),
@@ -231,6 +241,7 @@ fn do_line<M: Memory, R: Source>(
                 &mut buffers.input,
                 source,
                 &mut buffers.reply,
+                &mut buffers.text,
             )
         }
         request => Ok(act(
@@ -243,12 +254,37 @@ fn do_line<M: Memory, R: Source>(
     }
 }
 
-/// Reads a command, does it and writes the reply whole. Answers its grade, or nothing at the end.
-fn turn<M: Memory, R: Source, W: Sink>(
+/// Tells the observer of a command that was done.
+fn tell<M: Memory, O: Observer>(
+    controller: &Controller<M>,
+    observer: &mut O,
+    buffers: &Buffers,
+    grade: Grade,
+)
+    ensures { O.hears observer.old buffers.now.reply observer.new }
+{
+    let text = match &buffers.text {
+        Some(text) => Some(text.as_slice()),
+        None => None,
+    };
+    let exchange = Exchange {
+        line: buffers.line.as_slice(),
+        number: buffers.number,
+        reply: buffers.reply.as_slice(),
+        grade,
+        upshot: buffers.reply.upshot(),
+        text,
+    };
+    observer.observe(&exchange, controller);
+}
+
+/// Reads a command, does it, writes the reply whole and tells the observer. Answers its grade, or nothing at the end.
+fn turn<M: Memory, R: Source, W: Sink, O: Observer>(
     alloc: Global,
     controller: &mut Controller<M>,
     source: &mut R,
     sink: &mut W,
+    observer: &mut O,
     buffers: &mut Buffers,
 ) -> Result<Option<Grade>, DeviceFault>
     requires source { R.has_failed source.old ≡ false }
@@ -263,6 +299,11 @@ fn turn<M: Memory, R: Source, W: Sink>(
         (pending buffers.old.input (R.rest source.old)) (R.rest source.new)
         (LosesPart (has_ended buffers.old.input) (machine_of controller.old) (machine_of controller.new)
         (W.taken sink.old) (W.taken sink.new)) }
+    ensures heard { IfOk result (λ grade. OnReading
+        (pending buffers.old.input (R.rest source.old)) (pending buffers.new.input (R.rest source.new))
+        (HearsOver O.hears grade (has_ended buffers.new.input) (machine_of controller.old) (machine_of controller.new)
+        observer.old observer.new)) }
+    ensures unheard { OnErr result (observer.new ≡ observer.old) }
     ensures progress { IfOk result (λ grade. OnSome grade (left buffers.new.input (R.reads_left source.new)
         < left buffers.old.input (R.reads_left source.old))) }
     ensures ended { has_ended buffers.old.input ≡ true → has_ended buffers.new.input ≡ true }
@@ -274,15 +315,17 @@ fn turn<M: Memory, R: Source, W: Sink>(
         return Ok(None);
     };
     write_all(sink, buffers.reply.as_slice())?;
+    tell(controller, observer, buffers, grade);
     Ok(Some(grade))
 }
 
 /// Does all commands that are pending, and answers the worst grade of their replies.
-fn answer_all<M: Memory, R: Source, W: Sink>(
+fn answer_all<M: Memory, R: Source, W: Sink, O: Observer>(
     alloc: Global,
     controller: &mut Controller<M>,
     source: &mut R,
     sink: &mut W,
+    observer: &mut O,
     buffers: &mut Buffers,
 ) -> Result<Grade, DeviceFault>
     requires source { R.has_failed source.old ≡ false }
@@ -294,10 +337,14 @@ fn answer_all<M: Memory, R: Source, W: Sink>(
     ensures read { R.has_failed source.new ≡ true → OnReading
         (pending buffers.old.input (R.rest source.old)) (R.rest source.new)
         (AnswersRead (machine_of controller.old) (machine_of controller.new) (W.taken sink.old) (W.taken sink.new)) }
+    ensures heard { IfOk result (λ grade. OnBytes (pending buffers.old.input (R.rest source.old))
+        (HearsSession O.hears (machine_of controller.old) (machine_of controller.new) observer.old observer.new)) }
+    ensures unheard { OnErr result (OnBytes (pending buffers.old.input (R.rest source.old))
+        (HearsPart O.hears (machine_of controller.old) observer.old observer.new)) }
     ensures failed { (R.has_failed source.new || W.has_failed sink.new) ≡ is_err result }
 {
     let mut worst = Grade::Accepted;
-    while let Some(grade) = turn(alloc, controller, source, sink, buffers)? {
+    while let Some(grade) = turn(alloc, controller, source, sink, observer, buffers)? {
         worst = worse(worst, grade);
     }
     Ok(worst)
@@ -331,10 +378,50 @@ pub fn session<M: Memory, R: Source, W: Sink>(
         (AnswersRead (machine_of controller.old) (machine_of controller.new) (W.taken sink.old) (W.taken sink.new)) }
     ensures failed { IsTrue (R.has_failed source.new || W.has_failed sink.new) ↔ (result ≡ Outcome.Device) }
 {
+    session_observed(alloc, controller, source, sink, &mut Silent)
+}
+
+/// Does each command of the source, replies on the sink, and tells the observer, over a controller. The devices have not failed.
+/// What is promised is what [`session`] promises, whoever observes.
+pub fn session_observed<M: Memory, R: Source, W: Sink, O: Observer>(
+    alloc: Global,
+    controller: &mut Controller<M>,
+    source: &mut R,
+    sink: &mut W,
+    observer: &mut O,
+) -> Outcome
+    requires source { R.has_failed source.old ≡ false }
+    requires sink { W.has_failed sink.old ≡ false }
+
+    // Every command is answered, unless a device fails or there is no memory for the session's own buffers.
+    ensures clean { result ≡ Outcome.Clean → OnBytes (R.rest source.old)
+        (AnswersAll Grade.Accepted (machine_of controller.old) (machine_of controller.new) (W.taken sink.old) (W.taken sink.new)) }
+    ensures refused { result ≡ Outcome.Refused → OnBytes (R.rest source.old)
+        (AnswersAll Grade.Refused (machine_of controller.old) (machine_of controller.new) (W.taken sink.old) (W.taken sink.new)) }
+
+    // A command found no memory; or the session's own buffers didn't, and nothing was done.
+    ensures memory { result ≡ Outcome.Memory → OnBytes (R.rest source.old)
+        (AnswersAll Grade.Memory (machine_of controller.old) (machine_of controller.new) (W.taken sink.old) (W.taken sink.new))
+        ⊎ ((controller.new ≡ controller.old) × (source.new ≡ source.old) × (sink.new ≡ sink.old)) }
+
+    // A device has failed, and the session ended there. Of the commands that were read whole none is lost.
+    ensures device { result ≡ Outcome.Device → OnBytes (R.rest source.old)
+        (StopsIn (machine_of controller.old) (machine_of controller.new) (W.taken sink.old) (W.taken sink.new)) }
+    ensures read { R.has_failed source.new ≡ true → OnReading (R.rest source.old) (R.rest source.new)
+        (AnswersRead (machine_of controller.old) (machine_of controller.new) (W.taken sink.old) (W.taken sink.new)) }
+    ensures failed { IsTrue (R.has_failed source.new || W.has_failed sink.new) ↔ (result ≡ Outcome.Device) }
+
+    // The observer was told of every command that was answered, with its reply, one after another, and of nothing else.
+    ensures heard { result ≢ Outcome.Device → OnBytes (R.rest source.old)
+        (HearsSession O.hears (machine_of controller.old) (machine_of controller.new) observer.old observer.new)
+        ⊎ ((result ≡ Outcome.Memory) × (observer.new ≡ observer.old)) }
+    ensures heard_part { result ≡ Outcome.Device → OnBytes (R.rest source.old)
+        (HearsPart O.hears (machine_of controller.old) observer.old observer.new) }
+{
     let Ok(mut buffers) = Buffers::new(alloc) else {
         return Outcome::Memory;
     };
-    match answer_all(alloc, controller, source, sink, &mut buffers) {
+    match answer_all(alloc, controller, source, sink, observer, &mut buffers) {
         Ok(Grade::Accepted) => Outcome::Clean,
         Ok(Grade::Refused) => Outcome::Refused,
         Ok(Grade::Memory) => Outcome::Memory,

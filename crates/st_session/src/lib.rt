@@ -8,14 +8,18 @@ mod conversation;
 mod grade;
 mod layout;
 mod listing;
+mod observer;
 mod reply;
 mod run;
 mod scanning;
 
 pub use check::check_text;
-pub use conversation::{Outcome, session};
+pub use conversation::{Outcome, session, session_observed};
+pub use grade::Grade;
 pub use layout::layout_text;
-pub use run::{ACCEPTED, DEVICE_FAILED, LINE_REFUSED, NO_MEMORY, NO_PROGRAM, run_text};
+pub use observer::{Exchange, Observer, Silent};
+pub use reply::Upshot;
+pub use run::{ACCEPTED, DEVICE_FAILED, LINE_REFUSED, NO_MEMORY, NO_PROGRAM, run_text, run_text_observed};
 pub use st_devices::{
     Bytes, DeviceFault, FromReader, MAX_LINE_BYTES, Sheet, Sink, Source, ToWriter,
 };

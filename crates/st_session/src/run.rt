@@ -8,7 +8,8 @@ ghost use Rattle.st_session.specs.Replies.{ended};
 ghost use Rattle.st_session.specs.Runs.{OfProgram, WritesAll, WritesPart, WritesRead, refusal_status};
 ghost use Rattle.st_session.specs.Statuses.{device_failed, no_memory, no_program};
 
-use crate::conversation::{Outcome, session};
+use crate::conversation::{Outcome, session_observed};
+use crate::observer::{Observer, Silent};
 use crate::reply::Reply;
 use st_control::{Controller, Refusal};
 use st_devices::{Sink, Source, write_all};
@@ -71,9 +72,54 @@ pub fn run_text<R: Source, W: Sink>(
         OfProgram text.now main.now steps (WritesRead bytes rest (W.taken sink.old) (W.taken sink.new))) }
     ensures failed { IsTrue (R.has_failed source.new || W.has_failed sink.new) ↔ (result ≡ device_failed) }
 {
+    run_text_observed(alloc, text, main, steps, source, sink, &mut Silent)
+}
+
+/// Loads the program of the name `main` from a text and answers a session's commands over it, or writes the refusal of the
+/// load. Answers the status, and tells the observer of each command. The devices have not failed, and `steps` is the step limit
+/// of a scan. What is promised is what [`run_text`] promises, whoever observes.
+///
+/// It is what a process does last: what was loaded is left to the system, which takes it at once, while to let go of a
+/// large program node by node takes a fifth of its load. Who goes on afterwards calls [`Controller::load`] and [`session`].
+pub fn run_text_observed<R: Source, W: Sink, O: Observer>(
+    alloc: Global,
+    text: &[u8],
+    main: &[u8],
+    steps: u32,
+    source: &mut R,
+    sink: &mut W,
+    observer: &mut O,
+) -> u8
+    requires source { R.has_failed source.old ≡ false }
+    requires sink { W.has_failed sink.old ≡ false }
+
+    // The replies to all commands are written, or the refusal of the load, and then nothing is read.
+    ensures all { result ≢ device_failed → result ≢ no_memory → OnBytes (R.rest source.old) (λ bytes.
+        OfLoad text.now main.now steps (WritesAll bytes result (W.taken sink.old) (W.taken sink.new))) }
+    ensures refused { result ≡ no_program → source.new ≡ source.old }
+
+    // There was no memory for some command, and the replies to all are written; or there was none before the first command was
+    // read, and then nothing is read, and either that is written or nothing.
+    ensures memory { result ≡ no_memory → OnBytes (R.rest source.old) (λ bytes. OfProgram text.now main.now steps
+        (λ c. WritesAll bytes no_memory (W.taken sink.old) (W.taken sink.new) (Ok c)))
+        ⊎ ((source.new ≡ source.old) × ((sink.new ≡ sink.old)
+        ⊎ Appends (W.taken sink.old) (W.taken sink.new) (ended (codes "refused M")))) }
+
+    // A text that is too long is refused for that alone, also where there is no memory.
+    ensures long { 2 ^ 20 < length text.now → result ≢ device_failed → (result ≡ no_program)
+        × Appends (W.taken sink.old) (W.taken sink.new) (ended (codes "refused S4 line 1")) }
+
+    // A device has failed, and the run ended there. Where it is the source, the text was loaded, and of the commands that were
+    // read whole none is lost.
+    ensures part { result ≡ device_failed → OnBytes (R.rest source.old) (λ bytes.
+        OfLoad text.now main.now steps (WritesPart bytes (W.taken sink.old) (W.taken sink.new))) }
+    ensures read { R.has_failed source.new ≡ true → OnReading (R.rest source.old) (R.rest source.new) (λ bytes rest.
+        OfProgram text.now main.now steps (WritesRead bytes rest (W.taken sink.old) (W.taken sink.new))) }
+    ensures failed { IsTrue (R.has_failed source.new || W.has_failed sink.new) ↔ (result ≡ device_failed) }
+{
     match Controller::load(alloc, text, main, steps) {
         Ok(mut controller) => {
-            let status = serve(alloc, &mut controller, source, sink);
+            let status = serve(alloc, &mut controller, source, sink, observer);
             forget(controller);
             status
         }
@@ -82,11 +128,12 @@ pub fn run_text<R: Source, W: Sink>(
 }
 
 /// Runs a session over a controller, and answers its status.
-fn serve<R: Source, W: Sink>(
+fn serve<R: Source, W: Sink, O: Observer>(
     alloc: Global,
     controller: &mut Controller<Packed>,
     source: &mut R,
     sink: &mut W,
+    observer: &mut O,
 ) -> u8
     requires source { R.has_failed source.old ≡ false }
     requires sink { W.has_failed sink.old ≡ false }
@@ -102,7 +149,7 @@ fn serve<R: Source, W: Sink>(
         WritesRead bytes rest (W.taken sink.old) (W.taken sink.new) controller.old) }
     ensures failed { IsTrue (R.has_failed source.new || W.has_failed sink.new) ↔ (result ≡ device_failed) }
 {
-    match session(alloc, controller, source, sink) {
+    match session_observed(alloc, controller, source, sink, observer) {
         Outcome::Clean => ACCEPTED,
         Outcome::Refused => LINE_REFUSED,
         Outcome::Memory => NO_MEMORY,

@@ -4,7 +4,7 @@ use Rattle.std.specs.Prelude.{IfSome, IsSome, Option, Result, Some, None, Box, i
 use Rattle.std.specs.Box.{box_value}
 use Rattle.std.specs.List.{AllByRecursion, list_all}
 use Rattle.std.specs.Option.{option_map_or}
-use Rattle.clap.specs.Words.{App, FailsBy, HasMatchesOf, Row, Text, first_of, fault_of, is_simple, is_simple_and_free, built, subcommand_of, subcommand_rows_of, takes}
+use Rattle.clap.specs.Words.{App, FailsBy, HasMatchesOf, Row, Text, first_of, one_of, fault_of, is_simple, is_simple_and_free, built, subcommand_of, subcommand_rows_of, takes}
 use Rattle.clap.specs.Takes.{default_passes, entered_passes, is_given, is_valid, level_passes, settle_passes, walk_passes}
 use Rattle.clap.specs.Simple.{Shape, argument_words, entered, label_of, names_of, rows_at, subcommand_rows}
 use Rattle.clap.specs.Walk.{Held, Names, answers_to, finished, nothing_held, walk, walk_from}
@@ -13,8 +13,9 @@ use Rattle.clap.specs.declared.parser.matches.SubCommand.{SubCommand}
 use Rattle.clap.specs.declared.parser.matches.ArgMatches.{ArgMatches}
 use Rattle.clap.specs.declared.parser.matches.ArgMatches.TheViews.{out-SubCommand}
 use Rattle.clap.proofs.WalkLemmas.{both}
-use Rattle.st_words.proofs.Valued.{AsksValue, asks_help, asks_one, found_holds, given_has_value, level_valued}
-use Rattle.st_words.specs.Words.{AreInOrder, HasLimit, IsLimitOf, IsOrder, IsRunnable, chosen_by, faults_of, is_taken, limit_of, stc_app, verb_name}
+use Rattle.st_words.proofs.Valued.{AsksValue, asks_flag, asks_help, asks_one, found_holds, given_has_value, level_valued}
+use Rattle.st_words.specs.Words.{AreInOrder, HasLimit, IsFlagOf, IsLimitOf, IsManner, IsOrder, IsRunnable, chosen_by, faults_of, is_taken, limit_of, stc_app, verb_name}
+use Rattle.st_words.specs.declared.words.Manner.{Manner}
 use Rattle.st_words.specs.declared.words.Order.{Order}
 use Rattle.st_words.specs.declared.words.Verb.{Verb}
 use Rattle.st_words.specs.declared.words.Verb.TheVariants.{Check, Layout, Run}
@@ -97,21 +98,21 @@ subcommands_serve = (
   record {
     verb = Check;
     name = refl;
-    asks = (asks_one _ refl refl, (asks_one _ refl refl, (asks_help _ refl, tt)));
+    asks = (asks_one _ refl refl, (asks_one _ refl refl, (asks_flag _ _ refl refl, (asks_flag _ _ refl refl, (asks_help _ refl, tt)))));
     requires = λ rows e. let p = both (is_given (codes "FILE") rows) _ e in (p.0, (both (is_given (codes "program") rows) _ p.1).0);
   },
   (
     record {
       verb = Layout;
       name = refl;
-      asks = (asks_one _ refl refl, (asks_one _ refl refl, (asks_help _ refl, tt)));
+      asks = (asks_one _ refl refl, (asks_one _ refl refl, (asks_flag _ _ refl refl, (asks_help _ refl, tt))));
       requires = λ rows e. let p = both (is_given (codes "FILE") rows) _ e in (p.0, (both (is_given (codes "program") rows) _ p.1).0);
     },
     (
       record {
         verb = Run;
         name = refl;
-        asks = (asks_one _ refl refl, (asks_one _ refl refl, (asks_one _ refl refl, (asks_help _ refl, tt))));
+        asks = (asks_one _ refl refl, (asks_one _ refl refl, (asks_flag _ _ refl refl, (asks_one _ refl refl, (asks_help _ refl, tt)))));
         requires = λ rows e. let p = both (is_given (codes "FILE") rows) _ e in (p.0, (both (is_given (codes "program") rows) _ p.1).0);
       },
       tt,
@@ -142,6 +143,10 @@ pub order_is : (order : Order) (met : Option (Text × List Row)) (name : Text) (
     → first_of (codes "FILE") rows ≡ Some order.file.now → first_of (codes "program") rows ≡ Some order.main.now
     → IsLimitOf (first_of (codes "steps") rows) order.steps → IsOrder order met
 order_is order met name rows e verb file main steps = rw e (verb, file, main, steps)
+
+pub manner_is : (manner : Manner) (met : Option (Text × List Row)) (name : Text) (rows : List Row) → met ≡ Some (name, rows)
+    → IsFlagOf manner.quiet (one_of (codes "quiet") rows) → IsFlagOf manner.all (one_of (codes "all") rows) → IsManner manner met
+manner_is manner met name rows e quiet all = rw e (quiet, all)
 
 -- what a subcommand that can run gives
 module _ (met : Option (Text × List Row)) (name : Text) (rows : List Row) (is : met ≡ Some (name, rows)) (runs : IsRunnable met) where

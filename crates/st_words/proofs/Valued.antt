@@ -10,7 +10,7 @@ use Rattle.clap.specs.Facts.{explicit_source, unwrap_or_range}
 use Rattle.clap.specs.Simple.{Shape}
 use Rattle.clap.specs.Takes.{bundle_passes, bundle_step_passes, flag_word_passes, flags_pass, is_given, level_passes, long_passes, option_passes, other_passes, positional_passes, react_passes, settle_passes, short_passes, step_passes, turn_passes, use_passes, walk_passes, word_passes}
 use Rattle.clap.specs.Walk.{Held, Names, Outcome, Row, Rule, Step, Text, Waiting, Walk, after_flag, after_step, arg_by_id, arg_by_index, arg_by_long, arg_by_short, at_row, attached_value, bundle_met, bundle_step, default_rows, done, finished, first_of, flag_met, has_row, idle, is_pending, long_met, long_or_other, more_values, next, nothing_held, option, option_met, option_word, plain, plain_word, positional, positional_held, reacted, reading_by, refused, settled, settled_rows, short_met, short_or_plain, subcommand, subcommand_met, subcommand_or_other, takes_several, takes_values, to_positional, trailing, used, used_as, used_by_id, value, values_or_missing, waits, walk, walk_from, walked, walked_from, with_default, with_values, without, word_met}
-use Rattle.clap.specs.declared.builder.action.ArgAction.TheVariants.{Help, Set}
+use Rattle.clap.specs.declared.builder.action.ArgAction.TheVariants.{Help, Set, SetTrue}
 use Rattle.clap.specs.declared.builder.value_parser.Reading.{Reading}
 use Rattle.clap.specs.declared.parser.matches.ValueSource.{ValueSource}
 use Rattle.clap.proofs.WalkLemmas.{both}
@@ -93,6 +93,19 @@ asks_one a set one = record { uses = go }
     go again (v ∷ vs) rows e f =
         subst (λ o. Valued (used_as (unwrap_or o Set) a.id (reading_by a) (v ∷ vs) rows)) (sym set)
         (with_valued a.id (reading_by a) _ v vs (without a.id rows) (without_valued a.id rows f))
+
+-- a flag, whose use without a value has the one that stands for it
+pub asks_flag : (a : Rule) (v : Text) → a.action ≡ Some SetTrue → a.missing ≡ v ∷ [] → AsksValue a
+asks_flag a v flag missing = record { uses = go }
+  where
+    set : (w : Text) (ws : List Text) (rows : List Row) → Valued rows → Valued (used_as (unwrap_or a.action Set) a.id (reading_by a) (w ∷ ws) rows)
+    set w ws rows f =
+        subst (λ o. Valued (used_as (unwrap_or o Set) a.id (reading_by a) (w ∷ ws) rows)) (sym flag)
+        (with_valued a.id (reading_by a) _ w ws (without a.id rows) (without_valued a.id rows f))
+
+    go : (again : Bool) (values : List Text) (rows : List Row) → use_passes again a values rows ≡ true → Valued rows → Valued (used a values rows)
+    go again [] rows e f = subst (λ vs. Valued (used_as (unwrap_or a.action Set) a.id (reading_by a) vs rows)) (sym missing) (set v [] rows f)
+    go again (w ∷ ws) rows e f = set w ws rows f
 
 -- a request for help, which leaves the rows
 pub asks_help : (a : Rule) → a.action ≡ Some Help → AsksValue a

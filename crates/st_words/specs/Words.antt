@@ -1,9 +1,11 @@
 -- The program's command line, and the order that its words give.
-use Rattle.std.specs.Prelude.{◌≡◌, ◌≤◌, ◌⊎◌, IsSome, ℕ, Bool, true, List, [], Option, Some, None, codes, option_and_then}
+use Rattle.std.specs.Prelude.{◌≡◌, ◌≤◌, ◌⊎◌, IsSome, ℕ, Bool, true, false, List, [], Option, Some, None, codes, option_and_then}
 use Rattle.std.specs.Str.Parse.{IsNumeral, digits_value, without_leading_plus}
-use Rattle.clap.specs.Words.{App, HasKind, Kinds, Row, Rule, Text, fault_of, first_of, kind_of, new_app, new_rule, subcommand_of, takes, with_rule, with_subcommand}
+use Rattle.clap.specs.Words.{App, HasKind, Kinds, Row, Rule, Text, fault_of, first_of, kind_of, new_app, new_rule, one_of, subcommand_of, takes, with_rule, with_subcommand}
+use Rattle.clap.specs.declared.builder.action.ArgAction.TheVariants.{SetTrue}
 use Rattle.clap.specs.declared.error.Error.{Error}
 use Rattle.clap.specs.declared.error.kind.ErrorKind.TheVariants as error_kinds
+use Rattle.st_words.specs.declared.words.Manner.{Manner}
 use Rattle.st_words.specs.declared.words.Verb.{Verb}
 use Rattle.st_words.specs.declared.words.Verb.TheVariants.{Check, Layout, Run}
 use Rattle.st_words.specs.declared.words.Order.{Order}
@@ -20,13 +22,21 @@ program_rule = record (new_rule (codes "program")) { long = Some (codes "program
 abbrev pub steps_rule : Rule
 steps_rule = record (new_rule (codes "steps")) { long = Some (codes "steps"); value_names = 1 }
 
--- a subcommand with FILE and `--program N`
-abbrev pub file_app : Text → App
-file_app name = with_rule (with_rule (new_app name) file_rule) program_rule
+-- an option `--NAME` without a value
+abbrev pub flag_rule : Text → Rule
+flag_rule name = record (new_rule name) { long = Some name; action = Some SetTrue }
 
--- `check FILE --program N`
+-- a subcommand with FILE and `--program N`
+abbrev pub program_app : Text → App
+program_app name = with_rule (with_rule (new_app name) file_rule) program_rule
+
+-- the same with `--quiet`
+abbrev pub file_app : Text → App
+file_app name = with_rule (program_app name) (flag_rule (codes "quiet"))
+
+-- `check FILE --program N [--all]`
 abbrev pub check_app : App
-check_app = file_app (codes "check")
+check_app = with_rule (file_app (codes "check")) (flag_rule (codes "all"))
 
 -- `layout FILE --program N`
 abbrev pub layout_app : App
@@ -109,3 +119,12 @@ abbrev pub IsOrder : Order → Option (Text × List Row) → Type 0
 IsOrder order None = ⊥
 IsOrder order (Some met) = (met.0 ≡ verb_name order.verb) × (first_of (codes "FILE") met.1 ≡ Some order.file.now)
     × (first_of (codes "program") met.1 ≡ Some order.main.now) × IsLimitOf (first_of (codes "steps") met.1) order.steps
+
+-- the flag is set where it is given, and isn't where it is left out
+abbrev pub IsFlagOf : Bool → Option Text → Type 0
+IsFlagOf flag given = (given ≡ Some (codes "true") → flag ≡ true) × (given ≡ Some (codes "false") → flag ≡ false) × (given ≡ None → flag ≡ false)
+
+-- the manner is what the matches of the subcommand say
+abbrev pub IsManner : Manner → Option (Text × List Row) → Type 0
+IsManner manner None = (manner.quiet ≡ false) × (manner.all ≡ false)
+IsManner manner (Some met) = IsFlagOf manner.quiet (one_of (codes "quiet") met.1) × IsFlagOf manner.all (one_of (codes "all") met.1)

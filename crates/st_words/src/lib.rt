@@ -3,4 +3,4 @@
 
 mod words;
 
-pub use words::{DEFAULT_STEPS, MAX_STEPS, Order, VERSION, Verb, read_words};
+pub use words::{DEFAULT_STEPS, MAX_STEPS, Manner, Order, VERSION, Verb, read_order, read_words};

@@ -3,10 +3,10 @@
 ghost use Rattle.std.specs.Prelude.{◌≡◌, ℕ, [], Some, IfErr, IfOk, IsOkAnd, IfSome, IsNone, OnOk, map, option_map, false};
 ghost use Rattle.clap.specs.Words.{IsPlainArg, app_of, kind_of, new_rule, rule_of, subcommand_rows_of, with_subcommand};
 ghost use Rattle.clap.specs.declared.builder.command.Command.TheViews.{out-Command};
-ghost use Rattle.st_words.specs.Words.{AreInOrder, HasLimit, IsFaultOf, IsLimitOf, IsOrder, IsRunnable, IsStepLimit, check_app, chosen_by, faults_of, file_app, layout_app, run_app, stc_app, stc_top, verb_name};
+ghost use Rattle.st_words.specs.Words.{AreInOrder, HasLimit, IsFaultOf, IsLimitOf, IsManner, IsOrder, IsRunnable, IsStepLimit, check_app, chosen_by, faults_of, file_app, flag_rule, layout_app, program_app, run_app, stc_app, stc_top, verb_name};
 
 use clap::error::ErrorKind;
-use clap::{Arg, ArgMatches, Command, Error};
+use clap::{Arg, ArgAction, ArgMatches, Command, Error};
 use std::alloc::{AllocError, Global};
 use std::convert::AsStr;
 
@@ -42,6 +42,32 @@ pub struct Order<'a> {
     pub steps: u32,
 }
 
+/// What the words say beside the order: how much people are told on standard error.
+#[derive(Clone, Copy)]
+pub struct Manner {
+    /// Nothing of what is refused: `--quiet`.
+    pub quiet: bool,
+    /// Every fault of the text, and not the first alone: `--all`, which `check` takes.
+    pub all: bool,
+}
+
+/// The examples, the exit statuses and the manuals, at the end of the help.
+const AFTER_HELP: &str = "\
+Examples:
+  stc check tank.st --program Main
+  stc run tank.st --program Main < tank.session
+
+Exit status:
+  0  every line was accepted
+  1  the text is refused
+  2  the words of the command line are wrong
+  3  some line was refused, or a fault ended some scan
+  4  reading or writing failed
+  5  there was no memory
+
+`stc help COMMAND` says what a command takes.
+Manuals: `man stc`; and LANGUAGE.md, SESSIONS.md and REFUSALS.md, in docs/ or in share/doc/stc";
+
 /// The order that the words give, of which the first is the program's own name. An error is a
 /// request for help or for the version, a fault of usage, or want of memory.
 pub fn read_words<'a, S: AsStr>(alloc: Global, words: &'a [S]) -> Result<Order<'a>, Error>
@@ -52,26 +78,53 @@ pub fn read_words<'a, S: AsStr>(alloc: Global, words: &'a [S]) -> Result<Order<'
     // Words that are in order are refused for want of memory alone.
     ensures memory { IfErr result (λ error. AreInOrder (map S.text words.entry.now) → kind_of error ≡ ErrorKind.OutOfMemory) }
 {
-    let mut command = stc_command(alloc)?;
-    order_by(&mut command, words)
+    match read_order(alloc, words) {
+        Ok((order, _)) => Ok(order),
+        Err(error) => Err(error),
+    }
 }
 
-/// The order that the words give the command line.
-fn order_by<'a, S: AsStr>(command: &mut Command<'a>, words: &'a [S]) -> Result<Order<'a>, Error>
+/// The order that the words give, as `read_words` reads it, and what they say beside it.
+pub fn read_order<'a, S: AsStr>(alloc: Global, words: &'a [S]) -> Result<(Order<'a>, Manner), Error>
+    ensures order { IfOk result (λ given. IsOrder given.0 (chosen_by (map S.text words.entry.now))) }
+    ensures manner { IfOk result (λ given. IsManner given.1 (chosen_by (map S.text words.entry.now))) }
+    ensures faultless { OnOk result (faults_of (map S.text words.entry.now) ≡ []) }
+    ensures fault { IfErr result (IsFaultOf (map S.text words.entry.now)) }
+    ensures memory { IfErr result (λ error. AreInOrder (map S.text words.entry.now) → kind_of error ≡ ErrorKind.OutOfMemory) }
+{
+    let mut command = stc_command(alloc)?;
+    order_by(alloc, &mut command, words)
+}
+
+/// The order that the words give the command line, and what they say beside it.
+fn order_by<'a, S: AsStr>(
+    alloc: Global,
+    command: &mut Command<'a>,
+    words: &'a [S],
+) -> Result<(Order<'a>, Manner), Error>
     requires { app_of command.old ≡ stc_app }
-    ensures order { IfOk result (λ order. IsOrder order (chosen_by (map S.text words.entry.now))) }
+    ensures order { IfOk result (λ given. IsOrder given.0 (chosen_by (map S.text words.entry.now))) }
+    ensures manner { IfOk result (λ given. IsManner given.1 (chosen_by (map S.text words.entry.now))) }
     ensures faultless { OnOk result (faults_of (map S.text words.entry.now) ≡ []) }
     ensures fault { IfErr result (IsFaultOf (map S.text words.entry.now)) }
     ensures memory { IfErr result (λ error. AreInOrder (map S.text words.entry.now) → kind_of error ≡ ErrorKind.OutOfMemory) }
 {
     let matches = command.try_get_matches_from_mut(words)?;
     match order_in(&matches) {
-        Some(order) => Ok(order),
-        None => Err(command.error(
-            ErrorKind::ValueValidation,
-            "K of '--steps <K>' is a number from 1 to 10000000",
-        )?),
+        Some(order) => Ok((order, manner_in(&matches))),
+        None => Err(limit_error(alloc)?),
     }
+}
+
+/// Says that a step limit is none, with the usage of `run`.
+fn limit_error(alloc: Global) -> Result<Error, AllocError>
+    ensures { IfOk result (λ error. kind_of error ≡ ErrorKind.ValueValidation) }
+{
+    let mut command = run_command(alloc)?.bin_name("stc run")?;
+    command.error(
+        ErrorKind::ValueValidation,
+        "K of '--steps <K>' is a number from 1 to 10000000",
+    )
 }
 
 /// The command line of the whole program.
@@ -104,19 +157,19 @@ fn bare_command<'a>(alloc: Global) -> Result<Command<'a>, AllocError>
         .version(VERSION)
         .subcommand_required(true)
         .disable_help_subcommand(true)
+        .after_help(AFTER_HELP)
         .bin_name("stc")
 }
 
-/// `check FILE --program N`
+/// `check FILE --program N [--all]`
 fn check_command<'a>(alloc: Global) -> Result<Command<'a>, AllocError>
     ensures app { IfOk result (λ command. app_of command ≡ check_app) }
     ensures local { IfOk result (λ command. (out-Command command).has_globals ≡ false) }
 {
-    file_command(
-        alloc,
-        "check",
-        "Say whether the program is accepted, or why not.",
-    )
+    let about = "Say whether the program is accepted, or why not.";
+    file_command(alloc, "check", about)?.arg(flag(alloc, "all").help(
+        "Tell every fault of the text, and not the first alone",
+    ))
 }
 
 /// `layout FILE --program N`
@@ -142,9 +195,23 @@ fn run_command<'a>(alloc: Global) -> Result<Command<'a>, AllocError>
     ))
 }
 
-/// A subcommand that takes FILE and `--program N`, and what is said of it.
+/// A subcommand that takes FILE, `--program N` and `--quiet`, and what is said of it.
 fn file_command<'a>(alloc: Global, name: &'a str, about: &'a str) -> Result<Command<'a>, AllocError>
     ensures app { IfOk result (λ command. app_of command ≡ file_app name.entry.now) }
+    ensures local { IfOk result (λ command. (out-Command command).has_globals ≡ false) }
+{
+    program_command(alloc, name, about)?.arg(flag(alloc, "quiet").help(
+        "Explain nothing on standard error",
+    ))
+}
+
+/// A subcommand that takes FILE and `--program N`, and what is said of it.
+fn program_command<'a>(
+    alloc: Global,
+    name: &'a str,
+    about: &'a str,
+) -> Result<Command<'a>, AllocError>
+    ensures app { IfOk result (λ command. app_of command ≡ program_app name.entry.now) }
     ensures local { IfOk result (λ command. (out-Command command).has_globals ≡ false) }
 {
     Command::new(alloc, name)
@@ -169,6 +236,32 @@ fn option<'a>(alloc: Global, name: &'a str, value: &'a str) -> Arg<'a>
     ensures local { result.global ≡ false }
 {
     Arg::new(alloc, name).long(name).value_name(value)
+}
+
+/// The option `--NAME`, which takes no value and may be left out.
+fn flag<'a>(alloc: Global, name: &'a str) -> Arg<'a>
+    ensures id { result.id ≡ name.entry }
+    ensures rule { rule_of result ≡ flag_rule name.entry.now }
+    ensures plain { IsPlainArg result }
+    ensures local { result.global ≡ false }
+{
+    Arg::new(alloc, name).long(name).action(ArgAction::SetTrue)
+}
+
+/// What the subcommand's matches say beside the order.
+fn manner_in(matches: &ArgMatches<'_>) -> Manner
+    ensures { IsManner result (subcommand_rows_of matches.now) }
+{
+    match matches.subcommand() {
+        Some((_name, inner)) => Manner {
+            quiet: inner.get_flag("quiet"),
+            all: inner.get_flag("all"),
+        },
+        None => Manner {
+            quiet: false,
+            all: false,
+        },
+    }
 }
 
 /// The order that the subcommand and its matches give.

@@ -1,7 +1,7 @@
 use Rattle.clap.proofs.TakesLemmas.{passed_up}
 use Rattle.std.proofs.Common.{Err, Ok, inl, inr, map, refl, subst, sym}
 use Rattle.clap.specs.declared.parser.matches.ArgMatches.{ArgMatches}
-use Rattle.st_words.specs.Words.{IsOrder, IsRunnable}
+use Rattle.st_words.specs.Words.{IsManner, IsOrder, IsRunnable}
 use Rattle.st_words.proofs.Taken.{chosen_in, fails_by, taken_by, in_order_runs}
 use Rattle.st_words.proofs.words.order_by.Goals as goal
 
@@ -23,6 +23,12 @@ returns-in-Some-clause-order g c =
     let chosen = chosen_in _ words c.in_ok-matches.matches c.requires c.in_ok-matches.ensures.ok.2 in
     subst (IsOrder c.in-Some.order) chosen c.in-Some.ensures.some
 
+pub returns-in-Some-clause-manner : goal.returns-in-Some-clause-manner
+returns-in-Some-clause-manner g c =
+    let words = map g.S.AsStr.text c.args.words.now in
+    let chosen = chosen_in _ words c.in_ok-matches.matches c.requires c.in_ok-matches.ensures.ok.2 in
+    subst (IsManner c.manner_in.result) chosen c.manner_in.ensures
+
 pub returns-in_err-matches-clause-fault : goal.returns-in_err-matches-clause-fault
 returns-in_err-matches-clause-fault g c =
     let words = map g.S.AsStr.text c.args.words.now in
@@ -37,4 +43,4 @@ returns-in-Some-clause-faultless g c =
 pub returns-clause-fault : goal.returns-clause-fault
 returns-clause-fault g c =
     let words = map g.S.AsStr.text c.args.words.now in
-    inr (fails_by {T = ArgMatches} _ words (Ok c.in_ok-matches.matches) c.requires c.in_ok-matches.ensures.kinds, c.in_ok-error-in-None.ensures.kind)
+    inr (fails_by {T = ArgMatches} _ words (Ok c.in_ok-matches.matches) c.requires c.in_ok-matches.ensures.kinds, c.in_ok-limit_error-in-None.ensures)

@@ -1,0 +1,1 @@
+./stc layout folder.sh/a.st --program Main

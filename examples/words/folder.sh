@@ -1,0 +1,1 @@
+./stc check . --program Main

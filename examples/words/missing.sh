@@ -1,0 +1,1 @@
+./stc run nowhere.st --program Main

@@ -1,0 +1,1 @@
+./stc check ../refused/semicolon.st --program Main --quiet

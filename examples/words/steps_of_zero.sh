@@ -1,0 +1,1 @@
+./stc run ../tank.st --program Main --steps 0
