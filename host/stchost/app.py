@@ -1,7 +1,5 @@
 """Starts a plant: its engine in one thread, and in another what serves people and other machines."""
 
-from __future__ import annotations
-
 import argparse
 import asyncio
 import fcntl
@@ -11,21 +9,22 @@ import selectors
 import signal
 import subprocess
 import sys
+import threading
 import time
-from pathlib import Path
 
 from . import access
-from .bridge import Bridge, run_in_thread
 from .change import Refusal
 from .clock import Monotonic
 from .devices import links
 from .engine import Engine
-from .journal import Damaged, Journal, pieces
+from .journal import Damaged, Journal
 from .modbus_server import ModbusServer
-from .plant import Plant, PlantError, find, load
+from .plant import Plant, PlantError, load
 from .replay import Differs, Unreachable
 from .session import Gone, Session, program
 from .web import Web
+
+ERRORS = (PlantError, Refusal, Gone, OSError, Unreachable, Differs, Damaged, subprocess.SubprocessError)
 
 
 def exact_loop() -> asyncio.AbstractEventLoop:
@@ -35,8 +34,7 @@ def exact_loop() -> asyncio.AbstractEventLoop:
 
 def engine_of(plant: Plant) -> Engine:
     """The engine of a plant over the machine's clock."""
-    clock = Monotonic()
-    file = plant.journal
+    clock, file = Monotonic(), plant.journal
     journal = Journal(plant.state_folder / "journal", file.piece, file.limit, file.sync)
     return Engine(plant, clock, journal, Session.start, lambda types: links(plant, types, clock.now))
 
@@ -49,27 +47,22 @@ def prefer(priority: int) -> None:
         print(f"priority {priority}: {error}", file=sys.stderr)
 
 
-def set_aside(folder: Path) -> None:
-    """Moves a journal away, so that the program is loaded anew."""
-    if pieces(folder):
-        folder.rename(folder.with_name(f"journal-{time.strftime('%Y%m%d-%H%M%S')}"))
-
-
-async def serve(plant: Plant, engine: Engine, loop: asyncio.AbstractEventLoop, ended: asyncio.Event) -> None:
+async def serve(engine: Engine, ended: asyncio.Event) -> None:
     """Serves the page and Modbus until the engine has ended."""
-    bridge = Bridge(engine, loop)
-    web = Web(plant.page, bridge, access.Gate(access.load(plant.tokens_file)))
-    server = ModbusServer(plant.server, bridge) if plant.server else None
+    plant = engine.plant
+    while not engine.status and not ended.is_set():  # a long journal takes its time
+        await asyncio.sleep(0.02)
+    if ended.is_set():
+        return
+    web = Web(engine, access.Gate(access.load(plant.tokens_file)))
+    server = ModbusServer(plant.server, engine) if plant.server else None
     await web.start()
     if server is not None:
         await server.start()
-    while not engine.status and not ended.is_set():  # a long journal takes its time
-        await asyncio.sleep(0.02)
-    if engine.status:
-        print(f"{plant.name}: http://{plant.page.host}:{web.port}/" + (f", Modbus at port {server.port}" if server else ""), flush=True)
+    print(f"{plant.name}: http://{plant.page.host}:{web.port}/" + (f", Modbus at port {server.port}" if server else ""), flush=True)
     state = "running"
     while not ended.is_set():
-        if (now := engine.status.get("state", state)) != state:
+        if (now := engine.status["state"]) != state:
             print(f"{plant.name}: {now} {engine.status['fault']}{engine.status['trouble']}", file=sys.stderr, flush=True)
             state = now
         await asyncio.sleep(0.2)
@@ -81,28 +74,29 @@ async def serve(plant: Plant, engine: Engine, loop: asyncio.AbstractEventLoop, e
 async def main_loop(plant: Plant) -> None:
     """Runs until a signal comes, or the engine can't go on."""
     here, there = asyncio.get_running_loop(), exact_loop()
-    engine = engine_of(plant)
-    ended = asyncio.Event()
+    engine, ended = engine_of(plant), asyncio.Event()
     failure: list[BaseException] = []
 
-    async def scans() -> None:
+    def scans() -> None:
+        asyncio.set_event_loop(there)
         try:
             if plant.priority:
                 prefer(plant.priority + 1)
-            await engine.run()
+            there.run_until_complete(engine.run())
         except BaseException as error:  # told below, in the thread that can end the program
             failure.append(error)
         finally:
             here.call_soon_threadsafe(ended.set)
 
     for number in (signal.SIGINT, signal.SIGTERM):
-        here.add_signal_handler(number, lambda: there.call_soon_threadsafe(engine.stop))
-    thread = run_in_thread(there, scans())
+        here.add_signal_handler(number, there.call_soon_threadsafe, engine.stop)
+    thread = threading.Thread(target=scans, name="scans")
+    thread.start()
     try:
-        await serve(plant, engine, there, ended)
+        await serve(engine, ended)
     finally:
         there.call_soon_threadsafe(engine.stop)
-        await here.run_in_executor(None, thread.join)
+        await asyncio.to_thread(thread.join)
     if failure:
         raise failure[0]
 
@@ -114,28 +108,31 @@ def main() -> int:
     parser.add_argument("--check", action="store_true", help="reads the plant's file and stops")
     words = parser.parse_args()
     try:
-        plant = load(find(words.plant))
-        if words.check:
-            return 0
-        plant.state_folder.mkdir(mode=0o700, parents=True, exist_ok=True)
-        lock = (plant.state_folder / "lock").open("w")
+        plant = load(words.plant)
+        if not words.check:
+            run(plant, words.fresh)
+    except BlockingIOError:
+        print(f"{words.plant}: another host runs this plant", file=sys.stderr)
+        return 1
+    except ERRORS as error:
+        more = ": the journal is damaged. `host/replay` reads it up to there; `--fresh` sets it aside" * isinstance(error, Damaged)
+        print(f"{words.plant}: {error}{more}", file=sys.stderr)
+        return 1
+    return 0
+
+
+def run(plant: Plant, fresh: bool) -> None:
+    """Runs a plant as its only host, from its journal or anew."""
+    plant.state_folder.mkdir(mode=0o700, parents=True, exist_ok=True)
+    with (plant.state_folder / "lock").open("w") as lock:
         fcntl.flock(lock, fcntl.LOCK_EX | fcntl.LOCK_NB)
         access.make(plant.tokens_file)
         subprocess.run([program(), "--version"], check=True, stdout=subprocess.DEVNULL)  # builds it, where it isn't built
-        if words.fresh:
-            set_aside(plant.state_folder / "journal")
+        journal = plant.state_folder / "journal"
+        if fresh and journal.exists():
+            journal.rename(journal.with_name(f"journal-{time.strftime('%Y%m%d-%H%M%S')}"))
         if plant.priority:
             prefer(plant.priority)
         sys.setswitchinterval(0.0005)  # the thread of scans waits no longer than this for the other one
         gc.freeze()
         asyncio.run(main_loop(plant))
-    except BlockingIOError:
-        print(f"{words.plant}: another host runs this plant", file=sys.stderr)
-        return 1
-    except (PlantError, Refusal, Gone, OSError, Unreachable, Differs, subprocess.SubprocessError) as error:
-        print(f"{words.plant}: {error}", file=sys.stderr)
-        return 1
-    except Damaged as error:
-        print(f"{words.plant}: the journal is damaged: {error}. `host/replay` reads it up to there; `--fresh` sets it aside.", file=sys.stderr)
-        return 1
-    return 0

@@ -1,7 +1,5 @@
 """The process inputs: the newest number of each, whether it is good, and what a scan's line gives the program of it."""
 
-from __future__ import annotations
-
 from collections.abc import Sequence
 
 from .plant import Point
@@ -34,12 +32,9 @@ class Inputs:
 
     def poll(self, device: str, numbers: dict[str, int]) -> None:
         """What a device gave; the inputs that it didn't give aren't good."""
-        for point in self.points.values():
+        for path, point in self.points.items():
             if point.device == device:
-                if point.path in numbers:
-                    self.take(point.path, numbers[point.path])
-                else:
-                    self.good[point.path] = False
+                self.good[path] = path in numbers and self.take(path, numbers[path])
 
     def forget(self) -> None:
         """Something else than a scan may have changed the inputs of the program: the next scan gives all of them."""
@@ -48,9 +43,7 @@ class Inputs:
     def lines(self, moment: int) -> tuple[list[str], dict[str, str]]:
         """The scan of a moment, behind writes of what has no room in its line; and what the program has then been given."""
         wanted = {path: to_text(self.types[path], number) for path, number in self.numbers.items()}
-        for path, point in self.points.items():
-            if point.quality is not None:
-                wanted[point.quality] = "TRUE" if self.good[path] else "FALSE"
+        wanted |= {point.quality: to_text("BOOL", self.good[path]) for path, point in self.points.items() if point.quality}
         changed = {path: text for path, text in wanted.items() if self._given.get(path) != text}
         words, writes, room = [f"scan {moment}"], [], LINE_LIMIT - 32
         for path, text in changed.items():

@@ -1,7 +1,5 @@
 """What the numbers of refusals and faults mean, as `docs/REFUSALS.md` has it."""
 
-from __future__ import annotations
-
 import re
 from functools import cache
 

@@ -1,13 +1,14 @@
 """The program `stc`: how it is found, one session with it, and what it says of a text."""
 
-from __future__ import annotations
-
 import asyncio
 import os
 import tempfile
-from collections.abc import Sequence
+from asyncio.subprocess import DEVNULL, PIPE, Process
+from collections.abc import Iterator, Sequence
+from contextlib import contextmanager
 from dataclasses import dataclass
 from pathlib import Path
+from typing import Self
 
 ROOT = Path(__file__).resolve().parents[2]
 PATIENCE = 120.0  # seconds in which a reply has to come
@@ -69,32 +70,37 @@ def checked(line: str) -> str:
     return line
 
 
+@contextmanager
+def _file_of(text: str) -> Iterator[str]:
+    """The name of a file that has a text as long as it is wanted."""
+    with tempfile.NamedTemporaryFile(prefix="stc-host-", suffix=".st") as file:
+        file.write(encoded(text))
+        file.flush()
+        yield file.name
+
+
 class Session:
     """One process `stc run`, which a single writer speaks to."""
 
-    def __init__(self, process: asyncio.subprocess.Process) -> None:
+    def __init__(self, process: Process) -> None:
         self.process = process
         self.said = b""  # the end of standard error
         self._drain = asyncio.create_task(self._read_errors())
 
     @classmethod
-    async def start(cls, text: str, main: str, steps: int) -> Session:
+    async def start(cls, text: str, main: str, steps: int) -> Self:
         """Loads a text. Gone where it is refused."""
-        with tempfile.NamedTemporaryFile(prefix="stc-host-", suffix=".st") as file:
-            file.write(encoded(text))
-            file.flush()
-            process = await asyncio.create_subprocess_exec(
-                program(), "run", file.name, "--program", main, "--steps", str(steps), limit=1 << 20,
-                stdin=asyncio.subprocess.PIPE, stdout=asyncio.subprocess.PIPE, stderr=asyncio.subprocess.PIPE)
-            session = cls(process)
+        with _file_of(text) as name:
+            words = ("run", name, "--program", main, "--steps", str(steps))
+            session = cls(await asyncio.create_subprocess_exec(program(), *words, stdin=PIPE, stdout=PIPE, stderr=PIPE))
+            reply = "refused"
             try:
                 reply = (await session.exchange(["status"]))[0]
-            except BaseException:
-                await session.close()
-                raise
-        if reply.startswith("refused"):
-            await session.close()
-            raise Gone(reply + "\n" + decoded(session.said).replace(file.name, "program"))
+            finally:
+                if reply.startswith("refused"):
+                    await session.close()
+            if reply.startswith("refused"):
+                raise Gone(f"{reply}\n{decoded(session.said).replace(name, 'program')}")
         return session
 
     async def exchange(self, lines: Sequence[str]) -> list[str]:
@@ -134,14 +140,10 @@ class Session:
 
 async def ask(verb: str, text: str, main: str) -> tuple[str, str]:
     """What `stc check` or `stc layout` writes of a text on standard output, and what it says for people."""
-    with tempfile.NamedTemporaryFile(prefix="stc-host-", suffix=".st") as file:
-        file.write(encoded(text))
-        file.flush()
-        process = await asyncio.create_subprocess_exec(
-            program(), verb, file.name, "--program", main, stdin=asyncio.subprocess.DEVNULL,
-            stdout=asyncio.subprocess.PIPE, stderr=asyncio.subprocess.PIPE)
+    with _file_of(text) as name:
+        process = await asyncio.create_subprocess_exec(program(), verb, name, "--program", main, stdin=DEVNULL, stdout=PIPE, stderr=PIPE)
         answer, said = await asyncio.wait_for(process.communicate(), PATIENCE)
-    return decoded(answer), decoded(said).replace(file.name, "program")
+    return decoded(answer), decoded(said).replace(name, "program")
 
 
 async def layout_of(text: str, main: str) -> list[Leaf]:

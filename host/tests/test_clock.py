@@ -1,7 +1,5 @@
 """The clock and the queue, over a clock that the test moves and a stand-in for `stc`."""
 
-from __future__ import annotations
-
 import asyncio
 from collections.abc import Callable, Sequence
 from pathlib import Path

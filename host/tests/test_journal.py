@@ -1,7 +1,5 @@
 """The journal as a file: torn and damaged records, pieces, and how far back it reaches."""
 
-from __future__ import annotations
-
 import shutil
 from pathlib import Path
 
@@ -11,7 +9,7 @@ from stchost import journal
 from stchost.journal import Base, Damaged, Journal, read
 from stchost.values import to_number, to_text
 
-BASE = Base("PROGRAM Main\nEND_PROGRAM\n", "Main", 1_000, 0, (("Main.A", "5"),), 1, 0)
+BASE = Base("PROGRAM Main\nEND_PROGRAM\n", "Main", 1_000, 0, [["Main.A", "5"]], 1)
 
 
 def write(folder: Path, piece: int = 1 << 20, count: int = 5, limit: int = 1 << 30) -> Journal:
