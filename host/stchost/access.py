@@ -11,7 +11,8 @@ import tomllib
 from dataclasses import dataclass
 from pathlib import Path
 
-from .plant import PlantError
+from . import Trouble
+
 
 LONGEST = 20.0  # seconds
 FORGOTTEN = 60.0  # seconds after which wrong tokens don't count any more
@@ -33,18 +34,18 @@ def make(path: Path) -> None:
 
 
 def load(path: Path) -> dict[str, Person]:
-    """The persons by their tokens, who may act first. PlantError where the file isn't its owner's alone, or isn't as it has to be."""
+    """The persons by their tokens, who may act first. Trouble where the file isn't its owner's alone, or isn't as it has to be."""
     try:
         if stat.S_IMODE(path.stat().st_mode) & 0o077:
-            raise PlantError(f"{path}: others may read this file of tokens: chmod 600 it")
+            raise Trouble(f"{path}: others may read this file of tokens: chmod 600 it")
         data = tomllib.loads(path.read_text("utf-8"))
     except (OSError, ValueError) as error:
-        raise PlantError(f"{path}: {error}") from error
+        raise Trouble(f"{path}: {error}") from error
     found: dict[str, Person] = {}
     for kind in ("act", "look"):
         for name, token in data.get(kind, {}).items():
             if not TOKEN.fullmatch(str(token)):
-                raise PlantError(f"{path}: the token of {name} has to be of 16 letters, digits, - and _, or more")
+                raise Trouble(f"{path}: the token of {name} has to be of 16 letters, digits, - and _, or more")
             found[token] = Person(name, kind == "act")
     return found
 

@@ -12,31 +12,15 @@ import sys
 import threading
 import time
 
-from . import access
-from .change import Refusal
+from . import Trouble, access
 from .clock import Monotonic
 from .devices import links
 from .engine import Engine
-from .journal import Damaged, Journal
+from .journal import Journal
 from .modbus_server import ModbusServer
-from .plant import Plant, PlantError, load
-from .replay import Differs, Unreachable
-from .session import Gone, Session, program
+from .plant import Plant, load
+from .session import Session, program
 from .web import Web
-
-ERRORS = (PlantError, Refusal, Gone, OSError, Unreachable, Differs, Damaged, subprocess.SubprocessError)
-
-
-def exact_loop() -> asyncio.AbstractEventLoop:
-    """A loop that wakes up to the microsecond: `select` doesn't round times up to milliseconds, as `epoll` does."""
-    return asyncio.SelectorEventLoop(selectors.SelectSelector())
-
-
-def engine_of(plant: Plant) -> Engine:
-    """The engine of a plant over the machine's clock."""
-    clock, file = Monotonic(), plant.journal
-    journal = Journal(plant.state_folder / "journal", file.piece, file.limit, file.sync)
-    return Engine(plant, clock, journal, Session.start, lambda types: links(plant, types, clock.now))
 
 
 def prefer(priority: int) -> None:
@@ -73,8 +57,11 @@ async def serve(engine: Engine, ended: asyncio.Event) -> None:
 
 async def main_loop(plant: Plant) -> None:
     """Runs until a signal comes, or the engine can't go on."""
-    here, there = asyncio.get_running_loop(), exact_loop()
-    engine, ended = engine_of(plant), asyncio.Event()
+    here = asyncio.get_running_loop()
+    there = asyncio.SelectorEventLoop(selectors.SelectSelector())  # `epoll` would round times up to milliseconds
+    clock, ended, file = Monotonic(), asyncio.Event(), plant.journal
+    journal = Journal(plant.state_folder / "journal", file.piece, file.limit, file.sync)
+    engine = Engine(plant, clock, journal, Session.start, lambda types: links(plant, types, clock.now))
     failure: list[BaseException] = []
 
     def scans() -> None:
@@ -101,31 +88,14 @@ async def main_loop(plant: Plant) -> None:
         raise failure[0]
 
 
-def main() -> int:
-    parser = argparse.ArgumentParser(prog="host/run", description="Runs a plant: its program by the clock, its page, its connections.")
-    parser.add_argument("plant", help="the plant's file, with or without .toml")
-    parser.add_argument("--fresh", action="store_true", help="loads the program anew; the journal is set aside")
-    parser.add_argument("--check", action="store_true", help="reads the plant's file and stops")
-    words = parser.parse_args()
-    try:
-        plant = load(words.plant)
-        if not words.check:
-            run(plant, words.fresh)
-    except BlockingIOError:
-        print(f"{words.plant}: another host runs this plant", file=sys.stderr)
-        return 1
-    except ERRORS as error:
-        more = ": the journal is damaged. `host/replay` reads it up to there; `--fresh` sets it aside" * isinstance(error, Damaged)
-        print(f"{words.plant}: {error}{more}", file=sys.stderr)
-        return 1
-    return 0
-
-
 def run(plant: Plant, fresh: bool) -> None:
     """Runs a plant as its only host, from its journal or anew."""
     plant.state_folder.mkdir(mode=0o700, parents=True, exist_ok=True)
     with (plant.state_folder / "lock").open("w") as lock:
-        fcntl.flock(lock, fcntl.LOCK_EX | fcntl.LOCK_NB)
+        try:
+            fcntl.flock(lock, fcntl.LOCK_EX | fcntl.LOCK_NB)
+        except BlockingIOError as error:
+            raise Trouble("another host runs this plant") from error
         access.make(plant.tokens_file)
         subprocess.run([program(), "--version"], check=True, stdout=subprocess.DEVNULL)  # builds it, where it isn't built
         journal = plant.state_folder / "journal"
@@ -136,3 +106,14 @@ def run(plant: Plant, fresh: bool) -> None:
         sys.setswitchinterval(0.0005)  # the thread of scans waits no longer than this for the other one
         gc.freeze()
         asyncio.run(main_loop(plant))
+
+
+def main() -> None:
+    parser = argparse.ArgumentParser(prog="host/run", description="Runs a plant: its program by the clock, its page, its connections.")
+    parser.add_argument("plant", help="the plant's file, with or without .toml")
+    parser.add_argument("--fresh", action="store_true", help="loads the program anew; the journal is set aside")
+    parser.add_argument("--check", action="store_true", help="reads the plant's file and stops")
+    words = parser.parse_args()
+    plant = load(words.plant)
+    if not words.check:
+        run(plant, words.fresh)

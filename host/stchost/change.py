@@ -4,6 +4,7 @@ from collections.abc import Sequence
 from dataclasses import asdict, dataclass, field
 from typing import Any
 
+from . import Trouble
 from .plant import Mapped, Plant, Point
 from .refusals import explain
 from .replay import Start
@@ -13,10 +14,6 @@ from .values import BITS, to_number, to_text
 AT_ONCE = 250  # commands between two resets: 256 can be undone at most
 LISTED = 200  # leaves of a list that are told
 LISTS = ("dropped", "new", "renamed", "lost")
-
-
-class Refusal(Exception):
-    """The text doesn't fit what the plant's file connects; the text says what."""
 
 
 @dataclass
@@ -65,7 +62,7 @@ async def preview(plant: Plant, old: str, forced: Sequence[str], text: str, rena
     found.lost = [path for path in forced if path.upper() in gone]
     try:
         await connections(plant, text, found.leaves, start)
-    except Refusal as error:
+    except Trouble as error:
         found.blocked = str(error)
     return found
 
@@ -120,40 +117,40 @@ def _compare(before: Sequence[Leaf], settable: set[str], kept: set[str], renames
 
 
 async def connections(plant: Plant, text: str, leaves: Sequence[Leaf], start: Start) -> None:
-    """Refusal where the text hasn't what the plant's file connects: inputs under VAR_INPUT, outputs, types that fit."""
+    """Trouble where the text hasn't what the plant's file connects: inputs under VAR_INPUT, outputs, types that fit."""
     types = {leaf.path: leaf.type for leaf in leaves}
     qualities = [point.quality for point in plant.input if point.quality]
     inputs = [point.path for point in plant.input] + qualities
     for path in inputs + [point.path for point in plant.output]:
         if path not in types:
-            raise Refusal(f"the program has no {path}, written like this, which the plant's file connects")
+            raise Trouble(f"the program has no {path}, written like this, which the plant's file connects")
         if path in qualities and types[path] != "BOOL":
-            raise Refusal(f"{path} is to be a BOOL: it tells whether an input is good")
+            raise Trouble(f"{path} is to be a BOOL: it tells whether an input is good")
     for point in plant.output:
         try:
             to_number(types[point.path], point.fault or "")
         except ValueError as error:
-            raise Refusal(f"{point.path}: `fault` of the plant's file: {error}") from error
+            raise Trouble(f"{point.path}: `fault` of the plant's file: {error}") from error
     _check_forms(plant, types)
     if sum(len(path) + 28 for path in inputs) > 3_900 + 256 * 280:
-        raise Refusal("these are more inputs than can be given before one scan")
+        raise Trouble("these are more inputs than can be given before one scan")
     session = await start(text, plant.main, 1)
     try:
         lines = [line for path in inputs for line in (f"scan 0 {path}:={to_text(types[path], 0)}", "reset")]
         for path, reply in zip(inputs, (await session.exchange(lines))[::2]):
             if reply.startswith("refused"):
-                raise Refusal(f"{path} is no VAR_INPUT of the program: {reply}")
+                raise Trouble(f"{path} is no VAR_INPUT of the program: {reply}")
     finally:
         await session.close()
 
 
 def _check_forms(plant: Plant, types: dict[str, str]) -> None:
-    """Refusal where a variable doesn't fit its register: TIME and types of 64 bits need a form of the plant's file."""
+    """Trouble where a variable doesn't fit its register: TIME and types of 64 bits need a form of the plant's file."""
     placed: list[Point | Mapped] = [point for point in plant.input + plant.output if point.table]
     placed += plant.server.map if plant.server else ()
     for item in placed:
         type_name, is_bit = types.get(item.path, ""), item.table in ("coil", "discrete")
         if type_name and is_bit is not (type_name == "BOOL") and (is_bit or item.form is None):
-            raise Refusal(f"{item.path} is a {type_name}, and doesn't fit the table {item.table}")
+            raise Trouble(f"{item.path} is a {type_name}, and doesn't fit the table {item.table}")
         if type_name and not is_bit and item.form is None and BITS[type_name] > 32:
-            raise Refusal(f"{item.path} is a {type_name}: `form` is to say how it lies in registers")
+            raise Trouble(f"{item.path} is a {type_name}: `form` is to say how it lies in registers")

@@ -13,8 +13,8 @@ from prompt_toolkit.completion import WordCompleter
 from prompt_toolkit.history import FileHistory
 from prompt_toolkit.patch_stdout import patch_stdout
 
-from . import access
-from .plant import Plant, PlantError, load
+from . import Trouble, access
+from .plant import Plant, load
 
 HELP = """show P | write P V | force P V | release P | undo | reset | status   as a session has them
 list [WORDS]                variables whose path has all of these words, with their values
@@ -148,12 +148,12 @@ async def connect(plant: Plant, name: str | None) -> int:
     """Talks to the host of a plant, with the token of a name, or else the first one to act."""
     tokens = [token for token, person in access.load(plant.tokens_file).items() if name in (None, person.name)]
     if not tokens:
-        raise PlantError(f"{plant.tokens_file}: there is no token of {name}")
+        raise Trouble(f"{plant.tokens_file}: there is no token of {name}")
     url = f"http://{plant.page.host}:{plant.page.port}/live"
     async with aiohttp.ClientSession() as http, http.ws_connect(url, protocols=tokens[:1], max_msg_size=1 << 24) as socket:
         hello = await socket.receive_json()
         if "refused" in hello:
-            raise PlantError(hello["refused"])
+            raise Trouble(hello["refused"])
         console = Console(socket)
         listener = asyncio.create_task(console.listen())
         await talk(console, plant)
@@ -166,8 +166,4 @@ def main() -> int:
     parser.add_argument("plant", help="the plant's file, with or without .toml")
     parser.add_argument("--as", dest="name", help="whose token of the plant's file of tokens")
     words = parser.parse_args()
-    try:
-        return asyncio.run(connect(load(words.plant), words.name))
-    except (PlantError, OSError, aiohttp.ClientError) as error:
-        print(f"{words.plant}: {error}", file=sys.stderr)
-        return 1
+    return asyncio.run(connect(load(words.plant), words.name))

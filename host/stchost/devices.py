@@ -6,7 +6,8 @@ import time
 from collections.abc import Callable, Sequence
 from typing import Any, Protocol
 
-from .plant import DeviceFile, Plant, PlantError, Point
+from . import Trouble
+from .plant import DeviceFile, Plant, Point
 
 
 class Device(Protocol):
@@ -113,7 +114,7 @@ class Simulation:
         for points, names in ((inputs, self.model.inputs), (outputs, self.model.outputs)):
             for point in points:
                 if point.name not in names:
-                    raise PlantError(f"{point.path}: the model {file.model} has here {', '.join(names)}")
+                    raise Trouble(f"{point.path}: the model {file.model} has here {', '.join(names)}")
         self.inputs, self.outputs = inputs, outputs
         self.now, self.then = now, now()
         self.given: dict[str, int] = {}

@@ -4,11 +4,10 @@ import asyncio
 import math
 from collections import deque
 from collections.abc import Awaitable, Callable, Coroutine, Iterator, Sequence
-from dataclasses import dataclass
 from functools import partial
 from typing import Any, NamedTuple, TypeVar
 
-from . import journal as journals
+from . import Trouble, journal as journals
 from .change import connections
 from .clock import Clock, Cycle
 from .devices import Link
@@ -16,8 +15,8 @@ from .inputs import Inputs
 from .journal import Base, Journal, Record
 from .plant import Plant
 from .refusals import explain
-from .replay import Differs, Replay, Start, Story, Unreachable, restore, taken_back
-from .session import Gone, Leaf, Session, Unfit, checked, layout_of, words_of
+from .replay import Replay, Start, Story, restore, taken_back
+from .session import Gone, Leaf, Session, checked, layout_of, words_of
 from .values import to_number
 
 QUEUE_LIMIT = 1_000
@@ -25,9 +24,10 @@ CHUNK = 200  # leaves that are shown at one go
 VERBS = ("show", "write", "force", "release", "reset", "undo", "status")
 QUIET = ("show", "status")  # these change nothing, and aren't kept
 Result = TypeVar("Result")
+Work = Callable[[], Awaitable[Any]]
 
 
-class Busy(Exception):
+class Busy(Trouble):
     """Too many lines wait already."""
 
 
@@ -36,14 +36,6 @@ class Value(NamedTuple):
 
     text: str
     forced: bool
-
-
-@dataclass
-class Job:
-    """Some work that is done between two scans."""
-
-    work: Callable[[], Awaitable[Any]]
-    done: asyncio.Future[Any]
 
 
 class Engine:
@@ -75,7 +67,7 @@ class Engine:
         self.cycle = Cycle(clock, plant.cycle)
         self.guard = min(0.002, self.cycle.period / 5)  # nothing is begun so shortly before a scan
         self.loop: asyncio.AbstractEventLoop | None = None
-        self._queue: deque[Job] = deque()
+        self._queue: deque[tuple[Work, asyncio.Future[Any]]] = deque()  # each with whom to tell
         self._event = asyncio.Event()
         self._next_look = clock.now()  # at what is shown; never, while one is under way
         self._sweep = 0
@@ -90,17 +82,17 @@ class Engine:
         assert self.loop is not None
         return await asyncio.wrap_future(asyncio.run_coroutine_threadsafe(work, self.loop))
 
-    async def between(self, work: Callable[[], Awaitable[Any]]) -> Any:
+    async def between(self, work: Work) -> Any:
         """Does some work between two scans, behind what waits already, and gives its result to who asked."""
         if len(self._queue) >= QUEUE_LIMIT:
             raise Busy("too many lines wait")
         return await self._post(work)
 
     async def operate(self, who: str, line: str) -> str:
-        """One line of an operator, and its reply. Unfit where the host doesn't send it."""
+        """One line of an operator, and its reply. Trouble where the host doesn't send it."""
         verb = words_of(checked(line))[0]
         if verb not in VERBS:
-            raise Unfit("scans are the clock's" if verb == "scan" else f"the commands are {', '.join(VERBS)}")
+            raise Trouble("scans are the clock's" if verb == "scan" else f"the commands are {', '.join(VERBS)}")
         return await self.between(lambda: self._operate(who, line))
 
     async def change(self, who: str, line: str, leaves: list[Leaf]) -> str:
@@ -116,12 +108,10 @@ class Engine:
         return await self.between(work)
 
     async def set_input(self, who: str, path: str, number: int) -> None:
-        """A new number for an input that people set; the next scan gives it. Unfit where it isn't one, or has no such number."""
-        if not self.inputs.by_hand(path):
-            raise Unfit(f"{path} follows its device")
-        if not self.inputs.take(path, number):
-            self.inputs.good[path] = True
-            raise Unfit(f"{number} is no {self.types[path]}")
+        """A new number for an input without a device; the next scan gives it. Trouble where it has one."""
+        if self.inputs.points[path].device is not None:
+            raise Trouble(f"{path} follows its device")
+        self.inputs.take(path, number)
 
     async def hold(self, who: str, held: bool) -> None:
         """Holds the scans, so that what is done can be undone, or lets them go on. The outputs stay as they are."""
@@ -135,7 +125,7 @@ class Engine:
             self._may_take_back(number)
             found = journals.bases(self.journal.folder)
             if self.journal.trouble or not found:
-                raise Unfit("the journal doesn't reach back to a load or a reset")
+                raise Trouble("the journal doesn't reach back to a load or a reset")
             replay = Replay(self.start, {number} | taken_back(journals.read(self.journal.folder, found[-1])))
             news = journals.follow(self.journal.folder, found[-1])
             try:
@@ -151,17 +141,14 @@ class Engine:
             return [f"{other.line}: {other.reply}" for other in replay.others]
 
     def _may_take_back(self, number: int) -> None:
-        """Unfit where a command can't be taken back."""
+        """Trouble where a command can't be taken back."""
         command = self.story.commands.get(number)
         if command is None or number < self.story.began or command.state or command.reply.startswith("refused"):
-            raise Unfit("this command can't be taken back")
-        verb, *words = words_of(command.line)
-        if verb not in ("write", "force", "release", "change"):
-            raise Unfit("writes, forces, releases and changes can be taken back")
-        if verb == "write" and self.inputs.by_hand(self.spelled.get(words[0].upper(), "")):
-            raise Unfit("the scans since then gave this input: write it anew")
+            raise Trouble("this command can't be taken back")
+        if words_of(command.line)[0] not in ("write", "force", "release", "change"):
+            raise Trouble("writes, forces, releases and changes can be taken back")
         if any(other.number > number and other.line.startswith("undo") and other.reply == "ok" for other in self.story.commands.values()):
-            raise Unfit("an undo came behind it")
+            raise Trouble("an undo came behind it")
 
     async def _take_over(self, who: str, number: int, replay: Replay, news: Iterator[Record | None], leaves: list[Leaf]) -> None:
         """Goes on with the session of a replay, behind what was done since it was last fed."""
@@ -169,7 +156,7 @@ class Engine:
         while await replay.feed(news):
             pass
         if replay.story.text != text:
-            raise Unfit("the program was changed meanwhile")
+            raise Trouble("the program was changed meanwhile")
         old, self.session = self.session, replay.session
         self._keep(lambda: self.journal.take_back(who, number))
         self.story = replay.story
@@ -208,11 +195,11 @@ class Engine:
         self._stopping = True
         self._event.set()
 
-    def _post(self, work: Callable[[], Awaitable[Any]]) -> asyncio.Future[Any]:
-        job = Job(work, asyncio.get_running_loop().create_future())
-        self._queue.append(job)
+    def _post(self, work: Work) -> asyncio.Future[Any]:
+        done = asyncio.get_running_loop().create_future()
+        self._queue.append((work, done))
         self._event.set()
-        return job.done
+        return done
 
     async def _serve(self, until: float) -> None:
         """Does what waits as long as there is time before the next scan. Where scans leave no time, one job is done all the same."""
@@ -224,7 +211,7 @@ class Engine:
                 self._post(partial(self._look, self._wanted()))
             if self._queue and (starved or until - now > self.guard):
                 starved = False
-                await self._do(self._queue.popleft())
+                await self._do(*self._queue.popleft())
             elif now >= until:
                 await asyncio.sleep(0)  # whoever else waits for the loop has a turn
                 return
@@ -232,20 +219,22 @@ class Engine:
                 self._event.clear()
                 await self.clock.wait(self._event, min(until, self._next_look))
 
-    async def _do(self, job: Job) -> None:
-        if job.done.cancelled():
+    async def _do(self, work: Work, done: asyncio.Future[Any]) -> None:
+        """Does some work, and tells who asked, if that one still waits."""
+        if done.cancelled():
             return
         try:
-            result = await job.work()
-        except Exception as error:  # whoever asked is told; the writer goes on
-            if not job.done.done():
-                died = isinstance(error, Gone)
-                job.done.set_exception(Unfit("stc ended before it replied: the line counts as not given") if died else error)
-            if isinstance(error, Gone):
-                raise
+            result = await work()
+        except Gone:
+            if not done.done():
+                done.set_exception(Trouble("stc ended before it replied: the line counts as not given"))
+            raise
+        except Exception as error:  # the writer goes on
+            if not done.done():
+                done.set_exception(error)
         else:
-            if not job.done.done():
-                job.done.set_result(result)
+            if not done.done():
+                done.set_result(result)
 
     async def _turn(self) -> None:
         """One cycle: inputs are polled, the program is scanned, and outputs are pushed."""
@@ -257,7 +246,8 @@ class Engine:
             await self._show(self._always)
         else:
             await self._scan(moment)
-        await self._push(self.safe if self.fault or self.trouble else self._program_outputs())
+        program = {path: self.values[path].text if path in self.values else safe for path, safe in self.safe.items()}
+        await self._push(self.safe if self.fault or self.trouble else program)
         self.cycle.end()
 
     async def _scan(self, moment: int) -> None:
@@ -301,23 +291,13 @@ class Engine:
             await self._begin_again()
         elif verb == "undo" and self.story.text is not text:
             self._take_program(await self.layout(self.story.text, self.plant.main))
-        path = self.spelled.get(words[0].upper(), "") if verb in ("write", "force", "release") else ""
-        await self._show([path] if path else [])
-        if verb == "undo" or (verb == "write" and self.inputs.by_hand(path)):
-            await self._read_hand_inputs()
+        elif verb in ("write", "force", "release") and (path := self.spelled.get(words[0].upper())):
+            await self._show([path])
         self._soon()
 
     def _soon(self) -> None:
         """What has changed is shown as soon as there is time."""
         self._next_look = min(self._next_look, self.clock.now())
-
-    async def _read_hand_inputs(self) -> None:
-        """What the program has for the inputs that people set counts as what they were set to; but a force doesn't."""
-        paths = [path for path in self.inputs.points if self.inputs.by_hand(path)]
-        await self._show(paths)
-        for path in paths:
-            if not self.values[path].forced:
-                self.inputs.take(path, to_number(self.types[path], self.values[path].text))
 
     async def _begin_again(self) -> None:
         """Behind a reset the state is the program's text and what is forced in it: a replay can begin here."""
@@ -402,9 +382,6 @@ class Engine:
             "good": dict(self.inputs.good), "driven": dict(self.driven),
         }
 
-    def _program_outputs(self) -> dict[str, str]:
-        return {path: self.values[path].text if path in self.values else safe for path, safe in self.safe.items()}
-
     async def _push(self, texts: dict[str, str]) -> None:
         self.driven = dict(texts)
         numbers = self._numbers(texts)
@@ -444,12 +421,7 @@ class Engine:
         self._take_program(leaves)
         await self._read_status()
         self.links = self.links or self._make_links(self.types)
-        good, numbers = self.inputs.good, self.inputs.numbers
         self.inputs = Inputs(self.plant.input, self.types)
-        self.inputs.good.update(good)
-        self.inputs.numbers.update(numbers)
-        if not numbers:
-            await self._read_hand_inputs()
         self.trouble, self._next_look = "", self.clock.now() + self.cycle.period / 2  # behind the first scan
         await self._show(self._always)
         self.status = self.told()
@@ -463,11 +435,11 @@ class Engine:
         while self.session is None and not self._stopping:
             self.status = self.told()
             while self._queue:
-                self._queue.popleft().done.set_exception(Unfit(f"the program doesn't run: {self.trouble}"))
+                self._queue.popleft()[1].set_exception(Trouble(f"the program doesn't run: {self.trouble}"))
             if (retry := retry - 0.1) < 0:
                 retry = pause = min(30.0, pause * 2 + 0.5)
                 try:
                     return await self._recover()
-                except (Gone, OSError, Differs, Unreachable, journals.Damaged) as error:
+                except (Gone, OSError, Trouble) as error:
                     self.trouble, self.session = str(error), None
             await asyncio.sleep(0.1)

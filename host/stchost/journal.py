@@ -17,6 +17,8 @@ from dataclasses import asdict, dataclass
 from pathlib import Path
 from typing import Any, NamedTuple
 
+from . import Trouble
+
 NAME = re.compile(r"(\d{8})\.journal")
 ESCAPES = str.maketrans({"\\": "\\\\", "\t": "\\t", "\n": "\\n"})
 PLAIN = {"\\\\": "\\", "\\t": "\t", "\\n": "\n"}
@@ -27,10 +29,6 @@ SCAN = "S"  # line, reply
 COMMAND = "C"  # number, wall clock in ms, who, line, reply
 TAKEN_BACK = "X"  # wall clock in ms, who, number of the command that counts as never given
 NEXT = "N"  # the piece goes on from the one before: the checksum of its last record
-
-
-class Damaged(Exception):
-    """A record isn't as it was written; the text says where."""
 
 
 @dataclass
@@ -95,7 +93,7 @@ def _decode(line: bytes, before: int) -> tuple[Record, int]:
 
 def follow(folder: Path, first: int = 0) -> Iterator[Record | None]:
     """The records from the first piece that is there on, or from piece `first`; and None wherever no more are written by now.
-    What lacks its end in the last piece is torn, and no record. Damaged where one isn't as it was written."""
+    What lacks its end in the last piece is torn, and no record. Trouble where one isn't as it was written."""
     before: int | None = None
     while True:
         piece = next((piece for piece in pieces(folder) if piece[0] >= first), None)
@@ -104,7 +102,7 @@ def follow(folder: Path, first: int = 0) -> Iterator[Record | None]:
             continue
         number, path = piece
         if before is not None and number != first:
-            raise Damaged(f"{path.name}: the piece before it is missing")
+            raise Trouble(f"the journal is damaged: {path.name}: the piece before it is missing")
         first = number + 1
         for record, crc in _follow_piece(path, before, first):
             before = crc
@@ -132,7 +130,7 @@ def _follow_piece(path: Path, before: int | None, following: int) -> Iterator[tu
                 else:
                     return
             except ValueError as error:
-                raise Damaged(f"{path.name}: record {count + 1}, from byte {place} on: {error}") from error
+                raise Trouble(f"the journal is damaged: {path.name}: record {count + 1}, from byte {place} on: {error}") from error
 
 
 def read(folder: Path, first: int = 0) -> Iterator[Record]:

@@ -4,9 +4,9 @@ import asyncio
 import ipaddress
 import struct
 
+from . import Trouble
 from .engine import Busy, Engine
 from .plant import READING, Mapped, ServerFile
-from .session import Unfit
 from .values import fits, pack, size_of, to_number, to_text, unpack
 
 FUNCTION, ADDRESS, VALUE, FAILURE, BUSY = 1, 2, 3, 4, 6  # the exceptions of Modbus
@@ -123,7 +123,7 @@ class ModbusServer:
                 await engine.asked(engine.set_input(who, item.path, number))
                 return
             reply = await engine.asked(engine.operate(who, f"write {item.path} {to_text(type_name, number)}"))
-        except (Busy, Unfit) as error:
+        except Trouble as error:
             raise Refused(BUSY if isinstance(error, Busy) else FAILURE) from error
         if reply != "ok":
             raise Refused(CODES.get(reply.removeprefix("refused "), FAILURE))

@@ -7,15 +7,13 @@ from dataclasses import MISSING, dataclass, field, fields, is_dataclass
 from pathlib import Path
 from typing import Any, Literal, TypeVar, get_args, get_origin, get_type_hints
 
+from . import Trouble
+
 FORMS = {"BIT": 1, "INT16": 1, "UINT16": 1, "INT32": 2, "UINT32": 2}  # how many coils or registers each takes
 READING, WRITING = (1, 2, 3, 4), (5, 6, 15, 16)  # functions of Modbus
 TABLES = ("coil", "discrete", "input", "holding")
 Kind = TypeVar("Kind")
 Order = Literal["big", "little"]
-
-
-class PlantError(Exception):
-    """The plant's file can't be used; the text says where and why."""
 
 
 def number(low: int, high: int, default: Any = MISSING) -> Any:
@@ -140,15 +138,13 @@ class Plant:
 
 
 def load(name: str | Path) -> Plant:
-    """Reads a plant's file, as it is named or with `.toml` behind that. PlantError where it can't be used."""
-    path = Path(name)
-    if path.suffix != ".toml":
-        path = Path(f"{name}.toml")
+    """Reads a plant's file, as it is named or with `.toml` behind that. Trouble where it can't be used."""
+    path = Path(name if str(name).endswith(".toml") else f"{name}.toml")
     try:
         plant = _read(Plant, tomllib.loads(path.read_text("utf-8")), path.name, file=path.resolve())
         _check(plant)
     except (OSError, ValueError) as error:
-        raise PlantError(f"{path}: {error}") from error
+        raise Trouble(f"{path}: {error}") from error
     return plant
 
 
@@ -186,16 +182,16 @@ def _check_register(register: Register, path: str, tables: Sequence[str]) -> Non
 def _read(kind: type[Kind], table: Any, where: str, **values: Any) -> Kind:
     """A table of the file as what it is to be, with some values beside it. Keys that aren't known are refused."""
     if not isinstance(table, dict):
-        raise PlantError(f"{where}: a table is due")
+        raise Trouble(f"{where}: a table is due")
     hints = get_type_hints(kind)
     known = {item.name: item for item in fields(kind) if item.name not in values}  # type: ignore[arg-type]
     for key, value in table.items():
         if key not in known:
-            raise PlantError(f"{where}: there is no key `{key}`")
+            raise Trouble(f"{where}: there is no key `{key}`")
         values[key] = _value(value, hints[key], known[key].metadata, f"{where}: `{key}`")
     for key, item in known.items():
         if key not in values and item.default is MISSING:
-            raise PlantError(f"{where}: the key `{key}` is missing")
+            raise Trouble(f"{where}: the key `{key}` is missing")
     return kind(**values)
 
 
@@ -205,15 +201,15 @@ def _value(value: Any, hint: Any, bounds: Any, where: str) -> Any:
         hint = get_args(hint)[0]
     if get_origin(hint) is tuple:
         if not isinstance(value, list):
-            raise PlantError(f"{where} is to be a list")
+            raise Trouble(f"{where} is to be a list")
         return tuple(_value(item, get_args(hint)[0], bounds, f"{where} {place}") for place, item in enumerate(value, 1))
     if is_dataclass(hint):
         return _read(hint, value, where)  # type: ignore[arg-type]
     if get_origin(hint) is Literal:
         if value not in get_args(hint):
-            raise PlantError(f"{where} is one of {', '.join(get_args(hint))}")
+            raise Trouble(f"{where} is one of {', '.join(get_args(hint))}")
     elif type(value) is not hint:
-        raise PlantError(f"{where} is to be of type {hint.__name__}")
+        raise Trouble(f"{where} is to be of type {hint.__name__}")
     elif bounds and not bounds["low"] <= value <= bounds["high"]:
-        raise PlantError(f"{where} is from {bounds['low']} to {bounds['high']}")
+        raise Trouble(f"{where} is from {bounds['low']} to {bounds['high']}")
     return value

@@ -6,21 +6,13 @@ from dataclasses import dataclass, field
 from itertools import islice, takewhile
 from pathlib import Path
 
-from . import journal
+from . import Trouble, journal
 from .journal import Base, Record
 from .session import Session
 
 Start = Callable[[str, str, int], Awaitable[Session]]
 BATCH = 2_000  # lines that are sent at one go
 KEPT = 2_000  # commands that are remembered
-
-
-class Differs(Exception):
-    """A replay answers otherwise than the journal has it: another `stc`, or another machine."""
-
-
-class Unreachable(Exception):
-    """No replay can begin in what the journal still has."""
 
 
 @dataclass
@@ -99,7 +91,7 @@ class Replay:
         if some and self.session is None:
             await self._begin(some[0])
         elif any(record.kind == journal.LOAD for record in some):
-            raise Unreachable("a reset came meanwhile")
+            raise Trouble("a reset came meanwhile")
         sent = [record for record in some if self._counts(record)]
         replies = iter(await self.session.exchange([record.fields[-2] for record in sent]) if self.session else ())
         for record in some:
@@ -117,7 +109,7 @@ class Replay:
 
     async def _begin(self, record: Record) -> None:
         if record.kind != journal.LOAD:
-            raise Unreachable("the journal doesn't reach back to a load or a reset")
+            raise Trouble("the journal doesn't reach back to a load or a reset")
         base = record.base
         self.session = await self.start(base.text, base.main, base.steps)
         self.story.begin(base)
@@ -134,7 +126,7 @@ class Replay:
         """Takes over what a line did. `reply` is None where it wasn't sent."""
         line, wanted = record.fields[-2:]
         if reply not in (None, wanted) and not self._open:
-            raise Differs(f"`{line.splitlines()[0]}` is answered `{reply}`, and in the journal `{wanted}`")
+            raise Trouble(f"`{line.splitlines()[0]}` is answered `{reply}`, and in the journal `{wanted}`")
         if record.kind == journal.SCAN:
             self.story.scan(line, reply or "")
             return
@@ -159,9 +151,9 @@ async def restore(start: Start, folder: Path, moment: int | None = None) -> Repl
     heads = [(number, next(journal.read(folder, number)).base.moment) for number in journal.bases(folder)]
     reaching = [number for number, begins in heads if moment is None or begins <= moment]
     if not heads:
-        raise Unreachable("the journal doesn't reach back to a load or a reset")
+        raise Trouble("the journal doesn't reach back to a load or a reset")
     if not reaching:
-        raise Unreachable(f"a replay can go back to moment {heads[0][1]}, and no further")
+        raise Trouble(f"a replay can go back to moment {heads[0][1]}, and no further")
 
     def records() -> Iterator[Record]:
         found = journal.read(folder, reaching[-1])

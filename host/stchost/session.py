@@ -10,6 +10,8 @@ from dataclasses import dataclass
 from pathlib import Path
 from typing import Self
 
+from . import Trouble
+
 ROOT = Path(__file__).resolve().parents[2]
 PATIENCE = 120.0  # seconds in which a reply has to come
 TEXT_LIMIT = 1_048_576
@@ -32,10 +34,6 @@ class Gone(Exception):
     """The program ended, or gave no reply in time. The text is what it wrote on standard error."""
 
 
-class Unfit(Exception):
-    """The host doesn't send this line, and why."""
-
-
 @dataclass(frozen=True)
 class Leaf:
     path: str
@@ -53,20 +51,20 @@ def words_of(line: str) -> list[str]:
 
 
 def checked(line: str) -> str:
-    """A line that gets exactly one reply. A change has its text and `end_change` behind line feeds. Unfit for any other."""
+    """A line that gets exactly one reply. A change has its text and `end_change` behind line feeds. Trouble for any other."""
     first, *rest = line.split("\n")
     words = words_of(first)
     if "\0" in line or "\r" in first or not words:
-        raise Unfit("a line has words, and no control characters")
+        raise Trouble("a line has words, and no control characters")
     if len(encoded(first)) > 4_096:
-        raise Unfit("a line has at most 4,096 bytes")
+        raise Trouble("a line has at most 4,096 bytes")
     if words[0] != "change":
         if rest:
-            raise Unfit("a line ends where it ends")
+            raise Trouble("a line ends where it ends")
     elif not all("=" in word for word in words[1:]):
-        raise Unfit("each word behind `change` is OLD=NEW")
+        raise Trouble("each word behind `change` is OLD=NEW")
     elif not rest or rest[-1] != "end_change" or any(words_of(text.rstrip("\r")) == ["end_change"] for text in rest[:-1]):
-        raise Unfit("the text of a change has no line `end_change`")
+        raise Trouble("the text of a change has no line `end_change`")
     return line
 
 

@@ -9,13 +9,12 @@ from typing import Any
 
 from aiohttp import WSMsgType, web
 
+from . import Trouble
 from .access import Gate, Person
-from .change import Preview, Refusal, preview
+from .change import Preview, preview
 from .engine import QUIET, Busy, Engine, Value
-from .journal import Damaged
 from .refusals import explain
-from .replay import Differs, Unreachable
-from .session import TEXT_LIMIT, Gone, Unfit
+from .session import TEXT_LIMIT, Gone
 
 PAGE = Path(__file__).resolve().parents[1] / "page"
 FILES = {"/": "index.html", "/page.css": "page.css", "/page.js": "page.js"}
@@ -32,7 +31,7 @@ HEADERS = {
     "X-Content-Type-Options": "nosniff", "Referrer-Policy": "no-referrer", "Cache-Control": "no-store",
 }
 LOOKS = ("watch", "list", "log", "program")  # requests that change nothing
-ERRORS = (Unfit, Busy, Refusal, Gone, Unreachable, Differs, Damaged, OSError)
+ERRORS = (Trouble, Gone, OSError)
 Handler = Callable[[web.Request], Awaitable[web.StreamResponse]]
 
 
@@ -176,7 +175,7 @@ class Web:
             number, what = request.pop("id", None), request.pop("do")
             quiet = what == "line" and request["line"].split(None, 1)[0] in QUIET
             if not (client.person.acts or what in LOOKS or quiet):
-                raise Unfit("this token is to look, not to act")
+                raise Trouble("this token is to look, not to act")
             answer = await getattr(self, f"ask_{what}")(client, **request)
             reply = answer.setdefault("reply", "")
             return {"id": number, "bad": reply.startswith("refused"), "why": explain(reply), **answer}
@@ -232,7 +231,7 @@ class Web:
         """Does the change that this client had a preview of last."""
         found, client.preview = client.preview, None
         if found is None or found.version != self.engine.version:
-            raise Unfit("a change is done after its preview, if no other one came between")
+            raise Trouble("a change is done after its preview, if no other one came between")
         return {"reply": await self.engine.asked(self.engine.change(client.person.name, found.line, found.leaves))}
 
     async def ask_take_back(self, client: Client, number: int) -> dict[str, Any]:

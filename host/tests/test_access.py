@@ -12,9 +12,9 @@ import pytest
 
 from conftest import ACT, HOST, LOOK, Host, ended, needs, wait_for
 from programs import FILE
-from stchost import access
+from stchost import Trouble, access
 from stchost import plant as plants
-from stchost.plant import PlantError, load
+from stchost.plant import load
 
 pytestmark = needs("aiohttp")
 
@@ -73,7 +73,7 @@ def test_the_file_of_tokens_is_its_owners_alone(tmp_path) -> None:
     for text, mode, error in [("", 0o640, "others may read"), ('[act]\nx = "short"\n', 0o600, "16 letters"), ("[act", 0o600, "Expected")]:
         path.write_text(text)
         path.chmod(mode)
-        with pytest.raises(PlantError, match=error):
+        with pytest.raises(Trouble, match=error):
             access.load(path)
 
 
@@ -84,7 +84,7 @@ def test_the_file_of_tokens_is_its_owners_alone(tmp_path) -> None:
     ('cycle = 10\n[[input]]\npath = "Main.A"\ndevice = "d"', "there is no device"), ("cycle = 10\nserver = {map = [3]}", "a table is due")])
 def test_a_plants_file_that_is_wrong_is_refused_with_its_place(tmp_path, line: str, error: str) -> None:
     (tmp_path / "p.toml").write_text('program = "p.st"\n' + line)
-    with pytest.raises(PlantError, match=error):
+    with pytest.raises(Trouble, match=error):
         load(tmp_path / "p.toml")
 
 

@@ -5,8 +5,8 @@ from pathlib import Path
 
 import pytest
 
-from stchost import journal
-from stchost.journal import Base, Damaged, Journal, read
+from stchost import Trouble, journal
+from stchost.journal import Base, Journal, read
 from stchost.values import to_number, to_text
 
 BASE = Base("PROGRAM Main\nEND_PROGRAM\n", "Main", 1_000, 0, [["Main.A", "5"]], 1)
@@ -56,7 +56,7 @@ def test_each_damaged_byte_is_found_with_its_place(tmp_path: Path) -> None:
         if data[place] != 10:
             path.write_bytes(data[:place] + bytes([data[place] ^ 1]) + data[place + 1:])
             number = data[:place].count(b"\n") + 1
-            with pytest.raises(Damaged, match=f"00000001.journal: record {number}, from byte {data.rfind(10, 0, place) + 1} on"):
+            with pytest.raises(Trouble, match=f"00000001.journal: record {number}, from byte {data.rfind(10, 0, place) + 1} on"):
                 list(read(tmp_path))
 
 
@@ -70,7 +70,7 @@ def test_what_is_missing_is_found(tmp_path: Path, loss: str) -> None:
         paths[2].unlink()
     else:
         paths[2].write_bytes(b"".join(lines[:1] + lines[2:] if loss == "a record" else lines[:-1]))
-    with pytest.raises(Damaged):
+    with pytest.raises(Trouble):
         list(read(tmp_path))
 
 
