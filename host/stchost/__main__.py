@@ -8,7 +8,7 @@ from . import Trouble, packages
 from .session import Gone
 
 PROGRAMS = {"run": ("app", "aiohttp", "pymodbus", "serial_asyncio"), "console": ("console", "aiohttp", "prompt_toolkit"),
-            "replay": ("showing",)}
+            "replay": ("replay",)}
 module, *needed = PROGRAMS[name := sys.argv.pop(1)]
 packages.need(*needed)
 try:

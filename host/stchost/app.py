@@ -9,7 +9,6 @@ import selectors
 import signal
 import subprocess
 import sys
-import threading
 import time
 
 from . import Trouble, access
@@ -31,13 +30,13 @@ def prefer(priority: int) -> None:
         print(f"priority {priority}: {error}", file=sys.stderr)
 
 
-async def serve(engine: Engine, ended: asyncio.Event) -> None:
+async def serve(engine: Engine, scans: asyncio.Task[None]) -> None:
     """Serves the page and Modbus until the engine has ended."""
     plant = engine.plant
-    while not engine.status and not ended.is_set():  # a long journal takes its time
+    while not engine.status:  # a long journal takes its time
+        if scans.done():
+            return
         await asyncio.sleep(0.02)
-    if ended.is_set():
-        return
     web = Web(engine, access.Gate(access.load(plant.tokens_file)))
     server = ModbusServer(plant.server, engine) if plant.server else None
     await web.start()
@@ -45,7 +44,7 @@ async def serve(engine: Engine, ended: asyncio.Event) -> None:
         await server.start()
     print(f"{plant.name}: http://{plant.page.host}:{web.port}/" + (f", Modbus at port {server.port}" if server else ""), flush=True)
     state = "running"
-    while not ended.is_set():
+    while not scans.done():
         if (now := engine.status["state"]) != state:
             print(f"{plant.name}: {now} {engine.status['fault']}{engine.status['trouble']}", file=sys.stderr, flush=True)
             state = now
@@ -59,43 +58,39 @@ async def main_loop(plant: Plant) -> None:
     """Runs until a signal comes, or the engine can't go on."""
     here = asyncio.get_running_loop()
     there = asyncio.SelectorEventLoop(selectors.SelectSelector())  # `epoll` would round times up to milliseconds
-    clock, ended, file = Monotonic(), asyncio.Event(), plant.journal
+    clock, file = Monotonic(), plant.journal
     journal = Journal(plant.state_folder / "journal", file.piece, file.limit, file.sync)
     engine = Engine(plant, clock, journal, Session.start, lambda types: links(plant, types, clock.now))
-    failure: list[BaseException] = []
 
-    def scans() -> None:
-        asyncio.set_event_loop(there)
-        try:
-            if plant.priority:
-                prefer(plant.priority + 1)
-            there.run_until_complete(engine.run())
-        except BaseException as error:  # told below, in the thread that can end the program
-            failure.append(error)
-        finally:
-            here.call_soon_threadsafe(ended.set)
+    def scan() -> None:
+        if plant.priority:
+            prefer(plant.priority + 1)
+        there.run_until_complete(engine.run())
 
     for number in (signal.SIGINT, signal.SIGTERM):
         here.add_signal_handler(number, there.call_soon_threadsafe, engine.stop)
-    thread = threading.Thread(target=scans, name="scans")
-    thread.start()
+    scans = asyncio.create_task(asyncio.to_thread(scan))
     try:
-        await serve(engine, ended)
+        await serve(engine, scans)
     finally:
         there.call_soon_threadsafe(engine.stop)
-        await asyncio.to_thread(thread.join)
-    if failure:
-        raise failure[0]
+        await scans
 
 
 def run(plant: Plant, fresh: bool) -> None:
     """Runs a plant as its only host, from its journal or anew."""
     plant.state_folder.mkdir(mode=0o700, parents=True, exist_ok=True)
     with (plant.state_folder / "lock").open("w") as lock:
-        try:
-            fcntl.flock(lock, fcntl.LOCK_EX | fcntl.LOCK_NB)
-        except BlockingIOError as error:
-            raise Trouble("another host runs this plant") from error
+        os.set_inheritable(lock.fileno(), True)  # the journal's writer holds it too, as long as there is something to write
+        end = time.monotonic() + 5
+        while True:
+            try:
+                fcntl.flock(lock, fcntl.LOCK_EX | fcntl.LOCK_NB)
+                break
+            except BlockingIOError as error:
+                if time.monotonic() > end:
+                    raise Trouble("another host runs this plant") from error
+                time.sleep(0.05)
         access.make(plant.tokens_file)
         subprocess.run([program(), "--version"], check=True, stdout=subprocess.DEVNULL)  # builds it, where it isn't built
         journal = plant.state_folder / "journal"

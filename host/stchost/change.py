@@ -6,9 +6,8 @@ from typing import Any
 
 from . import Trouble
 from .plant import Mapped, Plant, Point
-from .refusals import explain
 from .replay import Start
-from .session import TEXT_LIMIT, Leaf, Session, ask, checked, encoded, layout_of
+from .session import Leaf, Session, TEXT_LIMIT, ask, checked, encoded, explain, layout_of
 from .values import BITS, to_number, to_text
 
 AT_ONCE = 250  # commands between two resets: 256 can be undone at most

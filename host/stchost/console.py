@@ -24,8 +24,8 @@ change FILE [OLD=NEW ..]    does it
 hold | go                   holds the scans, or lets them go on
 log | takeback N            who did what; takes command N back
 # ..                        a comment; quit ends the console"""
-OWN = ("list", "watch", "preview", "change", "hold", "go", "log", "takeback")
-VERBS = ["show", "write", "force", "release", "undo", "reset", "status", *OWN, "help", "quit"]
+OWN = ("list", "watch", "preview", "change", "log", "takeback")
+VERBS = ["show", "write", "force", "release", "undo", "reset", "status", *OWN, "hold", "go", "help", "quit"]
 
 
 class Console:
@@ -72,7 +72,10 @@ class Console:
         if verb in ("help", "quit") or verb.startswith("#"):
             return verb != "quit"
         try:
-            answer = await (getattr(self, f"_{verb}")(*words) if verb in OWN else self.ask("line", line=line))
+            if verb in ("hold", "go"):
+                answer = await self.ask("hold", held=verb == "hold")
+            else:
+                answer = await (getattr(self, f"_{verb}")(*words) if verb in OWN else self.ask("line", line=line))
         except (TypeError, ValueError, OSError) as error:
             answer = {"reply": f"`help` says what may stand there: {error}", "bad": True}
         self.failed |= answer.get("bad", False)
@@ -103,12 +106,6 @@ class Console:
     async def _change(self, file: str, *renames: str) -> dict[str, Any]:
         answer = await self._preview(file, *renames)
         return answer if answer["bad"] else await self.ask("change")
-
-    async def _hold(self) -> dict[str, Any]:
-        return await self.ask("hold", held=True)
-
-    async def _go(self) -> dict[str, Any]:
-        return await self.ask("hold", held=False)
 
     async def _log(self) -> dict[str, Any]:
         answer = await self.ask("log")

@@ -14,9 +14,8 @@ from .devices import Link
 from .inputs import Inputs
 from .journal import Base, Journal, Record
 from .plant import Plant
-from .refusals import explain
 from .replay import Replay, Start, Story, restore, taken_back
-from .session import Gone, Leaf, Session, checked, layout_of, words_of
+from .session import Gone, Leaf, Session, checked, explain, layout_of, words_of
 from .values import to_number
 
 QUEUE_LIMIT = 1_000
@@ -64,6 +63,7 @@ class Engine:
         self.restarts = self.forces = self.undos = 0
         self.status: dict[str, Any] = {}
         self.version = 0  # of the program's text
+        self.next_command = 1
         self.cycle = Cycle(clock, plant.cycle)
         self.guard = min(0.002, self.cycle.period / 5)  # nothing is begun so shortly before a scan
         self.loop: asyncio.AbstractEventLoop | None = None
@@ -153,12 +153,13 @@ class Engine:
     async def _take_over(self, who: str, number: int, replay: Replay, news: Iterator[Record | None], leaves: list[Leaf]) -> None:
         """Goes on with the session of a replay, behind what was done since it was last fed."""
         text = replay.story.text
+        await self.journal.written()
         while await replay.feed(news):
             pass
         if replay.story.text != text:
             raise Trouble("the program was changed meanwhile")
         old, self.session = self.session, replay.session
-        self._keep(lambda: self.journal.take_back(who, number))
+        self.journal.append(journals.TAKEN_BACK, str(journals.wall_ms()), who, str(number))
         self.story = replay.story
         self.story.taken_back(number)
         self._take_program(leaves)
@@ -254,7 +255,7 @@ class Engine:
         lines, changed = self.inputs.lines(moment)
         replies = await self._exchange([*lines, *(f"show {path}" for path in self._always)])
         for line, reply in zip(lines, replies):
-            self._keep(partial(self.journal.scan, line, reply))
+            self.journal.append(journals.SCAN, line, reply)
             self.story.scan(line, reply)
         answer = replies[len(lines) - 1]
         self.trouble = f"a scan is answered `{answer}`" if answer.startswith("refused") else ""
@@ -264,23 +265,23 @@ class Engine:
             self.inputs.forget()
             self.fault = answer.removeprefix("fault ") if answer.startswith("fault") else self.fault
         self._store(self._always, replies[len(lines):])
-        await self._settle()
+        await self.journal.settle()
 
     async def _operate(self, who: str, line: str) -> str:
         reply = (await self._exchange([line]))[0]
         verb, *words = words_of(line.split("\n", 1)[0])
         if verb in QUIET:
             return reply
-        text, number = self.story.text, self.journal.command
-        self._keep(lambda: self.journal.operation(who, line, reply))
-        self.journal.command += 1
-        self.story.operation(number, journals.wall_ms(), who, line, reply)
+        text, number, wall = self.story.text, self.next_command, journals.wall_ms()
+        self.next_command += 1
+        self.journal.append(journals.COMMAND, str(number), str(wall), who, line, reply)
+        self.story.operation(number, wall, who, line, reply)
         if not reply.startswith("refused"):
             try:
                 await self._follow(verb, words, text)
             except Gone:  # the line is kept, so that it counts; the next one finds that `stc` has ended
                 pass
-        await self._settle()
+        await self.journal.settle()
         return reply
 
     async def _follow(self, verb: str, words: list[str], text: str) -> None:
@@ -305,28 +306,14 @@ class Engine:
         for first in range(0, len(self.leaves) if self.forces else 0, CHUNK):
             await self._show([leaf.path for leaf in self.leaves[first:first + CHUNK]])
         forces = [[path, value.text] for path, value in self.values.items() if value.forced]
-        base = Base(story.text, story.main, story.steps, story.moment, forces if self.forces else [], self.journal.command)
-        self._keep(lambda: self.journal.load(base))
+        base = Base(story.text, story.main, story.steps, story.moment, forces if self.forces else [], self.next_command)
+        self.journal.append(journals.LOAD, base.written())
         story.began = base.command
 
     async def _exchange(self, lines: Sequence[str]) -> list[str]:
         if self.session is None:
             raise Gone("stc doesn't run")
         return await self.session.exchange(lines)
-
-    def _keep(self, append: Callable[[], Any]) -> None:
-        """Appends to the journal. Once that has failed nothing more is kept, and the status says so."""
-        if not self.journal.trouble:
-            try:
-                append()
-            except OSError as error:
-                self.journal.trouble = f"nothing is kept any more: {error}"
-
-    async def _settle(self) -> None:
-        try:
-            await self.journal.settle()
-        except OSError as error:
-            self.journal.trouble = f"nothing is kept any more: {error}"
 
     def _note(self, who: str, line: str) -> None:
         """What the host did for an operator, for the list of who did what; the controller knows nothing of it."""
@@ -410,12 +397,12 @@ class Engine:
             text = self.plant.text.read_bytes().decode("utf-8", "surrogateescape")
             self.session = await self.start(text, self.plant.main, self.plant.steps)
             base = Base(text, self.plant.main, self.plant.steps, 0, [], 1)
-            self.journal.load(base)
+            self.journal.append(journals.LOAD, base.written())
             self.story = Story()
             self.story.begin(base)
         else:
             self.session, self.story = replay.session, replay.story
-            self.journal.command = max([self.story.began - 1, *self.story.commands]) + 1
+        self.next_command = max([self.story.began - 1, *self.story.commands]) + 1
         leaves = await self.layout(self.story.text, self.plant.main)
         await connections(self.plant, self.story.text, leaves, self.start)
         self._take_program(leaves)

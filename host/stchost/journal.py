@@ -6,19 +6,23 @@ moved unseen. A piece begins with a text, or says with which checksum the one be
 """
 
 import asyncio
+import fcntl
 import json
 import os
 import re
+import subprocess
 import threading
 import time
 import zlib
 from collections.abc import Iterator
 from dataclasses import asdict, dataclass
+from itertools import takewhile
 from pathlib import Path
 from typing import Any, NamedTuple
 
 from . import Trouble
 
+PIPE_SIZE = 1 << 20  # bytes that may wait for the disk before a scan does
 NAME = re.compile(r"(\d{8})\.journal")
 ESCAPES = str.maketrans({"\\": "\\\\", "\t": "\\t", "\n": "\\n"})
 PLAIN = {"\\\\": "\\", "\\t": "\t", "\\n": "\n"}
@@ -41,6 +45,9 @@ class Base:
     moment: int
     forces: list[list[str]]  # paths with their values
     command: int  # the number of the next command
+
+    def written(self) -> str:
+        return json.dumps(asdict(self))
 
 
 class Record(NamedTuple):
@@ -71,13 +78,6 @@ def pieces(folder: Path) -> list[tuple[int, Path]]:
 def bases(folder: Path) -> list[int]:
     """The pieces that begin with a load or a reset, so that a replay can begin there."""
     return [number for number, _ in pieces(folder) if (record := next(read(folder, number), None)) and record.kind == LOAD]
-
-
-def encode(fields: tuple[str, ...], before: int) -> tuple[bytes, int]:
-    """A record as it is written, and its checksum."""
-    body = "\t".join(field.translate(ESCAPES) for field in fields).encode("utf-8", "surrogateescape")
-    crc = zlib.crc32(body, before)
-    return b"%08x %s\n" % (crc, body), crc
 
 
 def _decode(line: bytes, before: int) -> tuple[Record, int]:
@@ -135,21 +135,19 @@ def _follow_piece(path: Path, before: int | None, following: int) -> Iterator[tu
 
 def read(folder: Path, first: int = 0) -> Iterator[Record]:
     """The records that are written by now, from the first piece that is there on, or from piece `first`."""
-    for record in follow(folder, first):
-        if record is None:
-            return
-        yield record
+    return filter(None, takewhile(bool, follow(folder, first)))
 
 
 class Journal:
-    """Appends to the journal in a folder. A torn record at its end is cut off before anything is appended."""
+    """Appends to the journal in a folder. A torn record at its end is cut off before anything is appended. The bytes go through a
+    pipe to a process that outlives this one: so a record counts once it was given away, and nobody waits for the disk."""
 
     def __init__(self, folder: Path, piece: int, limit: int, sync: str) -> None:
         folder.mkdir(mode=0o700, parents=True, exist_ok=True)
         self.folder, self.piece_limit, self.limit, self.sync = folder, piece, limit, sync
-        self.command = 1  # the number of the next command
         self.trouble = ""  # why nothing more can be kept
         self._file = -1
+        self._writer: subprocess.Popen[bytes] | None = None
         self._crc = self._size = self._number = 0
         self._dirty = False
         self._synced = time.monotonic()
@@ -164,36 +162,44 @@ class Journal:
         for number, path in reversed(pieces(self.folder)):
             data = path.read_bytes()
             if whole := data.rfind(b"\n") + 1:
-                self._file = os.open(path, os.O_WRONLY | os.O_APPEND)
-                os.ftruncate(self._file, whole)
+                os.truncate(path, whole)
                 last = data.rfind(b"\n", 0, whole - 1) + 1
-                self._number, self._crc = number, int(data[last:last + 8], 16)
-                self._size = self._sizes[number] = whole
+                self._open(number, whole, int(data[last:last + 8], 16))
                 return
             path.unlink()
             del self._sizes[number]
 
-    def load(self, base: Base) -> None:
-        """A text is loaded, or was reset: a replay can begin here, with a new piece."""
-        self._next_piece()
-        self._bases.append(self._number)
-        self._write(LOAD, json.dumps(asdict(base)))
+    def append(self, kind: str, *fields: str) -> None:
+        """Appends a record; with a text that is loaded or was reset a piece begins, since a replay can begin there. Once a record
+        couldn't be written nothing more is kept, and `trouble` says so."""
+        if self.trouble:
+            return
+        try:
+            if kind == LOAD:
+                self._next_piece()
+                self._bases.append(self._number)
+            elif self._size + 64 > self.piece_limit:
+                crc = self._crc
+                self._next_piece()
+                self._write(NEXT, str(crc))
+            self._write(kind, *fields)
+        except OSError as error:
+            self.trouble = f"nothing is kept any more: {error}"
 
-    def scan(self, line: str, reply: str) -> None:
-        self._append(SCAN, line, reply)
-
-    def operation(self, who: str, line: str, reply: str) -> None:
-        """An operator's line."""
-        self._append(COMMAND, str(self.command), str(wall_ms()), who, line, reply)
-
-    def take_back(self, who: str, number: int) -> None:
-        self._append(TAKEN_BACK, str(wall_ms()), who, str(number))
+    async def written(self) -> None:
+        """Waits until what was appended stands in the file."""
+        while not self.trouble and os.fstat(self._file).st_size < self._size:
+            await asyncio.sleep(0.001)
 
     async def settle(self) -> None:
         """Waits until what was appended is on the disk, or sees to it, as the plant's file has it."""
         if self._dirty and self.sync == "always":
-            await asyncio.to_thread(os.fsync, self._file)
             self._dirty = False
+            try:
+                await self.written()
+                await asyncio.to_thread(os.fsync, self._file)
+            except OSError as error:
+                self.trouble = f"nothing is kept any more: {error}"
         elif self._dirty and self.sync == "second" and time.monotonic() > self._synced + 1:
             self._dirty, self._synced = False, time.monotonic()
             _flush_beside(os.dup(self._file))
@@ -204,41 +210,40 @@ class Journal:
                 "reaches": bool(self._bases), "trouble": self.trouble}
 
     def close(self) -> None:
-        if self._file >= 0:
-            if self.sync != "never":
+        """Ends the piece. Its bytes stand in the file then, and are on the disk soon, or by now where the plant's file wants it."""
+        if self._writer is not None:
+            self._writer.communicate()
+            self._writer = None
+            if self.sync == "always":
                 os.fsync(self._file)
-            os.close(self._file)
-            self._file = -1
-
-    def _append(self, *fields: str) -> None:
-        if self._size + 64 > self.piece_limit:
-            crc = self._crc
-            self._next_piece()
-            self._write(NEXT, str(crc))
-        self._write(*fields)
+            _flush_beside(self._file)
 
     def _write(self, *fields: str) -> None:
-        data, crc = encode(fields, self._crc)
-        done = os.write(self._file, data)
-        if done < len(data):  # the disk is full: the record is cut off again, and the caller told
-            os.ftruncate(self._file, self._size)
-            raise OSError(28, "the journal's disk is full")
+        body = "\t".join(field.translate(ESCAPES) for field in fields).encode("utf-8", "surrogateescape")
+        crc = zlib.crc32(body, self._crc)
+        data = b"%08x %s\n" % (crc, body)
+        assert self._writer is not None and self._writer.stdin is not None
+        self._writer.stdin.write(data)
+        self._writer.stdin.flush()
         self._crc, self._size, self._dirty = crc, self._size + len(data), True
         self._sizes[self._number] = self._size
 
     def _next_piece(self) -> None:
-        if self._file >= 0 and self.sync == "second":  # nobody waits for the disk
-            _flush_beside(self._file)
-            self._file = -1
         self.close()
-        self._number = max(self._sizes, default=0) + 1
-        self._file = os.open(self._path(self._number), os.O_WRONLY | os.O_CREAT | os.O_EXCL | os.O_APPEND, 0o600)
-        self._crc = self._size = self._sizes[self._number] = 0
+        self._open(max(self._sizes, default=0) + 1, 0, 0)
         while sum(self._sizes.values()) > self.limit - self.piece_limit and len(self._sizes) > 1:
             oldest = min(self._sizes)
             self._path(oldest).unlink()
             del self._sizes[oldest]
             self._bases = [number for number in self._bases if number > oldest]
+
+    def _open(self, number: int, size: int, crc: int) -> None:
+        self._number, self._crc = number, crc
+        self._size = self._sizes[number] = size
+        self._file = os.open(self._path(number), os.O_WRONLY | os.O_CREAT | os.O_APPEND, 0o600)
+        self._writer = subprocess.Popen(["cat"], stdin=subprocess.PIPE, stdout=self._file, start_new_session=True, close_fds=False)
+        assert self._writer.stdin is not None
+        fcntl.fcntl(self._writer.stdin, fcntl.F_SETPIPE_SZ, PIPE_SIZE)
 
     def _path(self, number: int) -> Path:
         return self.folder / f"{number:08}.journal"

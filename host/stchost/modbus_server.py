@@ -18,11 +18,7 @@ MOST = {1: 2_000, 2: 2_000, 3: 125, 4: 125, 5: 1, 6: 1, 15: 1_968, 16: 123}
 
 
 class Refused(Exception):
-    """The request is answered by this exception."""
-
-    def __init__(self, code: int) -> None:
-        super().__init__(code)
-        self.code = code
+    """The request is answered by the exception with this number."""
 
 
 class ModbusServer:
@@ -68,7 +64,7 @@ class ModbusServer:
                     raise Refused(FUNCTION)
                 answer = await self.answer(request, who)
             except Refused as error:
-                answer = bytes([request[0] | 0x80, error.code])
+                answer = bytes([request[0] | 0x80, error.args[0]])
             writer.write(struct.pack(">HHHB", transaction, 0, len(answer) + 1, unit) + answer)
             await asyncio.wait_for(writer.drain(), FRAME_TIME)
 

@@ -27,7 +27,7 @@ def install(names: Iterable[str]) -> list[str]:
         print(f"installing {' '.join(packages)}", file=sys.stderr)
         get = "DEBIAN_FRONTEND=noninteractive apt-get install -y --no-install-recommends"
         each = "; ".join(f"{get} {package}" for package in packages)  # one that can't be had keeps no other back
-        subprocess.run(f"{get} {' '.join(packages)} || {{ apt-get update; {each}; }} > /dev/null 2>&1", shell=True, check=False)
+        subprocess.run(f"({get} {' '.join(packages)} || {{ apt-get update; {each}; }}) > /dev/null 2>&1", shell=True, check=False)
     return missing(names)
 
 

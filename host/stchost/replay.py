@@ -1,6 +1,9 @@
 """Replaying a journal: the controller is a function of its lines, so the same lines give back the very state."""
 
+import argparse
 import asyncio
+import sys
+import time
 from collections.abc import Awaitable, Callable, Iterable, Iterator
 from dataclasses import dataclass, field
 from itertools import islice, takewhile
@@ -8,7 +11,7 @@ from pathlib import Path
 
 from . import Trouble, journal
 from .journal import Base, Record
-from .session import Session
+from .session import Session, layout_of
 
 Start = Callable[[str, str, int], Awaitable[Session]]
 BATCH = 2_000  # lines that are sent at one go
@@ -168,3 +171,27 @@ async def restore(start: Start, folder: Path, moment: int | None = None) -> Repl
         await replay.close()
         raise
     return replay
+
+
+async def show(folder: Path, moment: int | None, words: list[str]) -> None:
+    """Prints the status and the leaves whose paths have these words; how fast the replay was goes to standard error."""
+    began = time.monotonic()
+    replay = await restore(Session.start, folder, moment)
+    if replay is None or replay.session is None:
+        raise Trouble("there is no journal")
+    took = time.monotonic() - began
+    leaves = [leaf.path for leaf in await layout_of(replay.story.text, replay.story.main)]
+    wanted = [path for path in leaves if all(word.upper() in path.upper() for word in words)]
+    print(*await replay.session.exchange(["status", *(f"show {path}" for path in wanted)]), sep="\n")
+    await replay.close()
+    print(f"{replay.lines} lines in {took:.2f} s: {replay.lines / took:.0f} lines a second", file=sys.stderr)
+
+
+def main() -> None:
+    parser = argparse.ArgumentParser(prog="host/replay", description="Shows all leaves as they were at a moment.")
+    parser.add_argument("journal", type=Path, help="the folder of the journal, or the plant's state folder")
+    parser.add_argument("--at", type=int, metavar="MOMENT", help="in ms, as scans have it; the end where it isn't given")
+    parser.add_argument("words", nargs="*", help="what the paths that are shown have in them")
+    words = parser.parse_intermixed_args()
+    folder = words.journal / "journal" if (words.journal / "journal").is_dir() else words.journal
+    asyncio.run(show(folder, words.at, words.words))

@@ -2,11 +2,13 @@
 
 import asyncio
 import os
+import re
 import tempfile
 from asyncio.subprocess import DEVNULL, PIPE, Process
 from collections.abc import Iterator, Sequence
 from contextlib import contextmanager
 from dataclasses import dataclass
+from functools import cache
 from pathlib import Path
 from typing import Self
 
@@ -151,3 +153,20 @@ async def layout_of(text: str, main: str) -> list[Leaf]:
         raise Gone(answer + said)
     rows = (line.split(" ", 3) for line in answer.splitlines())
     return [Leaf(row[3], row[2]) for row in rows]
+
+
+@cache
+def _sentences() -> dict[str, str]:
+    """What the numbers of refusals and faults mean, as `docs/REFUSALS.md` has it."""
+    try:
+        page = (ROOT / "docs" / "REFUSALS.md").read_text("utf-8")
+    except OSError:
+        page = ""
+    found = re.findall(r"^### ([A-Z]\d+)\n\n(.+?)(?=\n\nExample|\n\n#|\Z)", page, re.S | re.M)
+    return {"M": "There was no memory for it."} | {number: " ".join(text.split()) for number, text in found}
+
+
+def explain(reply: str) -> str:
+    """A sentence for a reply that refuses or tells a fault; empty for any other."""
+    match = re.match(r"(?:refused|fault|halted) ([A-Z]\d*)", reply)
+    return _sentences().get(match[1], "") if match else ""

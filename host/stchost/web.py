@@ -13,8 +13,7 @@ from . import Trouble
 from .access import Gate, Person
 from .change import Preview, preview
 from .engine import QUIET, Busy, Engine, Value
-from .refusals import explain
-from .session import TEXT_LIMIT, Gone
+from .session import Gone, TEXT_LIMIT, explain
 
 PAGE = Path(__file__).resolve().parents[1] / "page"
 FILES = {"/": "index.html", "/page.css": "page.css", "/page.js": "page.js"}

@@ -1,6 +1,7 @@
 """What the tests share: hosts that run plants in folders of their own, clients of them, and how late the machine is by itself."""
 
 import asyncio
+import fcntl
 import inspect
 import signal
 import socket
@@ -132,6 +133,8 @@ class Host:
             self.process.send_signal(number)
             self.process.communicate(timeout=30)
             self.process = None
+            with (self.folder / "plant.state" / "lock").open() as lock:  # until the journal is written
+                fcntl.flock(lock, fcntl.LOCK_EX)
 
     def tool(self, *words: str, script: str = "") -> tuple[int, str]:
         """The status of one of the host's programs, and what it prints."""

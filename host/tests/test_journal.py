@@ -14,10 +14,10 @@ BASE = Base("PROGRAM Main\nEND_PROGRAM\n", "Main", 1_000, 0, [["Main.A", "5"]], 
 
 def write(folder: Path, piece: int = 1 << 20, count: int = 5, limit: int = 1 << 30) -> Journal:
     made = Journal(folder, piece, limit, "never")
-    made.load(BASE)
+    made.append(journal.LOAD, BASE.written())
     for moment in range(count):
-        made.scan(f"scan {moment}", "ok")
-        made.operation("anna", f"change\nA\t\\{moment}\nend_change", "ok kept 1 dropped 0 new 0")
+        made.append(journal.SCAN, f"scan {moment}", "ok")
+        made.append(journal.COMMAND, "1", "0", "anna", f"change\nA\t\\{moment}\nend_change", "ok kept 1 dropped 0 new 0")
     return made
 
 
@@ -43,7 +43,7 @@ def test_a_cut_in_the_last_records_drops_what_is_torn_and_no_more(tmp_path: Path
         assert list(read(folder)) == records[:whole]
         again = Journal(folder, 1 << 20, 1 << 30, "never")
         again.resume()
-        again.scan("scan 99", "ok")
+        again.append(journal.SCAN, "scan 99", "ok")
         again.close()
         assert [*read(folder)] == [*records[:whole], journal.Record("S", ("scan 99", "ok"))]
 
@@ -78,7 +78,7 @@ def test_at_its_limit_it_drops_the_oldest_pieces_and_says_how_far_it_reaches(tmp
     made = write(tmp_path, piece=4_096, count=400, limit=16_384)
     told = made.told()
     assert told["bytes"] <= 16_384 and told["reaches"] is False and journal.bases(tmp_path) == []
-    made.load(BASE)
+    made.append(journal.LOAD, BASE.written())
     assert made.told()["reaches"] is True
     made.close()
 
