@@ -43,11 +43,11 @@ async def serve(engine: Engine, scans: asyncio.Task[None]) -> None:
     if server is not None:
         await server.start()
     print(f"{plant.name}: http://{plant.page.host}:{web.port}/" + (f", Modbus at port {server.port}" if server else ""), flush=True)
-    state = "running"
+    notice = "running"
     while not scans.done():
-        if (now := engine.status["state"]) != state:
-            print(f"{plant.name}: {now} {engine.status['fault']}{engine.status['trouble']}", file=sys.stderr, flush=True)
-            state = now
+        if (now := engine.status["notice"]) != notice:
+            notice = now
+            print(f"{plant.name}: {notice}", file=sys.stderr, flush=True)
         await asyncio.sleep(0.2)
     if server is not None:
         await server.close()

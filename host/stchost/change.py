@@ -46,7 +46,7 @@ class Preview:
 
 async def preview(plant: Plant, old: str, forced: Sequence[str], text: str, renames: Sequence[str], start: Start) -> Preview:
     """What a change from the text `old` would do. `forced` are the leaves that are forced now."""
-    body = text.replace("\r\n", "\n")
+    body, renames = text.replace("\r\n", "\n"), " ".join(renames).split()
     found = Preview(checked(" ".join(["change", *renames]) + "\n" + body + "\n" * (not body.endswith("\n")) + "end_change"))
     if len(encoded(text)) > TEXT_LIMIT:
         found.answer = "refused S4 line 1"

@@ -36,7 +36,7 @@ class Console:
         self.answers: asyncio.Queue[dict[str, Any]] = asyncio.Queue()
         self.watched: set[str] = set()
         self.failed = False
-        self.state = "running"
+        self.notice = "running"
 
     async def listen(self) -> None:
         """Takes what the host sends: answers, and new values of what is watched."""
@@ -44,10 +44,9 @@ class Console:
             news = json.loads(message.data)
             if "id" in news:
                 self.answers.put_nowait(news)
-            status = news.get("status") or {}
-            if (state := status.get("state", self.state)) != self.state:
-                print(f"the program is {state} {status['fault']}{status['trouble']}", file=sys.stderr)
-                self.state = state
+            if (notice := news.get("status", {}).get("notice", self.notice)) != self.notice:
+                self.notice = notice
+                print(f"the program is {notice}", file=sys.stderr)
             for path, (text, forced) in news.get("values", {}).items():
                 if path in self.watched:
                     print(f"{path} = {text}" + " forced" * forced, flush=True)
@@ -76,8 +75,10 @@ class Console:
                 answer = await self.ask("hold", held=verb == "hold")
             else:
                 answer = await (getattr(self, f"_{verb}")(*words) if verb in OWN else self.ask("line", line=line))
-        except (TypeError, ValueError, OSError) as error:
-            answer = {"reply": f"`help` says what may stand there: {error}", "bad": True}
+        except TypeError:
+            answer = {"reply": f"`help` says what belongs behind `{verb}`", "bad": True}
+        except (ValueError, OSError) as error:
+            answer = {"reply": str(error), "bad": True}
         self.failed |= answer.get("bad", False)
         if answer.get("reply"):
             print(answer["reply"] + (f"  ({answer['why']})" if answer.get("why") else ""), flush=True)

@@ -198,6 +198,7 @@ class Engine:
 
     def _post(self, work: Work) -> asyncio.Future[Any]:
         done = asyncio.get_running_loop().create_future()
+        done.add_done_callback(lambda done: done.cancelled() or done.exception())  # also where nobody waits for it
         self._queue.append((work, done))
         self._event.set()
         return done
@@ -297,8 +298,9 @@ class Engine:
         self._soon()
 
     def _soon(self) -> None:
-        """What has changed is shown as soon as there is time."""
-        self._next_look = min(self._next_look, self.clock.now())
+        """What has changed is shown as soon as there is time, unless a look is under way."""
+        if self._next_look < math.inf:
+            self._next_look = self.clock.now()
 
     async def _begin_again(self) -> None:
         """Behind a reset the state is the program's text and what is forced in it: a replay can begin here."""
@@ -360,11 +362,14 @@ class Engine:
         """What every client is told."""
         state = "trouble" if self.trouble or self.session is None else "halted" if self.fault else "held" if self.held else "running"
         undo = self.story.undoable[-1][0] if self.story.undoable else None
+        journal = self.journal.told()
+        lost = "" if journal["reaches"] else "the journal doesn't reach back to a load or a reset"
+        notice = " ".join(filter(None, [state, self.fault, self.trouble, self.journal.trouble, lost]))
         return {
-            "state": state, "fault": self.fault, "why": explain(f"fault {self.fault}"), "trouble": self.trouble,
+            "state": state, "notice": notice, "fault": self.fault, "why": explain(f"fault {self.fault}"), "trouble": self.trouble,
             "moment": self.story.moment, "version": self.version, "forces": self.forces, "undos": self.undos,
             "undo": undo.line if undo else "", "period": self.plant.cycle, **self.cycle.figures.told(),
-            "waiting": len(self._queue), "restarts": self.restarts, "journal": self.journal.told(),
+            "waiting": len(self._queue), "restarts": self.restarts, "journal": journal,
             "devices": [{"name": link.name, "good": link.good, "trouble": link.trouble, "behind": link.behind} for link in self.links],
             "good": dict(self.inputs.good), "driven": dict(self.driven),
         }

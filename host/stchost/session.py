@@ -41,11 +41,6 @@ class Leaf:
     path: str
     type: str
 
-    @property
-    def hidden(self) -> bool:
-        """Whether a block or a chart keeps it for itself: no operator sets it."""
-        return "$" in self.path
-
 
 def words_of(line: str) -> list[str]:
     """The words of a line, as `stc` cuts it."""
@@ -92,7 +87,8 @@ class Session:
         """Loads a text. Gone where it is refused."""
         with _file_of(text) as name:
             words = ("run", name, "--program", main, "--steps", str(steps))
-            session = cls(await asyncio.create_subprocess_exec(program(), *words, stdin=PIPE, stdout=PIPE, stderr=PIPE))
+            session = cls(await asyncio.create_subprocess_exec(
+                program(), *words, stdin=PIPE, stdout=PIPE, stderr=PIPE, start_new_session=True))  # no Ctrl-C ends it
             reply = "refused"
             try:
                 reply = (await session.exchange(["status"]))[0]

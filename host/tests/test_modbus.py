@@ -174,22 +174,21 @@ class Rack:
         server = StartAsyncTcpServer(context=ModbusServerContext(slaves=slave), address=("127.0.0.1", self.port))
         threading.Thread(target=asyncio.run, args=(server,), daemon=True).start()
 
-    @property
-    def file(self) -> str:
-        places = [("input", "Start", "discrete", 0, ""), ("input", "Level", "input", 0, ', quality = "Main.Level_Ok"'),
-                  ("input", "Count", "input", 1, ', words = "little"'), ("output", "Motor", "coil", 3, ', fault = "FALSE"'),
-                  ("output", "Speed", "holding", 0, ', fault = "-1"'), ("output", "Total", "holding", 1, ', fault = "0"')]
-        points = {kind: ", ".join(f'{{path = "Main.{path}", device = "rack", table = "{table}", address = {address}{more}}}'
-                                  for point, path, table, address, more in places if point == kind) for kind in ("input", "output")}
-        device = f'device = [{{name = "rack", kind = "modbus", host = "127.0.0.1", port = {self.port}, share = 50}}]\n'
-        head = FILE.partition("input =")[0].replace("cycle = 20", "cycle = 50")
-        return head + device + "".join(f"{kind} = [{items}]\n" for kind, items in points.items())
+
+RACK = FILE.partition("input =")[0].replace("cycle = 20", "cycle = 50") + """
+device = [{name = "rack", kind = "modbus", port = RACK_PORT, share = 50}]
+input = [{path = "Main.Start", device = "rack", table = "discrete"}, {path = "Main.Count", device = "rack", table = "input", address = 1, words = "little"},
+         {path = "Main.Level", device = "rack", table = "input", quality = "Main.Level_Ok"}]
+output = [{path = "Main.Motor", device = "rack", table = "coil", address = 3, fault = "FALSE"},
+          {path = "Main.Speed", device = "rack", table = "holding", fault = "-1"},
+          {path = "Main.Total", device = "rack", table = "holding", address = 1, fault = "0"}]
+"""
 
 
 async def test_a_remote_device_is_polled_and_written_and_waited_for_no_longer_than_its_share(make_host) -> None:
     rack = Rack()
     rack.inputs.setValues(1, [500, 0x5678, 0x0001])
-    host = make_host(PROGRAM, rack.file)
+    host = make_host(PROGRAM, RACK.replace("RACK_PORT", str(rack.port)))
     wait_for(lambda: rack.outputs.getValues(1, 3) == [570, 0x0001, 0x5679])
     rack.discrete.setValues(1, [1])
     wait_for(lambda: rack.coils.getValues(4, 1) == [1])
