@@ -3,6 +3,7 @@ const $ = id => document.getElementById(id);
 const COLOURS = ["#2f7fd1", "#d1662f", "#2c8a4b", "#9a4fc4", "#b8901a", "#c23b6b", "#3aa6a6", "#7a7f86"];
 const VIEWS = [["plant", "Plant"], ["values", "Variables"], ["charts", "Charts"], ["program", "Program"], ["log", "Log"]];
 const SHOWN = 200; // rows of a search
+const WORDS = /(\(\*[^]*?\*\)|\b(?:PROGRAM|END_\w+|VAR\w*|FUNCTION\w*|TYPE|STRUCT|ARRAY|OF|IF|THEN|ELSE|ELSIF|CASE|FOR|TO|BY|DO|WHILE|REPEAT|UNTIL|RETURN|EXIT|STEP|INITIAL_STEP|TRANSITION|FROM|ACTION|AND|OR|XOR|NOT|MOD|CONSTANT)\b)/i;
 let socket, token = "", hello = null, status = {}, values = new Map(), asked = new Map(), number = 0, view = "plant";
 let rows = [], charts = [], chosen = [], past = [], text = [], sheet = null, logged = "", typing = 0;
 
@@ -30,11 +31,14 @@ function numeric(value) { return value === "TRUE" ? 1 : value === "FALSE" ? 0 : 
 // the connection
 
 function open() {
-  socket = new WebSocket(location.origin.replace("http", "ws") + "/live");
-  socket.onopen = () => socket.send(JSON.stringify({token}));
+  try {
+    socket = new WebSocket(location.origin.replace("http", "ws") + "/live", [token]);
+  } catch { // no token looks like this
+    return heard({refused: "this token isn't known"});
+  }
   socket.onmessage = event => heard(JSON.parse(event.data));
   socket.onclose = () => {
-    document.querySelector("#state").textContent = "no connection";
+    $("state").textContent = "no connection";
     $("state").className = "trouble";
     if (hello) setTimeout(open, 2000);
   };
@@ -239,25 +243,15 @@ async function search() {
 // charts: the text says which steps and transitions there are, and the leaves which of them are active
 
 async function loadProgram() {
-  const answer = await fetch("/program", {headers: {Authorization: `Bearer ${token}`}});
-  text = (await answer.text()).split("\n");
-  const words = /\(\*[\s\S]*?\*\)|\b(?:PROGRAM|END_\w+|VAR\w*|FUNCTION\w*|TYPE|STRUCT|ARRAY|OF|IF|THEN|ELSE|ELSIF|CASE|FOR|TO|BY|DO|WHILE|REPEAT|UNTIL|RETURN|EXIT|STEP|INITIAL_STEP|TRANSITION|FROM|ACTION|AND|OR|XOR|NOT|MOD|CONSTANT)\b/gi;
-  let inside = false; // of a comment
-  $("program").replaceChildren(...text.slice(0, text.at(-1) === "" ? -1 : undefined).map(row => {
-    const item = el("li"), from = inside ? row.indexOf("*)") + 2 || row.length + 2 : 0;
-    if (inside) item.append(el("i", {}, row.slice(0, from)));
-    inside = inside && from > row.length; let last = Math.min(from, row.length);
-    for (const match of row.slice(last).matchAll(words)) {
-      const at = match.index + Math.min(from, row.length);
-      item.append(row.slice(last, at), el(match[0][0] === "(" ? "i" : "b", {}, match[0])); last = at + match[0].length;
-    }
-    const open = row.indexOf("(*", last);
-    if (!inside && open >= 0 && row.indexOf("*)", open) < 0) { item.append(row.slice(last, open), el("i", {}, row.slice(open))); inside = true; }
-    else item.append(row.slice(last));
-    return item;
+  text = (await ask("program")).text.split("\n");
+  let row = el("li");
+  const list = [row];
+  text.join("\n").replace(/\n$/, "").split(WORDS).forEach((part, i) => part.split("\n").forEach((piece, k) => {
+    if (k) list.push(row = el("li"));
+    row.append(i % 2 ? el(part[0] === "(" ? "i" : "b", {}, piece) : piece);
   }));
+  $("program").replaceChildren(...list);
   markFault();
-  if (!status.good) return;
   drawCharts((await ask("list", {only: "steps"})).rows.map(row => row[0]));
   if (view === "values") search();
 }
@@ -341,11 +335,9 @@ function drawChart(owner, steps, unit, same) {
 
 async function check() {
   $("do").disabled = true; $("preview").textContent = "Checking\u2026";
-  const renames = $("renames").value.trim().split(/\s+/).filter(word => word).map(word => `rename=${encodeURIComponent(word)}`).join("&");
-  const answer = await fetch(`/preview?${renames}`, {method: "POST", body: $("text").value, headers: {Authorization: `Bearer ${token}`}});
-  if (!answer.ok) { $("preview").textContent = await answer.text(); return; }
-  const found = await answer.json(), box = $("preview");
-  if (!found.counts || !found.answer.startsWith("ok")) { box.replaceChildren(el("pre", {}, found.messages || found.answer)); return; }
+  const renames = $("renames").value.split(/\s+/).filter(word => word), box = $("preview");
+  const found = await ask("preview", {text: $("text").value, renames});
+  if (!found.counts || !found.answer.startsWith("ok")) { box.replaceChildren(el("pre", {}, found.reply)); return; }
   const part = (name, count, list, kind = "") => el("div", {className: kind}, el("b", {}, count), name,
     el("ul", {}, ...list.slice(0, 8).map(item => el("li", {}, item)), ...(list.length > 8 ? [el("li", {}, `and ${count - 8} more`)] : [])));
   box.replaceChildren(...(found.blocked ? [el("pre", {}, `This can't be done: ${found.blocked}.`)] : []), el("div", {className: "sum"},

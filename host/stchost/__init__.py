@@ -1,1 +1,5 @@
-"""The plant's side of `stc`: the clock, process inputs and outputs, the journal and the operators. Nothing here is proved."""
+"""The host: the plant's side of a session with `stc`. `docs/HOST.md` is its manual; nothing of it is proved."""
+
+
+class Trouble(Exception):
+    """What can't be done, and why."""

@@ -1,10 +1,9 @@
 """Who may look and who may act: tokens from a file that only its owner reads, and how wrong ones are slowed down."""
 
-from __future__ import annotations
-
 import asyncio
 import hmac
 import os
+import re
 import secrets
 import stat
 import time
@@ -12,9 +11,12 @@ import tomllib
 from dataclasses import dataclass
 from pathlib import Path
 
-from .plant import PlantError
+from . import Trouble
+
 
 LONGEST = 20.0  # seconds
+FORGOTTEN = 60.0  # seconds after which wrong tokens don't count any more
+TOKEN = re.compile(r"[\w-]{16,200}", re.ASCII)
 
 
 @dataclass(frozen=True)
@@ -25,26 +27,25 @@ class Person:
 
 def make(path: Path) -> None:
     """Writes a file with one token to look and one to act, where there is none."""
-    if path.exists():
-        return
-    path.parent.mkdir(mode=0o700, parents=True, exist_ok=True)
-    with os.fdopen(os.open(path, os.O_WRONLY | os.O_CREAT | os.O_EXCL, 0o600), "w") as file:
-        file.write(f'[look]\nvisitor = "{secrets.token_urlsafe(24)}"\n\n[act]\noperator = "{secrets.token_urlsafe(24)}"\n')
+    if not path.exists():
+        path.parent.mkdir(mode=0o700, parents=True, exist_ok=True)
+        with os.fdopen(os.open(path, os.O_WRONLY | os.O_CREAT | os.O_EXCL, 0o600), "w") as file:
+            file.write(f'[look]\nvisitor = "{secrets.token_urlsafe(24)}"\n\n[act]\noperator = "{secrets.token_urlsafe(24)}"\n')
 
 
 def load(path: Path) -> dict[str, Person]:
-    """The persons by their tokens. PlantError where the file isn't its owner's alone, or isn't as it has to be."""
+    """The persons by their tokens, who may act first. Trouble where the file isn't its owner's alone, or isn't as it has to be."""
     try:
         if stat.S_IMODE(path.stat().st_mode) & 0o077:
-            raise PlantError(f"{path}: others may read this file of tokens: chmod 600 it")
+            raise Trouble(f"{path}: others may read this file of tokens: chmod 600 it")
         data = tomllib.loads(path.read_text("utf-8"))
-    except (OSError, UnicodeDecodeError, tomllib.TOMLDecodeError) as error:
-        raise PlantError(f"{path}: {error}") from error
+    except (OSError, ValueError) as error:
+        raise Trouble(f"{path}: {error}") from error
     found: dict[str, Person] = {}
-    for kind in ("look", "act"):
+    for kind in ("act", "look"):
         for name, token in data.get(kind, {}).items():
-            if not isinstance(token, str) or len(token) < 16:
-                raise PlantError(f"{path}: the token of {name} has to be a text of 16 characters or more")
+            if not TOKEN.fullmatch(str(token)):
+                raise Trouble(f"{path}: the token of {name} has to be of 16 letters, digits, - and _, or more")
             found[token] = Person(name, kind == "act")
     return found
 
@@ -59,19 +60,12 @@ class Gate:
     async def who(self, token: str, address: str) -> Person | None:
         """The person with this token, or None. Right tokens aren't slowed down by others' wrong ones."""
         given = token.encode("utf-8", "replace")
-        found = None
-        for known, person in self._persons.items():
-            if hmac.compare_digest(known.encode(), given):
-                found = person
-        if found is None:
-            await asyncio.sleep(self._delay(address))
-        return found
-
-    def _delay(self, address: str) -> float:
+        found = [person for known, person in self._persons.items() if hmac.compare_digest(known.encode(), given)]
+        if found:
+            return found[0]
         now = time.monotonic()
-        if len(self._wrong) > 1_000:
-            self._wrong = {key: entry for key, entry in self._wrong.items() if now - entry[1] < 60}
-        count, last = self._wrong.get(address, (0, now))
-        count = 0 if now - last > 60 else count
+        self._wrong = {key: entry for key, entry in self._wrong.items() if now - entry[1] < FORGOTTEN}
+        count, _ = self._wrong.get(address, (0, now))
         self._wrong[address] = (count + 1, now)
-        return min(LONGEST, self._pause * 2.0 ** count)
+        await asyncio.sleep(min(LONGEST, self._pause * 2.0 ** count))
+        return None

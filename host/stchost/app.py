@@ -1,7 +1,5 @@
 """Starts a plant: its engine in one thread, and in another what serves people and other machines."""
 
-from __future__ import annotations
-
 import argparse
 import asyncio
 import fcntl
@@ -12,33 +10,16 @@ import signal
 import subprocess
 import sys
 import time
-from pathlib import Path
 
-from . import access
-from .bridge import Bridge, run_in_thread
-from .change import Refusal
+from . import Trouble, access
 from .clock import Monotonic
 from .devices import links
 from .engine import Engine
-from .journal import Damaged, Journal, pieces
+from .journal import Journal
 from .modbus_server import ModbusServer
-from .plant import Plant, PlantError, find, load
-from .replay import Differs, Unreachable
-from .session import Gone, Session, program
+from .plant import Plant, load
+from .session import Session, program
 from .web import Web
-
-
-def exact_loop() -> asyncio.AbstractEventLoop:
-    """A loop that wakes up to the microsecond: `select` doesn't round times up to milliseconds, as `epoll` does."""
-    return asyncio.SelectorEventLoop(selectors.SelectSelector())
-
-
-def engine_of(plant: Plant) -> Engine:
-    """The engine of a plant over the machine's clock."""
-    clock = Monotonic()
-    file = plant.journal
-    journal = Journal(plant.state_folder / "journal", file.piece, file.limit, file.sync)
-    return Engine(plant, clock, journal, Session.start, lambda types: links(plant, types, clock.now))
 
 
 def prefer(priority: int) -> None:
@@ -49,29 +30,24 @@ def prefer(priority: int) -> None:
         print(f"priority {priority}: {error}", file=sys.stderr)
 
 
-def set_aside(folder: Path) -> None:
-    """Moves a journal away, so that the program is loaded anew."""
-    if pieces(folder):
-        folder.rename(folder.with_name(f"journal-{time.strftime('%Y%m%d-%H%M%S')}"))
-
-
-async def serve(plant: Plant, engine: Engine, loop: asyncio.AbstractEventLoop, ended: asyncio.Event) -> None:
+async def serve(engine: Engine, scans: asyncio.Task[None]) -> None:
     """Serves the page and Modbus until the engine has ended."""
-    bridge = Bridge(engine, loop)
-    web = Web(plant.page, bridge, access.Gate(access.load(plant.tokens_file)))
-    server = ModbusServer(plant.server, bridge) if plant.server else None
+    plant = engine.plant
+    while not engine.status:  # a long journal takes its time
+        if scans.done():
+            return
+        await asyncio.sleep(0.02)
+    web = Web(engine, access.Gate(access.load(plant.tokens_file)))
+    server = ModbusServer(plant.server, engine) if plant.server else None
     await web.start()
     if server is not None:
         await server.start()
-    while not engine.status and not ended.is_set():  # a long journal takes its time
-        await asyncio.sleep(0.02)
-    if engine.status:
-        print(f"{plant.name}: http://{plant.page.host}:{web.port}/" + (f", Modbus at port {server.port}" if server else ""), flush=True)
-    state = "running"
-    while not ended.is_set():
-        if (now := engine.status.get("state", state)) != state:
-            print(f"{plant.name}: {now} {engine.status['fault']}{engine.status['trouble']}", file=sys.stderr, flush=True)
-            state = now
+    print(f"{plant.name}: http://{plant.page.host}:{web.port}/" + (f", Modbus at port {server.port}" if server else ""), flush=True)
+    notice = "running"
+    while not scans.done():
+        if (now := engine.status["notice"]) != notice:
+            notice = now
+            print(f"{plant.name}: {notice}", file=sys.stderr, flush=True)
         await asyncio.sleep(0.2)
     if server is not None:
         await server.close()
@@ -80,62 +56,59 @@ async def serve(plant: Plant, engine: Engine, loop: asyncio.AbstractEventLoop, e
 
 async def main_loop(plant: Plant) -> None:
     """Runs until a signal comes, or the engine can't go on."""
-    here, there = asyncio.get_running_loop(), exact_loop()
-    engine = engine_of(plant)
-    ended = asyncio.Event()
-    failure: list[BaseException] = []
+    here = asyncio.get_running_loop()
+    there = asyncio.SelectorEventLoop(selectors.SelectSelector())  # `epoll` would round times up to milliseconds
+    clock, file = Monotonic(), plant.journal
+    journal = Journal(plant.state_folder / "journal", file.piece, file.limit, file.sync)
+    engine = Engine(plant, clock, journal, Session.start, lambda types: links(plant, types, clock.now))
 
-    async def scans() -> None:
-        try:
-            if plant.priority:
-                prefer(plant.priority + 1)
-            await engine.run()
-        except BaseException as error:  # told below, in the thread that can end the program
-            failure.append(error)
-        finally:
-            here.call_soon_threadsafe(ended.set)
+    def scan() -> None:
+        if plant.priority:
+            prefer(plant.priority + 1)
+        there.run_until_complete(engine.run())
 
     for number in (signal.SIGINT, signal.SIGTERM):
-        here.add_signal_handler(number, lambda: there.call_soon_threadsafe(engine.stop))
-    thread = run_in_thread(there, scans())
+        here.add_signal_handler(number, there.call_soon_threadsafe, engine.stop)
+    scans = asyncio.create_task(asyncio.to_thread(scan))
     try:
-        await serve(plant, engine, there, ended)
+        await serve(engine, scans)
     finally:
         there.call_soon_threadsafe(engine.stop)
-        await here.run_in_executor(None, thread.join)
-    if failure:
-        raise failure[0]
+        await scans
 
 
-def main() -> int:
-    parser = argparse.ArgumentParser(prog="host/run", description="Runs a plant: its program by the clock, its page, its connections.")
-    parser.add_argument("plant", help="the plant's file, with or without .toml")
-    parser.add_argument("--fresh", action="store_true", help="loads the program anew; the journal is set aside")
-    parser.add_argument("--check", action="store_true", help="reads the plant's file and stops")
-    words = parser.parse_args()
-    try:
-        plant = load(find(words.plant))
-        if words.check:
-            return 0
-        plant.state_folder.mkdir(mode=0o700, parents=True, exist_ok=True)
-        lock = (plant.state_folder / "lock").open("w")
-        fcntl.flock(lock, fcntl.LOCK_EX | fcntl.LOCK_NB)
+def run(plant: Plant, fresh: bool) -> None:
+    """Runs a plant as its only host, from its journal or anew."""
+    plant.state_folder.mkdir(mode=0o700, parents=True, exist_ok=True)
+    with (plant.state_folder / "lock").open("w") as lock:
+        os.set_inheritable(lock.fileno(), True)  # the journal's writer holds it too, as long as there is something to write
+        end = time.monotonic() + 5
+        while True:
+            try:
+                fcntl.flock(lock, fcntl.LOCK_EX | fcntl.LOCK_NB)
+                break
+            except BlockingIOError as error:
+                if time.monotonic() > end:
+                    raise Trouble("another host runs this plant") from error
+                time.sleep(0.05)
         access.make(plant.tokens_file)
         subprocess.run([program(), "--version"], check=True, stdout=subprocess.DEVNULL)  # builds it, where it isn't built
-        if words.fresh:
-            set_aside(plant.state_folder / "journal")
+        journal = plant.state_folder / "journal"
+        if fresh and journal.exists():
+            journal.rename(journal.with_name(f"journal-{time.strftime('%Y%m%d-%H%M%S')}"))
         if plant.priority:
             prefer(plant.priority)
         sys.setswitchinterval(0.0005)  # the thread of scans waits no longer than this for the other one
         gc.freeze()
         asyncio.run(main_loop(plant))
-    except BlockingIOError:
-        print(f"{words.plant}: another host runs this plant", file=sys.stderr)
-        return 1
-    except (PlantError, Refusal, Gone, OSError, Unreachable, Differs, subprocess.SubprocessError) as error:
-        print(f"{words.plant}: {error}", file=sys.stderr)
-        return 1
-    except Damaged as error:
-        print(f"{words.plant}: the journal is damaged: {error}. `host/replay` reads it up to there; `--fresh` sets it aside.", file=sys.stderr)
-        return 1
-    return 0
+
+
+def main() -> None:
+    parser = argparse.ArgumentParser(prog="host/run", description="Runs a plant: its program by the clock, its page, its connections.")
+    parser.add_argument("plant", help="the plant's file, with or without .toml")
+    parser.add_argument("--fresh", action="store_true", help="loads the program anew; the journal is set aside")
+    parser.add_argument("--check", action="store_true", help="reads the plant's file and stops")
+    words = parser.parse_args()
+    plant = load(words.plant)
+    if not words.check:
+        run(plant, words.fresh)

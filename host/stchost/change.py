@@ -1,31 +1,25 @@
 """What an online change would do, found out beside the plant: by `stc check`, `stc layout` and a session that nobody else uses."""
 
-from __future__ import annotations
-
-from collections.abc import Iterable, Sequence
+from collections.abc import Sequence
 from dataclasses import asdict, dataclass, field
 from typing import Any
 
+from . import Trouble
 from .plant import Mapped, Plant, Point
-from .refusals import explain
 from .replay import Start
-from .session import TEXT_LIMIT, Leaf, Session, ask, checked, encoded, layout_of
-from .values import limits, to_number, to_text
+from .session import Leaf, Session, TEXT_LIMIT, ask, checked, encoded, explain, layout_of
+from .values import BITS, to_number, to_text
 
 AT_ONCE = 250  # commands between two resets: 256 can be undone at most
 LISTED = 200  # leaves of a list that are told
-
-
-class Refusal(Exception):
-    """The text doesn't fit what the plant's file connects; the text says what."""
+LISTS = ("dropped", "new", "renamed", "lost")
 
 
 @dataclass
 class Preview:
     """What a change would answer and do."""
 
-    text: str = ""
-    line: str = ""
+    line: str
     answer: str = ""
     messages: str = ""
     blocked: str = ""
@@ -44,145 +38,118 @@ class Preview:
 
     def told(self) -> dict[str, Any]:
         """The preview for a page: lists are cut, and their lengths told."""
-        lists = ("dropped", "new", "renamed", "lost")
-        plain = {key: value for key, value in asdict(self).items() if key not in ("text", "line", "leaves")}
-        return {**plain, "ok": self.ok, "counts": {key: len(plain[key]) for key in lists}, **{key: plain[key][:LISTED] for key in lists}}
-
-
-def change_line(text: str, renames: Iterable[str]) -> str:
-    """The line of a change, with its text behind it."""
-    body = text.replace("\r\n", "\n")
-    end = "" if body.endswith("\n") or not body else "\n"
-    return checked(" ".join(["change", *renames]) + "\n" + body + end + "end_change")
+        plain = {key: value for key, value in asdict(self).items() if key not in ("line", "leaves")}
+        counts = {key: len(plain[key]) for key in LISTS}
+        reply = self.blocked or self.messages.strip() or self.answer
+        return {**plain, **{key: plain[key][:LISTED] for key in LISTS}, "counts": counts, "reply": reply, "bad": not self.ok, "ok": self.ok}
 
 
 async def preview(plant: Plant, old: str, forced: Sequence[str], text: str, renames: Sequence[str], start: Start) -> Preview:
     """What a change from the text `old` would do. `forced` are the leaves that are forced now."""
-    found = Preview(text=text)
+    body, renames = text.replace("\r\n", "\n"), " ".join(renames).split()
+    found = Preview(checked(" ".join(["change", *renames]) + "\n" + body + "\n" * (not body.endswith("\n")) + "end_change"))
     if len(encoded(text)) > TEXT_LIMIT:
-        found.answer = found.messages = "refused S4 line 1: the text is longer than 1,048,576 bytes"
+        found.answer = "refused S4 line 1"
         return found
-    found.line = change_line(text, renames)
     answer, found.messages = await ask("check", text, plant.main)
-    if answer.strip() != "ok":
-        found.answer = answer.strip()
-        found.messages = found.messages or found.answer
+    found.answer = answer.strip()
+    if found.answer != "ok":
         return found
     found.leaves = await layout_of(text, plant.main)
-    await _try(plant, old, renames, found, start)
+    await _try(await layout_of(old, plant.main), await start(old, plant.main, 1), renames, found)
     gone = {path.upper() for path in found.dropped}
     found.lost = [path for path in forced if path.upper() in gone]
     try:
         await connections(plant, text, found.leaves, start)
-    except Refusal as error:
+    except Trouble as error:
         found.blocked = str(error)
     return found
 
 
-async def _try(plant: Plant, old: str, renames: Sequence[str], found: Preview, start: Start) -> None:
+async def _try(before: Sequence[Leaf], session: Session, renames: Sequence[str], found: Preview) -> None:
     """Forces all leaves of the old text, changes it, and looks which leaves are forced then: these were kept."""
-    before = await layout_of(old, plant.main)
-    session = await start(old, plant.main, 1)
+    settable: set[str] = set()
     try:
-        settable = await _force_all(session, before)
-        found.answer = (await session.exchange([found.line]))[0]
-        if not found.answer.startswith("ok"):
-            found.messages = f"{found.answer}: {explain(found.answer)}"
-            return
-        shown = await session.exchange([f"show {leaf.path}" for leaf in found.leaves])
+        for first in range(0, len(before), AT_ONCE):
+            some = before[first:first + AT_ONCE]
+            replies = await session.exchange([*(f"force {leaf.path} {to_text(leaf.type, 0)}" for leaf in some), "reset"])
+            settable |= {leaf.path for leaf, reply in zip(some, replies) if reply == "ok"}
+        found.answer, *shown = await session.exchange([found.line, *(f"show {leaf.path}" for leaf in found.leaves)])
     finally:
         await session.close()
+    if not found.answer.startswith("ok"):
+        found.messages = f"{found.answer}: {explain(found.answer)}"
+        return
     kept = {leaf.path.upper() for leaf, reply in zip(found.leaves, shown) if reply.endswith(" forced")}
-    _compare(before, settable, kept, _pairs(renames), found)
+    _compare(before, settable, kept, renames, found)
 
 
-async def _force_all(session: Session, leaves: Sequence[Leaf]) -> set[str]:
-    settable: set[str] = set()
-    for first in range(0, len(leaves), AT_ONCE):
-        some = leaves[first:first + AT_ONCE]
-        replies = await session.exchange([*(f"force {leaf.path} {to_text(leaf.type, 0)}" for leaf in some), "reset"])
-        settable |= {leaf.path.upper() for leaf, reply in zip(some, replies) if reply == "ok"}
-    return settable
-
-
-def _pairs(renames: Sequence[str]) -> list[tuple[str, str]]:
-    pairs = [word.split("=", 1) for word in renames]
-    return sorted(((old.upper(), new) for old, new in pairs), key=lambda pair: -len(pair[0]))
-
-
-def renamed(path: str, pairs: Sequence[tuple[str, str]]) -> str:
+def renamed(path: str, renames: Sequence[str]) -> str:
     """Where a path of the old text is in the new one: the longest OLD that it begins with counts."""
-    upper = path.upper()
-    for old, new in pairs:
-        if upper == old or upper.startswith((old + ".", old + "[")):
+    for old, _, new in sorted((word.partition("=") for word in renames), key=lambda pair: -len(pair[0])):
+        if path.upper() == old.upper() or path.upper().startswith((old.upper() + ".", old.upper() + "[")):
             return new + path[len(old):]
     return path
 
 
-def _compare(before: Sequence[Leaf], settable: set[str], kept: set[str], pairs: Sequence[tuple[str, str]], found: Preview) -> None:
+def _compare(before: Sequence[Leaf], settable: set[str], kept: set[str], renames: Sequence[str], found: Preview) -> None:
     """Fills the lists. What no operator forces is kept where its counterpart is there and nothing around it was replaced."""
     after = {leaf.path.upper(): leaf for leaf in found.leaves}
-    moved = {leaf.path: renamed(leaf.path, pairs) for leaf in before}
-    replaced = set()
-    for leaf in before:
-        other = after.get(moved[leaf.path].upper())
-        if leaf.path.upper() in settable and other and other.type == leaf.type and other.path.upper() not in kept:
-            replaced.add(leaf.path.rpartition(".")[0])
+    pairs = [(leaf, after.get(renamed(leaf.path, renames).upper())) for leaf in before]
+    replaced = {leaf.path.rpartition(".")[0] for leaf, image in pairs
+                if leaf.path in settable and image and image.type == leaf.type and image.path.upper() not in kept}
     images = set()
-    for leaf in before:
-        image = moved[leaf.path].upper()
-        there = image in kept
-        if leaf.path.upper() not in settable:
-            there = image in after and after[image].type == leaf.type and leaf.path.rpartition(".")[0] not in replaced
-        if not there:
+    for leaf, image in pairs:
+        if image and leaf.path not in settable:
+            there = image.type == leaf.type and leaf.path.rpartition(".")[0] not in replaced
+        else:
+            there = image is not None and image.path.upper() in kept
+        if image is None or not there:
             found.dropped.append(leaf.path)
             continue
-        images.add(image)
-        if image != leaf.path.upper():
-            found.renamed.append((leaf.path, after[image].path))
-    found.new = [leaf.path for leaf in found.leaves if leaf.path.upper() not in images]
+        images.add(image.path)
+        if image.path.upper() != leaf.path.upper():
+            found.renamed.append((leaf.path, image.path))
+    found.new = [leaf.path for leaf in found.leaves if leaf.path not in images]
     found.kept = len(images)
     found.exact = found.answer == f"ok kept {found.kept} dropped {len(found.dropped)} new {len(found.new)}"
 
 
 async def connections(plant: Plant, text: str, leaves: Sequence[Leaf], start: Start) -> None:
-    """Refusal where the text hasn't what the plant's file connects: inputs under VAR_INPUT, outputs, types that fit."""
+    """Trouble where the text hasn't what the plant's file connects: inputs under VAR_INPUT, outputs, types that fit."""
     types = {leaf.path: leaf.type for leaf in leaves}
-    wanted = [point.quality for point in plant.input if point.quality]
-    for path in [point.path for point in plant.input + plant.output] + wanted:
+    qualities = [point.quality for point in plant.input if point.quality]
+    inputs = [point.path for point in plant.input] + qualities
+    for path in inputs + [point.path for point in plant.output]:
         if path not in types:
-            raise Refusal(f"the program has no {path}, written like this, which the plant's file connects")
+            raise Trouble(f"the program has no {path}, written like this, which the plant's file connects")
+        if path in qualities and types[path] != "BOOL":
+            raise Trouble(f"{path} is to be a BOOL: it tells whether an input is good")
     for point in plant.output:
         try:
             to_number(types[point.path], point.fault or "")
         except ValueError as error:
-            raise Refusal(f"{point.path}: `fault` of the plant's file: {error}") from error
-    for path in wanted:
-        if types[path] != "BOOL":
-            raise Refusal(f"{path} is to be a BOOL: it tells whether an input is good")
-    _forms(plant, types)
-    paths = [point.path for point in plant.input] + wanted
-    if sum(len(path) + 28 for path in paths) > 3_900 + 256 * 280:
-        raise Refusal("these are more inputs than can be given before one scan")
+            raise Trouble(f"{point.path}: `fault` of the plant's file: {error}") from error
+    _check_forms(plant, types)
+    if sum(len(path) + 28 for path in inputs) > 3_900 + 256 * 280:
+        raise Trouble("these are more inputs than can be given before one scan")
     session = await start(text, plant.main, 1)
     try:
-        lines = [line for path in paths for line in (f"scan 0 {path}:={to_text(types[path], 0)}", "reset")]
-        for path, reply in zip(paths, (await session.exchange(lines))[::2]):
+        lines = [line for path in inputs for line in (f"scan 0 {path}:={to_text(types[path], 0)}", "reset")]
+        for path, reply in zip(inputs, (await session.exchange(lines))[::2]):
             if reply.startswith("refused"):
-                raise Refusal(f"{path} is no VAR_INPUT of the program: {reply}")
+                raise Trouble(f"{path} is no VAR_INPUT of the program: {reply}")
     finally:
         await session.close()
 
 
-def _forms(plant: Plant, types: dict[str, str]) -> None:
-    """Whether each variable at a register has a form: TIME and types of 64 bits need one of the plant's file."""
+def _check_forms(plant: Plant, types: dict[str, str]) -> None:
+    """Trouble where a variable doesn't fit its register: TIME and types of 64 bits need a form of the plant's file."""
     placed: list[Point | Mapped] = [point for point in plant.input + plant.output if point.table]
     placed += plant.server.map if plant.server else ()
     for item in placed:
-        if (type_name := types.get(item.path)) is not None:
-            is_bit = item.table in ("coil", "discrete")
-            if is_bit is not (type_name == "BOOL") and (is_bit or item.form is None):
-                raise Refusal(f"{item.path} is a {type_name}, and doesn't fit the table {item.table}")
-            if not is_bit and item.form is None and limits(type_name)[1] >= 1 << 32:
-                raise Refusal(f"{item.path} is a {type_name}: `form` is to say how it lies in registers")
-
+        type_name, is_bit = types.get(item.path, ""), item.table in ("coil", "discrete")
+        if type_name and is_bit is not (type_name == "BOOL") and (is_bit or item.form is None):
+            raise Trouble(f"{item.path} is a {type_name}, and doesn't fit the table {item.table}")
+        if type_name and not is_bit and item.form is None and BITS[type_name] > 32:
+            raise Trouble(f"{item.path} is a {type_name}: `form` is to say how it lies in registers")

@@ -1,10 +1,8 @@
 """The clock of scans: places of equal distance on the monotonic clock, and what is told of how late they were."""
 
-from __future__ import annotations
-
 import asyncio
 import time
-from dataclasses import dataclass
+from dataclasses import asdict, dataclass
 from typing import Protocol
 
 
@@ -24,14 +22,9 @@ class Monotonic:
         return time.monotonic()
 
     async def wait(self, event: asyncio.Event, until: float) -> None:
-        left = until - time.monotonic()
-        if left > 0 and not event.is_set():
-            loop = asyncio.get_running_loop()
-            alarm = loop.call_later(left, event.set)
-            await event.wait()
-            alarm.cancel()
-        else:
-            await asyncio.sleep(0)  # whoever else waits for the loop has a turn
+        alarm = asyncio.get_running_loop().call_later(until - time.monotonic(), event.set)
+        await event.wait()
+        alarm.cancel()
 
 
 @dataclass
@@ -42,18 +35,13 @@ class Figures:
     late: int = 0  # began late by a millisecond and by a tenth of the cycle
     overruns: int = 0  # weren't over when the next one was due
     skipped: int = 0  # places that had no cycle
-    lateness_sum: float = 0.0
+    lateness_mean: float = 0.0
     lateness_worst: float = 0.0
-    work_sum: float = 0.0
+    work_mean: float = 0.0
     work_worst: float = 0.0
 
     def told(self) -> dict[str, float]:
-        count = max(1, self.cycles)
-        return {
-            "cycles": self.cycles, "late": self.late, "overruns": self.overruns, "skipped": self.skipped,
-            "lateness_mean": round(self.lateness_sum / count, 3), "lateness_worst": round(self.lateness_worst, 3),
-            "work_mean": round(self.work_sum / count, 3), "work_worst": round(self.work_worst, 3),
-        }
+        return {name: round(value, 3) for name, value in asdict(self).items()}
 
 
 class Cycle:
@@ -63,9 +51,8 @@ class Cycle:
         self.clock = clock
         self.period = period / 1000
         self.figures = Figures()
-        self.moment = first  # the newest one that was given
+        self.moment = self._first = first  # the newest one that was given, and the one of the start
         self._start = self._began = clock.now()
-        self._first = first
         self._number = 0
 
     def place(self) -> float:
@@ -75,14 +62,13 @@ class Cycle:
     def begin(self) -> int:
         """Begins the cycle that is due, or the newest one where several are. Its moment is the time since the start in ms, and
         never before the last one."""
-        self._began = self.clock.now()
-        figures = self.figures
+        self._began, figures = self.clock.now(), self.figures
         passed = max(0, int((self._began - self.place()) / self.period))
         self._number += passed
         late = max(0.0, self._began - self.place()) * 1000
         figures.cycles += 1
         figures.skipped += passed
-        figures.lateness_sum += late
+        figures.lateness_mean += (late - figures.lateness_mean) / figures.cycles
         figures.lateness_worst = max(figures.lateness_worst, late)
         figures.late += late >= max(1.0, self.period * 100)
         self.moment = max(self.moment, self._first + int((self._began - self._start) * 1000 + 0.001))
@@ -90,9 +76,9 @@ class Cycle:
 
     def end(self) -> None:
         """Ends the cycle."""
-        now = self.clock.now()
-        figures = self.figures
-        figures.work_sum += (now - self._began) * 1000
-        figures.work_worst = max(figures.work_worst, (now - self._began) * 1000)
+        now, figures = self.clock.now(), self.figures
+        work = (now - self._began) * 1000
+        figures.work_mean += (work - figures.work_mean) / figures.cycles
+        figures.work_worst = max(figures.work_worst, work)
         self._number += 1
         figures.overruns += now > self.place()

@@ -1,14 +1,13 @@
 """What stands at the other end of process inputs and outputs, and the simulated plants among it."""
 
-from __future__ import annotations
-
 import asyncio
 import math
 import time
 from collections.abc import Callable, Sequence
-from typing import Protocol
+from typing import Any, Protocol
 
-from .plant import DeviceFile, Plant, PlantError, Point
+from . import Trouble
+from .plant import DeviceFile, Plant, Point
 
 
 class Device(Protocol):
@@ -28,28 +27,25 @@ class Link:
         self.name, self.device, self.share = name, device, share
         self.good = False
         self.trouble = "nothing was read yet"
+        self.behind = 0  # how often the device was too slow for its share
         self._reading: asyncio.Task[dict[str, int]] | None = None
         self._writing: asyncio.Task[None] | None = None
-        self.behind = 0  # how often the device was too slow for its share
         self._left = share  # of this cycle
 
     async def poll(self) -> dict[str, int]:
         """What the device gives within its share; nothing where it doesn't, and then it isn't good."""
         self._left = self.share
-        if self._reading is None:
-            self._reading = asyncio.create_task(self.device.read())
+        self._reading = self._reading or asyncio.create_task(self.device.read())
         if not await self._waited(self._reading, "it gives no values in its share of the cycle"):
             return {}
         task, self._reading = self._reading, None
-        return task.result() if self._went_well(task) else {}
+        return task.result() if self.good else {}
 
     async def push(self, numbers: dict[str, int]) -> None:
         """Gives the device these numbers, unless it is still busy with those before."""
-        if self._writing is None:
-            self._writing = asyncio.create_task(self.device.write(numbers))
+        self._writing = self._writing or asyncio.create_task(self.device.write(numbers))
         if await self._waited(self._writing, "it takes no values in its share of the cycle"):
-            task, self._writing = self._writing, None
-            self._went_well(task)
+            self._writing = None
 
     async def end(self, numbers: dict[str, int]) -> None:
         """Gives the device its last numbers, behind those that are on their way, and closes it."""
@@ -63,7 +59,8 @@ class Link:
             self._reading.cancel()
         await self.device.close()
 
-    async def _waited(self, task: asyncio.Task, trouble: str) -> bool:
+    async def _waited(self, task: asyncio.Task[Any], trouble: str) -> bool:
+        """Whether a task is over, well or not, within what is left of the share."""
         if not task.done():
             began = time.monotonic()
             await asyncio.wait({task}, timeout=max(0.0, self._left))
@@ -71,17 +68,14 @@ class Link:
         if not task.done():
             self.good, self.trouble = False, trouble
             self.behind += 1
-        return task.done()
-
-    def _went_well(self, task: asyncio.Task) -> bool:
+            return False
         error = asyncio.CancelledError() if task.cancelled() else task.exception()
-        self.good = error is None
-        self.trouble = "" if error is None else f"{type(error).__name__}: {error}"
-        return self.good
+        self.good, self.trouble = error is None, f"{type(error).__name__}: {error}" if error else ""
+        return True
 
 
 class Tank:
-    """A tank of 1,000 mm with a pump and a drain whose flow rises and falls. `level` is measured; `pump` and the lamp `alarm` are switched."""
+    """A tank of 1,000 mm with a pump and a drain whose flow rises and falls. `level` is measured; `pump` and `alarm` are switched."""
 
     inputs, outputs = ("level",), ("pump", "alarm")
 
@@ -120,7 +114,7 @@ class Simulation:
         for points, names in ((inputs, self.model.inputs), (outputs, self.model.outputs)):
             for point in points:
                 if point.name not in names:
-                    raise PlantError(f"{point.path}: the model {file.model} has here {', '.join(names)}")
+                    raise Trouble(f"{point.path}: the model {file.model} has here {', '.join(names)}")
         self.inputs, self.outputs = inputs, outputs
         self.now, self.then = now, now()
         self.given: dict[str, int] = {}
@@ -132,7 +126,7 @@ class Simulation:
         return {point.path: shown[point.name] for point in self.inputs}
 
     async def write(self, numbers: dict[str, int]) -> None:
-        self.given = {point.name: numbers[point.path] for point in self.outputs if point.path in numbers}
+        self.given = {point.name: numbers[point.path] for point in self.outputs}
 
     async def close(self) -> None:
         pass
@@ -140,12 +134,11 @@ class Simulation:
 
 def links(plant: Plant, types: dict[str, str], now: Callable[[], float]) -> list[Link]:
     """The devices of a plant. `types` has the type of each variable that is connected, by its path."""
-    from .modbus_client import Remote  # only here: a plant without such a device needs no pymodbus
+    from .modbus_client import Remote  # only here: tests of the engine need no pymodbus
 
     made = []
     for file in plant.device:
-        inputs = [point for point in plant.input if point.device == file.name]
-        outputs = [point for point in plant.output if point.device == file.name]
+        inputs, outputs = ([point for point in points if point.device == file.name] for points in (plant.input, plant.output))
         device: Device = Remote(file, inputs, outputs, types)
         if file.kind == "simulation":
             device = Simulation(file, inputs, outputs, now)

@@ -1,55 +1,40 @@
 """The engine: the one writer to `stc`. It scans by the clock and serves operators between two scans."""
 
-from __future__ import annotations
-
 import asyncio
+import math
 from collections import deque
-from collections.abc import Awaitable, Callable, Sequence
-from dataclasses import dataclass
+from collections.abc import Awaitable, Callable, Coroutine, Iterator, Sequence
 from functools import partial
-from typing import Any
+from typing import Any, NamedTuple, TypeVar
 
-from . import journal as journals
+from . import Trouble, journal as journals
 from .change import connections
 from .clock import Clock, Cycle
 from .devices import Link
 from .inputs import Inputs
-from .journal import Base, Journal
+from .journal import Base, Journal, Record
 from .plant import Plant
-from .replay import Differs, Replay, Start, Story, Unreachable, restore, taken_back
-from .refusals import explain
-from .session import Gone, Leaf, Session, Unfit, checked, layout_of, words_of
+from .replay import Replay, Start, Story, restore, taken_back
+from .session import Gone, Leaf, Session, checked, explain, layout_of, words_of
 from .values import to_number
 
 QUEUE_LIMIT = 1_000
 CHUNK = 200  # leaves that are shown at one go
-CATCH_UP = 200  # records that a replay beside the plant may be behind when it takes over
 VERBS = ("show", "write", "force", "release", "reset", "undo", "status")
 QUIET = ("show", "status")  # these change nothing, and aren't kept
+Result = TypeVar("Result")
+Work = Callable[[], Awaitable[Any]]
 
 
-class Busy(Exception):
+class Busy(Trouble):
     """Too many lines wait already."""
 
 
-@dataclass
-class Value:
+class Value(NamedTuple):
     """What `stc` shows of a leaf."""
 
     text: str
     forced: bool
-
-
-@dataclass
-class Job:
-    work: Callable[[], Awaitable[Any]]
-    done: asyncio.Future[Any]
-
-
-def shown(reply: str) -> Value | None:
-    """The value in a reply to `show`; None where it is refused."""
-    _, _, text = reply.partition(" = ")
-    return Value(text.removesuffix(" forced"), text.endswith(" forced")) if text else None
 
 
 class Engine:
@@ -75,38 +60,39 @@ class Engine:
         self.fault = ""
         self.held = False
         self.trouble = ""  # why nothing runs at all
-        self.restarts = 0
-        self.forces = self.undos = 0
+        self.restarts = self.forces = self.undos = 0
         self.status: dict[str, Any] = {}
         self.version = 0  # of the program's text
+        self.next_command = 1
         self.cycle = Cycle(clock, plant.cycle)
-        self.refresh = plant.page.refresh / 1000
-        self.guard = min(0.002, self.cycle.period / 5)  # no operator's line is begun so shortly before a scan
-        self._queue: deque[Job] = deque()
+        self.guard = min(0.002, self.cycle.period / 5)  # nothing is begun so shortly before a scan
+        self.loop: asyncio.AbstractEventLoop | None = None
+        self._queue: deque[tuple[Work, asyncio.Future[Any]]] = deque()  # each with whom to tell
         self._event = asyncio.Event()
+        self._next_look = clock.now()  # at what is shown; never, while one is under way
         self._sweep = 0
-        self._chunks: deque[list[str]] = deque()  # of leaves that are to be shown until the next status
         self._taking_back = asyncio.Lock()
         self._closing: set[asyncio.Task[None]] = set()
-        self._refreshed = clock.now() - self.refresh
         self._stopping = False
 
     # what others ask for, between two scans
 
-    async def between(self, work: Callable[[], Awaitable[Any]]) -> Any:
+    async def asked(self, work: Coroutine[Any, Any, Result]) -> Result:
+        """Does something of the engine for another thread's loop, in the engine's own."""
+        assert self.loop is not None
+        return await asyncio.wrap_future(asyncio.run_coroutine_threadsafe(work, self.loop))
+
+    async def between(self, work: Work) -> Any:
         """Does some work between two scans, behind what waits already, and gives its result to who asked."""
         if len(self._queue) >= QUEUE_LIMIT:
             raise Busy("too many lines wait")
-        job = Job(work, asyncio.get_running_loop().create_future())
-        self._queue.append(job)
-        self._event.set()
-        return await job.done
+        return await self._post(work)
 
     async def operate(self, who: str, line: str) -> str:
-        """One line of an operator, and its reply. Unfit where the host doesn't send it."""
+        """One line of an operator, and its reply. Trouble where the host doesn't send it."""
         verb = words_of(checked(line))[0]
         if verb not in VERBS:
-            raise Unfit("scans are the clock's" if verb == "scan" else f"the commands are {', '.join(VERBS)}")
+            raise Trouble("scans are the clock's" if verb == "scan" else f"the commands are {', '.join(VERBS)}")
         return await self.between(lambda: self._operate(who, line))
 
     async def change(self, who: str, line: str, leaves: list[Leaf]) -> str:
@@ -122,12 +108,10 @@ class Engine:
         return await self.between(work)
 
     async def set_input(self, who: str, path: str, number: int) -> None:
-        """A new number for an input that people set; the next scan gives it. Unfit where it isn't one, or has no such number."""
-        if not self.inputs.by_hand(path):
-            raise Unfit(f"{path} follows its device")
-        if not self.inputs.take(path, number):
-            self.inputs.good[path] = True
-            raise Unfit(f"{number} is no {self.types[path]}")
+        """A new number for an input without a device; the next scan gives it. Trouble where it has one."""
+        if self.inputs.points[path].device is not None:
+            raise Trouble(f"{path} follows its device")
+        self.inputs.take(path, number)
 
     async def hold(self, who: str, held: bool) -> None:
         """Holds the scans, so that what is done can be undone, or lets them go on. The outputs stay as they are."""
@@ -139,51 +123,45 @@ class Engine:
         plant, and takes over between two scans. The answer has the later commands that are now answered otherwise."""
         async with self._taking_back:
             self._may_take_back(number)
-            return await self._replay_without(who, number)
-
-    async def _replay_without(self, who: str, number: int) -> list[str]:
-        found = journals.bases(self.journal.folder)
-        if self.journal.trouble or not found:
-            raise Unfit("the journal doesn't reach back to the load")
-        replay = Replay(self.start, taken_back(self.journal.folder, found[-1]) | {number})
-        reader = journals.Reader(self.journal.folder, found[-1])
-        try:
-            while len(batch := reader.take(CATCH_UP)) == CATCH_UP:
-                await replay.feed(batch)
-                await asyncio.sleep(0.001)
-            await replay.feed(batch)
-            text = replay.story.text
-            leaves = await self.layout(text, self.plant.main)
-            await connections(self.plant, text, leaves, self.start)
-            await self.between(lambda: self._take_over(who, number, replay, reader, text, leaves))
-        except BaseException:
-            if replay.session is not None and replay.session is not self.session:
-                await replay.session.close()
-            raise
-        return [f"{other.line}: {other.reply}" for other in replay.refused]
+            found = journals.bases(self.journal.folder)
+            if self.journal.trouble or not found:
+                raise Trouble("the journal doesn't reach back to a load or a reset")
+            replay = Replay(self.start, {number} | taken_back(journals.read(self.journal.folder, found[-1])))
+            news = journals.follow(self.journal.folder, found[-1])
+            try:
+                while await replay.feed(news):
+                    await asyncio.sleep(0.001)
+                leaves = await self.layout(replay.story.text, self.plant.main)
+                await connections(self.plant, replay.story.text, leaves, self.start)
+                await self.between(lambda: self._take_over(who, number, replay, news, leaves))
+            except BaseException:
+                if replay.session is not self.session:
+                    await replay.close()
+                raise
+            return [f"{other.line}: {other.reply}" for other in replay.others]
 
     def _may_take_back(self, number: int) -> None:
-        """Unfit where a command can't be taken back."""
+        """Trouble where a command can't be taken back."""
         command = self.story.commands.get(number)
         if command is None or number < self.story.began or command.state or command.reply.startswith("refused"):
-            raise Unfit("this command can't be taken back")
-        verb, *words = words_of(command.line)
-        if verb not in ("write", "force", "release", "change"):
-            raise Unfit("writes, forces, releases and changes can be taken back")
-        if verb == "write" and self.inputs.by_hand(self.spelled.get(words[0].upper(), "")):
-            raise Unfit("the scans since then gave this input: write it anew")
+            raise Trouble("this command can't be taken back")
+        if words_of(command.line)[0] not in ("write", "force", "release", "change"):
+            raise Trouble("writes, forces, releases and changes can be taken back")
         if any(other.number > number and other.line.startswith("undo") and other.reply == "ok" for other in self.story.commands.values()):
-            raise Unfit("an undo came behind it")
+            raise Trouble("an undo came behind it")
 
-    async def _take_over(self, who: str, number: int, replay: Replay, reader: journals.Reader, text: str, leaves: list[Leaf]) -> None:
-        while batch := reader.take(CATCH_UP):
-            await replay.feed(batch)
+    async def _take_over(self, who: str, number: int, replay: Replay, news: Iterator[Record | None], leaves: list[Leaf]) -> None:
+        """Goes on with the session of a replay, behind what was done since it was last fed."""
+        text = replay.story.text
+        await self.journal.written()
+        while await replay.feed(news):
+            pass
         if replay.story.text != text:
-            raise Unfit("the program was changed meanwhile")
+            raise Trouble("the program was changed meanwhile")
         old, self.session = self.session, replay.session
-        self._keep(lambda: self.journal.take_back(who, number))
-        replay.story.taken_back(number)
+        self.journal.append(journals.TAKEN_BACK, str(journals.wall_ms()), who, str(number))
         self.story = replay.story
+        self.story.taken_back(number)
         self._take_program(leaves)
         await self._read_status()
         self.inputs.forget()
@@ -197,6 +175,7 @@ class Engine:
 
     async def run(self) -> None:
         """Scans until it is stopped."""
+        self.loop = asyncio.get_running_loop()
         await self._recover()
         self.cycle = Cycle(self.clock, self.plant.cycle, self.story.moment + self.plant.cycle if self.story.moment else 0)
         try:
@@ -208,55 +187,56 @@ class Engine:
                 except Gone as error:
                     await self._restart(str(error))
         finally:
-            await self._end()
-
-    async def _end(self) -> None:
-        await asyncio.gather(*(link.end(self._numbers(self.safe)) for link in self.links))
-        if self.session is not None:
-            await self.session.close()
-        self.journal.close()
+            await asyncio.gather(*(link.end(self._numbers(self.safe)) for link in self.links))
+            if self.session is not None:
+                await self.session.close()
+            self.journal.close()
 
     def stop(self) -> None:
         self._stopping = True
         self._event.set()
 
+    def _post(self, work: Work) -> asyncio.Future[Any]:
+        done = asyncio.get_running_loop().create_future()
+        done.add_done_callback(lambda done: done.cancelled() or done.exception())  # also where nobody waits for it
+        self._queue.append((work, done))
+        self._event.set()
+        return done
+
     async def _serve(self, until: float) -> None:
-        """Does what waits, and shows the leaves that are looked at, as long as there is time before the next scan. Where scans
-        leave no time one line is done all the same, and leaves are shown once a second."""
-        served = False
+        """Does what waits as long as there is time before the next scan. Where scans leave no time, one job is done all the same."""
+        starved = until - self.clock.now() <= self.guard
         while not self._stopping:
             now = self.clock.now()
-            time_left, age = until - now > self.guard, now - self._refreshed
-            overdue = age >= 1.0 + self.refresh
-            if self._queue and (time_left or not served):
-                served = True
-                await self._do(self._queue.popleft())
-            elif self._chunks and (time_left or overdue):
-                await self._show(self._chunks.popleft())
-                if not self._chunks:
-                    await self._tell()
-            elif overdue or (time_left and age >= self.refresh):
-                self._plan()
+            if now >= self._next_look:
+                self._next_look = math.inf
+                self._post(partial(self._look, self._wanted()))
+            if self._queue and (starved or until - now > self.guard):
+                starved = False
+                await self._do(*self._queue.popleft())
             elif now >= until:
+                await asyncio.sleep(0)  # whoever else waits for the loop has a turn
                 return
             else:
                 self._event.clear()
-                await self.clock.wait(self._event, until - self.guard if time_left else until)
+                await self.clock.wait(self._event, min(until, self._next_look))
 
-    async def _do(self, job: Job) -> None:
-        if job.done.cancelled():
+    async def _do(self, work: Work, done: asyncio.Future[Any]) -> None:
+        """Does some work, and tells who asked, if that one still waits."""
+        if done.cancelled():
             return
         try:
-            result = await job.work()
-            if not job.done.done():
-                job.done.set_result(result)
+            result = await work()
         except Gone:
-            if not job.done.done():
-                job.done.set_exception(Unfit("stc ended before it replied: the line counts as not given"))
+            if not done.done():
+                done.set_exception(Trouble("stc ended before it replied: the line counts as not given"))
             raise
-        except Exception as error:  # whoever asked is told; the writer goes on
-            if not job.done.done():
-                job.done.set_exception(error)
+        except Exception as error:  # the writer goes on
+            if not done.done():
+                done.set_exception(error)
+        else:
+            if not done.done():
+                done.set_result(result)
 
     async def _turn(self) -> None:
         """One cycle: inputs are polled, the program is scanned, and outputs are pushed."""
@@ -265,18 +245,18 @@ class Engine:
         for link, numbers in zip(self.links, polled):
             self.inputs.poll(link.name, numbers)
         if self.fault or self.held:
-            await self._show(self._always())
+            await self._show(self._always)
         else:
             await self._scan(moment)
-        await self._push(self.safe if self.fault or self.trouble else self._program_outputs())
+        program = {path: self.values[path].text if path in self.values else safe for path, safe in self.safe.items()}
+        await self._push(self.safe if self.fault or self.trouble else program)
         self.cycle.end()
 
     async def _scan(self, moment: int) -> None:
         lines, changed = self.inputs.lines(moment)
-        reads = self._always()
-        replies = await self._exchange([*lines, *(f"show {path}" for path in reads)])
+        replies = await self._exchange([*lines, *(f"show {path}" for path in self._always)])
         for line, reply in zip(lines, replies):
-            self._keep(partial(self.journal.scan, line, reply))
+            self.journal.append(journals.SCAN, line, reply)
             self.story.scan(line, reply)
         answer = replies[len(lines) - 1]
         self.trouble = f"a scan is answered `{answer}`" if answer.startswith("refused") else ""
@@ -285,88 +265,57 @@ class Engine:
         else:
             self.inputs.forget()
             self.fault = answer.removeprefix("fault ") if answer.startswith("fault") else self.fault
-        self._store(reads, replies[len(lines):])
-        await self._settle()
+        self._store(self._always, replies[len(lines):])
+        await self.journal.settle()
 
     async def _operate(self, who: str, line: str) -> str:
         reply = (await self._exchange([line]))[0]
         verb, *words = words_of(line.split("\n", 1)[0])
         if verb in QUIET:
             return reply
-        text = self.story.text
-        number = self.journal.command
-        self._keep(lambda: self.journal.operation(who, line, reply))
-        self.story.operation(number, journals.wall_ms(), who, line, reply)
-        self.journal.command = number + 1
+        text, number, wall = self.story.text, self.next_command, journals.wall_ms()
+        self.next_command += 1
+        self.journal.append(journals.COMMAND, str(number), str(wall), who, line, reply)
+        self.story.operation(number, wall, who, line, reply)
         if not reply.startswith("refused"):
             try:
                 await self._follow(verb, words, text)
             except Gone:  # the line is kept, so that it counts; the next one finds that `stc` has ended
                 pass
-        await self._settle()
+        await self.journal.settle()
         return reply
 
     async def _follow(self, verb: str, words: list[str], text: str) -> None:
         """What an accepted line means for the host. `text` is that of the program before it."""
         self.inputs.forget()
+        await self._read_status()
         if verb == "reset":
             await self._begin_again()
         elif verb == "undo" and self.story.text is not text:
             self._take_program(await self.layout(self.story.text, self.plant.main))
-        path = self.spelled.get(words[0].upper(), "") if verb in ("write", "force", "release") else ""
-        if path:
+        elif verb in ("write", "force", "release") and (path := self.spelled.get(words[0].upper())):
             await self._show([path])
-        if verb == "undo" or (verb == "write" and self.inputs.by_hand(path)):
-            await self._read_hand_inputs()
-        await self._read_status()
         self._soon()
 
     def _soon(self) -> None:
-        """What has changed is shown as soon as there is time."""
-        self._refreshed = min(self._refreshed, self.clock.now() - self.refresh)
-
-    async def _read_hand_inputs(self) -> None:
-        """What the program has for the inputs that people set counts as what they were set to; but a force doesn't."""
-        paths = [path for path in self.inputs.points if self.inputs.by_hand(path)]
-        await self._show(paths)
-        for path in paths:
-            if not self.values[path].forced:
-                self.inputs.take(path, to_number(self.types[path], self.values[path].text))
+        """What has changed is shown as soon as there is time, unless a look is under way."""
+        if self._next_look < math.inf:
+            self._next_look = self.clock.now()
 
     async def _begin_again(self) -> None:
         """Behind a reset the state is the program's text and what is forced in it: a replay can begin here."""
-        self.fault = self.trouble = ""
-        if self.journal.wants_base:
-            forces = []
-            for first in range(0, len(self.leaves), CHUNK):
-                await self._show([leaf.path for leaf in self.leaves[first:first + CHUNK]])
-            for leaf in self.leaves:
-                if (value := self.values.get(leaf.path)) and value.forced:
-                    forces.append((leaf.path, value.text))
-            story = self.story
-            base = Base(story.text, story.main, story.steps, story.moment, tuple(forces), self.journal.command, journals.wall_ms(), False)
-            self._keep(lambda: self.journal.load(base))
-            story.began = self.journal.command
+        self.trouble, story = "", self.story
+        for first in range(0, len(self.leaves) if self.forces else 0, CHUNK):
+            await self._show([leaf.path for leaf in self.leaves[first:first + CHUNK]])
+        forces = [[path, value.text] for path, value in self.values.items() if value.forced]
+        base = Base(story.text, story.main, story.steps, story.moment, forces if self.forces else [], self.next_command)
+        self.journal.append(journals.LOAD, base.written())
+        story.began = base.command
 
     async def _exchange(self, lines: Sequence[str]) -> list[str]:
         if self.session is None:
             raise Gone("stc doesn't run")
         return await self.session.exchange(lines)
-
-    def _keep(self, append: Callable[[], Any]) -> None:
-        """Appends to the journal. Once that has failed nothing more is kept, and the status says so."""
-        if not self.journal.trouble:
-            try:
-                append()
-            except OSError as error:
-                self.journal.trouble = f"nothing is kept any more: {error}"
-
-    async def _settle(self) -> None:
-        if not self.journal.trouble:
-            try:
-                await self.journal.settle()
-            except OSError as error:
-                self.journal.trouble = f"nothing is kept any more: {error}"
 
     def _note(self, who: str, line: str) -> None:
         """What the host did for an operator, for the list of who did what; the controller knows nothing of it."""
@@ -375,58 +324,55 @@ class Engine:
 
     # what the program shows
 
-    def _always(self) -> list[str]:
-        """The leaves that are shown behind each scan."""
-        server = self.plant.server.map if self.plant.server else ()
-        return list(dict.fromkeys([*self.safe, *(mapped.path for mapped in server if mapped.path in self.types)]))
-
     async def _show(self, paths: Sequence[str]) -> None:
-        if paths:
-            self._store(paths, await self._exchange([f"show {path}" for path in paths]))
+        self._store(paths, await self._exchange([f"show {path}" for path in paths]))
 
     def _store(self, paths: Sequence[str], replies: Sequence[str]) -> None:
         for path, reply in zip(paths, replies):
-            if (value := shown(reply)) is not None:
-                self.values[path] = value
+            _, known, text = reply.partition(" = ")
+            if known:
+                self.values[path] = Value(text.removesuffix(" forced"), text.endswith(" forced"))
 
-    def _plan(self) -> None:
+    def _wanted(self) -> list[str]:
         """What is to be shown next: what clients look at, and a few of the other leaves in turn, so that all are shown in time."""
-        self._refreshed = self.clock.now()
         wanted = [path for paths in list(self.watched.values()) for path in paths] + [*self.plant.trend, *self.inputs.points]
         wanted += [leaf.path for leaf in self.leaves[self._sweep:self._sweep + CHUNK]]
         self._sweep = self._sweep + CHUNK if self._sweep + CHUNK < len(self.leaves) else 0
-        paths = [path for path in dict.fromkeys(wanted) if path in self.types]
-        self._chunks = deque(paths[first:first + CHUNK] for first in range(0, max(1, len(paths)), CHUNK))
+        return [path for path in dict.fromkeys(wanted) if path in self.types]
 
-    async def _tell(self) -> None:
-        """All that was planned has been shown: clients are told."""
+    async def _look(self, paths: Sequence[str]) -> None:
+        """Shows leaves, a few at one go. Once all have been shown clients are told."""
+        await self._show(paths[:CHUNK])
+        if len(paths) > CHUNK:
+            self._post(partial(self._look, paths[CHUNK:]))
+            return
         await self._read_status()
         none = Value("", False)
         self.trend.append((self.cycle.moment, [self.values.get(path, none).text for path in self.plant.trend]))
         self.status = self.told()
+        self._next_look = self.clock.now() + self.plant.page.refresh / 1000
 
     async def _read_status(self) -> None:
         """Takes over what `stc` says of itself: `running T forces F undo U`, or `halted F2 Main line 4 forces F undo U`."""
-        reply = (await self._exchange(["status"]))[0]
-        head, _, rest = reply.partition(" forces ")
+        head, _, rest = (await self._exchange(["status"]))[0].partition(" forces ")
         self.forces, self.undos = int(rest.split()[0]), int(rest.split()[2])
         self.fault = head.removeprefix("halted ") if head.startswith("halted") else ""
 
     def told(self) -> dict[str, Any]:
         """What every client is told."""
         state = "trouble" if self.trouble or self.session is None else "halted" if self.fault else "held" if self.held else "running"
-        undo = self.story.commands.get(self.story.undoable[-1]) if self.story.undoable else None
+        undo = self.story.undoable[-1][0] if self.story.undoable else None
+        journal = self.journal.told()
+        lost = "" if journal["reaches"] else "the journal doesn't reach back to a load or a reset"
+        notice = " ".join(filter(None, [state, self.fault, self.trouble, self.journal.trouble, lost]))
         return {
-            "state": state, "fault": self.fault, "why": explain(f"fault {self.fault}"), "trouble": self.trouble, "moment": self.story.moment, "version": self.version,
-            "forces": self.forces, "undos": self.undos, "undo": undo.line.split("\n", 1)[0] if undo else "",
-            "undo_who": undo.who if undo else "", "period": self.plant.cycle, **self.cycle.figures.told(),
-            "waiting": len(self._queue), "restarts": self.restarts, "journal": self.journal.told(),
+            "state": state, "notice": notice, "fault": self.fault, "why": explain(f"fault {self.fault}"), "trouble": self.trouble,
+            "moment": self.story.moment, "version": self.version, "forces": self.forces, "undos": self.undos,
+            "undo": undo.line if undo else "", "period": self.plant.cycle, **self.cycle.figures.told(),
+            "waiting": len(self._queue), "restarts": self.restarts, "journal": journal,
             "devices": [{"name": link.name, "good": link.good, "trouble": link.trouble, "behind": link.behind} for link in self.links],
             "good": dict(self.inputs.good), "driven": dict(self.driven),
         }
-
-    def _program_outputs(self) -> dict[str, str]:
-        return {path: self.values[path].text if path in self.values else safe for path, safe in self.safe.items()}
 
     async def _push(self, texts: dict[str, str]) -> None:
         self.driven = dict(texts)
@@ -443,6 +389,8 @@ class Engine:
         self.types = {leaf.path: leaf.type for leaf in leaves}
         self.spelled = {leaf.path.upper(): leaf.path for leaf in leaves}
         self.values = {path: value for path, value in self.values.items() if path in self.types}
+        mapped = [item.path for item in self.plant.server.map if item.path in self.types] if self.plant.server else []
+        self._always = list(dict.fromkeys([*self.safe, *mapped]))  # the leaves that are shown behind each scan
         self.version += 1
         self._sweep = 0
 
@@ -453,45 +401,37 @@ class Engine:
         if replay is None:
             text = self.plant.text.read_bytes().decode("utf-8", "surrogateescape")
             self.session = await self.start(text, self.plant.main, self.plant.steps)
-            base = Base(text, self.plant.main, self.plant.steps, 0, (), 1, journals.wall_ms())
-            self.journal.load(base)
+            base = Base(text, self.plant.main, self.plant.steps, 0, [], 1)
+            self.journal.append(journals.LOAD, base.written())
             self.story = Story()
             self.story.begin(base)
         else:
             self.session, self.story = replay.session, replay.story
-            self.journal.command = max([self.story.began - 1, *self.story.commands]) + 1
+        self.next_command = max([self.story.began - 1, *self.story.commands]) + 1
         leaves = await self.layout(self.story.text, self.plant.main)
         await connections(self.plant, self.story.text, leaves, self.start)
         self._take_program(leaves)
         await self._read_status()
-        if not self.links:
-            self.links = self._make_links(self.types)
-        good, numbers = self.inputs.good, self.inputs.numbers
+        self.links = self.links or self._make_links(self.types)
         self.inputs = Inputs(self.plant.input, self.types)
-        self.inputs.good.update(good)
-        self.inputs.numbers.update(numbers)
-        if not numbers:
-            await self._read_hand_inputs()
-        self.trouble = ""
-        await self._show(self._always())
+        self.trouble, self._next_look = "", self.clock.now() + self.cycle.period / 2  # behind the first scan
+        await self._show(self._always)
         self.status = self.told()
 
     async def _restart(self, why: str) -> None:
         """`stc` has ended: the outputs get their values for a fault, and it is started again from the journal."""
-        self.trouble, self.session = why or "stc ended", None
+        self.trouble, self.session = why, None
         self.restarts += 1
-        self.status = self.told()
         await self._push(self.safe)
         pause = retry = 0.0
         while self.session is None and not self._stopping:
+            self.status = self.told()
             while self._queue:
-                self._queue.popleft().done.set_exception(Unfit(f"the program doesn't run: {self.trouble}"))
+                self._queue.popleft()[1].set_exception(Trouble(f"the program doesn't run: {self.trouble}"))
             if (retry := retry - 0.1) < 0:
                 retry = pause = min(30.0, pause * 2 + 0.5)
                 try:
-                    await self._recover()
-                    break
-                except (Gone, OSError, Differs, Unreachable, journals.Damaged) as error:
+                    return await self._recover()
+                except (Gone, OSError, Trouble) as error:
                     self.trouble, self.session = str(error), None
-                    self.status = self.told()
             await asyncio.sleep(0.1)

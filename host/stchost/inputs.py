@@ -1,7 +1,5 @@
 """The process inputs: the newest number of each, whether it is good, and what a scan's line gives the program of it."""
 
-from __future__ import annotations
-
 from collections.abc import Sequence
 
 from .plant import Point
@@ -12,7 +10,7 @@ LINE_LIMIT = 4_096
 
 
 class Inputs:
-    """Inputs with a device follow it. Those without one keep what an operator or a Modbus client gave them."""
+    """Inputs with a device follow it. Those without one are given what a Modbus client sets, once."""
 
     def __init__(self, points: Sequence[Point], types: dict[str, str]) -> None:
         self.points = {point.path: point for point in points}
@@ -21,36 +19,28 @@ class Inputs:
         self.good: dict[str, bool] = {point.path: point.device is None for point in points}
         self._given: dict[str, str] = {}
 
-    def by_hand(self, path: str) -> bool:
-        """Whether this is an input that people set."""
-        return path in self.points and self.points[path].device is None
-
-    def take(self, path: str, number: int) -> bool:
-        """A new number. One that the variable's type doesn't have isn't taken: the last one stays, and isn't good."""
-        self.good[path] = fits(self.types[path], number)
-        if self.good[path]:
-            self.numbers[path] = number
-        return self.good[path]
+    def take(self, path: str, number: int) -> None:
+        """A new number."""
+        self.numbers[path] = number
+        if self.points[path].device is None:
+            self._given.pop(path, None)
 
     def poll(self, device: str, numbers: dict[str, int]) -> None:
-        """What a device gave; the inputs that it didn't give aren't good."""
-        for point in self.points.values():
+        """What a device gave. The inputs that it didn't give, or not as their types have it, keep the last one and aren't good."""
+        for path, point in self.points.items():
             if point.device == device:
-                if point.path in numbers:
-                    self.take(point.path, numbers[point.path])
-                else:
-                    self.good[point.path] = False
+                self.good[path] = path in numbers and fits(self.types[path], numbers[path])
+                if self.good[path]:
+                    self.take(path, numbers[path])
 
     def forget(self) -> None:
-        """Something else than a scan may have changed the inputs of the program: the next scan gives all of them."""
-        self._given.clear()
+        """Something else than a scan may have changed the inputs of the program: the next scan gives all that follow devices."""
+        self._given = {path: text for path, text in self._given.items() if path in self.points and self.points[path].device is None}
 
     def lines(self, moment: int) -> tuple[list[str], dict[str, str]]:
         """The scan of a moment, behind writes of what has no room in its line; and what the program has then been given."""
         wanted = {path: to_text(self.types[path], number) for path, number in self.numbers.items()}
-        for path, point in self.points.items():
-            if point.quality is not None:
-                wanted[point.quality] = "TRUE" if self.good[path] else "FALSE"
+        wanted |= {point.quality: to_text("BOOL", self.good[path]) for path, point in self.points.items() if point.quality}
         changed = {path: text for path, text in wanted.items() if self._given.get(path) != text}
         words, writes, room = [f"scan {moment}"], [], LINE_LIMIT - 32
         for path, text in changed.items():

@@ -2,39 +2,40 @@
 
 A piece is a text file of records, each on a line of its own: eight hexadecimal digits, a blank, and fields with tabs between
 them. The digits are the CRC-32 of the fields, begun with that of the record before, so that no record can be changed, lost or
-moved unseen. The first record of a piece says with what its checksums begin.
+moved unseen. A piece begins with a text, or says with which checksum the one before it ended.
 """
 
-from __future__ import annotations
-
 import asyncio
+import fcntl
 import json
 import os
 import re
+import subprocess
 import threading
 import time
 import zlib
 from collections.abc import Iterator
-from dataclasses import dataclass
+from dataclasses import asdict, dataclass
+from itertools import takewhile
 from pathlib import Path
-from typing import Any, BinaryIO, NamedTuple, NoReturn
+from typing import Any, NamedTuple
 
+from . import Trouble
+
+PIPE_SIZE = 1 << 20  # bytes that may wait for the disk before a scan does
 NAME = re.compile(r"(\d{8})\.journal")
-BASE_AT_RESET = 65_536  # bytes of a piece from which on a reset begins a new one
+ESCAPES = str.maketrans({"\\": "\\\\", "\t": "\\t", "\n": "\\n"})
+PLAIN = {"\\\\": "\\", "\\t": "\t", "\\n": "\n"}
 
 # The kinds of records, and their fields behind the kind
-LOAD = "L"  # a text begins: JSON of what `Base` has
+LOAD = "L"  # a text was loaded or reset: JSON of what `Base` has
 SCAN = "S"  # line, reply
 COMMAND = "C"  # number, wall clock in ms, who, line, reply
 TAKEN_BACK = "X"  # wall clock in ms, who, number of the command that counts as never given
 NEXT = "N"  # the piece goes on from the one before: the checksum of its last record
 
 
-class Damaged(Exception):
-    """A record isn't as it was written; the text says where."""
-
-
-@dataclass(frozen=True)
+@dataclass
 class Base:
     """From where a replay begins: a text that is loaded or was reset, and what is forced in it."""
 
@@ -42,21 +43,26 @@ class Base:
     main: str
     steps: int
     moment: int
-    forces: tuple[tuple[str, str], ...]
+    forces: list[list[str]]  # paths with their values
     command: int  # the number of the next command
-    wall: int
-    fresh: bool = True  # whether it is a load, and not a reset of what ran
 
-    @classmethod
-    def of(cls, data: dict[str, Any]) -> Base:
-        forces: Any = tuple((path, value) for path, value in data["forces"])
-        return cls(**{**data, "forces": forces})
+    def written(self) -> str:
+        return json.dumps(asdict(self))
 
 
 class Record(NamedTuple):
     kind: str
     fields: tuple[str, ...]
-    base: Base | None = None
+
+    @property
+    def base(self) -> Base:
+        return Base(**json.loads(self.fields[0]))
+
+    @property
+    def moment(self) -> int | None:
+        """The moment of a scan."""
+        verb, *words = self.fields[0].split(" ", 2)
+        return int(words[0]) if self.kind == SCAN and verb == "scan" else None
 
 
 def wall_ms() -> int:
@@ -65,28 +71,13 @@ def wall_ms() -> int:
 
 def pieces(folder: Path) -> list[tuple[int, Path]]:
     """The pieces of a journal, in order."""
-    if not folder.is_dir():
-        return []
-    found = [(int(match[1]), path) for path in folder.iterdir() if (match := NAME.fullmatch(path.name))]
-    return sorted(found)
+    found = folder.iterdir() if folder.is_dir() else ()
+    return sorted((int(match[1]), path) for path in found if (match := NAME.fullmatch(path.name)))
 
 
-def _escape(field: str) -> str:
-    return field.replace("\\", "\\\\").replace("\t", "\\t").replace("\n", "\\n")
-
-
-_ESCAPED = re.compile(r"\\(.)")
-
-
-def _plain(field: str) -> str:
-    return _ESCAPED.sub(lambda match: {"t": "\t", "n": "\n"}.get(match[1], match[1]), field)
-
-
-def encode(fields: tuple[str, ...], before: int) -> tuple[bytes, int]:
-    """A record as it is written, and its checksum."""
-    body = "\t".join(map(_escape, fields)).encode("utf-8", "surrogateescape")
-    crc = zlib.crc32(body, before)
-    return b"%08x %s\n" % (crc, body), crc
+def bases(folder: Path) -> list[int]:
+    """The pieces that begin with a load or a reset, so that a replay can begin there."""
+    return [number for number, _ in pieces(folder) if (record := next(read(folder, number), None)) and record.kind == LOAD]
 
 
 def _decode(line: bytes, before: int) -> tuple[Record, int]:
@@ -96,154 +87,122 @@ def _decode(line: bytes, before: int) -> tuple[Record, int]:
         raise ValueError("its checksum doesn't fit")
     kind, *fields = body.decode("utf-8", "surrogateescape").split("\t")
     if b"\\" in body:
-        fields = [_plain(field) for field in fields]
-    return Record(kind, tuple(fields), Base.of(json.loads(fields[0])) if kind == LOAD else None), crc
+        fields = [re.sub(r"\\.", lambda match: PLAIN[str(match.group())], field) for field in fields]
+    return Record(kind, tuple(fields)), crc
 
 
-class Reader:
-    """Reads the records from the first piece that is there on, or from piece `first`, as far as they are written by now."""
+def follow(folder: Path, first: int = 0) -> Iterator[Record | None]:
+    """The records from the first piece that is there on, or from piece `first`; and None wherever no more are written by now.
+    What lacks its end in the last piece is torn, and no record. Trouble where one isn't as it was written."""
+    before: int | None = None
+    while True:
+        piece = next((piece for piece in pieces(folder) if piece[0] >= first), None)
+        if piece is None:
+            yield None
+            continue
+        number, path = piece
+        if before is not None and number != first:
+            raise Trouble(f"the journal is damaged: {path.name}: the piece before it is missing")
+        first = number + 1
+        for record, crc in _follow_piece(path, before, first):
+            before = crc
+            yield record
 
-    def __init__(self, folder: Path, first: int = 0) -> None:
-        self.folder, self._next = folder, first
-        self._file: BinaryIO | None = None
-        self._path = folder
-        self._crc = self._place = self._count = 0
-        self._before: int | None = None
 
-    def take(self, most: int) -> list[Record]:
-        """Up to so many records more, and fewer where there are no more. What lacks its end in the last piece is torn, and no
-        record. Damaged where one isn't as it was written."""
-        found: list[Record] = []
-        while len(found) < most and (self._file is not None or self._open()):
-            assert self._file is not None
-            line = self._file.readline()
-            if line.endswith(b"\n"):
-                found.append(self._record(line))
-            elif not any(number >= self._next for number, _ in pieces(self.folder)):
-                self._file.seek(self._place)
-                break
-            elif line:
-                self._damaged("it isn't whole")
-            else:
-                self._file.close()
-                self._file, self._before = None, self._crc
-        return found
-
-    def _open(self) -> bool:
-        """Goes on to the next piece, if there is one."""
-        for number, path in pieces(self.folder):
-            if number >= self._next:
-                if self._before is not None and number != self._next:
-                    raise Damaged(f"{path.name}: the piece before it is missing")
-                self._file, self._path, self._next = path.open("rb"), path, number + 1
-                self._crc = self._place = self._count = 0
-                return True
-        return False
-
-    def _record(self, line: bytes) -> Record:
-        try:
-            record, self._crc = _decode(line, self._crc)
-            if self._count == 0 and record.kind not in (LOAD, NEXT):
-                raise ValueError("records before it are missing")
-            if record.kind == NEXT and self._before is not None and int(record.fields[0]) != self._before:
-                raise ValueError("records before it are missing")
-        except (ValueError, KeyError, TypeError) as error:
-            self._damaged(str(error))
-        self._count += 1
-        self._place += len(line)
-        return record
-
-    def _damaged(self, why: str) -> NoReturn:
-        raise Damaged(f"{self._path.name}: record {self._count + 1}, from byte {self._place} on: {why}")
+def _follow_piece(path: Path, before: int | None, following: int) -> Iterator[tuple[Record | None, int]]:
+    """The records of a piece with their checksums, until it is at its end and the following one is there."""
+    crc = count = place = 0
+    with path.open("rb") as file:
+        while True:
+            line = file.readline()
+            try:
+                if line.endswith(b"\n"):
+                    record, crc = _decode(line, crc)
+                    if count == 0 and record.kind != LOAD and (record.kind != NEXT or before not in (None, int(record.fields[0]))):
+                        raise ValueError("records before it are missing")
+                    count, place = count + 1, place + len(line)
+                    yield record, crc
+                elif not any(number >= following for number, _ in pieces(path.parent)):
+                    file.seek(place)
+                    yield None, crc
+                elif line:
+                    raise ValueError("it isn't whole")
+                else:
+                    return
+            except ValueError as error:
+                raise Trouble(f"the journal is damaged: {path.name}: record {count + 1}, from byte {place} on: {error}") from error
 
 
 def read(folder: Path, first: int = 0) -> Iterator[Record]:
-    """The records from the first piece that is there on, or from piece `first`."""
-    reader = Reader(folder, first)
-    while records := reader.take(1_000):
-        yield from records
-
-
-def bases(folder: Path) -> list[int]:
-    """The pieces that begin with a load or a reset, so that a replay can begin there."""
-    found = []
-    for number, path in pieces(folder):
-        with path.open("rb") as file:
-            line = file.readline()
-            if line[9:11] == b"L\t" and line.endswith(b"\n"):
-                found.append(number)
-    return found
+    """The records that are written by now, from the first piece that is there on, or from piece `first`."""
+    return filter(None, takewhile(bool, follow(folder, first)))
 
 
 class Journal:
-    """Appends to the journal in a folder. A torn record at its end is cut off before anything is appended."""
+    """Appends to the journal in a folder. A torn record at its end is cut off before anything is appended. The bytes go through a
+    pipe to a process that outlives this one: so a record counts once it was given away, and nobody waits for the disk."""
 
     def __init__(self, folder: Path, piece: int, limit: int, sync: str) -> None:
         folder.mkdir(mode=0o700, parents=True, exist_ok=True)
         self.folder, self.piece_limit, self.limit, self.sync = folder, piece, limit, sync
-        self.command = 1  # the number of the next command
         self.trouble = ""  # why nothing more can be kept
         self._file = -1
+        self._writer: subprocess.Popen[bytes] | None = None
         self._crc = self._size = self._number = 0
         self._dirty = False
         self._synced = time.monotonic()
-        self._sizes = {number: path.stat().st_size for number, path in pieces(folder)}
-        self._bases = bases(folder)
+        self._sizes: dict[int, int] = {}
+        self._bases: list[int] = []
 
     def resume(self) -> None:
         """Goes on behind the last whole record, which has been read without damage."""
         self.close()
         self._bases = bases(self.folder)
-        while self._sizes:
-            number = max(self._sizes)
-            path = self._path(number)
-            whole = crc = 0
-            for line in path.read_bytes().splitlines(keepends=True):
-                if line.endswith(b"\n"):
-                    whole, crc = whole + len(line), int(line[:8], 16)
-            if whole:
-                self._file = os.open(path, os.O_WRONLY | os.O_APPEND)
-                os.ftruncate(self._file, whole)
-                self._number, self._crc, self._size = number, crc, whole
-                self._sizes[number] = whole
+        self._sizes = {number: path.stat().st_size for number, path in pieces(self.folder)}
+        for number, path in reversed(pieces(self.folder)):
+            data = path.read_bytes()
+            if whole := data.rfind(b"\n") + 1:
+                os.truncate(path, whole)
+                last = data.rfind(b"\n", 0, whole - 1) + 1
+                self._open(number, whole, int(data[last:last + 8], 16))
                 return
             path.unlink()
             del self._sizes[number]
 
-    def load(self, base: Base) -> None:
-        """A text is loaded, or was reset: a replay can begin here."""
-        self._next_piece()
-        self._bases.append(self._number)
-        self._append(LOAD, json.dumps(base.__dict__))
+    def append(self, kind: str, *fields: str) -> None:
+        """Appends a record; with a text that is loaded or was reset a piece begins, since a replay can begin there. Once a record
+        couldn't be written nothing more is kept, and `trouble` says so."""
+        if self.trouble:
+            return
+        try:
+            if kind == LOAD:
+                self._next_piece()
+                self._bases.append(self._number)
+            elif self._size + 64 > self.piece_limit:
+                crc = self._crc
+                self._next_piece()
+                self._write(NEXT, str(crc))
+            self._write(kind, *fields)
+        except OSError as error:
+            self.trouble = f"nothing is kept any more: {error}"
 
-    def scan(self, line: str, reply: str) -> None:
-        self._append(SCAN, line, reply)
-
-    def operation(self, who: str, line: str, reply: str) -> int:
-        """An operator's line. The answer is the number of the command."""
-        number = self.command
-        self._append(COMMAND, str(number), str(wall_ms()), who, line, reply)
-        self.command += 1
-        return number
-
-    def take_back(self, who: str, number: int) -> None:
-        self._append(TAKEN_BACK, str(wall_ms()), who, str(number))
-
-    @property
-    def wants_base(self) -> bool:
-        """Whether a reset is to begin a new piece, since this one is long."""
-        return self._size > BASE_AT_RESET
+    async def written(self) -> None:
+        """Waits until what was appended stands in the file."""
+        while not self.trouble and os.fstat(self._file).st_size < self._size:
+            await asyncio.sleep(0.001)
 
     async def settle(self) -> None:
         """Waits until what was appended is on the disk, or sees to it, as the plant's file has it."""
-        if self._dirty and self._file >= 0:
-            loop = asyncio.get_running_loop()
-            if self.sync == "always":
-                self._dirty = False
-                await loop.run_in_executor(None, os.fsync, self._file)
-            elif self.sync == "second" and time.monotonic() > self._synced + 1:
-                self._dirty, self._synced = False, time.monotonic()
-                loop.run_in_executor(None, _flush, os.dup(self._file))
+        if self._dirty and self.sync == "always":
+            self._dirty = False
+            try:
+                await self.written()
+                await asyncio.to_thread(os.fsync, self._file)
+            except OSError as error:
+                self.trouble = f"nothing is kept any more: {error}"
+        elif self._dirty and self.sync == "second" and time.monotonic() > self._synced + 1:
+            self._dirty, self._synced = False, time.monotonic()
+            _flush_beside(os.dup(self._file))
 
     def told(self) -> dict[str, Any]:
         """How large the journal is, and whether a replay can begin in it."""
@@ -251,48 +210,50 @@ class Journal:
                 "reaches": bool(self._bases), "trouble": self.trouble}
 
     def close(self) -> None:
-        if self._file >= 0:
-            if self.sync != "never":
+        """Ends the piece. Its bytes stand in the file then, and are on the disk soon, or by now where the plant's file wants it."""
+        if self._writer is not None:
+            self._writer.communicate()
+            self._writer = None
+            if self.sync == "always":
                 os.fsync(self._file)
-            os.close(self._file)
-            self._file = -1
+            _flush_beside(self._file)
 
-    def _path(self, number: int) -> Path:
-        return self.folder / f"{number:08}.journal"
-
-    def _append(self, *fields: str) -> None:
-        if self._size + 64 > self.piece_limit and fields[0] != LOAD:
-            crc = self._crc
-            self._next_piece()
-            self._write((NEXT, str(crc)))
-        self._write(fields)
-
-    def _write(self, fields: tuple[str, ...]) -> None:
-        data, crc = encode(fields, self._crc)
-        done = os.write(self._file, data)
-        if done < len(data):  # the disk is full: the record is cut off again, and the caller told
-            os.ftruncate(self._file, self._size)
-            raise OSError(28, "the journal's disk is full")
+    def _write(self, *fields: str) -> None:
+        body = "\t".join(field.translate(ESCAPES) for field in fields).encode("utf-8", "surrogateescape")
+        crc = zlib.crc32(body, self._crc)
+        data = b"%08x %s\n" % (crc, body)
+        assert self._writer is not None and self._writer.stdin is not None
+        self._writer.stdin.write(data)
+        self._writer.stdin.flush()
         self._crc, self._size, self._dirty = crc, self._size + len(data), True
         self._sizes[self._number] = self._size
 
     def _next_piece(self) -> None:
-        if self._file >= 0 and self.sync == "second":  # nobody waits for the disk
-            threading.Thread(target=_flush, args=(os.dup(self._file),)).start()
-            os.close(self._file)
-            self._file = -1
         self.close()
-        self._number = max(self._sizes, default=0) + 1
-        self._file = os.open(self._path(self._number), os.O_WRONLY | os.O_CREAT | os.O_EXCL | os.O_APPEND, 0o600)
-        self._crc = self._size = 0
-        self._sizes[self._number] = 0
+        self._open(max(self._sizes, default=0) + 1, 0, 0)
         while sum(self._sizes.values()) > self.limit - self.piece_limit and len(self._sizes) > 1:
             oldest = min(self._sizes)
             self._path(oldest).unlink()
             del self._sizes[oldest]
             self._bases = [number for number in self._bases if number > oldest]
 
+    def _open(self, number: int, size: int, crc: int) -> None:
+        self._number, self._crc = number, crc
+        self._size = self._sizes[number] = size
+        self._file = os.open(self._path(number), os.O_WRONLY | os.O_CREAT | os.O_APPEND, 0o600)
+        self._writer = subprocess.Popen(["cat"], stdin=subprocess.PIPE, stdout=self._file, start_new_session=True, close_fds=False)
+        assert self._writer.stdin is not None
+        fcntl.fcntl(self._writer.stdin, fcntl.F_SETPIPE_SZ, PIPE_SIZE)
 
-def _flush(file: int) -> None:
-    os.fsync(file)
-    os.close(file)
+    def _path(self, number: int) -> Path:
+        return self.folder / f"{number:08}.journal"
+
+
+def _flush_beside(file: int) -> None:
+    """Writes a file to the disk and closes it, in a thread that nobody waits for."""
+
+    def flush() -> None:
+        os.fsync(file)
+        os.close(file)
+
+    threading.Thread(target=flush).start()

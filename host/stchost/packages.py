@@ -1,14 +1,11 @@
 """Debian's packages that the host stands on, and how those that are missing are installed."""
 
-from __future__ import annotations
-
 import importlib.util
 import os
 import shutil
 import subprocess
 import sys
 from collections.abc import Iterable
-from typing import Any
 
 MODULES = {"aiohttp": "python3-aiohttp", "pymodbus": "python3-pymodbus", "serial_asyncio": "python3-serial-asyncio",
            "prompt_toolkit": "python3-prompt-toolkit", "pytest": "python3-pytest", "selenium": "python3-selenium"}
@@ -28,12 +25,9 @@ def install(names: Iterable[str]) -> list[str]:
     packages = missing(names)
     if packages and os.geteuid() == 0 and shutil.which("apt-get"):
         print(f"installing {' '.join(packages)}", file=sys.stderr)
-        quiet: dict[str, Any] = {"stdout": subprocess.DEVNULL, "stderr": subprocess.DEVNULL, "env": {**os.environ, "DEBIAN_FRONTEND": "noninteractive"}}
-        command = ["apt-get", "install", "-y", "--no-install-recommends"]
-        if subprocess.run([*command, *packages], check=False, **quiet).returncode:
-            subprocess.run(["apt-get", "update"], check=False, **quiet)
-            for package in packages:  # each by itself: one that can't be had keeps no other back
-                subprocess.run([*command, package], check=False, **quiet)
+        get = "DEBIAN_FRONTEND=noninteractive apt-get install -y --no-install-recommends"
+        each = "; ".join(f"{get} {package}" for package in packages)  # one that can't be had keeps no other back
+        subprocess.run(f"({get} {' '.join(packages)} || {{ apt-get update; {each}; }}) > /dev/null 2>&1", shell=True, check=False)
     return missing(names)
 
 

@@ -1,13 +1,18 @@
 """The program `stc`: how it is found, one session with it, and what it says of a text."""
 
-from __future__ import annotations
-
 import asyncio
 import os
+import re
 import tempfile
-from collections.abc import Sequence
+from asyncio.subprocess import DEVNULL, PIPE, Process
+from collections.abc import Iterator, Sequence
+from contextlib import contextmanager
 from dataclasses import dataclass
+from functools import cache
 from pathlib import Path
+from typing import Self
+
+from . import Trouble
 
 ROOT = Path(__file__).resolve().parents[2]
 PATIENCE = 120.0  # seconds in which a reply has to come
@@ -31,19 +36,10 @@ class Gone(Exception):
     """The program ended, or gave no reply in time. The text is what it wrote on standard error."""
 
 
-class Unfit(Exception):
-    """The host doesn't send this line, and why."""
-
-
 @dataclass(frozen=True)
 class Leaf:
     path: str
     type: str
-
-    @property
-    def hidden(self) -> bool:
-        """Whether a block or a chart keeps it for itself: no operator sets it."""
-        return "$" in self.path
 
 
 def words_of(line: str) -> list[str]:
@@ -52,49 +48,55 @@ def words_of(line: str) -> list[str]:
 
 
 def checked(line: str) -> str:
-    """A line that gets exactly one reply. A change has its text and `end_change` behind line feeds. Unfit for any other."""
+    """A line that gets exactly one reply. A change has its text and `end_change` behind line feeds. Trouble for any other."""
     first, *rest = line.split("\n")
     words = words_of(first)
     if "\0" in line or "\r" in first or not words:
-        raise Unfit("a line has words, and no control characters")
+        raise Trouble("a line has words, and no control characters")
     if len(encoded(first)) > 4_096:
-        raise Unfit("a line has at most 4,096 bytes")
+        raise Trouble("a line has at most 4,096 bytes")
     if words[0] != "change":
         if rest:
-            raise Unfit("a line ends where it ends")
+            raise Trouble("a line ends where it ends")
     elif not all("=" in word for word in words[1:]):
-        raise Unfit("each word behind `change` is OLD=NEW")
+        raise Trouble("each word behind `change` is OLD=NEW")
     elif not rest or rest[-1] != "end_change" or any(words_of(text.rstrip("\r")) == ["end_change"] for text in rest[:-1]):
-        raise Unfit("the text of a change has no line `end_change`")
+        raise Trouble("the text of a change has no line `end_change`")
     return line
+
+
+@contextmanager
+def _file_of(text: str) -> Iterator[str]:
+    """The name of a file that has a text as long as it is wanted."""
+    with tempfile.NamedTemporaryFile(prefix="stc-host-", suffix=".st") as file:
+        file.write(encoded(text))
+        file.flush()
+        yield file.name
 
 
 class Session:
     """One process `stc run`, which a single writer speaks to."""
 
-    def __init__(self, process: asyncio.subprocess.Process) -> None:
+    def __init__(self, process: Process) -> None:
         self.process = process
         self.said = b""  # the end of standard error
         self._drain = asyncio.create_task(self._read_errors())
 
     @classmethod
-    async def start(cls, text: str, main: str, steps: int) -> Session:
+    async def start(cls, text: str, main: str, steps: int) -> Self:
         """Loads a text. Gone where it is refused."""
-        with tempfile.NamedTemporaryFile(prefix="stc-host-", suffix=".st") as file:
-            file.write(encoded(text))
-            file.flush()
-            process = await asyncio.create_subprocess_exec(
-                program(), "run", file.name, "--program", main, "--steps", str(steps), limit=1 << 20,
-                stdin=asyncio.subprocess.PIPE, stdout=asyncio.subprocess.PIPE, stderr=asyncio.subprocess.PIPE)
-            session = cls(process)
+        with _file_of(text) as name:
+            words = ("run", name, "--program", main, "--steps", str(steps))
+            session = cls(await asyncio.create_subprocess_exec(
+                program(), *words, stdin=PIPE, stdout=PIPE, stderr=PIPE, start_new_session=True))  # no Ctrl-C ends it
+            reply = "refused"
             try:
                 reply = (await session.exchange(["status"]))[0]
-            except BaseException:
-                await session.close()
-                raise
-        if reply.startswith("refused"):
-            await session.close()
-            raise Gone(reply + "\n" + decoded(session.said).replace(file.name, "program"))
+            finally:
+                if reply.startswith("refused"):
+                    await session.close()
+            if reply.startswith("refused"):
+                raise Gone(f"{reply}\n{decoded(session.said).replace(name, 'program')}")
         return session
 
     async def exchange(self, lines: Sequence[str]) -> list[str]:
@@ -134,14 +136,10 @@ class Session:
 
 async def ask(verb: str, text: str, main: str) -> tuple[str, str]:
     """What `stc check` or `stc layout` writes of a text on standard output, and what it says for people."""
-    with tempfile.NamedTemporaryFile(prefix="stc-host-", suffix=".st") as file:
-        file.write(encoded(text))
-        file.flush()
-        process = await asyncio.create_subprocess_exec(
-            program(), verb, file.name, "--program", main, stdin=asyncio.subprocess.DEVNULL,
-            stdout=asyncio.subprocess.PIPE, stderr=asyncio.subprocess.PIPE)
+    with _file_of(text) as name:
+        process = await asyncio.create_subprocess_exec(program(), verb, name, "--program", main, stdin=DEVNULL, stdout=PIPE, stderr=PIPE)
         answer, said = await asyncio.wait_for(process.communicate(), PATIENCE)
-    return decoded(answer), decoded(said).replace(file.name, "program")
+    return decoded(answer), decoded(said).replace(name, "program")
 
 
 async def layout_of(text: str, main: str) -> list[Leaf]:
@@ -151,3 +149,20 @@ async def layout_of(text: str, main: str) -> list[Leaf]:
         raise Gone(answer + said)
     rows = (line.split(" ", 3) for line in answer.splitlines())
     return [Leaf(row[3], row[2]) for row in rows]
+
+
+@cache
+def _sentences() -> dict[str, str]:
+    """What the numbers of refusals and faults mean, as `docs/REFUSALS.md` has it."""
+    try:
+        page = (ROOT / "docs" / "REFUSALS.md").read_text("utf-8")
+    except OSError:
+        page = ""
+    found = re.findall(r"^### ([A-Z]\d+)\n\n(.+?)(?=\n\nExample|\n\n#|\Z)", page, re.S | re.M)
+    return {"M": "There was no memory for it."} | {number: " ".join(text.split()) for number, text in found}
+
+
+def explain(reply: str) -> str:
+    """A sentence for a reply that refuses or tells a fault; empty for any other."""
+    match = re.match(r"(?:refused|fault|halted) ([A-Z]\d*)", reply)
+    return _sentences().get(match[1], "") if match else ""

@@ -1,17 +1,15 @@
-"""What the tests share: plants in folders of their own, hosts that run them, and a client of the page's connection."""
-
-from __future__ import annotations
+"""What the tests share: hosts that run plants in folders of their own, clients of them, and how late the machine is by itself."""
 
 import asyncio
-import json
-import os
+import fcntl
+import inspect
 import signal
 import socket
 import subprocess
 import sys
 import time
 import tomllib
-from collections.abc import Awaitable, Callable, Iterator
+from collections.abc import AsyncIterator, Callable, Iterator
 from contextlib import asynccontextmanager
 from pathlib import Path
 from typing import Any
@@ -20,7 +18,31 @@ import pytest
 
 HOST = Path(__file__).resolve().parents[1]
 sys.path[:0] = [str(HOST), str(HOST / "tests")]
+from programs import BLOCKS, FILE  # noqa: E402
 from stchost import packages  # noqa: E402
+
+ACT = "anna-anna-anna-anna"
+LOOK = "luca-luca-luca-luca"
+NOISE = """
+import os, sys, threading, time
+os.sched_setscheduler(0, os.SCHED_RR, os.sched_param(21)) if os.geteuid() == 0 else None
+worst, ended = 0.0, threading.Event()
+threading.Thread(target=lambda: (sys.stdin.read(), ended.set()), daemon=True).start()
+while not ended.is_set():
+    due = time.monotonic() + 0.01
+    time.sleep(0.01)
+    worst = max(worst, time.monotonic() - due)
+print(worst * 1000)
+"""
+
+
+@pytest.hookimpl(tryfirst=True)
+def pytest_pyfunc_call(pyfuncitem: Any) -> bool | None:
+    """Runs a test that is a coroutine."""
+    if not inspect.iscoroutinefunction(pyfuncitem.obj):
+        return None
+    asyncio.run(pyfuncitem.obj(**{name: pyfuncitem.funcargs[name] for name in pyfuncitem._fixtureinfo.argnames}))
+    return True
 
 
 def needs(*names: str) -> pytest.MarkDecorator:
@@ -55,35 +77,35 @@ def wait_for(what: Callable[[], Any], seconds: float = 45.0) -> Any:
     return found
 
 
-NOISE = """
-import os, sys, threading, time
-os.sched_setscheduler(0, os.SCHED_RR, os.sched_param(21)) if os.geteuid() == 0 else None
-worst, ended = 0.0, threading.Event()
-threading.Thread(target=lambda: (sys.stdin.read(), ended.set()), daemon=True).start()
-while not ended.is_set():
-    due = time.monotonic() + 0.01
-    time.sleep(0.01)
-    worst = max(worst, time.monotonic() - due)
-print(worst * 1000)
-"""
+class Client:
+    """What a page does, without the page."""
 
+    def __init__(self, live: Any) -> None:
+        self.live = live
 
-class Noise:
-    """How late the machine is by itself, in ms, while something else is looked at."""
+    async def ask(self, what: str, **words: Any) -> dict[str, Any]:
+        await self.live.send_json({"id": 7, "do": what, **words})
+        return await self.next(lambda news: "id" in news)
 
-    def __enter__(self) -> Noise:
-        self.process = subprocess.Popen([sys.executable, "-c", NOISE], stdin=subprocess.PIPE, stdout=subprocess.PIPE, text=True)
-        return self
+    async def line(self, line: str) -> str:
+        return (await self.ask("line", line=line))["reply"]
 
-    def __exit__(self, *words: object) -> None:
-        self.worst = float(self.process.communicate("")[0])
+    async def lines(self, *lines: str) -> list[str]:
+        return [await self.line(line) for line in lines]
 
+    async def until(self, what: Callable[[dict[str, Any]], bool]) -> dict[str, Any]:
+        """The next status of which something is true."""
+        return (await self.next(lambda news: bool(news.get("status")) and what(news["status"])))["status"]
 
-def scans_went_on(before: dict[str, Any], after: dict[str, Any], noise: Noise) -> None:
-    """No scan came later than a cycle, and what the machine was late by itself."""
-    allowed = before["period"] + 3 * noise.worst
-    assert after["cycles"] > before["cycles"] and after["lateness_worst"] < max(allowed, before["lateness_worst"] + 1), (noise.worst, before, after)
-    assert after["skipped"] - before["skipped"] <= (after["cycles"] - before["cycles"]) * noise.worst / 100, (noise.worst, before, after)
+    async def hold(self) -> None:
+        await self.ask("hold", held=True)
+        await self.until(lambda status: status["state"] == "held")
+
+    async def next(self, what: Callable[[dict[str, Any]], bool]) -> dict[str, Any]:
+        async with asyncio.timeout(45):
+            while not what(news := await self.live.receive_json()):
+                pass
+        return news
 
 
 class Host:
@@ -91,113 +113,72 @@ class Host:
 
     def __init__(self, folder: Path, program: str, file: str) -> None:
         self.folder, self.port, self.modbus = folder, free_port(), free_port()
+        self.url, self.journal = f"http://127.0.0.1:{self.port}", folder / "plant.state" / "journal"
         (folder / "plant.st").write_text(program)
         (folder / "plant.toml").write_text(file.replace("PAGE_PORT", str(self.port)).replace("MODBUS_PORT", str(self.modbus)))
+        (folder / "plant.state").mkdir()
+        tokens = folder / "plant.state" / "tokens.toml"
+        tokens.write_text(f'[act]\nanna = "{ACT}"\n[look]\nluca = "{LOOK}"\n')
+        tokens.chmod(0o600)
         self.process: subprocess.Popen[str] | None = None
 
     def start(self, *words: str) -> None:
-        self.process = subprocess.Popen([str(HOST / "run"), str(self.folder / "plant"), *words], stdout=subprocess.PIPE,
-                                        stderr=subprocess.STDOUT, text=True)
-        assert self.process.stdout is not None
-        line = self.process.stdout.readline()
-        assert "http://" in line, line + self.process.stdout.read()
+        command = [str(HOST / "run"), str(self.folder / "plant"), *words]
+        self.process = subprocess.Popen(command, stdout=subprocess.PIPE, stderr=subprocess.STDOUT, text=True)
+        line = self.process.stdout.readline()  # type: ignore[union-attr]
+        assert "http://" in line, line + self.process.communicate()[0]
 
     def stop(self, number: int = signal.SIGTERM) -> None:
         if self.process is not None:
             self.process.send_signal(number)
             self.process.communicate(timeout=30)
             self.process = None
+            with (self.folder / "plant.state" / "lock").open() as lock:  # until the journal is written
+                fcntl.flock(lock, fcntl.LOCK_EX)
 
-    def controllers(self) -> list[int]:
-        """The process ids of this host's sessions with `stc`."""
-        assert self.process is not None
-        found = subprocess.run(["ps", "-o", "pid=,args=", "--ppid", str(self.process.pid)], capture_output=True, text=True).stdout
-        return [int(line.split()[0]) for line in found.splitlines() if " run " in line]
+    def tool(self, *words: str, script: str = "") -> tuple[int, str]:
+        """The status of one of the host's programs, and what it prints."""
+        done = subprocess.run([str(HOST / words[0]), *words[1:]], input=script, capture_output=True, text=True, timeout=60)
+        return done.returncode, done.stdout + done.stderr
 
-    @property
-    def journal(self) -> Path:
-        return self.folder / "plant.state" / "journal"
-
-    @property
-    def url(self) -> str:
-        return f"http://127.0.0.1:{self.port}"
-
-    def token(self, kind: str = "act") -> str:
-        return next(iter(tomllib.loads((self.folder / "plant.state" / "tokens.toml").read_text())[kind].values()))
+    def refused_start(self) -> str:
+        status, said = self.tool("run", str(self.folder / "plant"))
+        assert status == 1
+        return said
 
     def console(self, script: str) -> str:
         """What the console prints for a script."""
-        done = subprocess.run([str(HOST / "console"), str(self.folder / "plant")], input=script, capture_output=True, text=True, timeout=60)
-        return done.stdout + done.stderr
+        return self.tool("console", str(self.folder / "plant"), script=script)[1]
 
     def replayed(self, *words: str) -> list[str]:
-        done = subprocess.run([str(HOST / "replay"), str(self.journal), *words], capture_output=True, text=True, timeout=60)
-        assert done.returncode == 0, done.stderr
-        return done.stdout.splitlines()
+        status, said = self.tool("replay", str(self.journal), *words)
+        assert status == 0, said
+        return said.splitlines()[:-1]
 
     @asynccontextmanager
-    async def client(self, kind: str = "act"):
+    async def client(self, token: str = ACT) -> AsyncIterator[Client]:
         import aiohttp
 
-        async with aiohttp.ClientSession() as http, http.ws_connect(self.url + "/live", max_msg_size=1 << 24) as live:
-            client = Client(http, live, self.url, self.token(kind))
-            await live.send_json({"token": client.token})
-            assert "hello" in await live.receive_json()
-            yield client
+        live = aiohttp.ClientSession()
+        async with live as http, http.ws_connect(self.url + "/live", protocols=[token], max_msg_size=1 << 24) as socket:
+            assert "hello" in await socket.receive_json()
+            yield Client(socket)
 
+    async def status(self) -> dict[str, Any]:
+        async with self.client(LOOK) as client:
+            return await client.until(lambda status: status["cycles"] > 20)
 
-class Client:
-    """What a page does, without the page."""
-
-    def __init__(self, http: Any, live: Any, url: str, token: str) -> None:
-        self.http, self.live, self.url, self.token = http, live, url, token
-        self.status: dict[str, Any] = {}
-
-    async def ask(self, what: str, **words: Any) -> dict[str, Any]:
-        await self.live.send_json({"id": 7, "do": what, **words})
-        return await self._next(lambda news: "id" in news)
-
-    async def line(self, line: str) -> str:
-        return (await self.ask("line", line=line))["reply"]
-
-    async def until(self, what: Callable[[dict[str, Any]], bool]) -> dict[str, Any]:
-        """The next status of which something is true."""
-        return (await self._next(lambda news: bool(news.get("status")) and what(news["status"])))["status"]
-
-    async def preview(self, text: str, *renames: str) -> dict[str, Any]:
-        async with self.http.post(f"{self.url}/preview", params=[("rename", word) for word in renames], data=text.encode(),
-                                  headers={"Authorization": f"Bearer {self.token}"}) as response:
-            return json.loads(await response.text())
-
-    async def _next(self, what: Callable[[dict[str, Any]], bool]) -> dict[str, Any]:
-        async def search() -> dict[str, Any]:
-            while True:
-                news = await self.live.receive_json()
-                if what(news):
-                    return news
-
-        return await asyncio.wait_for(search(), 45)
-
-
-def with_client(host: Host, work: Callable[[Client], Awaitable[Any]], kind: str = "act") -> Any:
-    """Runs some work with a client of a host."""
-
-    async def main() -> Any:
-        async with host.client(kind) as client:
-            return await work(client)
-
-    return asyncio.run(main())
-
-
-FILE = """
-name = "Test"
-program = "plant.st"
-cycle = 10
-priority = 20
-[page]
-port = PAGE_PORT
-refresh = 50
-"""
+    @asynccontextmanager
+    async def undelayed(self) -> AsyncIterator[None]:
+        """No scan comes later meanwhile than a cycle and what the machine is late by itself."""
+        before = await self.status()
+        with subprocess.Popen([sys.executable, "-c", NOISE], stdin=subprocess.PIPE, stdout=subprocess.PIPE, text=True) as noise:
+            yield
+            late = 3 * float((await asyncio.to_thread(noise.communicate, ""))[0])
+        after = await self.status()
+        cycles = after["cycles"] - before["cycles"]
+        assert cycles > 50 and after["lateness_worst"] < max(before["period"] + late, before["lateness_worst"] + 1), (late, before, after)
+        assert after["skipped"] - before["skipped"] <= cycles * late / 300, (late, before, after)
 
 
 @pytest.fixture
@@ -205,7 +186,7 @@ def make_host(tmp_path: Path) -> Iterator[Callable[..., Host]]:
     """Makes hosts, and stops them behind the test."""
     made: list[Host] = []
 
-    def make(program: str, file: str = FILE, start: bool = True) -> Host:
+    def make(program: str = BLOCKS, file: str = FILE, start: bool = True) -> Host:
         folder = tmp_path / str(len(made))
         folder.mkdir()
         made.append(Host(folder, program, file))
@@ -215,9 +196,10 @@ def make_host(tmp_path: Path) -> Iterator[Callable[..., Host]]:
 
     yield make
     for host in made:
-        if host.process is not None and host.process.poll() is None:
-            host.stop(signal.SIGKILL)
+        host.stop(signal.SIGKILL)
 
 
-def kill(process: int) -> None:
-    os.kill(process, signal.SIGKILL)
+@pytest.fixture
+def host(make_host: Callable[..., Host]) -> Host:
+    """A host that runs the program with blocks."""
+    return make_host()

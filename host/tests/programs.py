@@ -1,10 +1,9 @@
-"""Programs and plant's files that the tests share, and a session that shares nothing with the host."""
-
-from __future__ import annotations
+"""The program and plant's file that most tests use, and sessions with `stc` that share nothing with the host."""
 
 import re
 import subprocess
 import tempfile
+from collections.abc import Collection, Sequence
 from pathlib import Path
 
 from stchost.session import program
@@ -31,75 +30,49 @@ Speed := Raw + 1;
 Q := 10 / Z;
 END_PROGRAM
 """
-
 FILE = """
 name = "Test"
 program = "plant.st"
 cycle = 10
 priority = 20
-[page]
-port = PAGE_PORT
-refresh = 50
-[journal]
-sync = "never"
-piece = 100000
-[[device]]
-name = "sim"
-kind = "simulation"
-model = "tank"
-[[input]]
-path = "Main.Raw"
-device = "sim"
-name = "level"
-[[input]]
-path = "Main.Go"
-[[output]]
-path = "Main.Lamp"
-device = "sim"
-name = "pump"
-fault = "FALSE"
-[[output]]
-path = "Main.Horn"
-device = "sim"
-name = "alarm"
-fault = "TRUE"
+trend = ["Main.N", "Main.Lamp"]
+page = {port = PAGE_PORT, refresh = 50}
+journal = {sync = "never", piece = 100000}
+device = [{name = "sim", kind = "simulation", model = "tank"}]
+input = [{path = "Main.Raw", device = "sim", name = "level"}, {path = "Main.Go"}]
+output = [{path = "Main.Lamp", device = "sim", name = "pump", fault = "FALSE"},
+          {path = "Main.Horn", device = "sim", name = "alarm", fault = "TRUE"}]
 """
 
 
-def lines_of(journal: Path, without: set[int] = frozenset()) -> tuple[str, list[str]]:
+def lines_of(journal: Path, without: Collection[int] = ()) -> tuple[str, list[str]]:
     """The text that was loaded and the lines of a journal, read by nobody else's code."""
     text, lines = "", []
     for path in sorted(journal.glob("*.journal")):
         for row in path.read_text("utf-8").split("\n")[:-1]:
-            fields = row[9:].split("\t")
-            if fields[0] == "L" and not text:
-                text = re.search(r'"text": "(.*?)", "main"', fields[1])[1].replace("\\\\", "\\").encode().decode("unicode_escape")
-            elif fields[0] == "S":
-                lines.append(fields[1])
-            elif fields[0] == "C" and int(fields[1]) not in without:
-                lines.append(fields[4].replace("\\n", "\n").replace("\\t", "\t").replace("\\\\", "\\"))
+            kind, *fields = row[9:].split("\t")
+            if kind == "L" and not text:
+                text = re.findall(r'"text": "(.*?)", "main"', fields[0])[0].replace("\\\\", "\\").encode().decode("unicode_escape")
+            elif kind == "S":
+                lines.append(fields[0])
+            elif kind == "C" and int(fields[0]) not in without:
+                lines.append(fields[3].replace("\\n", "\n").replace("\\t", "\t").replace("\\\\", "\\"))
     return text, lines
 
 
-def answers(text: str, lines: list[str]) -> list[str]:
-    """What `stc` answers lines."""
+def stc(verb: str, text: str, lines: Sequence[str] = ()) -> list[str]:
+    """What `stc` writes of a text, and answers to lines."""
     with tempfile.NamedTemporaryFile("w", suffix=".st") as file:
         file.write(text)
         file.flush()
-        done = subprocess.run([program(), "run", file.name, "--program", "Main"], input="".join(line + "\n" for line in lines),
-                              capture_output=True, text=True)
-    return done.stdout.splitlines()
+        command, script = [program(), verb, file.name, "--program", "Main"], "".join(line + "\n" for line in lines)
+        return subprocess.run(command, input=script, capture_output=True, text=True).stdout.splitlines()
 
 
-def leaves_of(text: str) -> list[str]:
-    with tempfile.NamedTemporaryFile("w", suffix=".st") as file:
-        file.write(text)
-        file.flush()
-        done = subprocess.run([program(), "layout", file.name, "--program", "Main"], capture_output=True, text=True)
-    return [line.split(" ", 3)[3] for line in done.stdout.splitlines()]
+LEAVES = [line.split(" ", 3)[3] for line in stc("layout", BLOCKS)]
+STATE = ["status", *(f"show {path}" for path in LEAVES)]  # lines whose answers are all that the program holds
 
 
-def state(text: str, lines: list[str], leaves: list[str]) -> list[str]:
-    """The status and all leaves behind these lines."""
-    wanted = ["status", *(f"show {path}" for path in leaves)]
-    return answers(text, [*lines, *wanted])[-len(wanted):]
+def state(text: str, lines: Sequence[str]) -> list[str]:
+    """The answers to STATE behind these lines."""
+    return stc("run", text, [*lines, *STATE])[-len(STATE):]

@@ -1,32 +1,62 @@
-"""The console: a script's commands and what it prints."""
+"""The console: a script's commands and what it prints, and the prompt at a terminal."""
 
-from __future__ import annotations
+import os
+import pty
+import re
+import select
+import subprocess
 
-from conftest import needs
-from programs import BLOCKS, FILE
+from conftest import HOST, Host, needs
+from programs import BLOCKS
 
 pytestmark = needs("aiohttp", "prompt_toolkit")
 
 
-def test_a_script(make_host) -> None:
-    host = make_host(BLOCKS, FILE)
+def test_a_script(host: Host) -> None:
     (host.folder / "new.st").write_text(BLOCKS.replace("Band : INT := 7;", "Width : INT := 7; More : BOOL;"))
     (host.folder / "bad.st").write_text(BLOCKS + "X")
-    out = host.console(f"""# a comment
+    script = f"""# a comment
 force Main.Band 9
 list band
 preview {host.folder}/bad.st
 change {host.folder}/new.st Main.Band=Main.Width
-show Main.Width
+show main.width
 hold
 write Main.Width 1
 undo
+release Main.Q
+write Main.Q 40000
+show Main.Nope
 go
+change {host.folder}/none.st
+takeback x
 watch Main.Ticks.CV
 quit
 show Main.Never
-""")
-    for wanted in ("ok\nMain.Band : INT = 9 forced\n1 variables\n", "S2", "renamed: Main.Band -> Main.Width\n", "new: Main.More\n", "dropped 0 new 1\n", "Main.Width = 9 forced\n",
-                   "held\n", "refused O4", "going on\n"):
+"""
+    status, out = host.tool("console", str(host.folder / "plant"), script=script)
+    for wanted in ("ok\nMain.Band : INT = 9 forced\n1 variables\n", "S2", "renamed: Main.Band -> Main.Width\n", "new: Main.More\n",
+                   "dropped 0 new 1\n", "Main.Width = 9 forced\n", "held\n", "refused O4", "refused O5", "refused O3", "refused O1",
+                   "going on\n", "none.st", "invalid literal"):
         assert wanted in out, out
-    assert "Never" not in out
+    assert "Never" not in out and status == 3
+
+
+def test_the_prompt_has_history_completion_and_what_is_watched(host: Host) -> None:
+    screen, terminal = pty.openpty()
+    console = subprocess.Popen([str(HOST / "console"), str(host.folder / "plant")], stdin=terminal, stdout=terminal, stderr=terminal)
+    seen = ""
+
+    def see(words: str) -> None:
+        nonlocal seen
+        while not re.search(words, seen):
+            assert select.select([screen], [], [], 20)[0], seen
+            seen += re.sub(r"\x1b\[[\d;?]*[A-Za-z]", "", os.read(screen, 65_536).decode(errors="replace"))
+        seen = ""
+
+    for keys, words in [("", "Test>"), ("forc\t", "force"), (" main.ba\t", "Main.Band"), (" 9\r", r"ok\W"), ("show Main.Band\r", "Main.Band = 9 forced"),
+                        ("\x1b[A\x1b[A\r", r"ok\W"), ("watch Main.N\r", r"Main.N = \d+\s+Main.N = \d+"), ("quit\r", "quit")]:
+        os.write(screen, keys.encode())
+        see(words)
+    assert console.wait(30) == 0
+    assert "force Main.Band 9" in (host.folder / "plant.state" / "console.history").read_text()

@@ -1,25 +1,23 @@
 """The journal as a file: torn and damaged records, pieces, and how far back it reaches."""
 
-from __future__ import annotations
-
 import shutil
 from pathlib import Path
 
 import pytest
 
-from stchost import journal
-from stchost.journal import Base, Damaged, Journal, read
+from stchost import Trouble, journal
+from stchost.journal import Base, Journal, read
 from stchost.values import to_number, to_text
 
-BASE = Base("PROGRAM Main\nEND_PROGRAM\n", "Main", 1_000, 0, (("Main.A", "5"),), 1, 0)
+BASE = Base("PROGRAM Main\nEND_PROGRAM\n", "Main", 1_000, 0, [["Main.A", "5"]], 1)
 
 
 def write(folder: Path, piece: int = 1 << 20, count: int = 5, limit: int = 1 << 30) -> Journal:
     made = Journal(folder, piece, limit, "never")
-    made.load(BASE)
+    made.append(journal.LOAD, BASE.written())
     for moment in range(count):
-        made.scan(f"scan {moment}", "ok")
-        made.operation("anna", f"change\nA\t\\{moment}\nend_change", "ok kept 1 dropped 0 new 0")
+        made.append(journal.SCAN, f"scan {moment}", "ok")
+        made.append(journal.COMMAND, "1", "0", "anna", f"change\nA\t\\{moment}\nend_change", "ok kept 1 dropped 0 new 0")
     return made
 
 
@@ -45,7 +43,7 @@ def test_a_cut_in_the_last_records_drops_what_is_torn_and_no_more(tmp_path: Path
         assert list(read(folder)) == records[:whole]
         again = Journal(folder, 1 << 20, 1 << 30, "never")
         again.resume()
-        again.scan("scan 99", "ok")
+        again.append(journal.SCAN, "scan 99", "ok")
         again.close()
         assert [*read(folder)] == [*records[:whole], journal.Record("S", ("scan 99", "ok"))]
 
@@ -58,7 +56,7 @@ def test_each_damaged_byte_is_found_with_its_place(tmp_path: Path) -> None:
         if data[place] != 10:
             path.write_bytes(data[:place] + bytes([data[place] ^ 1]) + data[place + 1:])
             number = data[:place].count(b"\n") + 1
-            with pytest.raises(Damaged, match=f"00000001.journal: record {number}, from byte {data.rfind(10, 0, place) + 1} on"):
+            with pytest.raises(Trouble, match=f"00000001.journal: record {number}, from byte {data.rfind(10, 0, place) + 1} on"):
                 list(read(tmp_path))
 
 
@@ -72,7 +70,7 @@ def test_what_is_missing_is_found(tmp_path: Path, loss: str) -> None:
         paths[2].unlink()
     else:
         paths[2].write_bytes(b"".join(lines[:1] + lines[2:] if loss == "a record" else lines[:-1]))
-    with pytest.raises(Damaged):
+    with pytest.raises(Trouble):
         list(read(tmp_path))
 
 
@@ -80,7 +78,7 @@ def test_at_its_limit_it_drops_the_oldest_pieces_and_says_how_far_it_reaches(tmp
     made = write(tmp_path, piece=4_096, count=400, limit=16_384)
     told = made.told()
     assert told["bytes"] <= 16_384 and told["reaches"] is False and journal.bases(tmp_path) == []
-    made.load(BASE)
+    made.append(journal.LOAD, BASE.written())
     assert made.told()["reaches"] is True
     made.close()
 

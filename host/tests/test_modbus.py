@@ -1,7 +1,5 @@
 """Modbus TCP both ways: pymodbus and mbpoll as clients of the host, and a server of pymodbus as its remote device."""
 
-from __future__ import annotations
-
 import asyncio
 import re
 import socket
@@ -12,9 +10,9 @@ import time
 
 import pytest
 
-from conftest import Noise, ended, free_port, needs, scans_went_on, wait_for, with_client
+from conftest import Host, ended, free_port, needs, wait_for
 from stchost.plant import Register
-from stchost.registers import pack, unpack
+from stchost.values import pack, unpack
 
 pytestmark = needs("aiohttp", "pymodbus", "serial_asyncio")
 PROGRAM = """PROGRAM Main
@@ -26,40 +24,46 @@ Speed := Level + Wanted;
 Total := UDINT_TO_DINT(Count) + 1;
 END_PROGRAM
 """
-PAGE = '\nname = "M"\nprogram = "plant.st"\ncycle = 20\npriority = 20\n[page]\nport = PAGE_PORT\nrefresh = 50\n'
-SERVER = "[server]\nport = MODBUS_PORT\nclients = 4\nidle = 30\n"
-ALLOW = '[[server.allow]]\naddress = "127.0.0.1"\nfunctions = [1, 2, 3, 4, 5, 6, 15, 16]\n'
-INPUT = '[[input]]\npath = "Main.Start"\n'
+FILE = """
+name = "M"
+program = "plant.st"
+cycle = 20
+priority = 20
+page = {port = PAGE_PORT, refresh = 50}
+input = [{path = "Main.Start"}]
+[server]
+port = MODBUS_PORT
+clients = 4
+idle = 30
+allow = [{address = "127.0.0.1", functions = [1, 2, 3, 4, 5, 6, 15, 16]}]
+map = [
+  {path = "Main.Start", table = "coil", address = 0}, {path = "Main.Motor", table = "discrete", address = 0},
+  {path = "$running", table = "discrete", address = 8}, {path = "Main.Speed", table = "input", address = 0},
+  {path = "Main.Big", table = "input", address = 1}, {path = "Main.Wanted", table = "holding", address = 0},
+  {path = "Main.Big", table = "holding", address = 1}, {path = "Main.Small", table = "holding", address = 5},
+  {path = "Main.Age", table = "holding", address = 3, form = "UINT32", words = "little"},
+  {path = "Main.Locked", table = "holding", address = 6}]
+"""
 
 
-def mapped(path: str, table: str, address: int, more: str = "") -> str:
-    return f'[[server.map]]\npath = "Main.{path}"\ntable = "{table}"\naddress = {address}\n{more}\n'
+@pytest.fixture
+def host(make_host) -> Host:
+    return make_host(PROGRAM, FILE)
 
 
-MAPS = "".join([
-    mapped("Start", "coil", 0), mapped("$running", "discrete", 8).replace("Main.", ""), mapped("Motor", "discrete", 0), mapped("Speed", "input", 0), mapped("Big", "input", 1),
-    mapped("Wanted", "holding", 0), mapped("Big", "holding", 1), mapped("Age", "holding", 3, 'form = "UINT32"\nwords = "little"'),
-    mapped("Small", "holding", 5), mapped("Locked", "holding", 6)])
-
-
-def client_of(port: int):
+def client_of(host: Host):
     from pymodbus.client import ModbusTcpClient
 
-    client = ModbusTcpClient("127.0.0.1", port=port, timeout=5)
+    client = ModbusTcpClient("127.0.0.1", port=host.modbus, timeout=5)
     assert client.connect()
     return client
-
-
-def mbpoll(port: int, *words: str, values: tuple[str, ...] = ()) -> str:
-    done = subprocess.run(["mbpoll", "-m", "tcp", "-p", str(port), "-0", "-1", *words, "127.0.0.1", *values], capture_output=True, text=True, timeout=20)
-    return done.stdout + done.stderr
 
 
 @pytest.mark.parametrize("form, words, order, number, registers", [
     ("INT16", "big", "big", -2, [0xFFFE]), ("UINT16", "big", "little", 0x1234, [0x3412]), ("UINT32", "big", "big", 0x12345678, [0x1234, 0x5678]),
     ("UINT32", "little", "big", 0x12345678, [0x5678, 0x1234]), ("INT32", "big", "little", 0x12345678, [0x3412, 0x7856]),
     ("INT32", "little", "little", -2, [0xFEFF, 0xFFFF])])
-def test_numbers_in_registers(form: str, words: str, order: str, number: int, registers: list[int]) -> None:
+def test_numbers_in_registers(form, words, order, number: int, registers: list[int]) -> None:
     register = Register(table="holding", form=form, words=words, bytes=order)
     assert pack(register, "DINT", number) == registers and unpack(register, "DINT", registers) == number
 
@@ -69,17 +73,19 @@ def test_numbers_that_a_form_has_not_are_held_at_its_ends() -> None:
     assert pack(Register(table="input", form="UINT32"), "TIME", -1) == [0, 0]
 
 
-def test_pymodbus_reads_and_writes_what_is_mapped(make_host) -> None:
-    host = make_host(PROGRAM, PAGE + INPUT + SERVER + ALLOW + MAPS)
-    client = client_of(host.modbus)
+def test_pymodbus_reads_and_writes_what_is_mapped(host: Host) -> None:
+    client = client_of(host)
     assert client.read_holding_registers(0, 7).registers == [70, 0xFFFE, 0xEE90, 90_000 & 0xFFFF, 90_000 >> 16, 0xFFFB, 0]
     assert client.write_coil(0, True).function_code == 5
     wait_for(lambda: client.read_discrete_inputs(0, 1).bits[0])
+    assert client.write_coils(0, [False]).function_code == 15
+    wait_for(lambda: not client.read_discrete_inputs(0, 1).bits[0])
     assert client.write_registers(0, [71, 0xFFFF, 0xFFFE]).function_code == 16
     wait_for(lambda: client.read_input_registers(0, 3).registers == [71, 0xFFFF, 0xFFFE])
     assert host.console("force Main.Locked 3").startswith("ok")
-    for answer, code in [(client.write_register(6, 4), 4), (client.write_register(1, 4), 2), (client.write_register(40, 4), 2), (client.write_register(5, 300), 3),
-                         (client.read_holding_registers(5, 9), 2), (client.read_coils(3, 1), 2), (client.mask_write_register(0, 1, 1), 1)]:
+    for answer, code in [(client.write_register(6, 4), 4), (client.write_register(1, 4), 2), (client.write_register(40, 4), 2),
+                         (client.write_register(5, 300), 3), (client.read_holding_registers(5, 9), 2), (client.read_coils(3, 1), 2),
+                         (client.mask_write_register(0, 1, 1), 1)]:
         assert answer.isError() and answer.exception_code == code
     assert "modbus 127.0.0.1: write Main.Locked 4: refused O4" in host.console("log")
     assert client.read_discrete_inputs(8, 1).bits[0]
@@ -89,60 +95,63 @@ def test_pymodbus_reads_and_writes_what_is_mapped(make_host) -> None:
 
 
 @needs("mbpoll")
-def test_mbpoll_reads_and_writes_what_is_mapped(make_host) -> None:
-    host = make_host(PROGRAM, PAGE + INPUT + SERVER + ALLOW + MAPS)
-    assert re.search(r"\[1\]:\s+-70000", mbpoll(host.modbus, "-t", "3:int", "-B", "-r", "1"))
-    assert re.search(r"\[3\]:\s+90000", mbpoll(host.modbus, "-t", "4:int", "-r", "3"))
-    assert "Written 1 references" in mbpoll(host.modbus, "-t", "4", "-r", "0", values=("75",))
-    assert "Written 1 references" in mbpoll(host.modbus, "-t", "0", "-r", "0", values=("1",))
-    wait_for(lambda: re.search(r"\[0\]:\s+1\s", mbpoll(host.modbus, "-t", "1", "-r", "0")))
-    assert re.search(r"\[0\]:\s+75", mbpoll(host.modbus, "-t", "3", "-r", "0"))
-    assert "Illegal data address" in mbpoll(host.modbus, "-t", "4", "-r", "50")
+def test_mbpoll_reads_and_writes_what_is_mapped(host: Host) -> None:
+    def mbpoll(*words: str) -> str:
+        command = ["mbpoll", "-m", "tcp", "-p", str(host.modbus), "-0", "-1", *words]
+        done = subprocess.run(command, capture_output=True, text=True, timeout=20)
+        return done.stdout + done.stderr
+
+    here = "127.0.0.1"
+    assert re.search(r"\[1\]:\s+-70000", mbpoll("-t", "3:int", "-B", "-r", "1", here))
+    assert re.search(r"\[3\]:\s+90000", mbpoll("-t", "4:int", "-r", "3", here))
+    assert "Written 1 references" in mbpoll("-t", "4", "-r", "0", here, "75")
+    assert "Written 1 references" in mbpoll("-t", "0", "-r", "0", here, "1")
+    wait_for(lambda: re.search(r"\[0\]:\s+1\s", mbpoll("-t", "1", "-r", "0", here)))
+    assert re.search(r"\[0\]:\s+75", mbpoll("-t", "3", "-r", "0", here))
+    assert "Illegal data address" in mbpoll("-t", "4", "-r", "50", here)
 
 
 def test_who_may_by_address_and_function(make_host) -> None:
-    none = make_host(PROGRAM, PAGE + SERVER + ALLOW.replace("127.0.0.1", "10.0.0.0/8") + MAPS)
+    none = make_host(PROGRAM, FILE.replace('"127.0.0.1", functions', '"10.0.0.0/8", functions'))
     with socket.create_connection(("127.0.0.1", none.modbus)) as made:
         assert made.recv(1) == b""
-    looks = make_host(PROGRAM, PAGE + SERVER + '[[server.allow]]\naddress = "127.0.0.1"\n' + MAPS)
-    client = client_of(looks.modbus)
+    client = client_of(make_host(PROGRAM, FILE.replace(", functions = [1, 2, 3, 4, 5, 6, 15, 16]", "")))
     assert not client.read_holding_registers(0, 1).isError()
     assert client.write_register(0, 1).exception_code == 1
     client.close()
 
 
-def test_bad_frames_half_open_and_slow_clients_delay_no_scan(make_host) -> None:
-    host = make_host(PROGRAM, PAGE + INPUT + SERVER.replace("idle = 30", "idle = 2") + ALLOW + MAPS)
-    first = with_client(host, lambda client: client.until(lambda status: status["cycles"] > 20))
+async def test_bad_frames_half_open_and_slow_clients_delay_no_scan(make_host) -> None:
+    host = make_host(PROGRAM, FILE.replace("idle = 30", "idle = 2"))
+
+    def connected() -> socket.socket:
+        return socket.create_connection(("127.0.0.1", host.modbus), timeout=10)
 
     def talk(data: bytes) -> bytes:
-        with socket.create_connection(("127.0.0.1", host.modbus), timeout=10) as made:
+        with connected() as made:
             made.sendall(data)
             made.shutdown(socket.SHUT_WR)
             return b"".join(iter(lambda: made.recv(4096), b""))
 
-    with Noise() as noise:
-        assert talk(b"GET / HTTP/1.1\r\n\r\n") == b""
-        assert talk(struct.pack(">HHHB", 1, 0, 60_000, 1)) == b""
-        assert talk(struct.pack(">HHHBB", 1, 0, 2, 1, 3)) == struct.pack(">HHHBBB", 1, 0, 3, 1, 0x83, 3)
-        assert talk(struct.pack(">HHHBBHHB", 7, 0, 7, 1, 16, 0, 123, 246)) == struct.pack(">HHHBBB", 7, 0, 3, 1, 0x90, 3)
+    async with host.undelayed():
+        for request, answer in [
+                (b"GET / HTTP/1.1\r\n\r\n", b""), (struct.pack(">HHHB", 1, 0, 60_000, 1), b""),
+                (struct.pack(">HHHBB", 1, 0, 2, 1, 3), struct.pack(">HHHBBB", 1, 0, 3, 1, 0x83, 3)),
+                (struct.pack(">HHHBBHHB", 7, 0, 7, 1, 16, 0, 123, 246), struct.pack(">HHHBBB", 7, 0, 3, 1, 0x90, 3))]:
+            assert talk(request) == answer
         for function in range(256):
-            answer = talk(struct.pack(">HHHBBHH", 1, 0, 6, 1, function, 0, 0xFFFF))
-            assert answer == b"" or answer[7] & 0x80 or function in (5, 6), function
-        held = [socket.create_connection(("127.0.0.1", host.modbus)) for _ in range(12)]  # half-open: eight of them above the limit
-        wait_for(lambda: sum(ended(made) for made in held) == 12)
-        slow = socket.create_connection(("127.0.0.1", host.modbus))
+            said = talk(struct.pack(">HHHBBHH", 1, 0, 6, 1, function, 0, 0xFFFF))
+            assert said[7] & 0x80 and said[8] == (3 if function in (1, 2, 3, 4, 5, 15, 16) else 1) or function == 6, function
+        held = [connected() for _ in range(12)]  # half-open: eight of them above the limit
+        wait_for(lambda: sum(map(ended, held)) == 12)
+        slow = connected()
         slow.setblocking(False)
         request, end = struct.pack(">HHHBBHH", 1, 0, 6, 1, 3, 0, 7) * 200, time.monotonic() + 2
-        while time.monotonic() < end:
+        while time.monotonic() < end and not ended(slow):
             try:
                 slow.send(request)
-            except BlockingIOError:
-                time.sleep(0.01)
             except OSError:
-                break
-        last = with_client(host, lambda client: client.until(lambda status: status["cycles"] > first["cycles"] + 50))
-    scans_went_on(first, last, noise)
+                time.sleep(0.01)
 
 
 class Rack:
@@ -150,6 +159,7 @@ class Rack:
 
     def __init__(self) -> None:
         from pymodbus.datastore import ModbusSequentialDataBlock, ModbusServerContext, ModbusSlaveContext
+        from pymodbus.server import StartAsyncTcpServer
 
         rack, self.port, self.pause = self, free_port(), 0.0
 
@@ -158,42 +168,39 @@ class Rack:
                 time.sleep(rack.pause)
                 return super().getValues(address, count)
 
-        self.inputs, self.outputs, self.coils = Block(1, [0] * 20), ModbusSequentialDataBlock(1, [0] * 20), ModbusSequentialDataBlock(1, [0] * 20)
-        self.context = ModbusServerContext(slaves=ModbusSlaveContext(di=Block(1, [0] * 20), co=self.coils, ir=self.inputs, hr=self.outputs))
-        self.loop = asyncio.new_event_loop()
-        threading.Thread(target=self._run, daemon=True).start()
-
-    def _run(self) -> None:
-        from pymodbus.server import StartAsyncTcpServer
-
-        asyncio.set_event_loop(self.loop)
-        self.loop.run_until_complete(StartAsyncTcpServer(context=self.context, address=("127.0.0.1", self.port)))
-
-    @property
-    def file(self) -> str:
-        points = [("input", "Start", "discrete", 0, ""), ("input", "Level", "input", 0, 'quality = "Main.Level_Ok"'), ("input", "Count", "input", 1, 'words = "little"'),
-                  ("output", "Motor", "coil", 3, 'fault = "FALSE"'), ("output", "Speed", "holding", 0, 'fault = "-1"'), ("output", "Total", "holding", 1, 'fault = "0"')]
-        return f'[[device]]\nname = "rack"\nkind = "modbus"\nhost = "127.0.0.1"\nport = {self.port}\nshare = 50\n' + "".join(
-            f'[[{kind}]]\npath = "Main.{path}"\ndevice = "rack"\ntable = "{table}"\naddress = {address}\n{more}\n' for kind, path, table, address, more in points)
+        self.discrete, self.inputs = Block(1, [0] * 20), Block(1, [0] * 20)
+        self.coils, self.outputs = (ModbusSequentialDataBlock(1, [0] * 20) for _ in range(2))
+        slave = ModbusSlaveContext(di=self.discrete, co=self.coils, ir=self.inputs, hr=self.outputs)
+        server = StartAsyncTcpServer(context=ModbusServerContext(slaves=slave), address=("127.0.0.1", self.port))
+        threading.Thread(target=asyncio.run, args=(server,), daemon=True).start()
 
 
-def test_a_remote_device_is_polled_and_written_and_waited_for_no_longer_than_its_share(make_host) -> None:
+RACK = FILE.partition("input =")[0].replace("cycle = 20", "cycle = 50") + """
+device = [{name = "rack", kind = "modbus", port = RACK_PORT, share = 50}]
+input = [{path = "Main.Start", device = "rack", table = "discrete"}, {path = "Main.Count", device = "rack", table = "input", address = 1, words = "little"},
+         {path = "Main.Level", device = "rack", table = "input", quality = "Main.Level_Ok"}]
+output = [{path = "Main.Motor", device = "rack", table = "coil", address = 3, fault = "FALSE"},
+          {path = "Main.Speed", device = "rack", table = "holding", fault = "-1"},
+          {path = "Main.Total", device = "rack", table = "holding", address = 1, fault = "0"}]
+"""
+
+
+async def test_a_remote_device_is_polled_and_written_and_waited_for_no_longer_than_its_share(make_host) -> None:
     rack = Rack()
     rack.inputs.setValues(1, [500, 0x5678, 0x0001])
-    host = make_host(PROGRAM, PAGE.replace("cycle = 20", "cycle = 50") + rack.file)
+    host = make_host(PROGRAM, RACK.replace("RACK_PORT", str(rack.port)))
     wait_for(lambda: rack.outputs.getValues(1, 3) == [570, 0x0001, 0x5679])
-    rack.context[0].store["d"].setValues(1, [1])
+    rack.discrete.setValues(1, [1])
     wait_for(lambda: rack.coils.getValues(4, 1) == [1])
-    assert host.console("show Main.Level_Ok").startswith("Main.Level_Ok = TRUE")
-    rack.pause = 0.2
-    before = with_client(host, lambda client: client.until(lambda status: status["good"]["Main.Level"] is False))
-    assert before["devices"][0]["behind"] > 0
-    after = with_client(host, lambda client: client.until(lambda status: status["cycles"] >= before["cycles"] + 50))
-    assert after["moment"] - before["moment"] < 50 * 50 * 2, "a slow device holds up no scan"
-    shown = host.console("show Main.Level\nshow Main.Level_Ok").splitlines()
-    assert shown[0] == "Main.Level = 500" and shown[1] in ("Main.Level_Ok = FALSE", "Main.Level_Ok = TRUE")
-    rack.pause = 0.0
-    with_client(host, lambda client: client.until(lambda status: status["good"]["Main.Level"] and status["devices"][0]["good"]))
-    assert host.console("force Main.Count 1\nwrite Main.Locked 1").startswith("ok")
+    async with host.client() as client:
+        assert await client.line("show Main.Level_Ok") == "Main.Level_Ok = TRUE"
+        rack.pause = 0.2
+        before = await client.until(lambda status: status["good"]["Main.Level"] is False)
+        assert before["devices"][0]["behind"] > 0
+        after = await client.until(lambda status: status["cycles"] >= before["cycles"] + 50)
+        assert after["moment"] - before["moment"] < 50 * 50 * 2, "a slow device holds up no scan"
+        assert await client.line("show Main.Level") == "Main.Level = 500"
+        rack.pause = 0.0
+        await client.until(lambda status: status["good"]["Main.Level"] and status["devices"][0]["good"])
     host.stop()
     wait_for(lambda: rack.outputs.getValues(1, 3) == [0xFFFF, 0, 0])  # the values for a fault, as the host ends

@@ -1,14 +1,11 @@
 """The operator's page in headless Chromium: force, change with preview, take back, a fault, keys and phone sizes."""
 
-from __future__ import annotations
-
 import os
 from collections.abc import Iterator
 
 import pytest
 
-from conftest import needs, wait_for
-from programs import BLOCKS, FILE
+from conftest import ACT, LOOK, Host, needs, wait_for
 
 pytestmark = needs("aiohttp", "selenium", "chromium", "chromedriver")
 
@@ -34,9 +31,9 @@ def browser() -> Iterator:
 
 
 class Page:
-    def __init__(self, browser, host, kind: str = "act") -> None:
+    def __init__(self, browser, host: Host, token: str = ACT) -> None:
         self.browser, self.host = browser, host
-        browser.get(f"{host.url}/#{host.token(kind)}")
+        browser.get(f"{host.url}/#{token}")
         self.sees("#state", "Running")
 
     def find(self, css: str):
@@ -59,8 +56,8 @@ class Page:
         self.browser.execute_script("arguments[0].click()", self.find(css))
 
 
-def test_a_force_a_change_and_what_is_taken_back(make_host, browser) -> None:
-    page = Page(browser, make_host(BLOCKS, FILE))
+def test_a_force_a_change_and_what_is_taken_back(host: Host, browser) -> None:
+    page = Page(browser, host)
     page.keys("/", "band")
     wait_for(lambda: page.text("#rows").startswith("Main.Band"))
     page.press("#rows tr")
@@ -87,8 +84,8 @@ def test_a_force_a_change_and_what_is_taken_back(make_host, browser) -> None:
     assert page.host.console("show Main.Band").startswith("Main.Band = 55 forced")
 
 
-def test_a_refused_text_and_a_fault_say_where(make_host, browser) -> None:
-    page = Page(browser, make_host(BLOCKS, FILE))
+def test_a_refused_text_and_a_fault_say_where(host: Host, browser) -> None:
+    page = Page(browser, host)
     page.keys("4")
     page.press("#edit")
     browser.execute_script("const t = document.getElementById('text'); t.value = t.value.replace('10 / Z', '10 / Zz'); t.oninput();")
@@ -105,8 +102,8 @@ def test_a_refused_text_and_a_fault_say_where(make_host, browser) -> None:
     page.sees("#outputs", "for the fault")
 
 
-def test_undo_while_scans_are_held(make_host, browser) -> None:
-    page = Page(browser, make_host(BLOCKS, FILE))
+def test_undo_while_scans_are_held(host: Host, browser) -> None:
+    page = Page(browser, host)
     page.press("#hold")
     page.sees("#state", "Held")
     page.host.console("write Main.Band 3")
@@ -117,10 +114,9 @@ def test_undo_while_scans_are_held(make_host, browser) -> None:
 
 
 @pytest.mark.parametrize("width, height", [(1366, 800), (820, 1100), (360, 740)])
-def test_sizes_fit_and_charts_and_trends_are_drawn(make_host, browser, width: int, height: int) -> None:
-    host = make_host(BLOCKS, FILE.replace("cycle = 10", 'cycle = 10\ntrend = ["Main.N", "Main.Lamp"]'))
+def test_sizes_fit_and_charts_and_trends_are_drawn(host: Host, browser, width: int, height: int) -> None:
     browser.execute_cdp_cmd("Emulation.setDeviceMetricsOverride", {"width": width, "height": height, "deviceScaleFactor": 1, "mobile": width < 500})
-    page = Page(browser, host, "look")
+    page = Page(browser, host, LOOK)
     assert not page.find("#hold").is_displayed()
     wait_for(lambda: browser.execute_script("return document.querySelectorAll('#plot path').length") == 2)
     for view in ("plant", "values", "charts", "program", "log"):
@@ -128,5 +124,5 @@ def test_sizes_fit_and_charts_and_trends_are_drawn(make_host, browser, width: in
         assert browser.execute_script("return document.documentElement.scrollWidth <= innerWidth"), view
     browser.execute_script("show('charts')")
     page.sees("#charts h2", "Main.Cycle")
-    wait_for(lambda: page.text("#charts") is not None and browser.execute_script("return document.querySelectorAll('#charts g.active').length") == 1)
+    wait_for(lambda: browser.execute_script("return document.querySelectorAll('#charts g.active').length") == 1)
     assert not [entry for entry in browser.get_log("browser") if entry["level"] == "SEVERE"]
