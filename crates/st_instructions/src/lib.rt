@@ -18,6 +18,11 @@ mod transfers;
 mod variables;
 
 pub use cells::{NO_VALUE, value_in};
+pub use counting::{go_back, step};
+pub use distances::{distance_in, far_in, strides};
+pub use leaves::{load_as, store};
 pub use moves::{Move, place_after};
+pub use operations::combined;
 pub use performing::{is_own, perform};
 pub use stack::Stack;
+pub use transfers::leaf_behind;
