@@ -1,7 +1,6 @@
 //! Does each instruction by itself, over a stack and the leaves of a memory, or the variables of a function.
 #![tactic(auto)]
 
-pub mod acts;
 mod blocks;
 mod cells;
 mod counting;
@@ -20,7 +19,7 @@ mod variables;
 pub use cells::{NO_VALUE, value_in};
 pub use counting::{go_back, step};
 pub use distances::{distance_in, far_in, strides};
-pub use leaves::{load_as, store};
+pub use leaves::{load, load_as, store};
 pub use moves::{Move, place_after};
 pub use operations::combined;
 pub use performing::{is_own, perform};
