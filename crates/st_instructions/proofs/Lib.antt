@@ -3,5 +3,6 @@ pub mod Invocations
 pub mod Narrow
 pub mod Newest
 pub mod Operands
+pub mod Operated
 pub mod Stores
 pub mod Turns
