@@ -17,11 +17,11 @@ mod transfers;
 mod variables;
 
 pub use cells::{NO_VALUE, value_in};
-pub use counting::{go_back, step};
+pub use counting::{go_back, go_next, step, test};
 pub use distances::{distance_in, far_in, strides};
 pub use leaves::{load, load_as, store};
 pub use moves::{Move, place_after};
-pub use operations::combined;
+pub use operations::{at_once, lies_within};
 pub use performing::{is_own, perform};
 pub use stack::Stack;
 pub use transfers::leaf_behind;
