@@ -4,5 +4,6 @@ pub mod Narrow
 pub mod Newest
 pub mod Operands
 pub mod Operated
+pub mod Shifted
 pub mod Stores
 pub mod Turns

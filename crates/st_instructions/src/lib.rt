@@ -8,7 +8,6 @@ mod distances;
 mod leaves;
 pub mod local;
 mod moves;
-mod operate;
 mod operations;
 mod performing;
 mod quick;
