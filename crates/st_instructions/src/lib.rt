@@ -22,5 +22,6 @@ pub use leaves::{load, load_as, store};
 pub use moves::{Move, place_after};
 pub use operations::{at_once, lies_within};
 pub use performing::{is_own, perform};
+pub use quick::unary;
 pub use stack::Stack;
 pub use transfers::leaf_behind;
