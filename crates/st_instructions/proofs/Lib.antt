@@ -3,5 +3,7 @@ pub mod Invocations
 pub mod Narrow
 pub mod Newest
 pub mod Operands
+pub mod Operated
+pub mod Shifted
 pub mod Stores
 pub mod Turns

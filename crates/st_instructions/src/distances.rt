@@ -35,7 +35,7 @@ pub fn add(stack: &mut Stack) -> Move
 
 /// How far a subscript lies behind the lower bound, where that is at most the last distance.
 #[inline(always)]
-fn far_in(elem: Elem, subscript: i64, low: i64, last: u16) -> Option<u16>
+pub fn far_in(elem: Elem, subscript: i64, low: i64, last: u16) -> Option<u16>
     ensures { result ≡ far_in (number_in elem subscript -ℤ low) last }
 {
     if elem.is_signed() || subscript >= 0 {
@@ -72,7 +72,7 @@ fn behind(elem: Elem, subscript: i64, low: i64) -> i128
 
 /// So many strides.
 #[inline]
-fn strides(far: u16, stride: u32) -> u64
+pub fn strides(far: u16, stride: u32) -> u64
     ensures value { result ≡ far * stride }
     ensures high { result < 2 ^ 48 }
 {

@@ -20,6 +20,31 @@ pub fn load<M: Memory>(memory: &M, layout: &Layout, leaf: u32) -> i64
     cell(memory.get(layout, leaf))
 }
 
+/// The same of a leaf that is likely to be of this type: where that is known as the code is made, its width is too.
+#[inline(always)]
+pub fn load_as<M: Memory>(memory: &M, layout: &Layout, elem: Elem, leaf: u32) -> i64
+    requires over { M.IsOver layout.now memory.now }
+    requires below { leaf < length layout.now }
+    ensures { result ≡ cell_of (get_or (M.content layout.now memory.now).values leaf no_value).bits }
+{
+    if layout.elem(leaf) == elem {
+        cell(memory.get(layout, leaf))
+    } else {
+        load_any(memory, layout, leaf)
+    }
+}
+
+/// The value of a leaf of any type, as a cell.
+#[cold]
+#[inline(never)]
+fn load_any<M: Memory>(memory: &M, layout: &Layout, leaf: u32) -> i64
+    requires over { M.IsOver layout.now memory.now }
+    requires below { leaf < length layout.now }
+    ensures { result ≡ cell_of (get_or (M.content layout.now memory.now).values leaf no_value).bits }
+{
+    cell(memory.get(layout, leaf))
+}
+
 /// Stores a cell, which is a value of the leaf's type, unless the leaf is forced.
 #[inline]
 pub fn store<M: Memory>(memory: &mut M, layout: &Layout, elem: Elem, leaf: u32, cell: i64)

@@ -1,7 +1,6 @@
 //! Does each instruction by itself, over a stack and the leaves of a memory, or the variables of a function.
 #![tactic(auto)]
 
-pub mod acts;
 mod blocks;
 mod cells;
 mod counting;
@@ -9,7 +8,6 @@ mod distances;
 mod leaves;
 pub mod local;
 mod moves;
-mod operate;
 mod operations;
 mod performing;
 mod quick;
@@ -18,6 +16,12 @@ mod transfers;
 mod variables;
 
 pub use cells::{NO_VALUE, value_in};
+pub use counting::{go_back, go_next, step, test};
+pub use distances::{distance_in, far_in, strides};
+pub use leaves::{load, load_as, store};
 pub use moves::{Move, place_after};
+pub use operations::{at_once, lies_within};
 pub use performing::{is_own, perform};
+pub use quick::unary;
 pub use stack::Stack;
+pub use transfers::leaf_behind;

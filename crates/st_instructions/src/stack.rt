@@ -49,6 +49,14 @@ impl Stack {
         )
     }
 
+    /// There is room for all numbers on it.
+    #[inline(always)]
+    pub fn fits(&self)
+        ensures { length self.now.0 ≤ self.now.1 }
+    {
+        let _ = &self.cells;
+    }
+
     /// Takes all numbers away.
     pub fn clear(&mut self)
         ensures cells { self.new.0 ≡ [] }

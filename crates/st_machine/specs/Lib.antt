@@ -1,5 +1,5 @@
 pub mod Blocks
-pub mod Chains
+pub mod Entries
 pub mod Charts
 pub mod Functions
 pub mod Levels

@@ -4,7 +4,6 @@
 
 mod block;
 mod calls;
-mod chains;
 mod charts;
 mod entries;
 mod function;
