@@ -28,7 +28,8 @@ pub fn load_as<M: Memory>(memory: &M, layout: &Layout, elem: Elem, leaf: u32) ->
     ensures { result ≡ cell_of (get_or (M.content layout.now memory.now).values leaf no_value).bits }
 {
     if layout.elem(leaf) == elem {
-        cell(memory.get(layout, leaf))
+        let value = memory.get(layout, leaf);
+        cell(value)
     } else {
         load_any(memory, layout, leaf)
     }
@@ -42,7 +43,7 @@ fn load_any<M: Memory>(memory: &M, layout: &Layout, leaf: u32) -> i64
     requires below { leaf < length layout.now }
     ensures { result ≡ cell_of (get_or (M.content layout.now memory.now).values leaf no_value).bits }
 {
-    cell(memory.get(layout, leaf))
+    load(memory, layout, leaf)
 }
 
 /// Stores a cell, which is a value of the leaf's type, unless the leaf is forced.
