@@ -26,11 +26,11 @@ returns-in-Err-clause-part g c = λ failed.
     c.in-Err.ensures.refused (c.refuse.ensures.part failed)
 
 pub returns-in-Ok-clause-memory : goal.returns-in-Ok-clause-memory
-returns-in-Ok-clause-memory g c = λ memory. elim (c.serve.ensures.memory memory) [
+returns-in-Ok-clause-memory g c = λ memory. elim (c.serve-status.ensures.memory memory) [
   | inl answers ↦ inl (OnBytes-then (g.R.Source.rest c.args.source.now)
-      (λ bytes. WritesAll bytes no_memory (g.W.Sink.taken c.args.sink.now) (g.W.Sink.taken c.serve.new.sink) (Ok c.in-Ok.controller))
-      (λ bytes. OfProgram c.args.text.now c.args.main.now c.args.steps (λ d. WritesAll bytes no_memory (g.W.Sink.taken c.args.sink.now) (g.W.Sink.taken c.serve.new.sink) (Ok d)))
-      (λ bytes all. (c.in-Ok.controller, c.in-Ok.ensures.loaded, all)) answers)
+      (λ bytes. WritesAll bytes no_memory (g.W.Sink.taken c.args.sink.now) (g.W.Sink.taken c.serve-status.new.sink) (Ok c.in-Ok.controller))
+      (λ bytes. OfProgram c.args.text.now c.args.main.now c.args.steps (λ d. WritesAll bytes no_memory (g.W.Sink.taken c.args.sink.now) (g.W.Sink.taken c.serve-status.new.sink) (Ok d)))
+      (λ bytes all. (c.in-Ok.controller, c.in-Ok.ensures.ok, all)) answers)
   | inr same ↦ inr (same.0, inl same.1)
 ]
 
