@@ -1,6 +1,6 @@
-"""Worked cases: files in which a program's text stands with what is done with it and what has to come out.
+"""Worked cases: files in which a program's text stands with what is done with it and what has to come out; and orders of the command line.
 
-`crates/st_cases/data/README.md` has the form of these files."""
+`crates/st_cases/data/README.md` has the form of the cases, and `examples/orders.txt` that of the orders."""
 
 import re
 from dataclasses import dataclass, field
@@ -75,3 +75,30 @@ def cases_in(file: Path, shown: str) -> Iterator[Case]:
         for at, row in enumerate(block[each + 1 :], start + each + 3):
             if row:
                 yield case_of(name, f"{shown}:{at}", block[:each], dict(zip(block[each].split()[2:], row.split())))
+
+
+def cases_on(page: Path, shown: str) -> Iterator[Case]:
+    """The examples of a page that are refused: a text with four blanks before each line, and the answer behind it."""
+    lines = page.read_text().split("\n")
+    for start in (at for at, line in enumerate(lines) if line == "Example:"):
+        end = next(at for at in range(start, len(lines)) if lines[at].startswith("Answer: "))
+        text = "".join(f"{line.removeprefix('    ')}\n" for line in lines[start + 2 : end - 1])
+        yield Case("an example", f"{shown}:{start + 1}", text, [Part(lines[end].split("`")[1])])
+
+
+@dataclass
+class Order:
+    """Words of the command line, the status that the program ends with, and parts of what it writes."""
+
+    place: str
+    words: list[str]
+    status: int
+    parts: list[str]
+
+
+def orders_in(file: Path, shown: str) -> Iterator[Order]:
+    """The orders of a file: a line of `$` has the words, the next one the status, and those behind it, to an empty one, the parts."""
+    lines = file.read_text().split("\n")
+    for at in (at for at, line in enumerate(lines) if line.startswith("$")):
+        end = lines.index("", at)
+        yield Order(f"{shown}:{at + 1}", lines[at].split()[1:], int(lines[at + 1]), lines[at + 2 : end])

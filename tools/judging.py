@@ -6,7 +6,7 @@ import tempfile
 from dataclasses import dataclass
 from pathlib import Path
 
-from cases import Case, Part
+from cases import Case, Order, Part
 
 ACCEPTED, REFUSED_TEXT, REFUSED_LINE = 0, 1, 3  # exit statuses
 SECONDS = 60  # the most that a run may take
@@ -100,6 +100,14 @@ class Program:
     def failure_in_words(self, command: Path) -> str | None:
         """A command, run in its folder, writes on both streams and ends as stands beside it, its status last."""
         return Program(self.file, command.parent).failure_in_command(f"{{ {command.read_text().strip()}\n}} 2>&1; echo $?", command.with_suffix(".written").read_text())
+
+    def failure_in_order(self, order: Order) -> str | None:
+        """An order ends with its status, and what is written has its parts."""
+        how = {"capture_output": True, "text": True, "timeout": SECONDS, "cwd": self.folder, "stdin": subprocess.DEVNULL}
+        ran = subprocess.run([self.file, *order.words], **how)
+        if ran.returncode != order.status:
+            return f"the status is {ran.returncode}, and not {order.status}"
+        return next((f"{it!r} isn't written" for it in order.parts if it not in ran.stdout + ran.stderr), None)
 
     def failure_in_command(self, command: str, written: str) -> str | None:
         """A command that a page shows writes what stands below it there."""

@@ -10,7 +10,8 @@ import os
 
 import gdb
 
-ALLOCATORS = ("rattle_alloc", "rattle_realloc")
+# The C library's functions: a program may be stripped of its own names. Nothing but the program calls them.
+ALLOCATORS = ("malloc", "realloc")
 
 # The steps that answer a call with a null pointer, at its first instruction.
 ANSWER_NULL = ("set $rip = *(long *)$rsp", "set $rsp = $rsp + 8", "set $rax = 0")
@@ -30,17 +31,19 @@ class Allocation(gdb.Breakpoint):
 def run_once(first: int, row: int, from_read: bool) -> int:
     """Runs the program and refuses `row` allocations from the first on. Answers how many it refused."""
     allocations = []
+    gdb.execute("tbreak __libc_start_main", to_string=True)
+    gdb.execute("run " + os.environ["RUN"], to_string=True)
     if from_read:
         gdb.execute("catch syscall read", to_string=True)
         gdb.execute("condition $bpnum $rdi == 0")
-        gdb.execute("run " + os.environ["RUN"], to_string=True)
+        gdb.execute("continue", to_string=True)
         gdb.execute("delete", to_string=True)
     for function in ALLOCATORS:
         allocation = Allocation("*" + function)
         allocation.silent = True
         allocations.append(allocation)
     Allocation.count, Allocation.first = 0, first
-    gdb.execute("continue" if from_read else "run " + os.environ["RUN"], to_string=True)
+    gdb.execute("continue", to_string=True)
     refused = 0
     while gdb.selected_inferior().pid:
         refused += 1
@@ -57,7 +60,7 @@ def run_once(first: int, row: int, from_read: bool) -> int:
 
 def main() -> None:
     """Runs the program for each first allocation."""
-    for setting in ("confirm off", "pagination off", "print inferior-events off", "width 0"):
+    for setting in ("confirm off", "pagination off", "print inferior-events off", "width 0", "breakpoint pending on"):
         gdb.execute("set " + setting)
     number, last = int(os.environ["FIRST"]), int(os.environ["LAST"])
     while not last or number <= last:

@@ -50,18 +50,23 @@ class SessionsAreMade(unittest.TestCase):
 class RunsAreJudged(unittest.TestCase):
     def setUp(self) -> None:
         self.refuser = tool("refuse-allocations")
-        self.part = self.refuser.Part("load", Path("st_growths"), "load", r"(5|0) load: refused \d+ times\|", wanted="refused 2 times")
+        self.part = self.refuser.trial(Path("st_cases"), "--without-memory=load", 2)
+
+    def run_line(self, first: int, refused: int, counted: int, failed: int = 0) -> str:
+        """The line of a run that refused so many allocations, of which the trial counted so many."""
+        ended = f"{failed} load: refused {counted} times, {counted} in a row|{1 - failed} passed, {failed} failed|"
+        return f"run {first} {refused} {ended}"
 
     def test_refusals_are_counted(self) -> None:
-        runs = ["run 1 2 5 load: refused 2 times|", "run 2 1 0 load: refused 0 times|"]
+        runs = [self.run_line(1, 2, 2), self.run_line(2, 1, 0)]
         self.assertEqual(self.refuser.judged(self.part, runs, ""), self.refuser.Result(3, 1, []))
 
     def test_what_is_refused_without_need_is_a_fault(self) -> None:
-        runs = ["run 1 1 5 load: refused 2 times|"]
+        runs = [self.run_line(1, 1, 2)]
         self.assertEqual(self.refuser.judged(self.part, runs, "").faults, runs)
 
     def test_another_answer_is_a_fault_and_so_is_none(self) -> None:
-        runs = ["run 1 2 5 load: refused 2 times|", "run 2 1 1 load: refused 1 times|"]
+        runs = [self.run_line(1, 2, 2), self.run_line(2, 1, 1, 1)]
         self.assertEqual(self.refuser.judged(self.part, runs, "").faults, runs[1:])
         self.assertEqual(len(self.refuser.judged(self.part, [], "no gdb").faults), 2)
 

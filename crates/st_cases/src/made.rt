@@ -1,14 +1,16 @@
-//! Cases that are made by code: texts and sessions at their limits, devices that fail, and memory that is refused.
-mod changes_without_memory;
+//! Cases that are made by code: texts and sessions at their limits, sessions in pieces, devices that fail, and what changes save.
+mod broken_devices;
 mod controllers;
 mod counter;
 mod devices;
 mod large_programs;
+mod levels;
 mod limits;
 mod long_sessions;
 mod long_texts;
-mod programs_without_memory;
-mod texts;
+mod pieces;
+mod saved;
+mod stages;
 
 use crate::made::counter::Counter;
 use crate::tally::Tally;
@@ -19,21 +21,15 @@ pub fn run_made(rt: &HostRuntime) -> io::Result<Tally> {
     let mut counter = Counter::new(rt);
     controllers::run(&mut counter)?;
     devices::run(&mut counter)?;
+    pieces::run(&mut counter)?;
+    broken_devices::run(&mut counter)?;
     large_programs::run(&mut counter)?;
+    levels::run(&mut counter)?;
     limits::run(&mut counter)?;
     long_sessions::run(&mut counter)?;
     long_texts::run(&mut counter)?;
-    changes_without_memory::run(&mut counter)?;
-    programs_without_memory::run(&mut counter)?;
+    saved::run(&mut counter)?;
     let tally = counter.tally();
     tally.tell(rt, "made by code")?;
     Ok(tally)
-}
-
-/// Runs the cases whose memory may be refused once, and names those that fail.
-pub fn run_without_memory(rt: &HostRuntime) -> io::Result<Tally> {
-    let mut counter = Counter::new(rt);
-    changes_without_memory::run(&mut counter)?;
-    programs_without_memory::run(&mut counter)?;
-    Ok(counter.tally())
 }

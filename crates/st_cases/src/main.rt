@@ -1,9 +1,10 @@
 //! Runs worked cases: sessions, layouts and checks of whole program texts, with what has to come out.
 //!
 //! A word of the command line is a folder. Of each of its files `*.cases`, by name, a line says how many cases it has, with a line
-//! before it for each case that fails. The word `--made` stands for the cases that are made by code, and `--without-memory` for those
-//! of them whose memory `tools/refuse-allocations` refuses. The last line counts all. The status is 0 where none failed, 1 where one
-//! did, and 2 where a folder or a file can't be read. `data/README.md` has the form of a case.
+//! before it for each case that fails. The word `--made` stands for the cases that are made by code, and a word
+//! `--without-memory=NAME` for the trial of that name, in which memory may be refused (`src/without_memory.rt` lists them). The last
+//! line counts all. The status is 0 where none failed, 1 where one did, and 2 where a folder or a file can't be read.
+//! `data/README.md` has the form of a case.
 #![tactic(auto)]
 
 mod blocks;
@@ -11,12 +12,15 @@ mod case;
 mod folder;
 mod made;
 mod tally;
+mod texts;
 mod trials;
 mod ways;
+mod without_memory;
 
 use crate::folder::run_folder;
-use crate::made::{run_made, run_without_memory};
+use crate::made::run_made;
 use crate::tally::Tally;
+use crate::without_memory::run_trial;
 use std::io;
 use std::process::ExitCode;
 
@@ -50,9 +54,11 @@ fn run_all(rt: &HostRuntime) -> io::Result<Tally> {
 
 /// Runs the cases that a word names.
 fn run_word(rt: &HostRuntime, word: &str) -> io::Result<Tally> {
+    if let Some(name) = word.strip_prefix("--without-memory=") {
+        return run_trial(rt, name);
+    }
     match word {
         "--made" => run_made(rt),
-        "--without-memory" => run_without_memory(rt),
         folder => run_folder(rt, folder),
     }
 }

@@ -4,7 +4,7 @@ ghost use Rattle.st_layout.specs.Layout.{IsValueAt};
 ghost use Rattle.st_memory.specs.Memory.{initial_content, with_force, with_value};
 
 use crate::made::counter::Counter;
-use crate::made::texts::FIRST;
+use crate::texts::FIRST;
 use st_control::{Controller, Refusal, load_image};
 use st_layout::Layout;
 use st_memory::{Cells, Memory, Packed};

@@ -2,6 +2,7 @@
 ghost use Rattle.std.specs.Prelude.{◌<◌};
 
 use crate::made::counter::Counter;
+use crate::texts::FIRST;
 use crate::ways::{ALL_GOOD, LARGE_PIECE, MAIN};
 use st_control::{Controller, Refusal};
 use st_memory::{Cells, Memory, Packed};
@@ -12,8 +13,6 @@ use st_session::{
 use st_values::{Elem, Value};
 use std::alloc::Global;
 use std::io;
-
-const PROGRAM: &[u8] = b"PROGRAM Main VAR A : INT := 3; B : BOOL; END_VAR END_PROGRAM";
 
 const SESSION: &[u8] = b"write main.a 5\nshow Main.A\nundo\nshow Main.A\n";
 
@@ -36,10 +35,7 @@ pub fn run(cases: &mut Counter<'_>) -> io::Result<()> {
     )?;
     cases.other("a source that fails", loses_no_line(alloc))?;
     for calls in 0..2 {
-        cases.other(
-            "a check whose sink fails",
-            check_fails(alloc, PROGRAM, calls),
-        )?;
+        cases.other("a check whose sink fails", check_fails(alloc, FIRST, calls))?;
         cases.other(
             "a refusal whose sink fails",
             check_fails(alloc, b"(* open", calls),
@@ -57,7 +53,7 @@ fn comes_in_pieces(alloc: Global, piece: usize) -> bool
 {
     let mut source = Bytes::new(SESSION, piece, ALL_GOOD);
     let mut sink = Sheet::new(alloc, piece, ALL_GOOD);
-    let status = run_text(alloc, PROGRAM, MAIN, 8, &mut source, &mut sink);
+    let status = run_text(alloc, FIRST, MAIN, 8, &mut source, &mut sink);
     status == ACCEPTED && sink.written() == REPLIES && !source.failed() && !sink.failed()
 }
 
@@ -66,7 +62,7 @@ fn comes_by_readers(alloc: Global) -> bool {
     let mut written = Vec::new(alloc);
     let mut source = FromReader::new(SESSION);
     let mut sink = ToWriter::new(&mut written);
-    let status = run_text(alloc, PROGRAM, MAIN, 8, &mut source, &mut sink);
+    let status = run_text(alloc, FIRST, MAIN, 8, &mut source, &mut sink);
     let has_failed = source.failed() || sink.failed();
     status == ACCEPTED && !has_failed && written.as_slice() == REPLIES
 }
@@ -75,13 +71,13 @@ fn comes_by_readers(alloc: Global) -> bool {
 fn is_no_program(alloc: Global) -> bool {
     let mut source = Bytes::new(SESSION, LARGE_PIECE, ALL_GOOD);
     let mut sink = Sheet::new(alloc, LARGE_PIECE, ALL_GOOD);
-    let status = run_text(alloc, PROGRAM, b"Other", 8, &mut source, &mut sink);
+    let status = run_text(alloc, FIRST, b"Other", 8, &mut source, &mut sink);
     status == NO_PROGRAM && sink.written() == b"refused C10 line 0\n".as_slice()
 }
 
 /// Whether a session ends with its sink, which takes five bytes: the first command is done, and a part of the second's reply is written.
 fn ends_with_its_sink<M: Memory>(alloc: Global) -> bool {
-    let loaded: Result<Controller<M>, Refusal> = Controller::load(alloc, PROGRAM, MAIN, 8);
+    let loaded: Result<Controller<M>, Refusal> = Controller::load(alloc, FIRST, MAIN, 8);
     let Ok(mut controller) = loaded else {
         return false;
     };
@@ -103,7 +99,7 @@ fn ends_with_its_sink<M: Memory>(alloc: Global) -> bool {
 fn loses_no_line(alloc: Global) -> bool {
     let mut source = Bytes::new(SESSION, 20, 1);
     let mut sink = Sheet::new(alloc, LARGE_PIECE, ALL_GOOD);
-    let status = run_text(alloc, PROGRAM, MAIN, 8, &mut source, &mut sink);
+    let status = run_text(alloc, FIRST, MAIN, 8, &mut source, &mut sink);
     status == DEVICE_FAILED
         && sink.written() == b"ok\n".as_slice()
         && source.failed()
@@ -120,6 +116,6 @@ fn check_fails(alloc: Global, text: &[u8], calls: u64) -> bool {
 /// Whether a beginning of a layout's lines stands where its device failed behind so many bytes, and that is the status.
 fn layout_fails(alloc: Global, calls: u64) -> bool {
     let mut sink = Sheet::new(alloc, 1, calls);
-    let status = layout_text(alloc, PROGRAM, MAIN, &mut sink);
+    let status = layout_text(alloc, FIRST, MAIN, &mut sink);
     status == DEVICE_FAILED && sink.written().len() as u64 == calls
 }

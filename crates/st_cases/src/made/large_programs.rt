@@ -1,6 +1,6 @@
 //! Programs with as many functions, inputs, instances, steps or variables as there may be, or nearly so.
 use crate::made::counter::Counter;
-use crate::made::texts::{joined, numbered};
+use crate::texts::{joined, numbered};
 use std::alloc::{AllocError, Global};
 use std::io;
 

@@ -1,6 +1,6 @@
 //! The limits of a text: paths of 255 bytes, 1,000 units, and names of units of 128 bytes (2.5.3).
 use crate::made::counter::Counter;
-use crate::made::texts::{joined, numbered, repeated};
+use crate::texts::{joined, numbered, repeated};
 use std::alloc::{AllocError, Global};
 use std::io;
 

@@ -1,6 +1,6 @@
 //! Sessions of many lines, and lines at their limits.
 use crate::made::counter::Counter;
-use crate::made::texts::{FIRST, joined, repeated};
+use crate::texts::{FIRST, joined, repeated};
 use std::io;
 
 pub fn run(cases: &mut Counter<'_>) -> io::Result<()> {

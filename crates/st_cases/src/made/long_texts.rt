@@ -1,6 +1,6 @@
 //! Texts that are as long as a text may be, that end early, and whose blanks are of all kinds.
 use crate::made::counter::Counter;
-use crate::made::texts::{FIRST, joined, repeated};
+use crate::texts::{FIRST, joined, repeated};
 use std::alloc::{AllocError, Global};
 use std::io;
 
@@ -10,7 +10,13 @@ const LONGEST: usize = 1_048_576;
 pub fn run(cases: &mut Counter<'_>) -> io::Result<()> {
     beginnings(cases)?;
     long_texts(cases)?;
+    many_statements(cases)?;
     long_changes(cases)?;
+    cases.refused(
+        "bytes of all kinds in a comment, and one behind it",
+        b"(*\x80\xff\n*)\x80",
+        b"refused S1 line 2\n",
+    )?;
     cases.accepted(
         "line feeds, carriage returns, tabs and blanks",
         b"\r\n\tPROGRAM\nMAIN\tVAR A:INT:=3 ; B :BOOL:= FALSE;END_VAR\r\nEND_PROGRAM ",
@@ -48,6 +54,28 @@ fn long_texts(cases: &mut Counter<'_>) -> io::Result<()> {
     text.push(b'$')?;
     cases.refused(
         "a text that is too long, and no text of the language",
+        &text,
+        b"refused S4 line 1\n",
+    )
+}
+
+/// A text of as many bytes that are all statements, but for some blanks.
+fn many_statements(cases: &mut Counter<'_>) -> io::Result<()> {
+    let alloc = cases.alloc();
+    let statements = repeated(alloc, b"A := (B + 1);", 80_000)?;
+    let mut text = joined(
+        alloc,
+        &[
+            b"PROGRAM Main VAR A, B : INT; END_VAR ",
+            &statements,
+            b"END_PROGRAM",
+        ],
+    )?;
+    text.resize(LONGEST, b' ')?;
+    cases.accepted("80,000 statements", &text)?;
+    text.push(b' ')?;
+    cases.refused(
+        "80,000 statements and a blank too many",
         &text,
         b"refused S4 line 1\n",
     )

@@ -1,0 +1,161 @@
+//! A session with an online change and its undo, command by command, and what stands after each.
+use crate::texts::{FIRST, number_at};
+use crate::ways::{MAIN, STEPS};
+use st_control::{Controller, Refusal};
+use st_memory::Memory;
+use std::alloc::{AllocError, Global};
+
+/// A change to the program with a variable before the others.
+const CHANGE: &[u8] = b"change
+PROGRAM Main VAR N : DINT; A : INT := 3; B : BOOL; END_VAR A := A + 1; END_PROGRAM
+end_change
+";
+
+/// A command, its reply, and what then stands.
+struct Stage {
+    lines: &'static [u8],
+    reply: &'static [u8],
+    /// The number of `Main.A`, whether there is a `Main.N`, and how many commands can be undone.
+    now: (i128, bool, u32),
+}
+
+/// The session. It begins with the load, which has neither lines nor a reply.
+const STAGES: &[Stage] = &[
+    Stage {
+        lines: b"",
+        reply: b"",
+        now: (3, false, 0),
+    },
+    Stage {
+        lines: b"write Main.A 7\n",
+        reply: b"ok\n",
+        now: (7, false, 1),
+    },
+    Stage {
+        lines: CHANGE,
+        reply: b"ok kept 2 dropped 0 new 1\n",
+        now: (7, true, 2),
+    },
+    Stage {
+        lines: b"show Main.A\n",
+        reply: b"Main.A = 7\n",
+        now: (7, true, 2),
+    },
+    Stage {
+        lines: b"write Main.A 8\n",
+        reply: b"ok\n",
+        now: (8, true, 3),
+    },
+    Stage {
+        lines: b"undo\n",
+        reply: b"ok\n",
+        now: (7, true, 2),
+    },
+    Stage {
+        lines: b"show Main.A\n",
+        reply: b"Main.A = 7\n",
+        now: (7, true, 2),
+    },
+    Stage {
+        lines: b"undo\n",
+        reply: b"ok\n",
+        now: (7, false, 1),
+    },
+    Stage {
+        lines: b"undo\n",
+        reply: b"ok\n",
+        now: (3, false, 0),
+    },
+    Stage {
+        lines: b"show Main.A\n",
+        reply: b"Main.A = 3\n",
+        now: (3, false, 0),
+    },
+    Stage {
+        lines: b"show Main.N\n",
+        reply: b"refused O1\n",
+        now: (3, false, 0),
+    },
+];
+
+/// The number of the last stage.
+pub const LAST: usize = 10;
+
+/// What is typed.
+pub fn session_lines(alloc: Global) -> Result<Vec<u8>, AllocError> {
+    let mut lines = Vec::new(alloc);
+    for stage in STAGES {
+        lines.extend_from_slice(stage.lines)?;
+    }
+    Ok(lines)
+}
+
+/// The replies up to a stage.
+pub fn replies_to(alloc: Global, last: usize) -> Result<Vec<u8>, AllocError> {
+    let mut replies = Vec::new(alloc);
+    for stage in STAGES.iter().take(last.saturating_add(1)) {
+        replies.extend_from_slice(stage.reply)?;
+    }
+    Ok(replies)
+}
+
+/// The last stage whose lines end within so many bytes, and how many bytes of the next are left.
+pub fn stage_read(bytes: usize) -> (usize, usize) {
+    let mut rest = bytes;
+    let mut last: usize = 0;
+    for stage in STAGES.iter().skip(1) {
+        let Some(left) = rest.checked_sub(stage.lines.len()) else {
+            return (last, rest);
+        };
+        rest = left;
+        last = last.saturating_add(1);
+    }
+    (last, rest)
+}
+
+/// The first stage whose reply isn't written whole by so many bytes.
+pub fn stage_replied(bytes: usize) -> usize {
+    let mut rest = bytes;
+    let mut last: usize = 0;
+    for stage in STAGES.iter().skip(1) {
+        last = last.saturating_add(1);
+        let Some(left) = rest.checked_sub(stage.reply.len()) else {
+            return last;
+        };
+        rest = left;
+    }
+    last
+}
+
+/// The stage after a line that was cut to so many bytes and lacks its line feed, and the reply to it.
+pub fn stage_cut(stage: usize, bytes: usize) -> (usize, &'static [u8]) {
+    let next = stage.saturating_add(1);
+    let Some(Stage { lines, reply, .. }) = STAGES.get(next) else {
+        return (stage, b"");
+    };
+    if bytes == 0 {
+        (stage, b"")
+    } else if bytes.saturating_add(1) == lines.len() {
+        (next, *reply)
+    } else if bytes > 5 && lines.starts_with(b"show ") {
+        (stage, b"refused O1\n")
+    } else {
+        (stage, b"refused O11\n")
+    }
+}
+
+/// The program as it is loaded.
+pub fn loaded<M: Memory>(alloc: Global) -> Result<Controller<M>, Refusal> {
+    Controller::load(alloc, FIRST, MAIN, STEPS)
+}
+
+/// Whether a controller stands as after a stage.
+pub fn stands_at<M: Memory>(controller: &Controller<M>, stage: usize) -> bool {
+    let Some(stage) = STAGES.get(stage) else {
+        return false;
+    };
+    let (a, has_n, undo) = stage.now;
+    number_at(controller, b"Main.A") == Some((a, false))
+        && number_at(controller, b"Main.N").is_some() == has_n
+        && controller.status().undo == undo
+}
