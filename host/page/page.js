@@ -105,7 +105,7 @@ function tell() {
       `journal ${(journal.bytes / 1e6).toFixed(1)} MB, reaches back to the load or a reset` : "the journal doesn't reach back: no replay can begin")),
     ...bad.map(device => el("span", {className: "bad"}, `${device.name}: ${device.trouble}`)));
   for (const show of document.querySelectorAll(".card")) show.refresh();
-  past.push([status.moment, Object.fromEntries(chosen.map(path => [path, values.get(path)?.[0]]))]);
+  if (past.at(-1)?.[0] !== status.moment) past.push([status.moment, Object.fromEntries(chosen.map(path => [path, values.get(path)?.[0]]))]);
   if (past.length > 20000) past.splice(0, 5000);
   if (view === "plant") plot();
   if (view === "values") rows.forEach(row => row.refresh());
