@@ -3,6 +3,7 @@ const $ = id => document.getElementById(id);
 const COLOURS = ["#2f7fd1", "#d1662f", "#2c8a4b", "#9a4fc4", "#b8901a", "#c23b6b", "#3aa6a6", "#7a7f86"];
 const VIEWS = [["plant", "Plant"], ["values", "Variables"], ["charts", "Charts"], ["program", "Program"], ["log", "Log"]];
 const SHOWN = 200; // rows of a search
+const TEXT_LIMIT = 1048576; // bytes
 const WORDS = /(\(\*[^]*?\*\)|\b(?:PROGRAM|END_\w+|VAR\w*|FUNCTION\w*|TYPE|STRUCT|ARRAY|OF|IF|THEN|ELSE|ELSIF|CASE|FOR|TO|BY|DO|WHILE|REPEAT|UNTIL|RETURN|EXIT|STEP|INITIAL_STEP|TRANSITION|FROM|ACTION|AND|OR|XOR|NOT|MOD|CONSTANT)\b)/i;
 let socket, token = "", hello = null, status = {}, values = new Map(), asked = new Map(), number = 0, view = "plant";
 let rows = [], charts = [], chosen = [], past = [], text = [], sheet = null, logged = "", typing = 0;
@@ -105,7 +106,7 @@ function tell() {
       `journal ${(journal.bytes / 1e6).toFixed(1)} MB, reaches back to the load or a reset` : "the journal doesn't reach back: no replay can begin")),
     ...bad.map(device => el("span", {className: "bad"}, `${device.name}: ${device.trouble}`)));
   for (const show of document.querySelectorAll(".card")) show.refresh();
-  past.push([status.moment, Object.fromEntries(chosen.map(path => [path, values.get(path)?.[0]]))]);
+  if (past.at(-1)?.[0] !== status.moment) past.push([status.moment, Object.fromEntries(chosen.map(path => [path, values.get(path)?.[0]]))]);
   if (past.length > 20000) past.splice(0, 5000);
   if (view === "plant") plot();
   if (view === "values") rows.forEach(row => row.refresh());
@@ -336,7 +337,8 @@ function drawChart(owner, steps, unit, same) {
 async function check() {
   $("do").disabled = true; $("preview").textContent = "Checking\u2026";
   const renames = $("renames").value.split(/\s+/).filter(word => word), box = $("preview");
-  const found = await ask("preview", {text: $("text").value, renames});
+  socket.send(new TextEncoder().encode($("text").value).slice(0, TEXT_LIMIT + 1));
+  const found = await ask("preview", {renames});
   if (!found.counts || !found.answer.startsWith("ok")) { box.replaceChildren(el("pre", {}, found.reply)); return; }
   const part = (name, count, list, kind = "") => el("div", {className: kind}, el("b", {}, count), name,
     el("ul", {}, ...list.slice(0, 8).map(item => el("li", {}, item)), ...(list.length > 8 ? [el("li", {}, `and ${count - 8} more`)] : [])));

@@ -7,7 +7,7 @@ from typing import Any
 from . import Trouble
 from .plant import Mapped, Plant, Point
 from .replay import Start
-from .session import Leaf, Session, TEXT_LIMIT, ask, checked, encoded, explain, layout_of
+from .session import TEXT_LIMIT, Leaf, Session, ask, checked, encoded, explain, layout_of
 from .values import BITS, to_number, to_text
 
 AT_ONCE = 250  # commands between two resets: 256 can be undone at most

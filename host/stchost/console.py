@@ -15,6 +15,7 @@ from prompt_toolkit.patch_stdout import patch_stdout
 
 from . import Trouble, access
 from .plant import Plant, load
+from .session import TEXT_LIMIT
 
 HELP = """show P | write P V | force P V | release P | undo | reset | status   as a session has them
 list [WORDS]                variables whose path has all of these words, with their values
@@ -97,8 +98,8 @@ class Console:
         return {"reply": f"{missing} of these aren't there", "bad": True} if missing else answer
 
     async def _preview(self, file: str, *renames: str) -> dict[str, Any]:
-        text = Path(file).read_bytes().decode("utf-8", "surrogateescape")
-        found = await self.ask("preview", text=text, renames=renames)
+        await self.socket.send_bytes(Path(file).read_bytes()[:TEXT_LIMIT + 1])
+        found = await self.ask("preview", renames=renames)
         for key in ("dropped", "new", "renamed", "lost"):
             for item in found.get(key, []):
                 print(f"{key}: {item if isinstance(item, str) else ' -> '.join(item)}")

@@ -396,6 +396,7 @@ class Engine:
 
     async def _recover(self) -> None:
         """Starts where the journal ends; or loads the program where there is no journal."""
+        self.journal.close()
         replay = await restore(self.start, self.journal.folder)
         self.journal.resume()
         if replay is None:

@@ -156,7 +156,6 @@ class Journal:
 
     def resume(self) -> None:
         """Goes on behind the last whole record, which has been read without damage."""
-        self.close()
         self._bases = bases(self.folder)
         self._sizes = {number: path.stat().st_size for number, path in pieces(self.folder)}
         for number, path in reversed(pieces(self.folder)):
@@ -187,13 +186,15 @@ class Journal:
             self.trouble = f"nothing is kept any more: {error}"
 
     async def written(self) -> None:
-        """Waits until what was appended stands in the file."""
-        while not self.trouble and os.fstat(self._file).st_size < self._size:
+        """Waits until what was appended stands in the file. OSError where it never will."""
+        while os.fstat(self._file).st_size < self._size:
+            if self._writer is None or self._writer.poll() is not None:
+                raise OSError("the journal's writer has ended")
             await asyncio.sleep(0.001)
 
     async def settle(self) -> None:
         """Waits until what was appended is on the disk, or sees to it, as the plant's file has it."""
-        if self._dirty and self.sync == "always":
+        if self._dirty and self.sync == "always" and not self.trouble:
             self._dirty = False
             try:
                 await self.written()

@@ -1,4 +1,4 @@
-"""The operator's page and what it asks: one WebSocket a client."""
+"""The operator's page and what it asks: one WebSocket a client, with requests in JSON, and texts of programs as bytes."""
 
 import asyncio
 import json
@@ -13,11 +13,11 @@ from . import Trouble
 from .access import Gate, Person
 from .change import Preview, preview
 from .engine import QUIET, Busy, Engine, Value
-from .session import Gone, TEXT_LIMIT, explain
+from .session import TEXT_LIMIT, Gone, decoded, explain
 
 PAGE = Path(__file__).resolve().parents[1] / "page"
 FILES = {"/": "index.html", "/page.css": "page.css", "/page.js": "page.js"}
-MESSAGE_LIMIT = 6 * TEXT_LIMIT + 10_000  # bytes of a client's message: a text as JSON has it
+MESSAGE_LIMIT = 32_768  # bytes of a request
 WATCH_LIMIT = 500  # leaves that a client looks at
 LIST_LIMIT = 200  # leaves that one search gives
 FIRST_TIME = 15.0  # seconds in which a connection has to ask for something
@@ -49,6 +49,7 @@ class Client:
         self.paths: list[str] = []
         self.sent: dict[str, Value] = {}
         self.changed = asyncio.Event()
+        self.text = ""  # of a program, which it sent for a preview
         self.preview: Preview | None = None  # the one that may be done
 
 
@@ -113,7 +114,8 @@ class Web:
         token = request.headers.get("Sec-WebSocket-Protocol", "")
         person = await self.gate.who(token, request.remote or "")
         full = len(self.clients) >= self.file.clients
-        socket = web.WebSocketResponse(max_msg_size=MESSAGE_LIMIT, heartbeat=20, compress=False, protocols=(token,))
+        limit = TEXT_LIMIT + 2 if person and person.acts else MESSAGE_LIMIT
+        socket = web.WebSocketResponse(max_msg_size=limit, heartbeat=20, compress=False, protocols=(token,))
         await socket.prepare(request)
         if person is None or full:
             await socket.send_json({"refused": "too many clients" if person else "this token isn't known"})
@@ -124,7 +126,10 @@ class Web:
         teller = asyncio.create_task(self._tell(socket, client))
         try:
             async for message in socket:
-                if message.type != WSMsgType.TEXT:
+                if message.type == WSMsgType.BINARY:
+                    client.text = decoded(message.data)
+                    continue
+                if message.type != WSMsgType.TEXT or len(message.data) > MESSAGE_LIMIT:
                     break
                 answer = json.dumps(await self._answer(client, message.data))
                 await asyncio.wait_for(socket.send_str(answer), SEND_TIME)
@@ -215,11 +220,11 @@ class Web:
         await self.engine.asked(self.engine.hold(client.person.name, held))
         return {"reply": "held" if held else "going on"}
 
-    async def ask_preview(self, client: Client, text: str, renames: list[str]) -> dict[str, Any]:
-        """What a text would do as a change. Who asked may then do just this."""
+    async def ask_preview(self, client: Client, renames: list[str]) -> dict[str, Any]:
+        """What the text that was sent before would do as a change. Who asked may then do just this."""
         engine, version = self.engine, self.engine.version
         forced = [path for path, value in list(engine.values.items()) if value.forced]
-        client.preview = None
+        text, client.text, client.preview = client.text, "", None
         async with self._previewing:
             found = await preview(engine.plant, engine.story.text, forced, text, renames, engine.start)
         found.version = version

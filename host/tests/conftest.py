@@ -83,7 +83,9 @@ class Client:
     def __init__(self, live: Any) -> None:
         self.live = live
 
-    async def ask(self, what: str, **words: Any) -> dict[str, Any]:
+    async def ask(self, what: str, text: str = "", **words: Any) -> dict[str, Any]:
+        if text:
+            await self.live.send_bytes(text.encode()[:1_048_577])
         await self.live.send_json({"id": 7, "do": what, **words})
         return await self.next(lambda news: "id" in news)
 
