@@ -19,7 +19,9 @@ pub use grade::Grade;
 pub use layout::layout_text;
 pub use observer::{Exchange, Observer, Silent};
 pub use reply::Upshot;
-pub use run::{ACCEPTED, DEVICE_FAILED, LINE_REFUSED, NO_MEMORY, NO_PROGRAM, run_text, run_text_observed};
+pub use run::{
+    ACCEPTED, DEVICE_FAILED, LINE_REFUSED, NO_MEMORY, NO_PROGRAM, run_text, run_text_observed,
+};
 pub use st_devices::{
     Bytes, DeviceFault, FromReader, MAX_LINE_BYTES, Sheet, Sink, Source, ToWriter,
 };
