@@ -57,7 +57,8 @@ def line_of(answer: str) -> int | None:
 
 
 def start_by_lines(program: Program, text: str, line: int, answer: str) -> int | None:
-    """Where the token at fault begins: each token of the refused line is put on a line of its own, and the text is checked again."""
+    """Where the token at fault begins: each token of the refused line is put on a line of its own, and the text is checked again. It is
+    none where the text ends too early, which then is on a line of its own too."""
     before = sum(len(it) for it in text.splitlines(keepends=True)[: line - 1])
     behind = before + len(text.split("\n")[line - 1])
     here = [it for it in tokens_of(text) if before <= it[0] < behind]
@@ -65,7 +66,7 @@ def start_by_lines(program: Program, text: str, line: int, answer: str) -> int |
     for start, _ in here:
         parts.append(text[at:start])
         at = start
-    again, _ = checked(program, "\n".join([*parts, text[at:]]))
+    again, _ = checked(program, "\n".join([*parts, text[at:]]) + "\n ")
     found = line_of(again)
     if found is None or again.split(" line ")[0] != answer.split(" line ")[0]:
         return None
