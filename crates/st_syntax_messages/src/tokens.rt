@@ -276,12 +276,15 @@ fn say_operator(
 ) -> Result<bool, AllocError> {
     match reading.kind(number) {
         Some(Kind::Symbol(Symbol::Equal)) => say_equal(words, reading, number),
-        Some(Kind::Symbol(Symbol::Assign)) if !reading.follows_symbol(number, Symbol::Semicolon) =>
-            say(
-                words,
-                "`:=` assigns, and nothing can be assigned here",
-                "write `=` to compare",
-            ),
+        Some(Kind::Symbol(Symbol::Assign))
+            if matches!(
+                reading.kind_before(number),
+                Some(Kind::Word(_) | Kind::Symbol(Symbol::CloseBracket))
+            ) => say(
+            words,
+            "`:=` assigns, and nothing can be assigned here",
+            "write `=` to compare",
+        ),
         Some(Kind::Symbol(Symbol::Plus | Symbol::Minus | Symbol::Times)) => {
             say_counting(words, reading, number)
         }
@@ -385,7 +388,7 @@ fn stands_for_name(reading: &Reading<'_>, number: usize, open: &[Open]) -> bool 
         ))
     );
     let listed = declares(open) && reading.precedes_symbol(number, Symbol::Comma);
-    before || behind || listed || is_operand(reading, number)
+    (before && is_plain(reading, number)) || behind || listed || is_operand(reading, number)
 }
 
 /// Whether a reserved word that begins and ends nothing stands where an operand is due.
@@ -423,7 +426,12 @@ fn is_operand(reading: &Reading<'_>, number: usize) -> bool {
             )
         )
     );
-    let is_plain = matches!(
+    is_due && is_plain(reading, number)
+}
+
+/// Whether a type stands here, or a reserved word that neither ends nor divides anything.
+fn is_plain(reading: &Reading<'_>, number: usize) -> bool {
+    matches!(
         reading.kind(number),
         Some(
             Kind::Type(_)
@@ -445,8 +453,7 @@ fn is_operand(reading: &Reading<'_>, number: usize) -> bool {
                         | Keyword::Struct
                 )
         )
-    );
-    is_due && is_plain
+    )
 }
 
 // ---- what is missing before the token
