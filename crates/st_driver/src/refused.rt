@@ -5,6 +5,11 @@ use std::alloc::{AllocError, Global};
 
 /// What a person is told of a text of this file with a program of the name `main`, ignoring case, where it is refused. It is empty where
 /// the text is accepted.
-pub fn diagnosis(alloc: Global, file: &str, text: &[u8], main: &[u8]) -> Result<String, AllocError> {
+pub fn diagnosis(
+    alloc: Global,
+    file: &str,
+    text: &[u8],
+    main: &[u8],
+) -> Result<String, AllocError> {
     explain_text(alloc, file, text, main)
 }

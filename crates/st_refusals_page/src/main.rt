@@ -86,7 +86,10 @@ fn print_family<R: Print + AllocGlobal>(rt: &R, family: Family) -> io::Result<()
 
 /// Prints what a number means, and its example.
 fn print_explanation<R: Print + AllocGlobal>(
-    rt: &R, family: Family, explanation: Explanation) -> io::Result<()> {
+    rt: &R,
+    family: Family,
+    explanation: Explanation,
+) -> io::Result<()> {
     let number = explanation.number;
     println!(rt; "\n### {}{number}\n", family.letter())?;
     println!(rt; "{}\n", explanation.sentence)?;
