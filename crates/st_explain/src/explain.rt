@@ -1,7 +1,7 @@
 //! The message on a text.
 
 use crate::all::statement_faults;
-use crate::finding::{Finding, finding};
+use crate::finding::{Finding, first_finding};
 use st_faults::Fault;
 use st_messages::{Code, Span, push_diagnosis};
 use st_positions::{Lexeme, lexemes};
@@ -55,7 +55,7 @@ fn explain_further(
 ) -> Result<String, AllocError> {
     let mut message = explain_units(alloc, file, text, units, main)?;
     let tables = Tables::new(alloc, units)?;
-    let Finding::Fault(first) = finding(alloc, &tables, main)? else {
+    let Finding::Fault(first) = first_finding(alloc, &tables, main)? else {
         return Ok(message);
     };
     let lexemes = lexemes(alloc, text)?;
@@ -107,7 +107,7 @@ fn explain_units(
     main: &[u8],
 ) -> Result<String, AllocError> {
     let tables = Tables::new(alloc, units)?;
-    match finding(alloc, &tables, main)? {
+    match first_finding(alloc, &tables, main)? {
         Finding::Nothing => Ok(String::new(alloc)),
         Finding::NoProgram => {
             let words = explain_no_program(alloc, &tables, main)?;

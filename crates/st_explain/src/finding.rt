@@ -25,7 +25,11 @@ pub enum Finding {
 }
 
 /// What the rules find first in a text, as a program of this name.
-pub fn finding(alloc: Global, tables: &Tables<'_>, main: &[u8]) -> Result<Finding, AllocError> {
+pub fn first_finding(
+    alloc: Global,
+    tables: &Tables<'_>,
+    main: &[u8],
+) -> Result<Finding, AllocError> {
     let mut first = FirstFault::new();
     check_units(alloc, tables, &mut first)?;
     let graph = references(alloc, tables)?;

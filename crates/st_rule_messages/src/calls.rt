@@ -225,7 +225,7 @@ fn taken(function: StandardFunction) -> &'static str {
 fn say_count(words: &mut Words, name: &[u8], taken: &str, count: usize) -> Result<(), AllocError> {
     push_quoted(&mut words.title, name)?;
     let title = &mut words.title;
-    write!(title, " takes {taken}, without names; {count} stand here")
+    write!(title, " takes {taken}, without names (here: {count})")
 }
 
 /// Says why the arguments of a function of the text don't fit.
@@ -257,7 +257,7 @@ fn say_own(
     let title = &mut words.title;
     write!(
         title,
-        " takes {due} arguments by position, or each at most once by name; {count} stand here"
+        " takes all its arguments by position ({due}, here: {count}), or each at most once by name"
     )?;
     say_inputs(words, tables, name)
 }

@@ -3,7 +3,7 @@
 use crate::lexed::Lexed;
 use crate::site::Site;
 use st_messages::{Words, push_shown};
-use st_tree::tree::{Constant, Expression};
+use st_tree::tree::{Constant, Expression, SignedInteger};
 use st_types::Due;
 use st_values::{Class, Elem};
 use std::alloc::AllocError;
@@ -16,7 +16,9 @@ pub fn explain_range(
     site: Option<Site<'_>>,
 ) -> Result<(), AllocError> {
     match site {
-        Some(Site::Bound(_, Some(lower))) => say_bound(words, lexed, at, lower.position.number),
+        Some(Site::Bound(upper, Some(lower))) => {
+            say_bound(words, lexed, at, upper, lower.position.number)
+        }
         Some(Site::Bound(_, None)) => say_outside(words, lexed, at, Some(Elem::Lint)),
         Some(Site::Expression(Expression::Constant(constant), due)) => {
             say_outside(words, lexed, at, due_of(constant, due))
@@ -95,11 +97,22 @@ fn wider(elem: Elem) -> Option<&'static str> {
 }
 
 /// Says that an upper bound is below the lower one, or out of range.
-fn say_bound(words: &mut Words, lexed: Lexed<'_>, at: u32, lower: u32) -> Result<(), AllocError> {
+fn say_bound(
+    words: &mut Words,
+    lexed: Lexed<'_>,
+    at: u32,
+    upper: &SignedInteger,
+    lower: u32,
+) -> Result<(), AllocError> {
+    let limit = Elem::Lint.limit();
+    let distance = upper.magnitude.get();
+    if distance > limit || (distance == limit && !upper.is_negative) {
+        return say_outside(words, lexed, at, Some(Elem::Lint));
+    }
     words.title.push_str("the upper bound `")?;
     lexed.push_literal(&mut words.title, at)?;
     words.title.push_str("` is below the lower bound `")?;
     lexed.push_literal(&mut words.title, lower)?;
-    words.title.push_str("`, or outside the range of LINT")?;
+    words.title.push('`')?;
     words.help("write the lower bound first, as `[1..10]`")
 }

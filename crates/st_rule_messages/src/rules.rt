@@ -35,7 +35,7 @@ pub fn explain_rule(
                 }
                 Rule::NameTwice => explain_repeated(&mut words, lexed, tables, number, at)?,
                 Rule::TypeMismatch => {
-                    explain_type(alloc, &mut words, lexed, tables, &scope, at, site)?;
+                    explain_type(alloc, &mut words, lexed, tables, &scope, number, at, site)?;
                 }
                 Rule::OutOfRange => explain_range(&mut words, lexed, at, site)?,
                 Rule::NotAssignable => explain_assigned(&mut words, &scope, site)?,
@@ -46,7 +46,7 @@ pub fn explain_rule(
                     explain_chart(alloc, &mut words, lexed, unit, at, site)?;
                 }
                 Rule::Recursion => explain_recursion(&mut words, lexed, at)?,
-                Rule::LimitPassed => explain_limit(&mut words, lexed, tables, number, at)?,
+                Rule::LimitPassed => explain_limit(&mut words, lexed, number, at)?,
                 Rule::NoProgram => {}
             }
         }
@@ -89,7 +89,6 @@ fn explain_recursion(words: &mut Words, lexed: Lexed<'_>, at: u32) -> Result<(),
 fn explain_limit(
     words: &mut Words,
     lexed: Lexed<'_>,
-    tables: &Tables<'_>,
     number: usize,
     at: u32,
 ) -> Result<(), AllocError> {
@@ -106,7 +105,6 @@ fn explain_limit(
         )?;
         return words.help("leave out what isn't used");
     }
-    let _count = tables.len();
     push_quoted(&mut words.title, name)?;
     words.title.push_str(" is too large")?;
     words.note(

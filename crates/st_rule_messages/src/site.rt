@@ -1,8 +1,7 @@
 //! What stands at a token of a tree, and what is due there.
 
 use st_tree::tree::{
-    Argument, Association, Call, Constant, Expression, Identifier, Position, SignedInteger,
-    Variable,
+    Association, Call, Constant, Expression, Identifier, Position, SignedInteger, Variable,
 };
 use st_types::Due;
 
@@ -60,13 +59,5 @@ pub fn constant_position(constant: &Constant) -> Position {
         Constant::Integer(number) => number.position,
         Constant::Typed(position, _) | Constant::Bool(position, _) => *position,
         Constant::Duration(duration) => duration.position,
-    }
-}
-
-/// Where an argument begins behind its name.
-pub fn argument_begin(argument: &Argument) -> Position {
-    match argument {
-        Argument::Positional(value) => position_of(value),
-        Argument::Input(name, _) | Argument::Output(name, _) => name.position,
     }
 }

@@ -4,12 +4,12 @@ use crate::due::{compares, elements_of, is_comparison, operand_due, own, reached
 use crate::lexed::Lexed;
 use crate::literals::push_range;
 use crate::site::Site;
-use st_check_expressions::{elem_of, is_integer};
+use st_check_expressions::{elem_of, is_integer, is_unknown};
 use st_messages::{Words, push_quoted, push_shown};
-use st_scopes::{Scope, Tables};
+use st_scopes::{Declared, Scope, Tables};
 use st_tree::BinOp;
-use st_tree::tree::{Constant, Expression, Operation, Part, Variable};
-use st_types::{Base, Due, Shape};
+use st_tree::tree::{Constant, Expression, Operation, Part, VarKind, Variable};
+use st_types::{Base, Due, Shape, UnitKind};
 use st_values::{Class, Elem};
 use std::alloc::{AllocError, Global};
 
@@ -20,14 +20,15 @@ pub fn explain_type(
     lexed: Lexed<'_>,
     tables: &Tables<'_>,
     scope: &Scope<'_>,
+    unit: usize,
     at: u32,
     site: Option<Site<'_>>,
 ) -> Result<(), AllocError> {
     match site {
         Some(Site::Expression(expression, due)) => {
-            say_expression(alloc, words, lexed, tables, scope, expression, due)
+            say_expression(alloc, words, lexed, scope, expression, due)
         }
-        Some(Site::Target(variable)) => say_target(alloc, words, tables, scope, variable),
+        Some(Site::Target(variable)) => say_target(alloc, words, scope, variable),
         Some(Site::Part(variable, number)) => say_subscripts(words, scope, variable, number),
         Some(Site::Label(constant, due) | Site::Initial(constant, due)) => {
             say_constant(words, lexed, constant, due)
@@ -42,20 +43,73 @@ pub fn explain_type(
                 "programs and functions are no types; an instance of a function block stands in VAR of a program or a block, alone",
             )
         }
-        Some(Site::Declared(_)) => say_declared(words, lexed, at),
+        Some(Site::Declared(_)) => say_declared(words, lexed, tables, unit, at),
         _ => Ok(()),
     }
 }
 
-/// Says that something can't be declared so.
-fn say_declared(words: &mut Words, lexed: Lexed<'_>, at: u32) -> Result<(), AllocError> {
+/// Says why something can't be declared so.
+fn say_declared(
+    words: &mut Words,
+    lexed: Lexed<'_>,
+    tables: &Tables<'_>,
+    unit: usize,
+    at: u32,
+) -> Result<(), AllocError> {
     push_quoted(&mut words.title, lexed.spelling(at))?;
-    words.title.push_str(" can't be declared so")?;
-    words.note(
-        "a function has no VAR_OUTPUT, and its variables are single values, as each constant is; instances stand in VAR of a program or a function block, and never in arrays and structures",
-    )?;
+    if unit >= tables.len() {
+        return words.title.push_str(" can't be declared so");
+    }
+    let kind = tables.unit(unit).kind;
+    for declared in tables.declared(unit) {
+        if declared.name.position.number == at {
+            let (title, help) = misdeclared(tables, kind, declared);
+            words.title.push_str(title)?;
+            return words.help(help);
+        }
+    }
+    words.title.push_str(" can't begin so")?;
     words.help(
-        "an initial value is one for a single value, and a list of no more than its elements for an array; structures and instances have none",
+        "structures and instances have no initial value, and a list has no more values than its array has elements",
+    )
+}
+
+/// What is wrong with a declaration, and what to do.
+fn misdeclared(
+    tables: &Tables<'_>,
+    unit: UnitKind<'_>,
+    declared: &Declared<'_>,
+) -> (&'static str, &'static str) {
+    let shape = tables.shape_of(&declared.declaration.specification);
+    let is_function = matches!(unit, UnitKind::Function(_));
+    let is_constant = matches!(declared.kind, VarKind::Constant);
+    if is_function && matches!(declared.kind, VarKind::Output) {
+        return (
+            " is an output, and a function has none",
+            "the function's own name is its result; a function block has outputs",
+        );
+    }
+    if (is_function || is_constant) && !shape.is_value() && !is_unknown(shape.base) {
+        return (
+            " is no single value, as each variable of a function and each constant has to be",
+            "use single values, or a function block",
+        );
+    }
+    if let Base::Block(_) | Base::Standard(_) = shape.base {
+        return (
+            " is an instance of a function block, which stands in VAR of a program or a block, alone, and has no initial value",
+            "declare it there, without an initial value",
+        );
+    }
+    if let Base::Structure(_) = shape.base {
+        return (
+            " is made of structures, which have no initial value here",
+            "give the members their initial values in the STRUCT",
+        );
+    }
+    (
+        " begins with more values than it has elements",
+        "leave values out, or declare more elements",
     )
 }
 
@@ -126,7 +180,6 @@ fn say_expression(
     alloc: Global,
     words: &mut Words,
     lexed: Lexed<'_>,
-    tables: &Tables<'_>,
     scope: &Scope<'_>,
     expression: &Expression,
     due: Due,
@@ -140,11 +193,11 @@ fn say_expression(
                     say_expected(words, due, found)?;
                     say_conversion(words, found, due, written(variable))
                 }
-                None => say_whole(words, tables, &shape, variable),
+                None => say_whole(words, &shape, variable),
             }
         }
         Expression::Parenthesized(_, inner) => {
-            say_expression(alloc, words, lexed, tables, scope, inner.get(), due)
+            say_expression(alloc, words, lexed, scope, inner.get(), due)
         }
         Expression::Negate(_, _) => say_taken(words, b"-", "integers and TIME", due),
         Expression::Not(_, _) => say_taken(words, b"NOT", "BOOL and bit strings", due),
@@ -159,7 +212,6 @@ fn say_expression(
             alloc,
             words,
             lexed,
-            tables,
             scope,
             left.get(),
             operations.as_slice(),
@@ -212,7 +264,6 @@ fn say_chain(
     alloc: Global,
     words: &mut Words,
     lexed: Lexed<'_>,
-    tables: &Tables<'_>,
     scope: &Scope<'_>,
     left: &Expression,
     operations: &[Operation],
@@ -233,7 +284,7 @@ fn say_chain(
         return say_taken(words, first, taken, due);
     }
     let inside = operand_due(alloc, scope, left, operations, due)?;
-    say_operand(alloc, words, lexed, tables, scope, left, inside)
+    say_operand(alloc, words, lexed, scope, left, inside)
 }
 
 /// Says why the first operand isn't what is due. It is no expression of operators of the same level.
@@ -242,12 +293,11 @@ fn say_operand(
     alloc: Global,
     words: &mut Words,
     lexed: Lexed<'_>,
-    tables: &Tables<'_>,
     scope: &Scope<'_>,
     operand: &Expression,
     due: Due,
 ) -> Result<(), AllocError> {
-    say_expression(alloc, words, lexed, tables, scope, operand, due)
+    say_expression(alloc, words, lexed, scope, operand, due)
 }
 
 /// What operators take, where they don't take what is due.
@@ -334,12 +384,7 @@ fn say_constant(
 }
 
 /// Says that a whole array, structure or instance stands for a value.
-fn say_whole(
-    words: &mut Words,
-    tables: &Tables<'_>,
-    shape: &Shape<'_>,
-    variable: &Variable,
-) -> Result<(), AllocError> {
+fn say_whole(words: &mut Words, shape: &Shape<'_>, variable: &Variable) -> Result<(), AllocError> {
     push_quoted(&mut words.title, variable.name.spelling.as_slice())?;
     if shape.subscripts.is_some() || matches!(shape.base, Base::Array(_)) {
         words
@@ -360,10 +405,7 @@ fn say_whole(
                 .push_str(" is an instance, and a single value is due here")?;
             words.help("name one of its outputs, as `T1.Q`")
         }
-        _ => {
-            let _units = tables.len();
-            words.title.push_str(" is no single value")
-        }
+        _ => words.title.push_str(" is no single value"),
     }
 }
 
@@ -371,7 +413,6 @@ fn say_whole(
 fn say_target(
     alloc: Global,
     words: &mut Words,
-    tables: &Tables<'_>,
     scope: &Scope<'_>,
     variable: &Variable,
 ) -> Result<(), AllocError> {
@@ -384,7 +425,7 @@ fn say_target(
             words.title.push_str(", and the output has another type")?;
             words.help("let a variable of the output's type take it, and convert that")
         }
-        None => say_whole(words, tables, &shape, variable),
+        None => say_whole(words, &shape, variable),
     }
 }
 
@@ -407,8 +448,11 @@ fn say_subscripts(
         Some(elements) => {
             let due = elements.subscripts.len();
             let title = &mut words.title;
-            write!(title, " has {due} subscripts, and {count} stand here")?;
-            words.help("write them in one pair of brackets, as `A[1, 2]`")
+            write!(
+                title,
+                " has elements of another number of subscripts: {due}, and not {count}"
+            )?;
+            words.help("write all of them in one pair of brackets, as `A[1, 2]`")
         }
         None => words
             .title
