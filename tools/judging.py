@@ -87,7 +87,7 @@ class Program:
 
     def failure_in_message(self, verb: str, text: Path) -> str | None:
         """A text that is refused has the message that stands beside it. The program runs in its folder, since the message names the file."""
-        wanted = Wanted(REFUSED_TEXT, None, told=text.with_suffix(".told").read_text())
+        wanted = Wanted(REFUSED_TEXT, None, told=text.with_suffix(".told").read_text("latin-1"))
         return Program(self.file, text.parent).failure([verb, text.name, "--program", "Main"], wanted)
 
     def failure_in_explained(self, session: Path) -> str | None:

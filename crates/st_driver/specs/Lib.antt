@@ -1,2 +1,1 @@
-pub mod Diagnoses
 pub mod Statuses

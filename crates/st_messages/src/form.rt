@@ -1,4 +1,7 @@
 //! The lines of a message.
+ghost use Rattle.std.specs.Prelude.{◌≡◌, ◌++◌, OnOk};
+ghost use Rattle.std.specs.String.{string_bytes};
+ghost use Rattle.st_messages.specs.Places.{place_text};
 
 use crate::shown::push_shown;
 use crate::source::{Span, push_source};
@@ -83,11 +86,18 @@ pub fn push_heading(
     place: Place,
     code: Code,
 ) -> Result<(), AllocError> {
-    let line = place.line;
-    let column = place.column;
-    write!(message, "{file}:{line}:{column}: error: ")?;
+    push_place(message, file, place)?;
     push_code(message, code)?;
     message.push_str(": ")
+}
+
+/// Puts `FILE:LINE:COLUMN: error: ` at the end of a message, as editors find it.
+fn push_place(message: &mut String, file: &str, place: Place) -> Result<(), AllocError>
+    ensures { OnOk result (string_bytes message.new ≡ string_bytes message.old ++ place_text file.now place) }
+{
+    let line = place.line;
+    let column = place.column;
+    write!(message, "{file}:{line}:{column}: error: ")
 }
 
 /// Puts a line that says more at the end of a message.

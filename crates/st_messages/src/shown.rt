@@ -22,11 +22,13 @@ fn push_text(message: &mut String, text: &str) -> Result<(), AllocError> {
 
 /// Puts a character at the end of a message, as it can be shown.
 fn push_character(message: &mut String, character: char) -> Result<(), AllocError> {
-    if character != '\t' && is_hidden(character) {
-        let code = character as u32;
-        write!(message, "\\u{{{code:x}}}")
-    } else {
+    let code = character as u32;
+    if character == '\t' || !is_hidden(character) {
         message.push(character)
+    } else if code < 0x80 {
+        write!(message, "\\x{code:02x}")
+    } else {
+        write!(message, "\\u{{{code:x}}}")
     }
 }
 

@@ -4,7 +4,8 @@
 //! the program's messages can't part.
 #![tactic(auto)]
 
-use st_refusals::{EXAMPLES, Example, Explanation, Family, explanation_of, message};
+use st_explain::explain_text;
+use st_refusals::{EXAMPLES, Example, Explanation, Family, explanation_of};
 use std::io;
 
 /// What stands before the message that is shown.
@@ -12,18 +13,19 @@ const HEAD: &str = "\
 # Refusals and faults
 
 Scripts read a number, as in `refused C4 line 3`; this page says what each number means and what to do about it. Where
-`./stc check`, `./stc layout` or `./stc run` refuses a text, standard error says the same beside that line, with the line of the
-text:
+`./stc check`, `./stc layout` or `./stc run` refuses a text, standard error has a message beside that line: the file, the line and the
+column, in characters, as editors find them; what is wrong at this very place; the line with a caret; and what to do:
 ";
 
 /// What stands between that message and the families.
 const RULES: &str = "\
-Of a line of the text 200 bytes are shown; a tab is shown as a blank, and any other byte that doesn't print as `?`. Where no
-line is at fault, as for C10, none is named and shown. Where a text is accepted, nothing is written there.
+Of a long line some 160 bytes around the fault are shown. UTF-8 and tabs stand as they are, control characters and what isn't UTF-8 by
+their numbers, as `\\x1b`. Where no line is at fault, as for C10, the message names the first place of the text. Where a text is accepted,
+nothing is written there.
 
 `refused M` has no number: there was no memory for what was asked, and nothing was changed.
 
-The main program of each example is called `Main`.
+The main program of each example is called `Main`, and its file `tank.st`.
 ";
 
 /// A family's heading, with what it holds.
@@ -37,7 +39,7 @@ fn heading(family: Family) -> &'static str {
 }
 
 fn main(rt: HostRuntime) -> io::Result<()> {
-    println!(&rt; "{HEAD}")?;
+    print!(&rt; "{HEAD}")?;
     print_message(&rt)?;
     print!(&rt; "{RULES}")?;
     for family in [
@@ -55,24 +57,24 @@ fn main(rt: HostRuntime) -> io::Result<()> {
 fn print_message<R: Print + AllocGlobal>(rt: &R) -> io::Result<()> {
     for example in &EXAMPLES {
         if example.family == Family::Check && example.number == 4 {
-            let text = example.text.as_bytes();
-            let told = message(rt.alloc(), "tank.st", text, Family::Check, 4, example.line)?;
-            print_indented(rt, told.as_str())?;
+            print_told(rt, example)?;
         }
-    }
-    Ok(())
-}
-
-/// Prints lines as the page shows them literally, and an empty line.
-fn print_indented<R: Print>(rt: &R, lines: &str) -> io::Result<()> {
-    for line in lines.lines() {
-        println!(rt; "    {line}")?;
     }
     println!(rt)
 }
 
+/// Prints the message on an example, as the page shows it literally.
+fn print_told<R: Print + AllocGlobal>(rt: &R, example: &Example) -> io::Result<()> {
+    println!(rt)?;
+    let told = explain_text(rt.alloc(), "tank.st", example.text.as_bytes(), b"Main")?;
+    for line in told.as_str().lines() {
+        println!(rt; "    {line}")?;
+    }
+    Ok(())
+}
+
 /// Prints what all numbers of a family mean.
-fn print_family<R: Print>(rt: &R, family: Family) -> io::Result<()> {
+fn print_family<R: Print + AllocGlobal>(rt: &R, family: Family) -> io::Result<()> {
     println!(rt; "\n## {}", heading(family))?;
     for number in 1..=u8::MAX {
         if let Some(explanation) = explanation_of(family, number) {
@@ -83,7 +85,11 @@ fn print_family<R: Print>(rt: &R, family: Family) -> io::Result<()> {
 }
 
 /// Prints what a number means, and its example.
-fn print_explanation<R: Print>(rt: &R, family: Family, explanation: Explanation) -> io::Result<()> {
+fn print_explanation<R: Print + AllocGlobal>(
+    rt: &R,
+    family: Family,
+    explanation: Explanation,
+) -> io::Result<()> {
     let number = explanation.number;
     println!(rt; "\n### {}{number}\n", family.letter())?;
     println!(rt; "{}\n", explanation.sentence)?;
@@ -97,7 +103,7 @@ fn print_explanation<R: Print>(rt: &R, family: Family, explanation: Explanation)
 }
 
 /// Prints an example, and what is answered to it.
-fn print_example<R: Print>(rt: &R, example: &Example) -> io::Result<()> {
+fn print_example<R: Print + AllocGlobal>(rt: &R, example: &Example) -> io::Result<()> {
     println!(rt; "\nExample:\n")?;
     for line in example.text.lines() {
         println!(rt; "    {line}")?;
@@ -107,5 +113,7 @@ fn print_example<R: Print>(rt: &R, example: &Example) -> io::Result<()> {
         example.family.letter(),
         example.number,
         example.line
-    )
+    )?;
+    println!(rt; "\nMessage:")?;
+    print_told(rt, example)
 }

@@ -1,0 +1,63 @@
+//! What stands at a token of a tree, and what is due there.
+
+use st_tree::tree::{
+    Association, Call, Constant, Expression, Identifier, Position, SignedInteger, Variable,
+};
+use st_types::Due;
+
+/// What stands at a token that is named as the place of a fault.
+#[derive(Clone, Copy)]
+pub enum Site<'t> {
+    /// An expression that begins there, where this is due.
+    Expression(&'t Expression, Due),
+    /// A variable that takes a value.
+    Target(&'t Variable),
+    /// The part of this number of a variable, from 0: a member or subscripts.
+    Part(&'t Variable, usize),
+    /// What a statement calls.
+    Call(&'t Call),
+    /// The variable that FOR counts.
+    Counter(&'t Identifier),
+    /// EXIT.
+    Exit,
+    /// A label, where the selector has this type.
+    Label(&'t Constant, Due),
+    /// An initial value, where this is due.
+    Initial(&'t Constant, Due),
+    /// A bound of a subscript: the lower one, or the upper one with the lower one before it.
+    Bound(&'t SignedInteger, Option<&'t SignedInteger>),
+    /// A name of a type.
+    Type(&'t Identifier),
+    /// A name that is declared.
+    Declared(&'t Identifier),
+    /// What a step is associated with.
+    Association(&'t Association),
+    /// A step that is declared.
+    Step(&'t Identifier),
+    /// A step that a transition names.
+    StepName(&'t Identifier),
+    /// The name of a unit.
+    Unit,
+}
+
+/// Where an expression begins.
+pub fn position_of(expression: &Expression) -> Position {
+    match expression {
+        Expression::Constant(constant) => constant_position(constant),
+        Expression::Variable(variable) => variable.name.position,
+        Expression::Call(call) => call.name.position,
+        Expression::Parenthesized(position, _)
+        | Expression::Negate(position, _)
+        | Expression::Not(position, _)
+        | Expression::Chain(position, _, _) => *position,
+    }
+}
+
+/// Where a literal stands.
+pub fn constant_position(constant: &Constant) -> Position {
+    match constant {
+        Constant::Integer(number) => number.position,
+        Constant::Typed(position, _) | Constant::Bool(position, _) => *position,
+        Constant::Duration(duration) => duration.position,
+    }
+}

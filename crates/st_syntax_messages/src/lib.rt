@@ -1,0 +1,12 @@
+//! Says why a text isn't in the grammar: which token is out of place, what could stand there, and what isn't closed.
+#![tactic(auto)]
+
+mod characters;
+mod foreign;
+mod located;
+mod open;
+mod probe;
+mod reading;
+mod tokens;
+
+pub use located::{Located, explain_syntax};

@@ -1,0 +1,109 @@
+//! A text with its lexemes and tokens.
+
+use st_positions::Lexeme;
+use st_tokens::{Keyword, Kind, Symbol, Token};
+
+/// A text that has tokens, with them and with the lexemes that they are.
+#[derive(Clone, Copy)]
+pub struct Reading<'a> {
+    pub text: &'a [u8],
+    pub lexemes: &'a [Lexeme],
+    pub tokens: &'a [Token<'a>],
+}
+
+/// The bytes of a lexeme.
+pub fn bytes_of(text: &[u8], lexeme: Lexeme) -> &[u8] {
+    match text.get(lexeme.start..lexeme.end) {
+        Some(bytes) => bytes,
+        None => b"",
+    }
+}
+
+impl<'a> Reading<'a> {
+    /// What the token of this number is.
+    pub fn kind(&self, number: usize) -> Option<&'a Kind<'a>> {
+        match self.tokens.get(number) {
+            Some(token) => Some(&token.kind),
+            None => None,
+        }
+    }
+
+    /// What the token before the one of this number is.
+    pub fn kind_before(&self, number: usize) -> Option<&'a Kind<'a>> {
+        self.kind(number.checked_sub(1)?)
+    }
+
+    /// What the token behind the one of this number is.
+    pub fn kind_behind(&self, number: usize) -> Option<&'a Kind<'a>> {
+        self.kind(number.checked_add(1)?)
+    }
+
+    /// The bytes of the token of this number. There are none where there is no such token.
+    pub fn spelling(&self, number: usize) -> &'a [u8] {
+        match self.lexemes.get(number) {
+            Some(lexeme) => bytes_of(self.text, *lexeme),
+            None => b"",
+        }
+    }
+
+    /// The line of the token of this number.
+    pub fn line(&self, number: usize) -> Option<u32> {
+        match self.tokens.get(number) {
+            Some(token) => Some(token.line),
+            None => None,
+        }
+    }
+
+    /// Whether the token of this number is this symbol.
+    pub fn is_symbol(&self, number: usize, symbol: Symbol) -> bool {
+        match self.kind(number) {
+            Some(Kind::Symbol(found)) => *found == symbol,
+            _ => false,
+        }
+    }
+
+    /// Whether the token of this number is this reserved word.
+    pub fn is_keyword(&self, number: usize, keyword: Keyword) -> bool {
+        match self.kind(number) {
+            Some(Kind::Keyword(found)) => *found == keyword,
+            _ => false,
+        }
+    }
+
+    /// Whether the token before the one of this number is this symbol.
+    pub fn follows_symbol(&self, number: usize, symbol: Symbol) -> bool {
+        match number.checked_sub(1) {
+            Some(before) => self.is_symbol(before, symbol),
+            None => false,
+        }
+    }
+
+    /// Whether the token before the one of this number is this reserved word.
+    pub fn follows_keyword(&self, number: usize, keyword: Keyword) -> bool {
+        match number.checked_sub(1) {
+            Some(before) => self.is_keyword(before, keyword),
+            None => false,
+        }
+    }
+
+    /// Whether the token behind the one of this number is this symbol.
+    pub fn precedes_symbol(&self, number: usize, symbol: Symbol) -> bool {
+        match number.checked_add(1) {
+            Some(behind) => self.is_symbol(behind, symbol),
+            None => false,
+        }
+    }
+
+    /// Whether nothing stands between the token of this number and the one before it.
+    pub fn touches(&self, number: usize) -> bool {
+        match (self.lexeme_before(number), self.lexemes.get(number)) {
+            (Some(before), Some(lexeme)) => before.end == lexeme.start,
+            _ => false,
+        }
+    }
+
+    /// The lexeme before the one of this number.
+    pub fn lexeme_before(&self, number: usize) -> Option<Lexeme> {
+        self.lexemes.get(number.checked_sub(1)?).copied()
+    }
+}
