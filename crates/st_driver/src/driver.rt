@@ -13,14 +13,16 @@ ghost use Rattle.st_session.specs.Runs.{OfProgram, WritesAll, WritesPart, Writes
 ghost use Rattle.st_session.specs.Statuses.{device_failed, no_memory, no_program};
 ghost use Rattle.st_driver.specs.Statuses.{EndsAsCheck, EndsAsChecked, EndsAsLaidOut, EndsAsLayout, EndsAsLoaded, EndsAsRun, EndsBy, EndsByWords, error_status, usage};
 
-use crate::refused::diagnosis;
+use crate::refused::{Diagnosis, diagnosis};
 use clap::error::ErrorKind;
 use st_devices::{FromReader, Sink, Source, ToWriter};
+use st_remarks::Remarks;
 use st_session::{
-    ACCEPTED, DEVICE_FAILED, NO_MEMORY, NO_PROGRAM, check_text, layout_text, run_text,
+    ACCEPTED, DEVICE_FAILED, NO_MEMORY, NO_PROGRAM, Observer, Silent, check_text, layout_text,
+    run_text_observed,
 };
 use st_tokens::MAX_TEXT_BYTES;
-use st_words::{Order, Verb, read_words};
+use st_words::{Manner, Order, Verb, read_order};
 use std::alloc::{AllocError, Global};
 use std::convert::AsStr;
 use std::fs::File;
@@ -43,8 +45,21 @@ pub fn run<R: Env + Files + Input + Print + Eprint + AllocGlobal>(rt: &R) -> u8
     ensures { (result ≡ no_memory) ⊎ (result ≡ usage) ⊎ ((words : List Text) × EndsByWords words result) }
 {
     match given_words(rt) {
-        Ok(words) => obey_words(rt, words.as_slice()),
+        Ok(words) => obey_given(rt, words.as_slice()),
         Err(error) => explain_words(rt, &error),
+    }
+}
+
+/// Obeys the words. `stc help` stands for `stc --help`, and `stc help run` for `stc run --help`.
+fn obey_given<R: Files + Input + Print + Eprint + AllocGlobal>(rt: &R, words: &[String]) -> u8
+    ensures { (meant : List Text) × EndsByWords meant result }
+{
+    match words {
+        [own, help] if help.as_str() == "help" => obey_words(rt, &[own.as_str(), "--help"]),
+        [own, help, verb] if help.as_str() == "help" => {
+            obey_words(rt, &[own.as_str(), verb.as_str(), "--help"])
+        }
+        _ => obey_words(rt, words),
     }
 }
 
@@ -69,8 +84,8 @@ fn given_words<R: Env + AllocGlobal>(rt: &R) -> io::Result<Vec<String>> {
 fn obey_words<R: Files + Input + Print + Eprint + AllocGlobal, S: AsStr>(rt: &R, words: &[S]) -> u8
     ensures { EndsByWords (map S.text words.now) result }
 {
-    match read_words(rt.alloc(), words) {
-        Ok(order) => obey(rt, order),
+    match read_order(rt.alloc(), words) {
+        Ok((order, manner)) => obey(rt, order, manner),
         Err(error) => explain(rt, &error),
     }
 }
@@ -93,14 +108,18 @@ fn explain<R: Print + Eprint>(rt: &R, error: &clap::Error) -> u8
 /// Reads the source text and does with it what is ordered.
 ///
 /// No clause knows what the file holds. So of some text the status is its.
-fn obey<R: Files + Input + Print + Eprint + AllocGlobal>(rt: &R, order: Order<'_>) -> u8
+fn obey<R: Files + Input + Print + Eprint + AllocGlobal>(
+    rt: &R,
+    order: Order<'_>,
+    manner: Manner,
+) -> u8
     ensures check { EndsAsCheck order.entry result }
     ensures layout { EndsAsLayout order.entry result }
     ensures run { EndsAsRun order.entry result }
 {
     keep_freed_memory(rt.alloc());
     match read_source(rt, order.file) {
-        Ok(text) => answer(rt, order, text.as_slice()),
+        Ok(text) => answer(rt, order, manner, text.as_slice()),
         Err(error) => explain_file(rt, order.file, &error),
     }
 }
@@ -116,7 +135,12 @@ fn keep_freed_memory(alloc: Global) {
 }
 
 /// Does with the source text what is ordered, and says why it is refused where it is.
-fn answer<R: Input + Print + Eprint + AllocGlobal>(rt: &R, order: Order<'_>, text: &[u8]) -> u8
+fn answer<R: Input + Print + Eprint + AllocGlobal>(
+    rt: &R,
+    order: Order<'_>,
+    manner: Manner,
+    text: &[u8],
+) -> u8
     ensures check_status { order.entry.verb ≡ Verb.Check → result ≢ device_failed → result ≢ no_memory
         → EndsAsChecked text.now order.entry.main.now result }
     ensures layout_status { order.entry.verb ≡ Verb.Layout → result ≢ device_failed → result ≢ no_memory
@@ -124,8 +148,9 @@ fn answer<R: Input + Print + Eprint + AllocGlobal>(rt: &R, order: Order<'_>, tex
     ensures run_status { order.entry.verb ≡ Verb.Run → result ≢ device_failed → result ≢ no_memory
         → EndsAsLoaded text.now order.entry.main.now order.entry.steps result }
 {
-    let status = serve(rt, order, text);
+    let status = serve(rt, order, manner, text);
     if status == NO_PROGRAM
+        && !manner.quiet
         && let Ok(told) = diagnosis(rt.alloc(), order.file, text, order.main.as_bytes())
     {
         let _ = eprint!(rt; "{told}");
@@ -140,8 +165,22 @@ fn explain_file<R: Eprint>(rt: &R, file: &str, error: &io::Error) -> u8
     if error.kind() == io::ErrorKind::OutOfMemory {
         return NO_MEMORY;
     }
-    let _ = eprintln!(rt; "cannot read {file}");
+    let _ = match reason_of(error.kind()) {
+        Some(reason) => eprintln!(rt; "cannot read {file}: {reason}"),
+        None => eprintln!(rt; "cannot read {file}: {error}"),
+    };
     DEVICE_FAILED
+}
+
+/// Why a file can't be read, of the kinds of errors that people meet most. What the system says of the others is shown.
+fn reason_of(kind: io::ErrorKind) -> Option<&'static str> {
+    match kind {
+        io::ErrorKind::IsADirectory => Some("it is a folder"),
+        io::ErrorKind::NotFound => Some("there is no such file"),
+        io::ErrorKind::NotADirectory => Some("a part of its path is no folder"),
+        io::ErrorKind::PermissionDenied => Some("it may not be read by this user"),
+        _ => None,
+    }
 }
 
 /// The text of the file, or the beginning of a longer one than a text may be.
@@ -158,10 +197,36 @@ fn read_text<R: Read + Drop>(alloc: Global, reader: R) -> io::Result<Vec<u8>>
     Ok(text)
 }
 
-/// Does with the source text what is ordered, on standard input and output.
+/// Does with the source text what is ordered, on standard input and output, and remarks on the session unless it is to be quiet.
+fn serve<R: Input + Print + Eprint + AllocGlobal>(
+    rt: &R,
+    order: Order<'_>,
+    manner: Manner,
+    text: &[u8],
+) -> u8
+    ensures check_status { order.entry.verb ≡ Verb.Check → result ≢ device_failed → result ≢ no_memory
+        → EndsAsChecked text.now order.entry.main.now result }
+    ensures layout_status { order.entry.verb ≡ Verb.Layout → result ≢ device_failed → result ≢ no_memory
+        → EndsAsLaidOut text.now order.entry.main.now result }
+    ensures run_status { order.entry.verb ≡ Verb.Run → result ≢ device_failed → result ≢ no_memory
+        → EndsAsLoaded text.now order.entry.main.now order.entry.steps result }
+{
+    if manner.quiet {
+        return serve_observed(rt, order, text, &mut Silent);
+    }
+    let mut remarks = Remarks::new(rt, Diagnosis, text, order.main.as_bytes());
+    serve_observed(rt, order, text, &mut remarks)
+}
+
+/// Does with the source text what is ordered, on standard input and output, before an observer.
 ///
 /// No clause knows the bytes of standard input. So of some commands the status is theirs.
-fn serve<R: Input + Print + AllocGlobal>(rt: &R, order: Order<'_>, text: &[u8]) -> u8
+fn serve_observed<R: Input + Print + AllocGlobal, O: Observer>(
+    rt: &R,
+    order: Order<'_>,
+    text: &[u8],
+    observer: &mut O,
+) -> u8
     ensures check_status { order.entry.verb ≡ Verb.Check → result ≢ device_failed → result ≢ no_memory
         → EndsAsChecked text.now order.entry.main.now result }
     ensures layout_status { order.entry.verb ≡ Verb.Layout → result ≢ device_failed → result ≢ no_memory
@@ -171,7 +236,7 @@ fn serve<R: Input + Print + AllocGlobal>(rt: &R, order: Order<'_>, text: &[u8]) 
 {
     let mut source = FromReader::new(rt.reader());
     let mut sink = ToWriter::new(io::writer(rt));
-    obey_text(rt.alloc(), order, text, &mut source, &mut sink)
+    obey_text_observed(rt.alloc(), order, text, &mut source, &mut sink, observer)
 }
 
 /// Does with a source text what is ordered, on devices that haven't failed, and answers the status.
@@ -234,10 +299,72 @@ pub fn obey_text<R: Source, W: Sink>(
         × Appends (W.taken sink.old) (W.taken sink.new) (ended (codes "refused S4 line 1")) }
     ensures failed { IsTrue (R.has_failed source.new || W.has_failed sink.new) ↔ (result ≡ device_failed) }
 {
+    obey_text_observed(alloc, order, text, source, sink, &mut Silent)
+}
+
+/// Does with a source text what is ordered, as [`obey_text`] does it, and tells the observer of each line of a session. What is promised
+/// is the same, whoever observes.
+pub fn obey_text_observed<R: Source, W: Sink, O: Observer>(
+    alloc: Global,
+    order: Order<'_>,
+    text: &[u8],
+    source: &mut R,
+    sink: &mut W,
+    observer: &mut O,
+) -> u8
+    requires source { R.has_failed source.old ≡ false }
+    requires sink { W.has_failed sink.old ≡ false }
+
+    // What the check answers is written, or a beginning of it where the device failed. Nothing is read.
+    ensures check_all { order.entry.verb ≡ Verb.Check → result ≢ device_failed → result ≢ no_memory
+        → OfCheck text.now order.entry.main.now (TellsAll result (W.taken sink.old) (W.taken sink.new)) }
+    ensures check_memory { order.entry.verb ≡ Verb.Check → result ≡ no_memory
+        → Appends (W.taken sink.old) (W.taken sink.new) (ended (codes "refused M")) }
+    ensures check_part { order.entry.verb ≡ Verb.Check → result ≡ device_failed
+        → OfCheck text.now order.entry.main.now (TellsPart (W.taken sink.old) (W.taken sink.new)) }
+    ensures check_source { order.entry.verb ≡ Verb.Check → source.new ≡ source.old }
+
+    // The lines of all leaves are written, or the refusal, or a beginning of that where the device failed. Nothing is read.
+    ensures layout_all { order.entry.verb ≡ Verb.Layout → result ≢ device_failed → result ≢ no_memory
+        → OfLayout text.now order.entry.main.now (ListsAll result (W.taken sink.old) (W.taken sink.new)) }
+    ensures layout_memory { order.entry.verb ≡ Verb.Layout → result ≡ no_memory
+        → Appends (W.taken sink.old) (W.taken sink.new) (ended (codes "refused M")) }
+    ensures layout_part { order.entry.verb ≡ Verb.Layout → result ≡ device_failed
+        → OfLayout text.now order.entry.main.now (ListsPart (W.taken sink.old) (W.taken sink.new)) }
+    ensures layout_source { order.entry.verb ≡ Verb.Layout → source.new ≡ source.old }
+
+    // The replies to all commands are written, or the refusal of the load, and then nothing is read.
+    ensures run_all { order.entry.verb ≡ Verb.Run → result ≢ device_failed → result ≢ no_memory
+        → OnBytes (R.rest source.old) (λ bytes. OfLoad text.now order.entry.main.now order.entry.steps
+        (WritesAll bytes result (W.taken sink.old) (W.taken sink.new))) }
+    ensures run_refused { order.entry.verb ≡ Verb.Run → result ≡ no_program → source.new ≡ source.old }
+
+    // There was no memory for some command, and the replies to all are written; or there was none before the first command was
+    // read, and then nothing is read, and either that is written or nothing.
+    ensures run_memory { order.entry.verb ≡ Verb.Run → result ≡ no_memory
+        → OnBytes (R.rest source.old) (λ bytes. OfProgram text.now order.entry.main.now order.entry.steps
+        (λ c. WritesAll bytes no_memory (W.taken sink.old) (W.taken sink.new) (Ok c)))
+        ⊎ ((source.new ≡ source.old) × ((sink.new ≡ sink.old)
+        ⊎ Appends (W.taken sink.old) (W.taken sink.new) (ended (codes "refused M")))) }
+
+    // A device has failed, and the run ended there. Where it is the source, the text was loaded, and of the commands that were
+    // read whole none is lost.
+    ensures run_part { order.entry.verb ≡ Verb.Run → result ≡ device_failed
+        → OnBytes (R.rest source.old) (λ bytes. OfLoad text.now order.entry.main.now order.entry.steps
+        (WritesPart bytes (W.taken sink.old) (W.taken sink.new))) }
+    ensures run_read { order.entry.verb ≡ Verb.Run → R.has_failed source.new ≡ true
+        → OnReading (R.rest source.old) (R.rest source.new) (λ bytes rest. OfProgram text.now order.entry.main.now
+        order.entry.steps (WritesRead bytes rest (W.taken sink.old) (W.taken sink.new))) }
+
+    // A text that is too long is refused for that alone, also where there is no memory.
+    ensures long { 2 ^ 20 < length text.now → result ≢ device_failed → (result ≡ no_program)
+        × Appends (W.taken sink.old) (W.taken sink.new) (ended (codes "refused S4 line 1")) }
+    ensures failed { IsTrue (R.has_failed source.new || W.has_failed sink.new) ↔ (result ≡ device_failed) }
+{
     let main = order.main.as_bytes();
     match order.verb {
         Verb::Check => check_text(alloc, text, main, sink),
         Verb::Layout => layout_text(alloc, text, main, sink),
-        Verb::Run => run_text(alloc, text, main, order.steps, source, sink),
+        Verb::Run => { run_text_observed(alloc, text, main, order.steps, source, sink, observer) }
     }
 }

@@ -1,6 +1,7 @@
 //! What a person is told of a text that is refused.
 
 use st_explain::explain_text;
+use st_remarks::Explainer;
 use std::alloc::{AllocError, Global};
 
 /// What a person is told of a text of this file with a program of the name `main`, ignoring case, where it is refused. It is empty where
@@ -12,4 +13,20 @@ pub fn diagnosis(
     main: &[u8],
 ) -> Result<String, AllocError> {
     explain_text(alloc, file, text, main)
+}
+
+/// Explains the text of a change as that of a file.
+#[derive(Debug, Drop)]
+pub struct Diagnosis;
+
+impl Explainer for Diagnosis {
+    fn explain(
+        &self,
+        alloc: Global,
+        file: &str,
+        text: &[u8],
+        main: &[u8],
+    ) -> Result<String, AllocError> {
+        diagnosis(alloc, file, text, main)
+    }
 }

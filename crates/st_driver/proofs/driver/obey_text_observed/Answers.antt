@@ -1,5 +1,5 @@
 use Rattle.std.proofs.Common.{sym}
-use Rattle.st_driver.proofs.driver.obey_text.Goals as goal
+use Rattle.st_driver.proofs.driver.obey_text_observed.Goals as goal
 
 pub returns-in-Check-clause-check_all : goal.returns-in-Check-clause-check_all
 returns-in-Check-clause-check_all g c = λ verb works memory. rw (sym c.as_bytes-main.ensures.value) (c.check_text.ensures.all works memory)
@@ -26,19 +26,19 @@ pub returns-in-Layout-clause-long : goal.returns-in-Layout-clause-long
 returns-in-Layout-clause-long g c = c.layout_text.ensures.long
 
 pub returns-in-Run-clause-run_all : goal.returns-in-Run-clause-run_all
-returns-in-Run-clause-run_all g c = λ verb works memory. rw (sym c.as_bytes-main.ensures.value) (c.run_text.ensures.all works memory)
+returns-in-Run-clause-run_all g c = λ verb works memory. rw (sym c.as_bytes-main.ensures.value) (c.run_text_observed.ensures.all works memory)
 
 pub returns-in-Run-clause-run_memory : goal.returns-in-Run-clause-run_memory
-returns-in-Run-clause-run_memory g c = λ verb memory. rw (sym c.as_bytes-main.ensures.value) (c.run_text.ensures.memory memory)
+returns-in-Run-clause-run_memory g c = λ verb memory. rw (sym c.as_bytes-main.ensures.value) (c.run_text_observed.ensures.memory memory)
 
 pub returns-in-Run-clause-run_part : goal.returns-in-Run-clause-run_part
-returns-in-Run-clause-run_part g c = λ verb failed. rw (sym c.as_bytes-main.ensures.value) (c.run_text.ensures.part failed)
+returns-in-Run-clause-run_part g c = λ verb failed. rw (sym c.as_bytes-main.ensures.value) (c.run_text_observed.ensures.part failed)
 
 pub returns-in-Run-clause-run_read : goal.returns-in-Run-clause-run_read
-returns-in-Run-clause-run_read g c = λ verb failed. rw (sym c.as_bytes-main.ensures.value) (c.run_text.ensures.read failed)
+returns-in-Run-clause-run_read g c = λ verb failed. rw (sym c.as_bytes-main.ensures.value) (c.run_text_observed.ensures.read failed)
 
 pub returns-in-Run-clause-long : goal.returns-in-Run-clause-long
-returns-in-Run-clause-long g c = c.run_text.ensures.long
+returns-in-Run-clause-long g c = c.run_text_observed.ensures.long
 
 pub returns-in-Run-clause-failed : goal.returns-in-Run-clause-failed
-returns-in-Run-clause-failed g c = c.run_text.ensures.failed
+returns-in-Run-clause-failed g c = c.run_text_observed.ensures.failed
