@@ -1,6 +1,6 @@
 //! Orders, limits, faults of usage, help and the version, as they run, and the texts that a user reads.
 use clap::error::ErrorKind;
-use st_words::{DEFAULT_STEPS, MAX_STEPS, VERSION, Verb, read_words};
+use st_words::{DEFAULT_STEPS, MAX_STEPS, VERSION, Verb, read_order, read_words};
 use std::alloc::Global;
 use std::test::Fail;
 
@@ -39,6 +39,52 @@ fn reads_an_order(rt: HostRuntime) -> Result<(), Fail> {
 }
 
 #[test]
+fn reads_what_stands_beside_the_order(rt: HostRuntime) -> Result<(), Fail> {
+    for (words, quiet, all) in [
+        (
+            ["stc", "check", "a.st", "--program", "Main"].as_slice(),
+            false,
+            false,
+        ),
+        (
+            ["stc", "check", "--all", "a.st", "--program", "Main"].as_slice(),
+            false,
+            true,
+        ),
+        (
+            [
+                "stc",
+                "check",
+                "a.st",
+                "--program",
+                "Main",
+                "--quiet",
+                "--all",
+            ]
+            .as_slice(),
+            true,
+            true,
+        ),
+        (
+            ["stc", "run", "a.st", "--program", "Main", "--quiet"].as_slice(),
+            true,
+            false,
+        ),
+        (
+            ["stc", "layout", "--quiet", "a.st", "--program", "Main"].as_slice(),
+            true,
+            false,
+        ),
+    ] {
+        let (order, manner) = read_order(rt.alloc(), words)?;
+        assert_eq!(rt; order.file, "a.st");
+        assert!(rt; manner.quiet == quiet, "{words:?}");
+        assert!(rt; manner.all == all, "{words:?}");
+    }
+    Ok(())
+}
+
+#[test]
 fn limits_the_steps(rt: HostRuntime) {
     assert_eq!(rt; MAX_STEPS, 10_000_000);
     for (steps, is_fit) in [
@@ -70,6 +116,8 @@ fn refuses_faults_of_usage(rt: HostRuntime) {
         ["stc", "layout", "--program", "Main"].as_slice(),
         ["stc", "layout", "a.st"].as_slice(),
         ["stc", "layout", "a.st", "--program", "Main", "--steps", "3"].as_slice(),
+        ["stc", "layout", "a.st", "--program", "Main", "--all"].as_slice(),
+        ["stc", "run", "a.st", "--program", "Main", "--all"].as_slice(),
         ["stc", "walk", "a.st", "--program", "Main"].as_slice(),
         ["stc"].as_slice(),
     ] {
@@ -114,6 +162,9 @@ fn help_names_the_verbs(rt: HostRuntime) -> Result<(), Fail> {
         "\n  run     Run a session over the program",
         "\n  -h, --help     Print help\n",
         "\n  -V, --version  Print version\n",
+        "\nExamples:\n  stc check tank.st --program Main\n  stc run tank.st --program Main < tank.session\n",
+        "\n  4  reading or writing failed\n",
+        "\nManuals: `man stc`; ",
     ] {
         assert!(rt; text.as_str().contains(part), "no {part:?} in {text}");
     }
@@ -142,18 +193,26 @@ fn help_of_run_names_its_arguments(rt: HostRuntime) -> Result<(), Fail> {
 #[test]
 fn help_of_check_and_layout_names_their_arguments(rt: HostRuntime) -> Result<(), Fail> {
     for (verb, usage) in [
-        ("check", "Usage: stc check --program <N> <FILE>\n"),
-        ("layout", "Usage: stc layout --program <N> <FILE>\n"),
+        ("check", "Usage: stc check [OPTIONS] --program <N> <FILE>\n"),
+        (
+            "layout",
+            "Usage: stc layout [OPTIONS] --program <N> <FILE>\n",
+        ),
     ] {
         let (_, text) = told(rt.alloc(), &["stc", verb, "--help"])?;
         for part in [
             usage,
             "\n  <FILE>  The source text\n",
             "--program <N>  The name of the main program\n",
+            "--quiet        Explain nothing on standard error\n",
         ] {
             assert!(rt; text.as_str().contains(part), "no {part:?} in {text}");
         }
         assert!(rt; !text.as_str().contains("--steps"), "{text}");
+        assert!(rt;
+            text.as_str().contains("--all") == (verb == "check"),
+            "{text}"
+        );
     }
     Ok(())
 }
@@ -190,7 +249,7 @@ fn faults_name_what_is_wrong(rt: HostRuntime) -> Result<(), Fail> {
             [
                 "error: ",
                 "'--steps <K>' is a number from 1 to 10000000",
-                "Usage: stc ",
+                "Usage: stc run [OPTIONS] --program <N> <FILE>",
             ],
         ),
         (

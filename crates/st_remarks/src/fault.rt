@@ -1,0 +1,54 @@
+//! Where a fault ended a scan.
+use st_control::{RunFault, RunFaultKind};
+use st_messages::{push_help, push_line, push_note, push_shown};
+use st_refusals::{Family, explanation_of};
+use std::alloc::{AllocError, Global};
+
+/// What a person is told of a fault that ended a scan: the line of the text of the program that runs, where that is known.
+pub fn told_of_fault(
+    alloc: Global,
+    number: u64,
+    fault: &RunFault,
+    text: Option<&[u8]>,
+) -> Result<String, AllocError> {
+    let mut message = String::new(alloc);
+    let cause = number_of(fault.kind);
+    write!(message, "session:{number}:1: error: F{cause}: ")?;
+    message.push_str(sentence_of(fault.kind))?;
+    message.push_str(", in ")?;
+    push_shown(&mut message, fault.unit.bytes())?;
+    write!(
+        message,
+        " at line {} of the program that runs\n",
+        fault.line
+    )?;
+    if let Some(text) = text {
+        push_line(&mut message, text, fault.line as usize)?;
+    }
+    push_note(
+        &mut message,
+        "all values are as before the scan; `reset` lets the program run again",
+    )?;
+    if let Some(explanation) = explanation_of(Family::Fault, cause) {
+        push_help(&mut message, explanation.advice)?;
+    }
+    Ok(message)
+}
+
+/// The number of a kind of fault.
+pub fn number_of(kind: RunFaultKind) -> u8 {
+    match kind {
+        RunFaultKind::StepLimit => 1,
+        RunFaultKind::ZeroDivisor => 2,
+        RunFaultKind::IndexOutOfRange => 3,
+    }
+}
+
+/// What happened, by the kind of the fault.
+fn sentence_of(kind: RunFaultKind) -> &'static str {
+    match kind {
+        RunFaultKind::StepLimit => "the scan took as many steps as one may take",
+        RunFaultKind::ZeroDivisor => "a number was divided by zero",
+        RunFaultKind::IndexOutOfRange => "an index is outside the bounds of its array",
+    }
+}
