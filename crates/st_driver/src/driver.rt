@@ -13,7 +13,7 @@ ghost use Rattle.st_session.specs.Runs.{OfProgram, WritesAll, WritesPart, Writes
 ghost use Rattle.st_session.specs.Statuses.{device_failed, no_memory, no_program};
 ghost use Rattle.st_driver.specs.Statuses.{EndsAsCheck, EndsAsChecked, EndsAsLaidOut, EndsAsLayout, EndsAsLoaded, EndsAsRun, EndsBy, EndsByWords, error_status, usage};
 
-use crate::refused::{Diagnosis, diagnosis};
+use crate::refused::{TextExplainer, diagnosis};
 use clap::error::ErrorKind;
 use st_devices::{FromReader, Sink, Source, ToWriter};
 use st_remarks::Remarks;
@@ -214,7 +214,7 @@ fn serve<R: Input + Print + Eprint + AllocGlobal>(
     if manner.quiet {
         return serve_observed(rt, order, text, &mut Silent);
     }
-    let mut remarks = Remarks::new(rt, Diagnosis, text, order.main.as_bytes());
+    let mut remarks = Remarks::new(rt, TextExplainer, text, order.main.as_bytes());
     serve_observed(rt, order, text, &mut remarks)
 }
 

@@ -17,9 +17,9 @@ pub fn diagnosis(
 
 /// Explains the text of a change as that of a file.
 #[derive(Debug, Drop)]
-pub struct Diagnosis;
+pub struct TextExplainer;
 
-impl Explainer for Diagnosis {
+impl Explainer for TextExplainer {
     fn explain(
         &self,
         alloc: Global,
