@@ -23,18 +23,28 @@ pub fn scenario_comes_out<M: Memory>(
     scenario: &Scenario,
     means: Means,
 ) -> Result<bool, AllocError> {
-    let Some(mut controller) = loaded::<M>(tries, scenario.text) else {
-        return Ok(false);
-    };
+    match loaded::<M>(tries, scenario.text) {
+        Some(mut controller) => is_played(tries, &mut controller, scenario, means),
+        None => Ok(false),
+    }
+}
+
+/// Whether a scenario comes out over its program as it is loaded.
+fn is_played<M: Memory>(
+    tries: &mut Tries,
+    controller: &mut Controller<M>,
+    scenario: &Scenario,
+    means: Means,
+) -> Result<bool, AllocError> {
     let paths = scenario.paths;
     Ok(
-        replies(tries, &mut controller, paths, scenario.before)?
-            && are_changed(tries, &mut controller, scenario, means)?
-            && replies(tries, &mut controller, paths, scenario.after)?
-            && are_undone(tries, &mut controller, scenario, means)?
-            && replies(tries, &mut controller, paths, scenario.undone)?
-            && are_changed(tries, &mut controller, scenario, means)?
-            && replies(tries, &mut controller, paths, scenario.again)?,
+        replies(tries, controller, paths, scenario.before)?
+            && are_changed(tries, controller, scenario, means)?
+            && replies(tries, controller, paths, scenario.after)?
+            && are_undone(tries, controller, scenario, means)?
+            && replies(tries, controller, paths, scenario.undone)?
+            && are_changed(tries, controller, scenario, means)?
+            && replies(tries, controller, paths, scenario.again)?,
     )
 }
 
