@@ -72,5 +72,5 @@ newest_fits s records newest is coherent = go (reverse records) refl coherent
         let some : 0 < length records = omega (arith, within) in
         let last : length records - 1 - 0 ≡ length records - 1 = omega arith in
         let is_first : get_or (reverse records) 0 newest ≡ newest =
-            get_or-reverse records 0 newest some ∙ ap (λ i. get_or records i newest) last ∙ get_or_from_slice_get records (length records - 1) newest newest is in
+        get_or-reverse records 0 newest some ∙ ap (λ i. get_or records i newest) last ∙ get_or_from_slice_get records (length records - 1) newest newest is in
         subst (FitsRecord s) (sym (ap (λ xs. get_or xs 0 newest) same) ∙ is_first) fits.0
