@@ -13,7 +13,7 @@ ghost use Rattle.st_session.specs.Runs.{OfProgram, WritesAll, WritesPart, Writes
 ghost use Rattle.st_session.specs.Statuses.{device_failed, no_memory, no_program};
 ghost use Rattle.st_driver.specs.Statuses.{EndsAsCheck, EndsAsChecked, EndsAsLaidOut, EndsAsLayout, EndsAsLoaded, EndsAsRun, EndsBy, EndsByWords, error_status, usage};
 
-use crate::refused::{TextExplainer, diagnosis};
+use crate::refused::{TextExplainer, told_of};
 use clap::error::ErrorKind;
 use st_devices::{FromReader, Sink, Source, ToWriter};
 use st_remarks::Remarks;
@@ -151,7 +151,13 @@ fn answer<R: Input + Print + Eprint + AllocGlobal>(
     let status = serve(rt, order, manner, text);
     if status == NO_PROGRAM
         && !manner.quiet
-        && let Ok(told) = diagnosis(rt.alloc(), order.file, text, order.main.as_bytes())
+        && let Ok(told) = told_of(
+            rt.alloc(),
+            order.file,
+            text,
+            order.main.as_bytes(),
+            manner.all,
+        )
     {
         let _ = eprint!(rt; "{told}");
     }

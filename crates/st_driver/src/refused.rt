@@ -1,6 +1,6 @@
 //! What a person is told of a text that is refused.
 
-use st_explain::explain_text;
+use st_explain::{explain_all, explain_text};
 use st_remarks::Explainer;
 use std::alloc::{AllocError, Global};
 
@@ -13,6 +13,21 @@ pub fn diagnosis(
     main: &[u8],
 ) -> Result<String, AllocError> {
     explain_text(alloc, file, text, main)
+}
+
+/// What a person is told of such a text: of its first fault, or, where all are asked for, of the first one of each statement too.
+pub fn told_of(
+    alloc: Global,
+    file: &str,
+    text: &[u8],
+    main: &[u8],
+    all: bool,
+) -> Result<String, AllocError> {
+    if all {
+        explain_all(alloc, file, text, main)
+    } else {
+        diagnosis(alloc, file, text, main)
+    }
 }
 
 /// Explains the text of a change as that of a file.
