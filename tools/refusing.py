@@ -1,9 +1,9 @@
 """In the debugger: runs a program, and refuses some of its allocations in a row, for each first one that is named.
 
 The environment gives it RUN, the arguments and redirections of the program; OUTPUT, the file that is written to; FIRST and LAST, the
-first allocations that are refused, from 1 (LAST 0: until none is refused); ROW, how many in a row (0: all that follow); and FROM,
-`start`, or `read` where allocations count from the first read of standard input on. Each run gives a line: the first allocation,
-how many were refused, the exit status, and what was written, each line feed as `|`.
+first allocations that are refused, from 1 (LAST 0: until none is refused), with STEP from one to the next; ROW, how many in a row (0: all
+that follow); and FROM, `start`, or `read` where allocations count from the first read of standard input on. Each run gives a line: the
+first allocation, how many were refused, the exit status, and what was written, each line feed as `|`. The last line is `end`.
 """
 
 import os
@@ -70,7 +70,8 @@ def main() -> None:
         with open(os.environ["OUTPUT"], encoding="latin-1") as output:
             written = output.read().replace("\n", "|")
         print("run", number, refused, gdb.parse_and_eval("$_exitcode"), written, flush=True)
-        number += 1
+        number += int(os.environ["STEP"])
+    print("end", flush=True)
 
 
 main()

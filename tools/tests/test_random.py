@@ -59,15 +59,18 @@ class RunsAreJudged(unittest.TestCase):
 
     def test_refusals_are_counted(self) -> None:
         runs = [self.run_line(1, 2, 2), self.run_line(2, 1, 0)]
-        self.assertEqual(self.refuser.judged(self.part, runs, ""), self.refuser.Result(3, 1, []))
+        self.assertEqual(self.refuser.judged(self.part, [*runs, "end"], ""), self.refuser.Result(3, 1, []))
 
     def test_what_is_refused_without_need_is_a_fault(self) -> None:
         runs = [self.run_line(1, 1, 2)]
-        self.assertEqual(self.refuser.judged(self.part, runs, "").faults, runs)
+        self.assertEqual(self.refuser.judged(self.part, [*runs, "end"], "").faults, runs)
+
+    def test_runs_that_end_early_are_a_fault(self) -> None:
+        self.assertEqual(len(self.refuser.judged(self.part, [self.run_line(1, 2, 2)], "no gdb").faults), 1)
 
     def test_another_answer_is_a_fault_and_so_is_none(self) -> None:
         runs = [self.run_line(1, 2, 2), self.run_line(2, 1, 1, 1)]
-        self.assertEqual(self.refuser.judged(self.part, runs, "").faults, runs[1:])
+        self.assertEqual(self.refuser.judged(self.part, [*runs, "end"], "").faults, runs[1:])
         self.assertEqual(len(self.refuser.judged(self.part, [], "no gdb").faults), 2)
 
 
