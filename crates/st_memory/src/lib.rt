@@ -10,6 +10,7 @@ mod memory;
 mod packed;
 mod pairs;
 mod saved;
+mod two_leaves;
 
 pub use cells::Cells;
 pub use laws::{

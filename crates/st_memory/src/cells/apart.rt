@@ -1,17 +1,24 @@
 //! What the cells of a memory hold: the fields that are named here and no others.
-ghost use Rattle.std.specs.Prelude.{◌≡◌, length};
-ghost use Rattle.st_memory.specs.Memory.{Fits};
-
 use crate::cells::Cells;
-use st_layout::Layout;
-use st_values::Value;
+use crate::memory::Memory;
+use crate::two_leaves::layout;
+use st_layout::Plan;
+use st_values::Elem;
+use std::test::Fail;
 
-/// Takes cells apart. The pattern names all their fields, which have one entry a leaf.
-fn cells_apart<'a>(layout: &Layout, cells: &'a Cells) -> (&'a [Value], &'a [bool])
-    requires fits { Fits layout.now (record { values = cells.now.values.items; forced = cells.now.forced.items }) }
-    ensures values { length result.0.now ≡ length layout.now }
-    ensures forced { length result.1.now ≡ length layout.now }
-{
-    let Cells { values, forced } = cells;
-    (values.as_slice(), forced.as_slice())
+#[test]
+fn holds_one_value_and_one_force_a_leaf(rt: HostRuntime) -> Result<(), Fail> {
+    let old = layout(rt.alloc(), Elem::Int)?;
+    let new = layout(rt.alloc(), Elem::Dint)?;
+    let Ok(plan) = Plan::between(rt.alloc(), &old, &new, &[]) else {
+        return Err(Fail::from("there is no plan"));
+    };
+    let mut memory = Cells::fresh(rt.alloc(), &old)?;
+    let saved = memory.carry(rt.alloc(), &plan, &old, &new)?;
+    let Cells { values, forced } = memory;
+    assert_eq!(rt; values.len(), 2);
+    assert_eq!(rt; forced.len(), 2);
+    assert_eq!(rt; saved.bytes.len(), 2);
+    assert_eq!(rt; saved.forced.len(), 0);
+    Ok(())
 }

@@ -1,17 +1,24 @@
 //! What a packed memory holds: the fields that are named here and no others.
-ghost use Rattle.std.specs.Prelude.{◌≡◌, length};
-ghost use Rattle.st_layout.specs.Layout.{total_width};
-ghost use Rattle.st_memory.specs.Packed.{IsPacked, mark_bytes};
-
+use crate::memory::Memory;
 use crate::packed::Packed;
-use st_layout::Layout;
+use crate::two_leaves::layout;
+use st_layout::Plan;
+use st_values::Elem;
+use std::test::Fail;
 
-/// Takes a packed memory apart. The pattern names all its fields, which have the bytes of the leaves' values and one bit a leaf.
-fn packed_apart<'a>(layout: &Layout, packed: &'a Packed) -> (&'a [u8], &'a [u8])
-    requires packed { IsPacked layout.now packed.now.bytes.items packed.now.marks.items }
-    ensures bytes { length result.0.now ≡ total_width layout.now }
-    ensures marks { length result.1.now ≡ mark_bytes (length layout.now) }
-{
-    let Packed { bytes, marks } = packed;
-    (bytes.as_slice(), marks.as_slice())
+#[test]
+fn holds_the_bytes_and_one_bit_a_leaf(rt: HostRuntime) -> Result<(), Fail> {
+    let old = layout(rt.alloc(), Elem::Int)?;
+    let new = layout(rt.alloc(), Elem::Dint)?;
+    let Ok(plan) = Plan::between(rt.alloc(), &old, &new, &[]) else {
+        return Err(Fail::from("there is no plan"));
+    };
+    let mut memory = Packed::fresh(rt.alloc(), &old)?;
+    let saved = memory.carry(rt.alloc(), &plan, &old, &new)?;
+    let Packed { bytes, marks } = memory;
+    assert_eq!(rt; bytes.len(), 5);
+    assert_eq!(rt; marks.len(), 1);
+    assert_eq!(rt; saved.bytes.len(), 2);
+    assert_eq!(rt; saved.forced.len(), 0);
+    Ok(())
 }
