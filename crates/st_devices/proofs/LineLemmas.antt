@@ -1,10 +1,10 @@
--- Lemmas on the lines of a text, and on a line that is taken byte by byte.
-use Rattle.std.proofs.Common.{◌≡◌, ◌≢◌, ℕ, ◌<◌, ◌≤◌, Bool, true, false, List, [], ◌∷◌, ◌++◌, length, take, min, inl, inr, refl, ap, sym, ◌∙◌, arith, append_assoc, append-nil, length-append}
+-- Lemmas on the lines of a text, and on a line that is taken by parts.
+use Rattle.std.proofs.Common.{◌≡◌, ◌≢◌, ℕ, ◌<◌, Bool, true, false, List, [], ◌∷◌, ◌++◌, length, take, inl, inr, refl, ap, sym, ◌∙◌, arith, append-nil}
 use Rattle.std.specs.Prelude.{nat_lt, ◌==◌}
 use Rattle.std.specs.Str.Lines.{strip_carriage_return}
-use Rattle.std.proofs.lemmas.Bool.{le-ltb, lt-ltb, ltb-false}
+use Rattle.std.proofs.lemmas.Bool.{ltb-false}
 use Rattle.std.proofs.lemmas.Grind.{common_steps}
-use Rattle.std.proofs.lemmas.List.{length-take, take_all, take-append-le}
+use Rattle.std.proofs.lemmas.List.{take_all}
 use Rattle.std.proofs.lemmas.List.Elements.{All-append}
 use Rattle.std.proofs.lemmas.List.Splits.{length-slice_split, slice_split_at, slice_split_none}
 use Rattle.st_devices.specs.Lines.{is_lf, parts_of, ended_line, last_line, lines_in, lines_of, whole_lines_in, whole_lines_of}
@@ -30,7 +30,7 @@ lines_of-ended part rest no_lf = rw (slice_split_at is_lf part 10 rest no_lf ref
 pub whole_lines_of-ended : (part rest : List ℕ) → NoLf part → whole_lines_of (part ++ 10 ∷ rest) ≡ ended_line part ∷ whole_lines_of rest
 whole_lines_of-ended part rest no_lf = rw (slice_split_at is_lf part 10 rest no_lf refl) (whole_lines_in-cons part (parts_of rest) (parts_some rest))
 
-is_not_empty : (part : List ℕ) → 0 < length part → (length part == 0) ≡ false
+pub is_not_empty : (part : List ℕ) → 0 < length part → (length part == 0) ≡ false
 is_not_empty part some = grind (arith, common_steps)
 
 is_some : (part : List ℕ) → false ≡ (length part == 0) → 0 < length part
@@ -91,33 +91,3 @@ line_last is_empty true at_end line bytes rest more found so bytes_read none end
 line_last is_empty false at_end line bytes rest more found so bytes_read none ended long short =
     let whole : bytes ≡ so.part = so.split ∙ ap (λ xs. so.part ++ xs) none.0 ∙ append-nil so.part in
     rw (short refl) (inr (record { whole = none.1; no_lf = rw whole so.no_lf; some = rw whole (is_some so.part (sym bytes_read ∙ so.empty)); is = rw (whole, ← so.long, kept_whole line so.part so.kept so.long) refl }, ended))
-
--- another byte was taken, and there is room for it
-pub byte_kept : (is_empty is_long : Bool) (line bytes rest more after : List ℕ) (byte : ℕ) → LineSoFar is_empty is_long line bytes rest → rest ≡ byte ∷ more → byte ≢ 10 → length line < 4096
-    → after ≡ line ++ byte ∷ [] → LineSoFar false is_long after bytes more
-byte_kept is_empty is_long line bytes rest more after byte so next other spare pushed =
-    let line_length : length line ≡ min 4096 (length so.part) = ap length so.kept ∙ length-take 4096 so.part in
-    let longer = length-append so.part (byte ∷ []) in
-    let whole : line ≡ so.part = so.kept ∙ take_all 4096 so.part (omega (arith, line_length)) in
-    record {
-      part = so.part ++ byte ∷ [];
-      split = so.split ∙ ap (λ xs. so.part ++ xs) next ∙ sym (append_assoc so.part (byte ∷ []) more);
-      no_lf = NoLf-more so.part byte so.no_lf other;
-      kept = pushed ∙ ap (λ xs. xs ++ byte ∷ []) whole ∙ sym (take_all 4096 (so.part ++ byte ∷ []) (omega (arith, line_length, longer)));
-      empty = sym (is_not_empty (so.part ++ byte ∷ []) (omega (arith, longer)));
-      long = so.long ∙ le-ltb 4096 (length so.part) (omega (arith, line_length)) ∙ sym (le-ltb 4096 (length (so.part ++ byte ∷ [])) (omega (arith, line_length, longer)));
-    }
-
--- another byte was taken, and dropped
-pub byte_dropped : (is_empty is_long : Bool) (line bytes rest more : List ℕ) (byte : ℕ) → LineSoFar is_empty is_long line bytes rest → rest ≡ byte ∷ more → byte ≢ 10 → 4096 ≤ length line
-    → LineSoFar false true line bytes more
-byte_dropped is_empty is_long line bytes rest more byte so next other full =
-    let line_length : length line ≡ min 4096 (length so.part) = ap length so.kept ∙ length-take 4096 so.part in
-    let longer = length-append so.part (byte ∷ []) in record {
-      part = so.part ++ byte ∷ [];
-      split = so.split ∙ ap (λ xs. so.part ++ xs) next ∙ sym (append_assoc so.part (byte ∷ []) more);
-      no_lf = NoLf-more so.part byte so.no_lf other;
-      kept = so.kept ∙ sym (take-append-le 4096 so.part (byte ∷ []) (omega (arith, line_length)));
-      empty = sym (is_not_empty (so.part ++ byte ∷ []) (omega (arith, longer)));
-      long = sym (lt-ltb 4096 (length (so.part ++ byte ∷ [])) (omega (arith, line_length, longer)));
-    }

@@ -1,5 +1,5 @@
 -- Lemmas on taking bytes off what a source has.
-use Rattle.std.proofs.Common.{◌≡◌, ℕ, ◌+◌, ◌-◌, ◌<◌, Bool, true, false, List, [], ◌∷◌, ◌++◌, length, get_or, refl, ap, sym, ◌∙◌, arith, suc, add-one, slice_range, subst}
+use Rattle.std.proofs.Common.{◌≡◌, ℕ, ◌+◌, ◌-◌, ◌<◌, Bool, true, false, List, [], ◌∷◌, ◌++◌, length, get_or, refl, ap, sym, ◌∙◌, arith, suc, add-one, slice_range, subst, append_assoc}
 use Rattle.std.specs.Prelude.{Option, Some, None, Result, Ok, Err, OnErr, if◌then◌else◌}
 use Rattle.std.specs.Io.KnownBytes.{Keeps, prepend_known}
 use Rattle.std.proofs.Math.Seq.{drop-cons}
@@ -44,16 +44,21 @@ slice_range-cons bytes at end byte some within is =
     let size : end - at ≡ suc (end - (at + 1)) = omega arith in
     rw (size, drop-cons bytes at byte, ← is, add-one) refl
 
+-- a front of what is unread is taken, where what is pending was kept
+pub takes_front : (front unread left : List ℕ) (at_end : Bool) (old rest : Option (List ℕ)) → unread ≡ front ++ left → Keeps old (if at_end then Some unread else prepend_known unread rest)
+    → OnReading old (if at_end then Some left else prepend_known left rest) (λ bytes more. bytes ≡ front ++ more)
+takes_front front unread left at_end None rest split same = λ more _. (front ++ more, tt, refl)
+takes_front front unread left true (Some xs) rest split same = λ more can_be. (xs, refl, sym same ∙ split ∙ ap (λ ys. front ++ ys) (sym can_be))
+takes_front front unread left false (Some xs) None split same = absurd same
+takes_front front unread left false (Some xs) (Some ys) split same =
+    λ more can_be. (xs, refl, sym same ∙ ap (λ zs. zs ++ ys) split ∙ append_assoc front left ys ∙ ap (λ zs. front ++ zs) (sym can_be))
+
 -- the first unread byte is taken, where what is pending was kept
 pub takes_unread : (buffer : List ℕ) (at end byte : ℕ) (at_end : Bool) (old rest : Option (List ℕ)) → at < end → at < length buffer → byte ≡ get_or buffer at byte
     → Keeps old (if at_end then Some (slice_range buffer at end) else prepend_known (slice_range buffer at end) rest)
     → OnReading old (if at_end then Some (slice_range buffer (at + 1) end) else prepend_known (slice_range buffer (at + 1) end) rest) (TakesByte (Some byte))
-takes_unread buffer at end byte at_end None rest some within is same = λ more _. (byte ∷ more, tt, refl)
-takes_unread buffer at end byte true (Some xs) rest some within is same =
-    λ more can_be. (xs, refl, sym same ∙ slice_range-cons buffer at end byte some within is ∙ ap (λ ys. byte ∷ ys) (sym can_be))
-takes_unread buffer at end byte false (Some xs) None some within is same = absurd same
-takes_unread buffer at end byte false (Some xs) (Some ys) some within is same =
-    λ more can_be. (xs, refl, sym same ∙ ap (λ zs. zs ++ ys) (slice_range-cons buffer at end byte some within is) ∙ ap (λ zs. byte ∷ zs) (sym can_be))
+takes_unread buffer at end byte at_end old rest some within is same =
+    takes_front (byte ∷ []) (slice_range buffer at end) (slice_range buffer (at + 1) end) at_end old rest (slice_range-cons buffer at end byte some within is) same
 
 -- a read that failed took nothing
 pub takes_nothing : (unread : List ℕ) (at_end : Bool) (old new : Option (List ℕ)) → unread ≡ [] → at_end ≡ false → Keeps old new

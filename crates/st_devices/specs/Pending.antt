@@ -1,8 +1,9 @@
 -- The bytes of a source, and what was read of them.
-use Rattle.std.specs.Prelude.{◌≡◌, ◌<◌, ◌⊎◌, ℕ, Bool, true, false, List, [], ◌∷◌, ◌++◌, length, All, Option, Some, None, ⊤}
+use Rattle.std.specs.Prelude.{◌≡◌, ◌<◌, ◌+◌, ◌⊎◌, ℕ, Bool, true, false, nat_lt, if◌then◌else◌, List, [], ◌∷◌, ◌++◌, length, take, All, Option, Some, None, ⊤}
 use Rattle.st_devices.specs.Lines.{Line, is_lf, ended_line, last_line}
 use Rattle.st_devices.specs.declared.input.Found.{Found}
 use Rattle.st_devices.specs.declared.input.Found.TheVariants as findings
+use Rattle.st_devices.specs.declared.input.Piece.{Piece}
 
 -- the bytes can be those of a source: where they are known they are these, and else they can be any
 abbrev pub CanBe : Option (List ℕ) → List ℕ → Type 0
@@ -29,6 +30,20 @@ NoLf part = All (λ byte. is_lf byte ≡ false) part
 -- a part without an LF was taken
 abbrev pub TakesPart : List ℕ → List ℕ → Type 0
 TakesPart bytes rest = (part : List ℕ) × (bytes ≡ part ++ rest) × NoLf part
+
+-- a piece of a line was taken, with its LF where it is ended, and the first 4,096 bytes of the line were kept
+pub record TakesSome (is_ended is_cut : Bool) (before now bytes rest : List ℕ) : Type 0 where
+  pub part : List ℕ
+  pub split : bytes ≡ part ++ (if is_ended then 10 ∷ rest else rest)
+  pub no_lf : NoLf part
+  pub some : is_ended ≡ false → 0 < length part
+  pub kept : now ≡ take 4096 (before ++ part)
+  pub cut : is_cut ≡ nat_lt 4096 (length before + length part)
+
+-- a piece of a line was taken, or there is none
+abbrev pub TakesPiece : Option Piece → List ℕ → List ℕ → List ℕ → List ℕ → Type 0
+TakesPiece None before now bytes rest = (bytes ≡ []) × (rest ≡ []) × (now ≡ before)
+TakesPiece (Some piece) before now bytes rest = TakesSome piece.is_ended piece.is_cut before now bytes rest
 
 -- the line before the first LF was taken, with its LF
 pub record TakesEnded (line : Line) (bytes rest : List ℕ) : Type 0 where

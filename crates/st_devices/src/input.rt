@@ -2,10 +2,12 @@
 //!
 //! A line ends at an LF, and a CR right before it is dropped. The last line may lack its LF. A line of more than 4,096
 //! bytes before its LF is passed over.
-ghost use Rattle.std.specs.Prelude.{◌≡◌, ◌≤◌, ◌<◌, true, false, Some, None, IfOk, OnErr, OnOk, OnSome, is_err, [], length, vec_len, vec_capacity};
+ghost use Rattle.std.specs.Prelude.{◌≡◌, ◌≤◌, ◌<◌, ◌+◌, ◌++◌, nat_lt, take, true, false, Some, None, IfOk, OnErr, OnOk, OnSome, is_err, [], length, vec_len, vec_capacity};
 ghost use Rattle.std.specs.Io.KnownBytes.{Keeps, IsAtEnd};
 ghost use Rattle.std.specs.Str.Lines.{strip_carriage_return};
-ghost use Rattle.st_devices.specs.Pending.{IsFound, OnReading, TakesByte, TakesFound, TakesPart};
+ghost use Rattle.std.specs.List.{position_or_len};
+ghost use Rattle.st_devices.specs.Lines.{is_lf};
+ghost use Rattle.st_devices.specs.Pending.{IsFound, OnReading, TakesByte, TakesFound, TakesPart, TakesPiece};
 
 use crate::devices::{DeviceFault, Source};
 use std::alloc::{AllocError, Global};
@@ -21,6 +23,15 @@ pub enum Found {
     Line,
     /// A line that is too long, which was passed over.
     TooLong,
+}
+
+/// What was taken of a line at once.
+#[derive(Clone, Copy)]
+struct Piece {
+    /// The LF stood behind it, and was taken too.
+    is_ended: bool,
+    /// The line has no room for all of it.
+    is_cut: bool,
 }
 
 /// What was read of a source and is not taken yet.
@@ -115,6 +126,42 @@ impl Input {
         Ok(Some(byte))
     }
 
+    /// Takes what was read of a line, and its LF where that was read, and puts it behind `line` as far as there is room. Answers
+    /// nothing at the end.
+    fn take_piece<R: Source>(
+        &mut self,
+        source: &mut R,
+        line: &mut Vec<u8>,
+    ) -> Result<Option<Piece>, DeviceFault>
+        requires works { R.has_failed source.old ≡ false }
+        requires capacity { 4096 ≤ vec_capacity line.old }
+        requires short { length line.old.items ≤ 4096 }
+        ensures bytes { IfOk result (λ piece. OnReading (pending self.old (R.rest source.old))
+            (pending self.new (R.rest source.new)) (TakesPiece piece line.old.items line.new.items)) }
+        ensures at_end { IfOk result (λ piece. piece ≡ None → has_ended self.new ≡ true) }
+        ensures err { OnErr result (Keeps (R.rest source.old) (R.rest source.new)) }
+        ensures empty { OnErr result ((unread self.old ≡ []) × (has_ended self.old ≡ false)) }
+        ensures progress { IfOk result (λ piece. OnSome piece (left self.new (R.reads_left source.new)
+            < left self.old (R.reads_left source.old))) }
+        ensures steady { OnOk result (left self.new (R.reads_left source.new)
+            ≤ left self.old (R.reads_left source.old)) }
+        ensures capacity { 4096 ≤ vec_capacity line.new }
+        ensures short { length line.new.items ≤ 4096 }
+        ensures ended { has_ended self.old ≡ true → has_ended self.new ≡ true }
+        ensures failed { R.has_failed source.new ≡ is_err result }
+    {
+        self.fill(source)?;
+        if self.at == self.end {
+            return Ok(None);
+        }
+        let stop = self.at + bytes_before_lf(&self.buffer[self.at..self.end]);
+        let is_cut = keep(line, &self.buffer[self.at..stop]);
+        let is_ended = stop < self.end;
+        self.at = stop + usize::from(is_ended);
+        self.lines = self.lines.wrapping_add(u64::from(is_ended));
+        Ok(Some(Piece { is_ended, is_cut }))
+    }
+
     /// Takes the next line into `line`, or passes over it where it is too long.
     ///
     /// Where the source fails, only a part of a line without an LF was read since the last line, and it is lost.
@@ -137,18 +184,14 @@ impl Input {
         ensures failed { R.has_failed source.new ≡ is_err result }
     {
         line.clear();
-        let mut is_long = false;
         let mut is_empty = true;
-        while let Some(byte) = self.next_byte(source)? {
-            if byte == b'\n' {
+        let mut is_long = false;
+        while let Some(piece) = self.take_piece(source, line)? {
+            is_long |= piece.is_cut;
+            if piece.is_ended {
                 return Ok(ended(line, is_long));
             }
             is_empty = false;
-            if line.len() < MAX_LINE_BYTES {
-                let _ = line.push(byte);
-            } else {
-                is_long = true;
-            }
         }
         Ok(if is_empty {
             Found::End
@@ -158,6 +201,28 @@ impl Input {
             Found::Line
         })
     }
+}
+
+/// How many bytes stand before the first LF.
+fn bytes_before_lf(bytes: &[u8]) -> usize
+    ensures value { result ≡ position_or_len is_lf bytes.now }
+    ensures within { result ≤ length bytes.now }
+{
+    bytes.iter().take_while(|byte| **byte != b'\n').count()
+}
+
+/// Puts bytes behind a line as far as there is room. Answers whether there wasn't room for all.
+fn keep(line: &mut Vec<u8>, bytes: &[u8]) -> bool
+    requires capacity { 4096 ≤ vec_capacity line.old }
+    requires short { length line.old.items ≤ 4096 }
+    ensures line { line.new.items ≡ take 4096 (line.old.items ++ bytes.now) }
+    ensures cut { result ≡ nat_lt 4096 (length line.old.items + length bytes.now) }
+    ensures short { length line.new.items ≤ 4096 }
+    ensures capacity { 4096 ≤ vec_capacity line.new }
+{
+    let count = bytes.len().min(MAX_LINE_BYTES - line.len());
+    let _ = line.extend_from_slice(&bytes[..count]);
+    count < bytes.len()
 }
 
 /// The line that ends here, without one CR at its end.

@@ -1,5 +1,6 @@
 pub mod CommandLemmas
 pub mod EndLemmas
+pub mod MomentLemmas
 pub mod ReadLemmas
 pub mod ScanLemmas
 pub mod SourceLemmas

@@ -5,20 +5,24 @@ ghost use Rattle.st_devices.specs.Words.{words_of};
 ghost use Rattle.st_lines.specs.ScanWords.{bytes_before, is_pair, moment_read, pair_of};
 
 use st_devices::split_word;
-use st_values::read_digits;
 
 /// The first moment that is too late, which stands for all of them.
-const TOO_LATE: u128 = 1_000_000_000_000_001;
+const TOO_LATE: u64 = 1_000_000_000_000_001;
 
 /// The moment that a word is, where it has decimal digits alone.
 pub fn read_moment(word: &[u8]) -> Option<i64>
     ensures { result ≡ moment_read word.now }
 {
-    if word.contains(&b'_') {
-        return None;
+    let mut moment = 0u64;
+    for byte in word {
+        let digit = char::from(*byte).to_digit(10)?;
+        moment = (moment * 10 + u64::from(digit)).min(TOO_LATE);
     }
-    let number = read_digits(10, word)?;
-    Some(number.min(TOO_LATE) as i64)
+    if word.is_empty() {
+        None
+    } else {
+        Some(moment as i64)
+    }
 }
 
 /// Words of a line, each of which is a pair.

@@ -4,8 +4,8 @@ use Rattle.st_devices.specs.Pending.{OnReading}
 use Rattle.st_devices.proofs.LineLemmas.{LineSoFar}
 use Rattle.st_devices.proofs.input.Input.next_line.Given as goal
 
-abbrev pub invariant-loop-byte : goal.invariant-loop-byte
-invariant-loop-byte g l = record {
+abbrev pub invariant-loop-piece : goal.invariant-loop-piece
+invariant-loop-piece g l = record {
   capacity : 4096 ≤ vec_capacity l.line;
   short : length l.line.items ≤ 4096;
   so_far : OnReading (pending l.fn.self (g.R.Source.rest l.fn.source)) (pending l.self (g.R.Source.rest l.source)) (LineSoFar l.is_empty l.is_long l.line.items);
@@ -15,5 +15,5 @@ invariant-loop-byte g l = record {
   steady : left l.self (g.R.Source.reads_left l.source) ≤ left l.fn.self (g.R.Source.reads_left l.fn.source);
 }
 
-abbrev pub decreases-loop-byte : goal.decreases-loop-byte
-decreases-loop-byte g l = left l.self (g.R.Source.reads_left l.source)
+abbrev pub decreases-loop-piece : goal.decreases-loop-piece
+decreases-loop-piece g l = left l.self (g.R.Source.reads_left l.source)
