@@ -10,6 +10,7 @@ use crate::charts::charts_of;
 use crate::functions::function_of;
 use crate::levels::{in_order, levels_of};
 use st_check::Program;
+use st_fused::Fused;
 use st_machine::{Block, Function, Room, Units};
 use st_places::{Tables, units_are_sound};
 use st_types::NamedUnit;
@@ -87,7 +88,8 @@ fn blocks_of(
     let mut rooms = Vec::with_capacity(alloc, units.len())?;
     'units: for number in 0..units.len() {
         let body = block_of(alloc, &units[number], tables, number, inputs)?;
-        blocks.push(Block::new(body.code, first + levels[number]))?;
+        let code = Fused::of(alloc, body.code)?;
+        blocks.push(Block::new(code, first + levels[number]))?;
         rooms.push(Room {
             stack: body.depth,
             variables: 0,

@@ -8,6 +8,7 @@ pub mod Ends
 pub mod Entering
 pub mod InFunction
 pub mod Joined
+pub mod Moved
 pub mod Nearer
 pub mod OwnCode
 pub mod Puts

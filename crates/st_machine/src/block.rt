@@ -1,13 +1,13 @@
 //! The code of function blocks of the text.
 ghost use Rattle.std.specs.Prelude.{◌≡◌};
 
-use st_code::Code;
+use st_fused::Fused;
 use std::marker::Model;
 
 /// The code of a function block, for all its instances.
 #[derive(Drop)]
 pub struct Block {
-    code: Code,
+    code: Fused,
     /// How deep its instances can lie: its level is above those of all blocks whose instances it enters, and of all functions that it
     /// calls.
     level: usize,
@@ -23,14 +23,14 @@ impl Model for Block {
 
 impl Block {
     /// A block of this level.
-    pub fn new(code: Code, level: usize) -> Block
+    pub fn new(code: Fused, level: usize) -> Block
         ensures { result ≡ record { code = code; level = level } }
     {
         Block { code, level }
     }
 
     /// The code of its body.
-    pub(crate) fn code(&self) -> &Code
+    pub(crate) fn code(&self) -> &Fused
         ensures { result.now ≡ self.now.code }
     {
         &self.code

@@ -33,7 +33,7 @@ units-preserved c =
     record {
       codes =
           view_pushed units c.units.number u found (block_view units order) c.units.blocks.items c.push.new.self.items c.new.result c.in_ok-push.ensures.items c.units.invariant.codes
-          (block_made units c.units.number u order c.new.result c.in_ok-body.body.code (length c.order-first.result.now + slice_index_or c.args.levels.now c.units.number 0) c.new.ensures code level);
+          (block_made units c.units.number u order c.new.result c.in_ok-code.code (length c.order-first.result.now + slice_index_or c.args.levels.now c.units.number 0) c.new.ensures (c.in_ok-code.ensures ∙ code) level);
       given =
           view_pushed units c.units.number u found (block_room units) c.units.rooms.items c.push-in-units.new.self.items _ c.in_ok-push-2.ensures.items c.units.invariant.given
           (block_room_made units c.units.number u c.in_ok-body.body.depth c.args.inputs c.in_ok-body.body.code c.requires.inputs code c.in_ok-body.ensures.depth);

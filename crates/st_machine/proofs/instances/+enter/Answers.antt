@@ -1,34 +1,37 @@
-use Rattle.std.proofs.Common.{◌≡◌, ℕ, drop, false, ◌∙◌, ◌+◌, ◌^◌, ◌<◌, ◌≤◌, ap, length, refl, sym, subst, rules, w64, arith, take, get_or, Some, List, Ok}
+use Rattle.std.proofs.Common.{◌≡◌, ℕ, drop, false, ◌∙◌, ◌+◌, ◌^◌, ◌<◌, ◌≤◌, ap, length, sym, subst, rules, w64, arith, take, get_or, List, Ok}
 use Rattle.std.proofs.lemmas.Int.{to_z-of_z}
 use Rattle.std.proofs.lemmas.Result.{err_from_is_err_and}
 use Rattle.std.specs.Prelude.{slice_index_or}
 use Rattle.st_memory.specs.Memory.{Content}
 use Rattle.st_meaning.specs.Operations.{stop}
-use Rattle.st_meaning.specs.Statements.{Outcome, faulted}
-use Rattle.st_chart_runs.specs.Charts.{ChartsFit}
+use Rattle.st_meaning.specs.Statements.{faulted}
 use Rattle.st_chart_runs.specs.Views.{room_of}
 use Rattle.st_fused.specs.Fused.{is_own}
 use Rattle.st_code.specs.Beside.{line_at}
 use Rattle.st_code.specs.Code.{Line}
-use Rattle.st_code.specs.Machine.{Reaches, act, state}
+use Rattle.st_code.specs.Machine.{act}
 use Rattle.st_code.specs.Relative.{among, clipped_from, code_from}
 use Rattle.st_machine.specs.Functions.{function_run}
-use Rattle.st_machine.specs.Blocks.{BlockView, Entrance, UnitWork, run_by}
-use Rattle.st_machine.specs.Levels.{LevelView, environment_with, no_room, rooms_of}
+use Rattle.st_machine.specs.Blocks.{BlockView, Entrance, LeavesAs, Run, UnitWork, run_by}
+use Rattle.st_machine.specs.Levels.{LevelView, environment_with, no_room, rooms_for, rooms_of}
+use Rattle.st_machine.specs.Stretches.{Comes, IsNoFurther, IsWithin}
+use Rattle.st_machine.specs.declared.stretches.Pause.{Pause}
+use Rattle.st_machine.specs.declared.stretches.Pause.TheVariants.{End, Stop, Left}
 use Rattle.st_instructions.specs.Moves.{moved, place_after}
 use Rattle.st_machine.specs.Running.{stop_of}
 use Rattle.st_machine.specs.declared.stacks.Room.{Room}
 use Rattle.st_machine.proofs.Arrivals.{instrs_of}
-use Rattle.st_machine.proofs.Calling.{given_in_unit, unit_stays}
+use Rattle.st_machine.proofs.Calling.{given_in_unit}
 use Rattle.st_machine.proofs.Entering.{left_in_unit}
+use Rattle.st_machine.proofs.OwnCode.{work_of}
 use Rattle.st_machine.proofs.Rooms.{room_there, rooms_below, rooms_many}
 use Rattle.st_machine.proofs.Stays.{Stays, acts_alike, acts_same}
 use Rattle.st_machine.proofs.UnitWorks.{call, calls, chart, enters, entrance}
-use Rattle.st_machine.proofs.Way.{Leads, Turn, beyond_code, ends_run, few_in_code, finds, free, instr_is, leads, leads_on, stops_run, way_ends, within_code}
-use Rattle.st_machine.proofs.Within.{IsAt, is_at, left_done, left_faulted, many_there, run_begins, turn_of, work_of}
+use Rattle.st_machine.proofs.Way.{Leads, Turn, ends_run, few_in_code, finds, free, instr_is, leads, leads_on, lighter_behind, stops_run}
+use Rattle.st_machine.proofs.Within.{IsAt, few_first, is_at, left_done, left_faulted, line_there, many_there, run_of, turn_of}
 use Rattle.st_machine.proofs.instances.+enter.Given.{Over}
 use Rattle.st_machine.proofs.instances.+enter.Goals as goal
-use Rattle.st_machine.proofs.instances.+enter.Goals.{enter-After-clear, enter-After-from_leaf-instr, enter-After-perform-to}
+use Rattle.st_machine.proofs.instances.+enter.Goals.{enter-After-code, enter-After-run_body, run_body-After-from_leaf-instr, run_body-After-perform-to, run_body-After-run_stretch-stretch}
 use Rattle.st_blocks.proofs.RangeLemmas.{is_time}
 
 -- ---- an instruction that needs the units
@@ -81,7 +84,7 @@ do_with_units-returns-in_default-clause-does g t c =
 
 -- ---- the run of a body
 
-module _ (g : Over) (t : ℕ) (c : enter-After-clear g t) where
+module _ (g : Over) (t : ℕ) (c : enter-After-code g t) where
   abbrev block : BlockView
   block = c.index-blocks-number.result
 
@@ -89,13 +92,16 @@ module _ (g : Over) (t : ℕ) (c : enter-After-clear g t) where
   rooms = rooms_of c.args.levels.now
 
   abbrev room : ℕ
-  room = c.clear.new.self.1
+  room = c.level-2.inside.stack.1
 
   abbrev before : Content
   before = g.M.Memory.content c.args.layout.now c.args.memory.now
 
   abbrev Entered : Type 0
   Entered = Entrance c.args.number c.args.first c.args.units.now rooms c.args.layout.now
+
+  few : length c.args.layout.now ≤ 65536
+  few = c.len-leaves.ensures.sound.few
 
   here : IsAt c.args.number c.args.units.now.blocks rooms block
   here =
@@ -104,7 +110,7 @@ module _ (g : Over) (t : ℕ) (c : enter-After-clear g t) where
 
   its : room ≡ (get_or rooms block.level no_room).stack
   its =
-      c.clear.ensures.room ∙ ap (λ (l : LevelView). l.stack.1) c.level-2.view_is
+      ap (λ (l : LevelView). l.stack.1) c.level-2.view_is
       ∙ ap (λ (r : Room). r.stack)
       (room_there c.args.levels.now c.split_at_mut-lower.result.0.now c.split_at_mut-lower.result.1.now block.level c.split_at_mut-lower.ensures.value
       (c.split_at_mut-lower.ensures.front_len ∙ c.level.ensures) here.below c.index-upper-0.result)
@@ -117,140 +123,231 @@ module _ (g : Over) (t : ℕ) (c : enter-After-clear g t) where
   many_levels : block.level < length c.args.levels.now
   many_levels = omega (arith, here.below, rooms_many c.args.levels.now)
 
-  abbrev end_of : Entered → Outcome
-  end_of e = among before.values c.args.first (run_by e.said c.args.number c.args.first c.args.now before c.args.limit)
+  first_few : c.args.first ≤ 65536
+  first_few = few_first c.args.number c.args.first c.args.units.now rooms c.args.layout.now c.requires.may few
 
-pub enter-loop-place-init : goal.enter-loop-place-init
-enter-loop-place-init g t c =
-    let it = (goal.at.enter-loop-place-init g t c).After-clear in
-    let fits = g.met.M.Memory.fits c.args.layout.now c.args.memory.now c.requires.over in
-    record {
-      over = c.requires.over;
-      forced = refl;
-      lower = refl;
-      charts = refl;
-      room = refl;
-      steps = omega arith;
-      way = rw (to_z-of_z w64 c.args.now (search rules)) (λ (e : Entered g t it).
-          subst (λ s. Reaches (environment_with e.said c.args.now (before g t it).forced) (room g t it) (code_from c.args.first (block g t it).code) (end_of g t it e) (state 0 s (before g t it).values c.args.limit))
-          (sym c.clear.ensures.cells)
-          (run_begins c.args.number c.args.first c.args.units.now (rooms g t it) c.args.layout.now e (block g t it) (here g t it) c.args.now (before g t it) fits
-          (is_time c.args.now c.ranges.now) (room g t it) c.args.limit (its g t it)));
-    }
+  abbrev body : (e : Entered) → Run (code_from c.args.first block.code) c.args.units.now (rooms_for room c.split_at_mut-lower.result.0.now (room_of c.args.work.now)) c.args.layout.now c.args.now before c.args.limit
+  body e =
+      run_of c.args.number c.args.first c.args.units.now rooms c.args.layout.now e block here (rooms_of c.split_at_mut-lower.result.0.now) lower_is few c.args.now before
+      (g.met.M.Memory.fits c.args.layout.now c.args.memory.now c.requires.over) (is_time c.args.now c.ranges.now) room c.args.limit its (room_of c.args.work.now) c.requires.fit
 
--- ---- at an instruction
+pub enter-run_body-requires : goal.enter-run_body-requires
+enter-run_body-requires g t c κs within =
+    let it = (goal.at.enter-run_body-requires g t c).After-code in (
+      omega (arith, c.split_at_mut-lower.ensures.front_len, c.level.ensures, many_levels g t it),
+      (within, (c.requires.over, (first_few g t it, rw (to_z-of_z w64 c.args.now (search rules), c.code.ensures) (body g t it c.requires.may)))),
+    )
 
-module _ (g : Over) (t : ℕ) (c : enter-After-from_leaf-instr g t) where
-  abbrev b : enter-After-clear g t
-  b = (goal.at.enter-After-from_leaf-instr g t c).After-clear
+module _ (g : Over) (t : ℕ) (c : enter-After-run_body g t) where
+  abbrev b : enter-After-code g t
+  b = (goal.at.enter-After-run_body g t c).After-code
 
+  ends : (e : Entered g t b) → LeavesAs (among (before g t b).values c.args.first (run_by e.said c.args.number c.args.first c.args.now (before g t b) c.args.limit))
+      (g.M.Memory.content c.args.layout.now c.run_body.new.memory).values c.run_body.result
+  ends e =
+      let ends = rw (to_z-of_z w64 c.args.now (search rules), c.code.ensures) at c.run_body.ensures.ends in
+      ends (body g t b e)
+
+pub enter-returns-in-Ok-clause-leaves : goal.enter-returns-in-Ok-clause-leaves
+enter-returns-in-Ok-clause-leaves g t c =
+    let it = (goal.at.enter-returns-in-Ok-clause-leaves g t c).After-run_body in
+    let back = b g t it in
+    let new = g.M.Memory.content c.args.layout.now c.run_body.new.memory in
+    λ (e : Entered g t back).
+    left_done (before g t back).values new.values c.args.number c.args.first c.in-Ok.left (run_by e.said c.args.number c.args.first c.args.now (before g t back) c.args.limit)
+    (subst (LeavesAs (among (before g t back).values c.args.first (run_by e.said c.args.number c.args.first c.args.now (before g t back) c.args.limit)) new.values) c.in-Ok.is (ends g t it e))
+
+pub enter-returns-in-Err-clause-leaves : goal.enter-returns-in-Err-clause-leaves
+enter-returns-in-Err-clause-leaves g t c =
+    let it = (goal.at.enter-returns-in-Err-clause-leaves g t c).After-run_body in
+    let back = b g t it in
+    let new = g.M.Memory.content c.args.layout.now c.run_body.new.memory in
+    λ (e : Entered g t back).
+    left_faulted (before g t back).values c.args.number c.args.first (stop_of c.in-Err.halt) (run_by e.said c.args.number c.args.first c.args.now (before g t back) c.args.limit)
+    (subst (LeavesAs (among (before g t back).values c.args.first (run_by e.said c.args.number c.args.first c.args.now (before g t back) c.args.limit)) new.values) c.in-Err.is (ends g t it e))
+    ∙ ap (λ x. faulted x) (sym c.within.ensures.stop)
+
+-- ---- code, stretch by stretch
+
+pub run_body-run_stretch-stretch-requires-clause-underway : goal.run_body-run_stretch-stretch-requires-clause-underway
+run_body-run_stretch-stretch-requires-clause-underway g t c =
+    let run = c.requires.runs in
+    let way = rw (to_z-of_z w64 c.args.now (search rules)) at c.stretches.invariant.way in
+    rw (to_z-of_z w64 c.args.now (search rules), c.stretches.invariant.forced, c.stretches.invariant.room)
+    (record { said = run.said; outcome = run.outcome; comes = way run })
+
+module _ (g : Over) (t : ℕ) (c : run_body-After-run_stretch-stretch g t) where
   abbrev code : List Line
-  code = (block g t b).code
+  code = code_from c.args.first c.args.code.now
+
+  abbrev start : Content
+  start = g.M.Memory.content c.args.layout.now c.args.memory.now
+
+  abbrev Begins : Type 0
+  Begins = Run code c.args.units.now (rooms_for c.args.stack.now.1 c.args.levels.now (room_of c.args.work.now)) c.args.layout.now c.args.now start c.args.limit
+
+  abbrev place : ℕ
+  place = c.run_stretch-stretch.result.place
 
   abbrev content : Content
-  content = g.M.Memory.content c.args.layout.now c.loop-place.memory
+  content = g.M.Memory.content c.args.layout.now c.run_stretch-stretch.new.memory
+
+  comes : (pause : Pause) → c.run_stretch-stretch.result.pause ≡ pause → (run : Begins)
+      → Comes pause (environment_with run.said c.args.now start.forced) c.args.stack.now.1 code run.outcome place c.run_stretch-stretch.new.stack.0 content.values
+      c.run_stretch-stretch.result.left
+  comes pause same run =
+      let way = rw (to_z-of_z w64 c.args.now (search rules)) at c.stretches.invariant.way in
+      let pauses = rw (to_z-of_z w64 c.args.now (search rules), c.stretches.invariant.forced, c.stretches.invariant.room) at c.run_stretch-stretch.ensures.pauses in
+      subst
+      (λ p. Comes p (environment_with run.said c.args.now start.forced) c.args.stack.now.1 code run.outcome place c.run_stretch-stretch.new.stack.0 content.values
+      c.run_stretch-stretch.result.left)
+      same (pauses (record { said = run.said; outcome = run.outcome; comes = way run }))
+
+  inside : (pause : Pause) → c.run_stretch-stretch.result.pause ≡ pause → IsWithin pause code place
+  inside pause same = subst (λ p. IsWithin p code place) same c.run_stretch-stretch.ensures.inside
+
+-- at an instruction that is left
+module _ (g : Over) (t : ℕ) (c : run_body-After-from_leaf-instr g t) where
+  abbrev at : run_body-After-run_stretch-stretch g t
+  at = (goal.at.run_body-After-from_leaf-instr g t c).After-run_stretch-stretch
 
   abbrev line : ℕ
-  line = (line_at code c.loop-place.place).line
+  line = (line_at c.args.code.now (place g t at)).line
 
-  instrs : c.instrs-instrs.result.now ≡ instrs_of code
-  instrs = c.instrs-instrs.ensures ∙ ap instrs_of c.code.ensures
+  instrs : c.instrs-instrs.result.now ≡ instrs_of c.args.code.now
+  instrs = c.instrs-instrs.ensures
 
-  few : length (code_from c.args.first code) < 2 ^ 64
-  few = omega (arith, many_there c.args.first code, few_in_code code c.instrs-instrs.result.now instrs (omega (arith, c.instrs-instrs.type_inv)))
+  here_in : place g t at < length c.args.code.now
+  here_in = omega (arith, inside g t at Left c.in-Left.is, many_there c.args.first c.args.code.now)
 
-  few_values : length content.values ≤ 65536
-  few_values = omega (arith, (g.met.M.Memory.fits c.args.layout.now c.loop-place.memory c.loop-place.invariant.over).values, c.len-leaves.ensures.sound.few)
+  small : length (code g t at) < 2 ^ 64
+  small = omega (arith, many_there c.args.first c.args.code.now, few_in_code c.args.code.now c.instrs-instrs.result.now instrs (omega (arith, c.instrs-instrs.type_inv)))
 
-  inside : c.loop-place.place < length code
-  inside = within_code code c.instrs-instrs.result.now c.loop-place.place instrs c.loop-place-test.true
+  few_leaves : length c.args.layout.now ≤ 65536
+  few_leaves = c.len-leaves.ensures.sound.few
 
-  is : c.from_leaf-instr.result ≡ clipped_from c.args.first (line_at code c.loop-place.place).instr
-  is = c.from_leaf-instr.ensures ∙ ap (clipped_from c.args.first) (instr_is code c.instrs-instrs.result.now c.loop-place.place _ instrs inside)
+  few_values : length (content g t at).values ≤ 65536
+  few_values = omega (arith, (g.met.M.Memory.fits c.args.layout.now c.run_stretch-stretch.new.memory c.run_stretch-stretch.ensures.over).values, few_leaves)
+
+  is : c.from_leaf-instr.result ≡ clipped_from c.args.first (line_at c.args.code.now (place g t at)).instr
+  is = c.from_leaf-instr.ensures ∙ ap (clipped_from c.args.first) (instr_is c.args.code.now c.instrs-instrs.result.now (place g t at) _ instrs here_in)
 
   -- each run that begins so has come to it
-  turn : (e : Entered g t b)
-      → Turn (environment_with e.said c.args.now (before g t b).forced) (room g t b) (code_from c.args.first code) (end_of g t b e) c.loop-place.place c.loop-place.stack.0 content.values
-      c.loop-place.left c.from_leaf-instr.result line
-  turn e =
-      let way = rw (to_z-of_z w64 c.args.now (search rules)) at c.loop-place.invariant.way in
-      turn_of (environment_with e.said c.args.now (before g t b).forced) (room g t b) c.args.first code (end_of g t b e) c.loop-place.place c.loop-place.stack.0 content.values
-      c.loop-place.left few_values (way e) inside c.from_leaf-instr.result is
+  turn : (run : Begins g t at)
+      → Turn (environment_with run.said c.args.now (start g t at).forced) c.args.stack.now.1 (code g t at) run.outcome (place g t at) c.run_stretch-stretch.new.stack.0 (content g t at).values
+      c.run_stretch-stretch.result.left c.from_leaf-instr.result line
+  turn run =
+      turn_of (environment_with run.said c.args.now (start g t at).forced) c.args.stack.now.1 c.args.first c.args.code.now run.outcome (place g t at) c.run_stretch-stretch.new.stack.0
+      (content g t at).values c.run_stretch-stretch.result.left few_values (comes g t at Left c.in-Left.is run) here_in c.from_leaf-instr.result is
 
   -- the callee has the forces and the room as they are now
-  same : (e : Entered g t b)
-      → act (environment_with e.said c.args.now (before g t b).forced) (room g t b) c.from_leaf-instr.result line c.loop-place.place c.loop-place.stack.0 content.values c.loop-place.left
-      ≡ act (environment_with e.said c.args.now content.forced) c.loop-place.stack.1 c.from_leaf-instr.result line c.loop-place.place c.loop-place.stack.0 content.values c.loop-place.left
-  same e =
-      acts_same e.said c.args.now c.from_leaf-instr.result line c.loop-place.place c.loop-place.stack.0 content.values c.loop-place.left (before g t b).forced content.forced (room g t b)
-      c.loop-place.stack.1 c.loop-place.invariant.forced c.loop-place.invariant.room
+  same : (run : Begins g t at)
+      → act (environment_with run.said c.args.now (start g t at).forced) c.args.stack.now.1 c.from_leaf-instr.result line (place g t at) c.run_stretch-stretch.new.stack.0 (content g t at).values
+      c.run_stretch-stretch.result.left
+      ≡ act (environment_with run.said c.args.now (content g t at).forced) c.run_stretch-stretch.new.stack.1 c.from_leaf-instr.result line (place g t at) c.run_stretch-stretch.new.stack.0
+      (content g t at).values c.run_stretch-stretch.result.left
+  same run =
+      acts_same run.said c.args.now c.from_leaf-instr.result line (place g t at) c.run_stretch-stretch.new.stack.0 (content g t at).values c.run_stretch-stretch.result.left (start g t at).forced
+      (content g t at).forced c.args.stack.now.1 c.run_stretch-stretch.new.stack.1 (c.run_stretch-stretch.ensures.forced ∙ c.stretches.invariant.forced)
+      (c.run_stretch-stretch.ensures.room ∙ c.stretches.invariant.room)
 
   -- and finds the units that it needs
   module _ (needs : is_own c.from_leaf-instr.result ≡ false) where
-    abbrev work : Entered g t b
-        → UnitWork c.from_leaf-instr.result c.args.units.now (rooms_of c.loop-place.lower) (room_of c.loop-place.work) c.args.layout.now c.args.now content c.loop-place.stack c.loop-place.left
-    work e =
-        work_of c.args.number c.args.first c.args.units.now (rooms g t b) c.args.layout.now e (block g t b) (here g t b) (rooms_of c.loop-place.lower)
-        (c.loop-place.invariant.lower ∙ lower_is g t b) c.len-leaves.ensures.sound.few c.loop-place.place inside c.from_leaf-instr.result is c.args.now (room_of c.loop-place.work) content
-        c.loop-place.stack c.loop-place.left line needs (subst (ChartsFit c.args.units.now.charts) (sym c.loop-place.invariant.charts) c.requires.fit)
-        (λ q. free (turn e) (same e ∙ q))
+    abbrev work : Begins g t at
+        → UnitWork c.from_leaf-instr.result c.args.units.now (rooms_of c.stretches.levels) (room_of c.stretches.work) c.args.layout.now c.args.now (content g t at) c.run_stretch-stretch.new.stack
+        c.run_stretch-stretch.result.left
+    work run =
+        work_of c.args.first c.args.code.now c.args.units.now (rooms_for c.args.stack.now.1 c.args.levels.now (room_of c.args.work.now)) c.args.layout.now c.args.now (start g t at) c.args.limit run
+        few_leaves (place g t at) here_in c.from_leaf-instr.result is (rooms_of c.stretches.levels) c.stretches.invariant.rooms (room_of c.stretches.work) c.stretches.invariant.charts
+        (content g t at) c.run_stretch-stretch.new.stack c.run_stretch-stretch.result.left line needs (λ q. free (turn run) (same run ∙ q))
 
-pub enter-do_with_units-requires : goal.enter-do_with_units-requires
-enter-do_with_units-requires g t c κs within =
-    let it = (goal.at.enter-do_with_units-requires g t c).After-from_leaf-instr in
-    let back = b g t it in (
-      omega (arith, c.loop-place.auto.lower, c.split_at_mut-lower.ensures.front_len, c.level.ensures, many_levels g t back),
-      (within, (c.loop-place.invariant.over, rw (to_z-of_z w64 c.args.now (search rules)) (work g t it (sym c.is_own.ensures ∙ c.if-not-is_own.true) c.requires.may))),
+  -- it is no further from the end than the stretch began
+  near : IsNoFurther Left (length (code g t at)) c.stretches.place c.stretches.left (place g t at) c.run_stretch-stretch.result.left
+  near =
+      subst (λ p. IsNoFurther p (length (code g t at)) c.stretches.place c.stretches.left (place g t at) c.run_stretch-stretch.result.left) c.in-Left.is c.run_stretch-stretch.ensures.nearer
+
+-- ---- where the code ends
+
+pub run_body-returns-in-End-clause-ends : goal.run_body-returns-in-End-clause-ends
+run_body-returns-in-End-clause-ends g t c =
+    let it = (goal.at.run_body-returns-in-End-clause-ends g t c).After-run_stretch-stretch in
+    λ (run : Begins g t it). comes g t it End c.in-End.is run
+
+pub run_body-returns-in-End-clause-steps : goal.run_body-returns-in-End-clause-steps
+run_body-returns-in-End-clause-steps g t c =
+    let n = length (code_from c.args.first c.args.code.now) in
+    let fewer : c.run_stretch-stretch.result.left ≤ c.stretches.left =
+    subst (λ p. IsNoFurther p n c.stretches.place c.stretches.left c.run_stretch-stretch.result.place c.run_stretch-stretch.result.left) c.in-End.is c.run_stretch-stretch.ensures.nearer
+    in
+    omega (arith, fewer, c.stretches.invariant.steps)
+
+pub run_body-halt_at-requires : goal.run_body-halt_at-requires
+run_body-halt_at-requires g t c =
+    let it = (goal.at.run_body-halt_at-requires g t c).After-run_stretch-stretch in
+    omega (arith, inside g t it (Stop c.in-Stop.kind) c.in-Stop.is, many_there c.args.first c.args.code.now)
+
+pub run_body-returns-in-Stop-clause-ends : goal.run_body-returns-in-Stop-clause-ends
+run_body-returns-in-Stop-clause-ends g t c =
+    let it = (goal.at.run_body-returns-in-Stop-clause-ends g t c).After-run_stretch-stretch in
+    let there : place g t it < length c.args.code.now = omega (arith, inside g t it (Stop c.in-Stop.kind) c.in-Stop.is, many_there c.args.first c.args.code.now) in
+    λ (run : Begins g t it). rw c.halt_at.ensures
+    (comes g t it (Stop c.in-Stop.kind) c.in-Stop.is run ∙ ap (λ (l : Line). faulted (stop c.in-Stop.kind l.line)) (line_there c.args.first c.args.code.now (place g t it) there))
+
+-- ---- an instruction that needs the units
+
+pub run_body-do_with_units-requires : goal.run_body-do_with_units-requires
+run_body-do_with_units-requires g t c κs within =
+    let it = (goal.at.run_body-do_with_units-requires g t c).After-from_leaf-instr in (
+      omega (arith, c.stretches.auto.levels),
+      (within, (c.run_stretch-stretch.ensures.over, rw (to_z-of_z w64 c.args.now (search rules)) (work g t it (sym c.is_own.ensures ∙ c.if-not-is_own.true) c.requires.runs))),
     )
 
-pub enter-returns-in_err-left-clause-forced : goal.enter-returns-in_err-left-clause-forced
-enter-returns-in_err-left-clause-forced g t c = c.do_with_units.ensures.forced ∙ c.loop-place.invariant.forced
-
-pub enter-returns-in_err-left-clause-leaves : goal.enter-returns-in_err-left-clause-leaves
-enter-returns-in_err-left-clause-leaves g t c =
-    let it = (goal.at.enter-returns-in_err-left-clause-leaves g t c).After-from_leaf-instr in
-    let back = b g t it in
+pub run_body-returns-in_err-left-clause-ends : goal.run_body-returns-in_err-left-clause-ends
+run_body-returns-in_err-left-clause-ends g t c =
+    let it = (goal.at.run_body-returns-in_err-left-clause-ends g t c).After-from_leaf-instr in
     let halt = c.in_err-left.field-0.0 in
     let returned = err_from_is_err_and c.from_residual.result c.from_residual.ensures.1 in
     let does = rw (to_z-of_z w64 c.args.now (search rules)) at c.in_err-left.ensures.does in
-    rw (returned.1, returned.2) (λ (e : Entered g t back).
-    left_faulted (before g t back).values c.args.number c.args.first (stop_of halt) (run_by e.said c.args.number c.args.first c.args.now (before g t back) c.args.limit)
-    (ends_run (turn g t it e) (stop_of halt) (same g t it e ∙ does (work g t it (sym c.is_own.ensures ∙ c.if-not-is_own.true) e)))
-    ∙ ap (λ x. faulted x) (unit_stays c.args.number halt.kind halt.line halt.unit c.in_err-left.ensures.unit))
+    rw (returned.1, returned.2) (λ (run : Begins g t (at g t it)).
+    ends_run (turn g t it run) (stop_of halt) (same g t it run ∙ does (work g t it (sym c.is_own.ensures ∙ c.if-not-is_own.true) run)))
 
-pub enter-loop-place-preserved-then-not-is_own : goal.enter-loop-place-preserved-then-not-is_own
-enter-loop-place-preserved-then-not-is_own g t c =
-    let it = (goal.at.enter-loop-place-preserved-then-not-is_own g t c).After-from_leaf-instr in
+pub run_body-stretches-preserved-then-not-is_own : goal.run_body-stretches-preserved-then-not-is_own
+run_body-stretches-preserved-then-not-is_own g t c =
+    let it = (goal.at.run_body-stretches-preserved-then-not-is_own g t c).After-from_leaf-instr in
     let new = (g.M.Memory.content c.args.layout.now c.do_with_units.new.memory).values in
     let does = rw (to_z-of_z w64 c.args.now (search rules)) at c.in_ok-left.ensures.does in
     record {
       over = c.do_with_units.ensures.over;
-      forced = c.do_with_units.ensures.forced ∙ c.loop-place.invariant.forced;
-      lower = c.do_with_units.ensures.rooms ∙ c.loop-place.invariant.lower;
-      charts = c.do_with_units.ensures.charts ∙ c.loop-place.invariant.charts;
-      room = c.do_with_units.ensures.room ∙ c.loop-place.invariant.room;
-      steps = omega (arith, c.in_ok-left.ensures.steps, c.loop-place.invariant.steps);
-      way = rw (to_z-of_z w64 c.args.now (search rules)) (λ (e : Entered g t (b g t it)).
-          (leads_on (turn g t it e) c.do_with_units.new.stack.0 new c.in_ok-left.left c.in_ok-left.ensures.steps
-          (same g t it e ∙ does (work g t it (sym c.is_own.ensures ∙ c.if-not-is_own.true) e))).onward);
+      forced = c.do_with_units.ensures.forced ∙ c.run_stretch-stretch.ensures.forced ∙ c.stretches.invariant.forced;
+      room = c.do_with_units.ensures.room ∙ c.run_stretch-stretch.ensures.room ∙ c.stretches.invariant.room;
+      rooms = c.do_with_units.ensures.rooms ∙ c.stretches.invariant.rooms;
+      charts = c.do_with_units.ensures.charts ∙ c.stretches.invariant.charts;
+      steps = omega (arith, c.in_ok-left.ensures.steps, (near g t it).0, c.stretches.invariant.steps);
+      way = rw (to_z-of_z w64 c.args.now (search rules)) (λ (run : Begins g t (at g t it)).
+          (leads_on (turn g t it run) c.do_with_units.new.stack.0 new c.in_ok-left.left c.in_ok-left.ensures.steps
+          (same g t it run ∙ does (work g t it (sym c.is_own.ensures ∙ c.if-not-is_own.true) run))).onward);
     }
+
+pub run_body-stretches-smaller-then-not-is_own : goal.run_body-stretches-smaller-then-not-is_own
+run_body-stretches-smaller-then-not-is_own g t c =
+    let it = (goal.at.run_body-stretches-smaller-then-not-is_own g t c).After-from_leaf-instr in
+    let inside : place g t (at g t it) < length (code g t (at g t it)) = omega (arith, here_in g t it, many_there c.args.first c.args.code.now) in
+    let behind = lighter_behind (length (code g t (at g t it))) (place g t (at g t it)) c.run_stretch-stretch.result.left c.in_ok-left.left inside c.in_ok-left.ensures.steps in
+    omega (arith, behind, (near g t it).1)
 
 -- ---- one that the machine does by itself
 
-pub enter-perform-to-requires-clause-over : goal.enter-perform-to-requires-clause-over
-enter-perform-to-requires-clause-over g t c = c.loop-place.invariant.over
+pub run_body-perform-to-requires-clause-few : goal.run_body-perform-to-requires-clause-few
+run_body-perform-to-requires-clause-few g t c = few_values g t (goal.at.run_body-perform-to-requires-clause-few g t c).After-from_leaf-instr
 
-pub enter-perform-to-requires-clause-few : goal.enter-perform-to-requires-clause-few
-enter-perform-to-requires-clause-few g t c = few_values g t (goal.at.enter-perform-to-requires-clause-few g t c).After-from_leaf-instr
+pub run_body-perform-to-requires-clause-ready : goal.run_body-perform-to-requires-clause-ready
+run_body-perform-to-requires-clause-ready g t c =
+    let it = (goal.at.run_body-perform-to-requires-clause-ready g t c).After-from_leaf-instr in
+    rw (c.run_stretch-stretch.ensures.room ∙ c.stretches.invariant.room) (finds (turn g t it c.requires.runs) (sym c.is_own.ensures ∙ c.if-not-is_own.false))
 
-pub enter-perform-to-requires-clause-ready : goal.enter-perform-to-requires-clause-ready
-enter-perform-to-requires-clause-ready g t c =
-    let it = (goal.at.enter-perform-to-requires-clause-ready g t c).After-from_leaf-instr in
-    rw c.loop-place.invariant.room (finds (turn g t it c.requires.may) (sym c.is_own.ensures ∙ c.if-not-is_own.false))
-
-module _ (g : Over) (t : ℕ) (c : enter-After-perform-to g t) where
-  abbrev at : enter-After-from_leaf-instr g t
-  at = (goal.at.enter-After-perform-to g t c).After-from_leaf-instr
+module _ (g : Over) (t : ℕ) (c : run_body-After-perform-to g t) where
+  abbrev on : run_body-After-from_leaf-instr g t
+  on = (goal.at.run_body-After-perform-to g t c).After-from_leaf-instr
 
   abbrev new : Content
   new = g.M.Memory.content c.args.layout.now c.perform-to.new.memory
@@ -258,75 +355,44 @@ module _ (g : Over) (t : ℕ) (c : enter-After-perform-to g t) where
   stays : Stays c.from_leaf-instr.result
   stays = sym c.is_own.ensures ∙ c.if-not-is_own.false
 
-  does : (e : Entered g t (b g t at))
-      → act (environment_with e.said c.args.now (before g t (b g t at)).forced) (room g t (b g t at)) c.from_leaf-instr.result (line g t at) c.loop-place.place c.loop-place.stack.0
-      (content g t at).values c.loop-place.left
-      ≡ moved c.perform-to.result (line g t at) c.loop-place.place c.perform-to.new.stack.0 new.values c.perform-to.new.left
-  does e =
-      let done = rw (to_z-of_z w64 c.args.now (search rules), c.loop-place.invariant.forced, c.loop-place.invariant.room) at c.perform-to.ensures.does in
-      acts_alike e.said c.args.now (before g t (b g t at)).forced (room g t (b g t at)) c.from_leaf-instr.result (line g t at) c.loop-place.place c.loop-place.stack.0 (content g t at).values
-      c.loop-place.left stays
-      ∙ done (line g t at) c.loop-place.place
+  does : (run : Begins g t (at g t on))
+      → act (environment_with run.said c.args.now (start g t (at g t on)).forced) c.args.stack.now.1 c.from_leaf-instr.result (line g t on) (place g t (at g t on))
+      c.run_stretch-stretch.new.stack.0 (content g t (at g t on)).values c.run_stretch-stretch.result.left
+      ≡ moved c.perform-to.result (line g t on) (place g t (at g t on)) c.perform-to.new.stack.0 new.values c.perform-to.new.left
+  does run =
+      let done = rw (to_z-of_z w64 c.args.now (search rules)) at c.perform-to.ensures.does in
+      same g t on run
+      ∙ acts_alike run.said c.args.now (content g t (at g t on)).forced c.run_stretch-stretch.new.stack.1 c.from_leaf-instr.result (line g t on) (place g t (at g t on))
+      c.run_stretch-stretch.new.stack.0 (content g t (at g t on)).values c.run_stretch-stretch.result.left stays
+      ∙ done (line g t on) (place g t (at g t on))
 
-  led : (e : Entered g t (b g t at)) (other : ℕ) → place_after c.perform-to.result c.loop-place.place ≡ Ok other
-      → Leads (environment_with e.said c.args.now (before g t (b g t at)).forced) (room g t (b g t at)) (code_from c.args.first (code g t at)) (end_of g t (b g t at) e) c.loop-place.place
-      c.loop-place.left other c.perform-to.new.stack.0 new.values c.perform-to.new.left
-  led e other after =
-      leads (turn g t at e) stays c.perform-to.result other c.perform-to.new.stack.0 new.values c.perform-to.new.left (few g t at) (does e) after
+  led : (run : Begins g t (at g t on)) (other : ℕ) → place_after c.perform-to.result (place g t (at g t on)) ≡ Ok other
+      → Leads (environment_with run.said c.args.now (start g t (at g t on)).forced) c.args.stack.now.1 (code g t (at g t on)) run.outcome (place g t (at g t on))
+      c.run_stretch-stretch.result.left other c.perform-to.new.stack.0 new.values c.perform-to.new.left
+  led run other after =
+      leads (turn g t on run) stays c.perform-to.result other c.perform-to.new.stack.0 new.values c.perform-to.new.left (small g t on) (does run) after
 
-pub enter-loop-place-smaller : goal.enter-loop-place-smaller
-enter-loop-place-smaller g t c =
-    let it = (goal.at.enter-loop-place-smaller g t c).After-perform-to in
-    (led g t it c.requires.may c.in-Ok.other (sym c.place_after.ensures ∙ c.in-Ok.is)).lighter
+pub run_body-stretches-smaller : goal.run_body-stretches-smaller
+run_body-stretches-smaller g t c =
+    let it = (goal.at.run_body-stretches-smaller g t c).After-perform-to in
+    omega (arith, (led g t it c.requires.runs c.in-Ok.other (sym c.place_after.ensures ∙ c.in-Ok.is)).lighter, (near g t (on g t it)).1)
 
-pub enter-loop-place-preserved : goal.enter-loop-place-preserved
-enter-loop-place-preserved g t c =
-    let it = (goal.at.enter-loop-place-preserved g t c).After-perform-to in
-    let fewer = (led g t it c.requires.may c.in-Ok.other (sym c.place_after.ensures ∙ c.in-Ok.is)).steps in
+pub run_body-stretches-preserved : goal.run_body-stretches-preserved
+run_body-stretches-preserved g t c =
+    let it = (goal.at.run_body-stretches-preserved g t c).After-perform-to in
+    let fewer = (led g t it c.requires.runs c.in-Ok.other (sym c.place_after.ensures ∙ c.in-Ok.is)).steps in
     record {
       over = c.perform-to.ensures.over;
-      forced = c.perform-to.ensures.forced ∙ c.loop-place.invariant.forced;
-      lower = c.loop-place.invariant.lower;
-      charts = c.loop-place.invariant.charts;
-      room = c.perform-to.ensures.room ∙ c.loop-place.invariant.room;
-      steps = omega (arith, c.loop-place.invariant.steps, fewer);
-      way = rw (to_z-of_z w64 c.args.now (search rules)) (λ (e : Entered g t (b g t (at g t it))). (led g t it e c.in-Ok.other (sym c.place_after.ensures ∙ c.in-Ok.is)).onward);
+      forced = c.perform-to.ensures.forced ∙ c.run_stretch-stretch.ensures.forced ∙ c.stretches.invariant.forced;
+      room = c.perform-to.ensures.room ∙ c.run_stretch-stretch.ensures.room ∙ c.stretches.invariant.room;
+      rooms = c.stretches.invariant.rooms;
+      charts = c.stretches.invariant.charts;
+      steps = omega (arith, fewer, (near g t (on g t it)).0, c.stretches.invariant.steps);
+      way = rw (to_z-of_z w64 c.args.now (search rules)) (λ (run : Begins g t (at g t (on g t it))). (led g t it run c.in-Ok.other (sym c.place_after.ensures ∙ c.in-Ok.is)).onward);
     }
 
-pub enter-returns-in-Err-clause-forced : goal.enter-returns-in-Err-clause-forced
-enter-returns-in-Err-clause-forced g t c = c.perform-to.ensures.forced ∙ c.loop-place.invariant.forced
-
-pub enter-returns-in-Err-clause-leaves : goal.enter-returns-in-Err-clause-leaves
-enter-returns-in-Err-clause-leaves g t c =
-    let it = (goal.at.enter-returns-in-Err-clause-leaves g t c).After-perform-to in
-    let l = at g t it in
-    let back = b g t l in
-    λ (e : Entered g t back).
-    left_faulted (before g t back).values c.args.number c.args.first (stop c.in-Err.kind (line g t l)) (run_by e.said c.args.number c.args.first c.args.now (before g t back) c.args.limit)
-    (stops_run (turn g t l e) c.perform-to.result c.in-Err.kind c.perform-to.new.stack.0 (new g t it).values c.perform-to.new.left (does g t it e) (sym c.place_after.ensures ∙ c.in-Err.is))
-    ∙ ap (λ n. faulted (stop_of (record { kind = c.in-Err.kind; line = n; unit = Some c.args.number })))
-    (sym (c.line-line.ensures ∙ ap (λ lines. (line_at lines c.loop-place.place).line) c.code-in-Err.ensures))
-
--- ---- behind the run
-
-pub enter-returns-clause-over : goal.enter-returns-clause-over
-enter-returns-clause-over g t c = c.loop-place.invariant.over
-
-pub enter-returns-clause-forced : goal.enter-returns-clause-forced
-enter-returns-clause-forced g t c = c.loop-place.invariant.forced
-
-pub enter-returns-clause-leaves : goal.enter-returns-clause-leaves
-enter-returns-clause-leaves g t c =
-    let back = (goal.at.enter-returns-clause-leaves g t c).After-clear in
-    let code = (block g t back).code in
-    let content = g.M.Memory.content c.args.layout.now c.loop-place.memory in
-    let instrs : c.instrs-instrs.result.now ≡ instrs_of code = c.instrs-instrs.ensures ∙ ap instrs_of c.code.ensures in
-    let past = beyond_code code c.instrs-instrs.result.now c.loop-place.place instrs (omega (arith, c.loop-place-test.false)) in
-    let way = rw (to_z-of_z w64 c.args.now (search rules)) at c.loop-place.invariant.way in
-    λ (e : Entered g t back).
-    left_done (before g t back).values content.values c.args.number c.args.first c.loop-place.left (run_by e.said c.args.number c.args.first c.args.now (before g t back) c.args.limit)
-    (way_ends (environment_with e.said c.args.now (before g t back).forced) (room g t back) (code_from c.args.first code) (end_of g t back e) c.loop-place.place c.loop-place.stack.0 content.values
-    c.loop-place.left (way e) (omega (arith, past, many_there c.args.first code)))
-
-pub enter-returns-clause-steps : goal.enter-returns-clause-steps
-enter-returns-clause-steps g t c = c.loop-place.invariant.steps
+pub run_body-returns-in-Err-clause-ends : goal.run_body-returns-in-Err-clause-ends
+run_body-returns-in-Err-clause-ends g t c =
+    let it = (goal.at.run_body-returns-in-Err-clause-ends g t c).After-perform-to in
+    λ (run : Begins g t (at g t (on g t it))). rw c.halt_at-in-Err.ensures
+    (stops_run (turn g t (on g t it) run) c.perform-to.result c.in-Err.kind c.perform-to.new.stack.0 (new g t it).values c.perform-to.new.left (does g t it run) (sym c.place_after.ensures ∙ c.in-Err.is))
