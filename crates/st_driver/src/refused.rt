@@ -15,7 +15,7 @@ pub fn diagnosis(
     explain_text(alloc, file, text, main)
 }
 
-/// What a person is told of such a text: of its first fault, or, where all are asked for, of the first one of each statement too.
+/// What a person is told of such a text: of its first fault, or, where all are asked for, of all.
 pub fn told_of(
     alloc: Global,
     file: &str,

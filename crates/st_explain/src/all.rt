@@ -1,147 +1,55 @@
-//! The faults of a text that is in the grammar, but the first.
+//! The faults of a text that is in the grammar, one behind the other.
 
-use st_check_expressions::check_expression;
-use st_check_statements::check_body;
-use st_faults::{Fault, FirstFault};
-use st_scopes::{Scope, Tables};
-use st_tree::tree::{Body, ChartElement, ConditionalPart, Expression, IfStatement, Statement};
-use st_types::{Due, UnitKind};
-use st_values::Elem;
+use crate::finding::{Finding, first_finding};
+use st_faults::Fault;
+use st_renumbered::{Turn, turned_units};
+use st_scopes::Tables;
+use st_tree::tree::Unit;
 use std::alloc::{AllocError, Global};
-use std::slice::from_ref;
 
 /// The most faults that are found.
 pub const MAX_FAULTS: usize = 100;
 
-/// The first fault of each statement and of each condition of IF and of a transition, in the order of the text, at most a hundred. A loop
-/// and a CASE are one statement.
-pub fn statement_faults(alloc: Global, tables: &Tables<'_>) -> Result<Vec<Fault>, AllocError> {
+/// The faults of a text that is these units, from the first one on: of each token at which a rule is broken the first rule, in the order
+/// of the text, at most a hundred.
+pub fn faults_from(
+    alloc: Global,
+    units: &[Unit],
+    main: &[u8],
+    first: Fault,
+) -> Result<Vec<Fault>, AllocError> {
     let mut faults = Vec::new(alloc);
-    for (number, unit) in tables.units().iter().enumerate() {
-        if number < tables.len() {
-            let scope = tables.scope(number);
-            match unit.kind {
-                UnitKind::Type(_) => {}
-                UnitKind::Function(function) => {
-                    in_statements(alloc, &scope, function.statements.as_slice(), &mut faults)?;
-                }
-                UnitKind::Block(pou) | UnitKind::Program(pou) => {
-                    in_body(alloc, &scope, &pou.body, &mut faults)?;
-                }
-            }
-        }
+    let mut next = Some(first);
+    for _ in 0..MAX_FAULTS {
+        let Some(fault) = next else {
+            return Ok(faults);
+        };
+        faults.push(fault)?;
+        next = fault_behind(alloc, units, main, fault)?;
     }
     Ok(faults)
 }
 
-/// Adds the fault that was found, where there is room.
-fn add(first: FirstFault, faults: &mut Vec<Fault>) -> Result<(), AllocError> {
-    if let Some(fault) = first.get()
-        && faults.len() < MAX_FAULTS
-    {
-        faults.push(fault)?;
+/// The first fault at a token behind the one of this fault.
+///
+/// The tokens are numbered from there on, those before them last, and what the rules find first then is this fault, or one that was found
+/// before.
+fn fault_behind(
+    alloc: Global,
+    units: &[Unit],
+    main: &[u8],
+    fault: Fault,
+) -> Result<Option<Fault>, AllocError> {
+    let start = fault.position.number.saturating_add(1);
+    let turn = Turn { alloc, start };
+    let turned = turned_units(turn, units)?;
+    let tables = Tables::new(alloc, &turned)?;
+    let Finding::Fault(mut found) = first_finding(alloc, &tables, main)? else {
+        return Ok(None);
+    };
+    found.position.number = turn.number_before(found.position.number);
+    if found.position.number < start {
+        return Ok(None);
     }
-    Ok(())
-}
-
-/// Adds the first fault of each statement of a body.
-fn in_body(
-    alloc: Global,
-    scope: &Scope<'_>,
-    body: &Body,
-    faults: &mut Vec<Fault>,
-) -> Result<(), AllocError> {
-    match body {
-        Body::Statements(statements) => in_statements(alloc, scope, statements.as_slice(), faults),
-        Body::Chart(elements) => in_chart(alloc, scope, elements.as_slice(), faults),
-    }
-}
-
-/// Adds the first fault of each statement and each condition of a chart.
-fn in_chart(
-    alloc: Global,
-    scope: &Scope<'_>,
-    elements: &[ChartElement],
-    faults: &mut Vec<Fault>,
-) -> Result<(), AllocError> {
-    for element in elements {
-        match element {
-            ChartElement::Step(_) => {}
-            ChartElement::Transition(transition) => {
-                in_condition(alloc, scope, &transition.condition, faults)?;
-            }
-            ChartElement::Action(action) => {
-                in_statements(alloc, scope, action.statements.as_slice(), faults)?;
-            }
-        }
-    }
-    Ok(())
-}
-
-/// Adds the first fault of a condition.
-fn in_condition(
-    alloc: Global,
-    scope: &Scope<'_>,
-    condition: &Expression,
-    faults: &mut Vec<Fault>,
-) -> Result<(), AllocError> {
-    let mut first = FirstFault::new();
-    check_expression(alloc, scope, condition, Due::Type(Elem::Bool), &mut first)?;
-    add(first, faults)
-}
-
-/// Adds the first fault of each statement.
-#[cycle(all)]
-fn in_statements(
-    alloc: Global,
-    scope: &Scope<'_>,
-    statements: &[Statement],
-    faults: &mut Vec<Fault>,
-) -> Result<(), AllocError> {
-    'statements: for statement in statements {
-        in_statement(alloc, scope, statement, faults)?;
-    }
-    Ok(())
-}
-
-/// Adds the first fault of a statement, or of those in it.
-#[cycle(all)]
-fn in_statement(
-    alloc: Global,
-    scope: &Scope<'_>,
-    statement: &Statement,
-    faults: &mut Vec<Fault>,
-) -> Result<(), AllocError> {
-    if let Statement::If(found) = statement {
-        return in_if(alloc, scope, found.get(), faults);
-    }
-    let mut first = FirstFault::new();
-    check_body(alloc, scope, from_ref(statement), &mut first)?;
-    add(first, faults)
-}
-
-/// Adds the first fault of each condition and statement of IF.
-#[cycle(all)]
-fn in_if(
-    alloc: Global,
-    scope: &Scope<'_>,
-    statement: &IfStatement,
-    faults: &mut Vec<Fault>,
-) -> Result<(), AllocError> {
-    'parts: for part in statement.parts.as_slice() {
-        in_conditional(alloc, scope, part, faults)?;
-    }
-    in_statements(alloc, scope, statement.otherwise.as_slice(), faults)
-}
-
-/// Adds the first fault of a condition, and of each statement behind it.
-#[cycle(all)]
-fn in_conditional(
-    alloc: Global,
-    scope: &Scope<'_>,
-    part: &ConditionalPart,
-    faults: &mut Vec<Fault>,
-) -> Result<(), AllocError> {
-    in_condition(alloc, scope, &part.condition, faults)?;
-    in_statements(alloc, scope, part.statements.as_slice(), faults)
+    Ok(Some(found))
 }

@@ -1,11 +1,15 @@
 //! The message on a text.
+ghost use Rattle.std.specs.Prelude.{◌≡◌, OnOk};
+ghost use Rattle.std.specs.String.{string_bytes};
+ghost use Rattle.st_explain.specs.Places.{code_of, start_at};
+ghost use Rattle.st_messages.specs.Places.{IsTold};
 
-use crate::all::statement_faults;
+use crate::all::faults_from;
 use crate::finding::{Finding, first_finding};
 use st_faults::Fault;
-use st_messages::{Code, Span, push_diagnosis};
+use st_messages::{Code, Lexed, Span, Words, push_diagnosis};
 use st_positions::{Lexeme, lexemes};
-use st_rule_messages::{Lexed, explain_no_program, explain_rule};
+use st_rule_messages::{explain_no_program, explain_rule, explain_size};
 use st_scopes::Tables;
 use st_syntax::parse;
 use st_syntax_messages::explain_syntax;
@@ -31,8 +35,8 @@ pub fn explain_text(
     }
 }
 
-/// The messages on a text of this file, as `explain_text` gives the first; where the text is in the grammar, those on further faults follow: of
-/// each statement that has one the first. They stand in the order of the text, and are at most 101.
+/// The messages on all faults of a text of this file, in the order of the text, at most a hundred. The first one is that of
+/// `explain_text`. Where the text isn't in the grammar, or is no such program, or one that is too large, it is the only one.
 pub fn explain_all(
     alloc: Global,
     file: &str,
@@ -40,34 +44,32 @@ pub fn explain_all(
     main: &[u8],
 ) -> Result<String, AllocError> {
     match parse(alloc, text) {
-        Ok(units) => explain_further(alloc, file, text, &units, main),
+        Ok(units) => explain_each(alloc, file, text, &units, main),
         Err(_) => explain_text(alloc, file, text, main),
     }
 }
 
-/// The messages on the faults of a text that is these units.
-fn explain_further(
+/// The messages on all faults of a text that is these units.
+fn explain_each(
     alloc: Global,
     file: &str,
     text: &[u8],
     units: &[Unit],
     main: &[u8],
 ) -> Result<String, AllocError> {
-    let mut message = explain_units(alloc, file, text, units, main)?;
     let tables = Tables::new(alloc, units)?;
     let Finding::Fault(first) = first_finding(alloc, &tables, main)? else {
-        return Ok(message);
+        return explain_units(alloc, file, text, units, main);
     };
     let lexemes = lexemes(alloc, text)?;
     let lexed = Lexed {
         text,
         lexemes: &lexemes,
     };
-    let faults = statement_faults(alloc, &tables)?;
+    let mut message = String::new(alloc);
+    let faults = faults_from(alloc, units, main, first)?;
     for fault in &faults {
-        if first.is_before(*fault) {
-            push_fault(alloc, &mut message, file, lexed, &tables, *fault)?;
-        }
+        push_fault(alloc, &mut message, file, lexed, &tables, *fault)?;
     }
     Ok(message)
 }
@@ -107,28 +109,35 @@ fn explain_units(
     main: &[u8],
 ) -> Result<String, AllocError> {
     let tables = Tables::new(alloc, units)?;
+    let mut message = String::new(alloc);
     match first_finding(alloc, &tables, main)? {
-        Finding::Nothing => Ok(String::new(alloc)),
+        Finding::Nothing => {}
         Finding::NoProgram => {
             let words = explain_no_program(alloc, &tables, main)?;
-            let mut message = String::new(alloc);
             write!(message, "{file}:1:1: error: C10: ")?;
             message.push_str(words.title.as_str())?;
             message.push('\n')?;
             message.push_str(words.more.as_str())?;
-            Ok(message)
+        }
+        Finding::TooLarge(fault, size) => {
+            let lexemes = lexemes(alloc, text)?;
+            let lexed = Lexed {
+                text,
+                lexemes: &lexemes,
+            };
+            let words = explain_size(alloc, lexed.spelling(fault.position.number), size)?;
+            push_words(alloc, &mut message, file, lexed, fault, &words)?;
         }
         Finding::Fault(fault) => {
             let lexemes = lexemes(alloc, text)?;
-            let mut message = String::new(alloc);
             let lexed = Lexed {
                 text,
                 lexemes: &lexemes,
             };
             push_fault(alloc, &mut message, file, lexed, &tables, fault)?;
-            Ok(message)
         }
     }
+    Ok(message)
 }
 
 /// Puts the message on a rule that is broken at a token at the end of a message.
@@ -141,16 +150,34 @@ fn push_fault(
     fault: Fault,
 ) -> Result<(), AllocError> {
     let words = explain_rule(alloc, lexed, tables, fault)?;
+    push_words(alloc, message, file, lexed, fault, &words)
+}
+
+/// Puts what is said of a rule that is broken at a token at the end of a message.
+fn push_words(
+    alloc: Global,
+    message: &mut String,
+    file: &str,
+    lexed: Lexed<'_>,
+    fault: Fault,
+    words: &Words,
+) -> Result<(), AllocError>
+    ensures told { OnOk result (IsTold (string_bytes message.old) (string_bytes message.new)
+        file.now lexed.entry.text.now (start_at lexed.entry.lexemes.now fault.position.number)
+        (code_of fault.rule) (string_bytes words.now.title)) }
+{
     let span = span_at(lexed.lexemes, fault.position.number as usize);
     let code = Code {
         letter: 'C',
         number: fault.rule.number(),
     };
-    push_diagnosis(alloc, message, file, lexed.text, span, code, &words)
+    push_diagnosis(alloc, message, file, lexed.text, span, code, words)
 }
 
 /// The bytes of the token of this number.
-fn span_at(lexemes: &[Lexeme], number: usize) -> Span {
+fn span_at(lexemes: &[Lexeme], number: usize) -> Span
+    ensures { result.start ≡ start_at lexemes.now number }
+{
     match lexemes.get(number) {
         Some(lexeme) => Span {
             start: lexeme.start,

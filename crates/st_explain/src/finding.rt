@@ -1,4 +1,4 @@
-//! The fault of a text that is in the grammar.
+//! What the rules find in a text that is in the grammar.
 ghost use Rattle.st_order.specs.Graphs.{IsOrder};
 ghost use Rattle.st_references.specs.References.{graph_of};
 ghost use Rattle.st_types.specs.Names.{units_of};
@@ -7,9 +7,10 @@ use st_check_units::check_units;
 use st_faults::{Fault, FirstFault, Rule};
 use st_names::is_same_name;
 use st_order::{OrderFault, order};
-use st_program_sizes::is_too_large;
+use st_program_sizes::{is_too_large, type_sizes};
 use st_references::references;
 use st_scopes::Tables;
+use st_sizes::Size;
 use st_types::{NamedUnit, UnitKind};
 use std::alloc::{AllocError, Global};
 
@@ -20,6 +21,8 @@ pub enum Finding {
     Nothing,
     /// A rule is broken at a token.
     Fault(Fault),
+    /// The program passes a limit at its name, and has this size.
+    TooLarge(Fault, Size),
     /// There is no program of the name.
     NoProgram,
 }
@@ -74,12 +77,14 @@ fn size_of(
     if number >= tables.len() {
         return Ok(Finding::NoProgram);
     }
-    if is_too_large(alloc, tables, order, number)? {
-        let position = tables.unit(number).name.position;
-        let rule = Rule::LimitPassed;
-        return Ok(Finding::Fault(Fault { position, rule }));
+    if !is_too_large(alloc, tables, order, number)? {
+        return Ok(Finding::Nothing);
     }
-    Ok(Finding::Nothing)
+    let sizes = type_sizes(alloc, tables, order)?;
+    let size = sizes.get(number).copied().unwrap_or(Size::none());
+    let position = tables.unit(number).name.position;
+    let rule = Rule::LimitPassed;
+    Ok(Finding::TooLarge(Fault { position, rule }, size))
 }
 
 /// The number of the first program of this name, ignoring case.

@@ -1,7 +1,7 @@
 //! The lines of a message.
-ghost use Rattle.std.specs.Prelude.{◌≡◌, ◌++◌, OnOk};
+ghost use Rattle.std.specs.Prelude.{◌≡◌, ◌++◌, [], OnOk};
 ghost use Rattle.std.specs.String.{string_bytes};
-ghost use Rattle.st_messages.specs.Places.{place_text};
+ghost use Rattle.st_messages.specs.Places.{IsTold, code_text, heading, help_line, note_line, place_text};
 
 use crate::shown::push_shown;
 use crate::source::{Span, push_source};
@@ -19,7 +19,10 @@ pub struct Words {
 
 impl Words {
     /// Nothing is said yet.
-    pub fn new(alloc: Global) -> Words {
+    pub fn new(alloc: Global) -> Words
+        ensures title { string_bytes result.title ≡ [] }
+        ensures more { string_bytes result.more ≡ [] }
+    {
         Words {
             title: String::new(alloc),
             more: String::new(alloc),
@@ -27,12 +30,20 @@ impl Words {
     }
 
     /// Says more in a line of its own.
-    pub fn note(&mut self, note: &str) -> Result<(), AllocError> {
+    pub fn note(&mut self, note: &str) -> Result<(), AllocError>
+        ensures title { self.new.title ≡ self.old.title }
+        ensures more { OnOk result (string_bytes self.new.more ≡
+            string_bytes self.old.more ++ note_line note.now) }
+    {
         push_note(&mut self.more, note)
     }
 
     /// Says what to do, in a line of its own.
-    pub fn help(&mut self, help: &str) -> Result<(), AllocError> {
+    pub fn help(&mut self, help: &str) -> Result<(), AllocError>
+        ensures title { self.new.title ≡ self.old.title }
+        ensures more { OnOk result (string_bytes self.new.more ≡
+            string_bytes self.old.more ++ help_line help.now) }
+    {
         push_help(&mut self.more, help)
     }
 }
@@ -47,13 +58,18 @@ pub fn push_diagnosis(
     span: Span,
     code: Code,
     words: &Words,
-) -> Result<(), AllocError> {
+) -> Result<(), AllocError>
+    ensures told { OnOk result (IsTold (string_bytes message.old) (string_bytes message.new)
+        file.now text.now span.start code (string_bytes words.now.title)) }
+{
+    let mut below = String::new(alloc);
+    push_source(alloc, &mut below, text, span)?;
+    below.push_str(words.more.as_str())?;
     let (before, _) = text.split_at(span.start.min(text.len()));
     push_heading(message, file, place_after(before), code)?;
     message.push_str(words.title.as_str())?;
     message.push('\n')?;
-    push_source(alloc, message, text, span)?;
-    message.push_str(words.more.as_str())
+    message.push_str(below.as_str())
 }
 
 /// Puts bytes at the end of a message as they can be shown, between two backticks.
@@ -73,7 +89,9 @@ pub struct Code {
 }
 
 /// Puts a number behind its letter at the end of a message.
-pub fn push_code(message: &mut String, code: Code) -> Result<(), AllocError> {
+pub fn push_code(message: &mut String, code: Code) -> Result<(), AllocError>
+    ensures { OnOk result (string_bytes message.new ≡ string_bytes message.old ++ code_text code) }
+{
     let number = code.number;
     message.push(code.letter)?;
     write!(message, "{number}")
@@ -85,7 +103,10 @@ pub fn push_heading(
     file: &str,
     place: Place,
     code: Code,
-) -> Result<(), AllocError> {
+) -> Result<(), AllocError>
+    ensures { OnOk result (string_bytes message.new ≡
+        string_bytes message.old ++ heading file.now place code) }
+{
     push_place(message, file, place)?;
     push_code(message, code)?;
     message.push_str(": ")
@@ -93,7 +114,8 @@ pub fn push_heading(
 
 /// Puts `FILE:LINE:COLUMN: error: ` at the end of a message, as editors find it.
 fn push_place(message: &mut String, file: &str, place: Place) -> Result<(), AllocError>
-    ensures { OnOk result (string_bytes message.new ≡ string_bytes message.old ++ place_text file.now place) }
+    ensures { OnOk result (string_bytes message.new ≡
+        string_bytes message.old ++ place_text file.now place) }
 {
     let line = place.line;
     let column = place.column;
@@ -101,11 +123,17 @@ fn push_place(message: &mut String, file: &str, place: Place) -> Result<(), Allo
 }
 
 /// Puts a line that says more at the end of a message.
-pub fn push_note(message: &mut String, note: &str) -> Result<(), AllocError> {
+pub fn push_note(message: &mut String, note: &str) -> Result<(), AllocError>
+    ensures { OnOk result (string_bytes message.new ≡
+        string_bytes message.old ++ note_line note.now) }
+{
     write!(message, "  note: {note}\n")
 }
 
 /// Puts a line that says what to do at the end of a message.
-pub fn push_help(message: &mut String, help: &str) -> Result<(), AllocError> {
+pub fn push_help(message: &mut String, help: &str) -> Result<(), AllocError>
+    ensures { OnOk result (string_bytes message.new ≡
+        string_bytes message.old ++ help_line help.now) }
+{
     write!(message, "  help: {help}\n")
 }

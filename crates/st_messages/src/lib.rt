@@ -3,6 +3,7 @@
 #![tactic(auto)]
 
 mod form;
+mod lexed;
 mod nearest;
 mod shown;
 mod source;
@@ -10,6 +11,7 @@ mod source;
 pub use form::{
     Code, Words, push_code, push_diagnosis, push_heading, push_help, push_note, push_quoted,
 };
+pub use lexed::Lexed;
 pub use nearest::Nearest;
 pub use shown::push_shown;
 pub use source::{Span, push_line, push_source};

@@ -1,11 +1,10 @@
 //! What is said of calls that don't fit what they call, and of EXIT.
 
-use crate::lexed::Lexed;
 use crate::names::{offer_pins, say_members, say_nearest, say_pins};
-use crate::site::Site;
 use st_check_expressions::count_positionals;
-use st_messages::{Nearest, Words, push_quoted, push_shown};
+use st_messages::{Lexed, Nearest, Words, push_quoted, push_shown};
 use st_scopes::{Scope, Tables};
+use st_sites::Site;
 use st_tree::tree::{Argument, Call, Expression, Identifier, VarKind};
 use st_types::{Base, Callee, Purpose, Signature, StandardBlock, StandardFunction, UnitKind};
 use std::alloc::{AllocError, Global};

@@ -1,9 +1,8 @@
 //! What is said of malformed charts.
 
-use crate::lexed::Lexed;
 use crate::names::say_nearest;
-use crate::site::Site;
-use st_messages::{Nearest, Words, push_quoted};
+use st_messages::{Lexed, Nearest, Words, push_quoted};
+use st_sites::Site;
 use st_tree::tree::{Association, Body, ChartElement};
 use st_types::{NamedUnit, UnitKind};
 use std::alloc::{AllocError, Global};

@@ -1,20 +1,13 @@
-//! Says which rule of the language a text breaks and how: which types are expected and found, which names are near, what an instance takes.
+//! Says which rule of the language a text breaks and how: which names are near, what an instance takes, which units lead back to one,
+//! which limit is passed.
 #![tactic(auto)]
 
-mod assigned;
 mod calls;
 mod charts;
-mod due;
-mod expressions;
-mod lexed;
-mod literals;
+mod cycles;
+mod limits;
 mod names;
-mod profile;
 mod rules;
-mod site;
-mod statements;
-mod types;
-mod units;
 
-pub use lexed::Lexed;
+pub use limits::explain_size;
 pub use rules::{explain_no_program, explain_rule};

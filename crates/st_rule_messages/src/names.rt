@@ -1,11 +1,9 @@
 //! What is said of a name that isn't there, or is there already.
 
-use crate::due::reached;
-use crate::lexed::Lexed;
-use crate::profile::{FUNCTION_NAMES, TYPE_NAMES, function_left_out, type_left_out};
-use crate::site::Site;
-use st_messages::{Nearest, Words, push_quoted, push_shown};
+use st_foreign::{FUNCTION_NAMES, TYPE_NAMES, function_left_out, type_left_out};
+use st_messages::{Lexed, Nearest, Words, push_quoted, push_shown};
 use st_scopes::{Scope, Tables};
+use st_sites::{Site, reached};
 use st_tree::tree::{Body, ChartElement, Expression, VarKind, Variable};
 use st_types::{Base, Purpose, StandardBlock, UnitKind, standard_of};
 use std::alloc::{AllocError, Global};

@@ -1,17 +1,15 @@
 //! What is said of a rule that is broken.
 
-use crate::assigned::explain_assigned;
 use crate::calls::explain_call;
 use crate::charts::explain_chart;
-use crate::lexed::Lexed;
-use crate::literals::explain_range;
+use crate::cycles::explain_recursion;
+use crate::limits::explain_limit;
 use crate::names::{explain_repeated, explain_unknown};
-use crate::site::Site;
-use crate::types::explain_type;
-use crate::units::{in_unit, unit_at};
 use st_faults::{Fault, Rule};
-use st_messages::{Nearest, Words, push_quoted, push_shown};
+use st_messages::{Lexed, Nearest, Words, push_quoted, push_shown};
 use st_scopes::Tables;
+use st_sites::{in_unit, unit_at};
+use st_type_messages::{explain_assigned, explain_range, explain_type};
 use st_types::UnitKind;
 use std::alloc::{AllocError, Global};
 
@@ -45,7 +43,7 @@ pub fn explain_rule(
                 Rule::MalformedChart => {
                     explain_chart(alloc, &mut words, lexed, unit, at, site)?;
                 }
-                Rule::Recursion => explain_recursion(&mut words, lexed, at)?,
+                Rule::Recursion => explain_recursion(alloc, &mut words, tables, number)?,
                 Rule::LimitPassed => explain_limit(&mut words, lexed, number, at)?,
                 Rule::NoProgram => {}
             }
@@ -72,45 +70,6 @@ fn plain_title(rule: Rule) -> &'static str {
         Rule::LimitPassed => "a limit is passed",
         Rule::NoProgram => "there is no program of this name",
     }
-}
-
-/// Says that a unit contains or calls itself.
-fn explain_recursion(words: &mut Words, lexed: Lexed<'_>, at: u32) -> Result<(), AllocError> {
-    push_quoted(&mut words.title, lexed.spelling(at))?;
-    words
-        .title
-        .push_str(" contains or calls itself, directly or through others")?;
-    words.help(
-        "take out the call or the member that leads back to it; a loop often does what the call was to do",
-    )
-}
-
-/// Says which limit is passed at the name of a unit.
-fn explain_limit(
-    words: &mut Words,
-    lexed: Lexed<'_>,
-    number: usize,
-    at: u32,
-) -> Result<(), AllocError> {
-    let name = lexed.spelling(at);
-    if name.len() > 128 {
-        words.title.push_str(
-            "the name of a type, function, block or program has at most 128 bytes",
-        )?;
-        return words.help("shorten it");
-    }
-    if number >= 1000 {
-        words.title.push_str(
-            "this is the 1,001st type, function, block or program, and a text has at most 1,000",
-        )?;
-        return words.help("leave out what isn't used");
-    }
-    push_quoted(&mut words.title, name)?;
-    words.title.push_str(" is too large")?;
-    words.note(
-        "a program has at most 65,536 single variables, with 524,288 bytes of values, and paths of at most 255 bytes",
-    )?;
-    words.help("make arrays smaller, or shorten names")
 }
 
 /// What is said of a text that breaks no rule and has no program of a name.

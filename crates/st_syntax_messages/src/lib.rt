@@ -2,7 +2,6 @@
 #![tactic(auto)]
 
 mod characters;
-mod foreign;
 mod located;
 mod open;
 mod probe;

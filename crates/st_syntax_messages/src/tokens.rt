@@ -1,10 +1,10 @@
 //! What is said of a token that the grammar doesn't have where it stands.
 
 use crate::characters::is_left_out;
-use crate::foreign::{Row, left_out, other_word};
 use crate::open::{Closing, Open, closes, open_before, written};
 use crate::probe::{MAX_PROBED_BYTES, is_allowed, push_allowed};
 use crate::reading::Reading;
+use st_foreign::{Row, left_out, other_word};
 use st_messages::{Words, push_quoted, push_shown};
 use st_tokens::{Keyword, Kind, Symbol};
 use std::alloc::{AllocError, Global};

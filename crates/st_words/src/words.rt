@@ -47,7 +47,7 @@ pub struct Order<'a> {
 pub struct Manner {
     /// Nothing of what is refused: `--quiet`.
     pub quiet: bool,
-    /// The first fault of each statement too, and not that of the text alone: `--all`, which `check` takes.
+    /// All faults of a text, at most a hundred, and not the first alone: `--all`, which `check` takes.
     pub all: bool,
 }
 
@@ -168,7 +168,7 @@ fn check_command<'a>(alloc: Global) -> Result<Command<'a>, AllocError>
 {
     let about = "Say whether the program is accepted, or why not.";
     file_command(alloc, "check", about)?.arg(flag(alloc, "all").help(
-        "Tell the first fault of each statement too",
+        "Tell all faults of the text, at most 100",
     ))
 }
 

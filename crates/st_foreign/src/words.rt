@@ -1,4 +1,6 @@
 //! Words and symbols that other editions of the standard and other languages have, and reserved words that this profile leaves out.
+ghost use Rattle.std.specs.Prelude.{◌≡◌, map, option_map};
+ghost use Rattle.st_foreign.specs.Tables.{left_out, other_word, row_of};
 
 /// A word in upper case, what is wrong with it, and what to do.
 pub type Row = (&'static [u8], &'static str, &'static str);
@@ -154,19 +156,27 @@ static OTHERS: [Row; 20] = [
     ),
 ];
 
-/// The row of a word in a table.
-fn row_of(rows: &[Row], word: &[u8]) -> Option<Row> {
-    rows.iter()
-        .find(|row| word.eq_ignore_ascii_case(row.0))
-        .copied()
+/// The row of a word in a table: the first one, ignoring case.
+fn row_of(rows: &[Row], word: &[u8]) -> Option<Row>
+    ensures { option_map (λ row. (row.0.now, row.1.now, row.2.now)) result ≡
+        row_of (map (λ row. (row.0.now, row.1.now, row.2.now)) rows.now) word.now }
+{
+    let row = rows.iter().find(|row| word.eq_ignore_ascii_case(row.0))?;
+    Some(*row)
 }
 
 /// What is said of a reserved word that this profile leaves out.
-pub fn left_out(word: &[u8]) -> Option<Row> {
+#[tactic(auto, unfolding(crate::specs::Tables::left_out))]
+pub fn left_out(word: &[u8]) -> Option<Row>
+    ensures { option_map (λ row. (row.0.now, row.1.now, row.2.now)) result ≡ left_out word.now }
+{
     row_of(&LEFT_OUT, word)
 }
 
 /// What is said of a word of another language or edition.
-pub fn other_word(word: &[u8]) -> Option<Row> {
+#[tactic(auto, unfolding(crate::specs::Tables::other_word))]
+pub fn other_word(word: &[u8]) -> Option<Row>
+    ensures { option_map (λ row. (row.0.now, row.1.now, row.2.now)) result ≡ other_word word.now }
+{
     row_of(&OTHERS, word)
 }

@@ -1,4 +1,6 @@
 //! What the standard has and this profile leaves out, by name, and the names of what is standard.
+ghost use Rattle.std.specs.Prelude.{◌≡◌, map, option_map};
+ghost use Rattle.st_foreign.specs.Tables.{function_left_out, help_in, type_left_out};
 
 /// A name that this profile leaves out, and what to use.
 type Row = (&'static [u8], &'static str);
@@ -83,17 +85,26 @@ static FUNCTIONS: [Row; 18] = [
 ];
 
 /// What to use for a type of the standard that this profile leaves out.
-pub fn type_left_out(name: &[u8]) -> Option<&'static str> {
+#[tactic(auto, unfolding(crate::specs::Tables::type_left_out))]
+pub fn type_left_out(name: &[u8]) -> Option<&'static str>
+    ensures { option_map (λ help. help.now) result ≡ type_left_out name.now }
+{
     help_in(&TYPES, name)
 }
 
 /// What to use for a function of the standard that this profile leaves out.
-pub fn function_left_out(name: &[u8]) -> Option<&'static str> {
+#[tactic(auto, unfolding(crate::specs::Tables::function_left_out))]
+pub fn function_left_out(name: &[u8]) -> Option<&'static str>
+    ensures { option_map (λ help. help.now) result ≡ function_left_out name.now }
+{
     help_in(&FUNCTIONS, name)
 }
 
-/// What the row of this name says.
-fn help_in(rows: &[Row], name: &[u8]) -> Option<&'static str> {
+/// What the row of this name says: the first one, ignoring case.
+fn help_in(rows: &[Row], name: &[u8]) -> Option<&'static str>
+    ensures { option_map (λ help. help.now) result ≡
+        help_in (map (λ row. (row.0.now, row.1.now)) rows.now) name.now }
+{
     let row = rows.iter().find(|row| name.eq_ignore_ascii_case(row.0))?;
     Some(row.1)
 }

@@ -1,6 +1,6 @@
 //! A text with its lexemes.
 
-use st_messages::push_shown;
+use crate::shown::push_shown;
 use st_positions::Lexeme;
 use std::alloc::AllocError;
 

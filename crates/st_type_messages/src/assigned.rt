@@ -1,10 +1,9 @@
 //! What is said of what may not be assigned.
 
-use crate::due::reached;
-use crate::site::Site;
 use st_check_expressions::{elem_of, is_integer};
 use st_messages::{Words, push_quoted};
 use st_scopes::Scope;
+use st_sites::{Site, reached};
 use st_tree::tree::Variable;
 use st_types::Purpose;
 use std::alloc::AllocError;

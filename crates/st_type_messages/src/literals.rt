@@ -1,8 +1,7 @@
 //! What is said of literals that are out of range.
 
-use crate::lexed::Lexed;
-use crate::site::Site;
-use st_messages::{Words, push_shown};
+use st_messages::{Lexed, Words, push_shown};
+use st_sites::Site;
 use st_tree::tree::{Constant, Expression, SignedInteger};
 use st_types::Due;
 use st_values::{Class, Elem};

@@ -1,0 +1,142 @@
+//! Declarations whose tokens get other numbers.
+
+use crate::turn::Turn;
+use st_tree::tree::{
+    ArrayElement, Constant, Declaration, DeclaredType, Initial, Specification, Subrange, TypeName,
+    VarBlock,
+};
+use st_tree::{Boxed, List};
+use std::alloc::AllocError;
+
+/// Copies of blocks of declarations, with the numbers that their tokens get.
+pub fn turned_blocks(turn: Turn, blocks: &[VarBlock]) -> Result<List<VarBlock>, AllocError> {
+    let mut turned = List::new(turn.alloc);
+    for block in blocks {
+        turned.push(VarBlock {
+            position: turn.position(block.position),
+            kind: block.kind,
+            declarations: turned_declarations(turn, block.declarations.as_slice())?,
+        })?;
+    }
+    Ok(turned)
+}
+
+/// Copies of declarations.
+fn turned_declarations(
+    turn: Turn,
+    declarations: &[Declaration],
+) -> Result<List<Declaration>, AllocError> {
+    let mut turned = List::new(turn.alloc);
+    for declaration in declarations {
+        turned.push(Declaration {
+            names: turn.identifiers(declaration.names.as_slice())?,
+            specification: turned_specification(turn, &declaration.specification)?,
+            initial: turned_initial(turn, &declaration.initial)?,
+        })?;
+    }
+    Ok(turned)
+}
+
+/// A copy of what a type is declared as, with the numbers that its tokens get.
+pub fn turned_type(turn: Turn, declared: &DeclaredType) -> Result<DeclaredType, AllocError> {
+    match declared {
+        DeclaredType::Derived(specification, initial) => {
+            let specification = turned_specification(turn, specification)?;
+            let initial = turned_initial(turn, initial)?;
+            Ok(DeclaredType::Derived(specification, initial))
+        }
+        DeclaredType::Structure(position, members) => {
+            let members = turned_declarations(turn, members.as_slice())?;
+            Ok(DeclaredType::Structure(turn.position(*position), members))
+        }
+    }
+}
+
+/// A copy of what is specified.
+fn turned_specification(
+    turn: Turn,
+    specification: &Specification,
+) -> Result<Specification, AllocError> {
+    match specification {
+        Specification::Simple(name) => Ok(Specification::Simple(turned_name(turn, name)?)),
+        Specification::Array(position, ranges, element) => {
+            let ranges = turned_ranges(turn, ranges.as_slice())?;
+            let element = Boxed::new(turn.alloc, turned_name(turn, element.get())?)?;
+            Ok(Specification::Array(turn.position(*position), ranges, element))
+        }
+    }
+}
+
+/// A copy of the name of a type.
+fn turned_name(turn: Turn, name: &TypeName) -> Result<TypeName, AllocError> {
+    match name {
+        TypeName::Elementary(position, elem) => {
+            Ok(TypeName::Elementary(turn.position(*position), *elem))
+        }
+        TypeName::Declared(name) => Ok(TypeName::Declared(turn.identifier(name)?)),
+    }
+}
+
+/// Copies of subscripts.
+fn turned_ranges(turn: Turn, ranges: &[Subrange]) -> Result<List<Subrange>, AllocError> {
+    let mut turned = List::new(turn.alloc);
+    for range in ranges {
+        turned.push(Subrange {
+            lower: turn.signed_integer(range.lower),
+            upper: turn.signed_integer(range.upper),
+        })?;
+    }
+    Ok(turned)
+}
+
+/// A copy of an initial value, where there is one.
+fn turned_initial(
+    turn: Turn,
+    initial: &Option<Boxed<Initial>>,
+) -> Result<Option<Boxed<Initial>>, AllocError> {
+    let Some(initial) = initial else {
+        return Ok(None);
+    };
+    let turned = match initial.get() {
+        Initial::Constant(value) => Initial::Constant(turn.constant(*value)),
+        Initial::Array(position, items) => {
+            let items = turned_items(turn, items.as_slice())?;
+            Initial::Array(turn.position(*position), items)
+        }
+    };
+    Ok(Some(Boxed::new(turn.alloc, turned)?))
+}
+
+/// Copies of items of a list of initial values.
+fn turned_items(turn: Turn, items: &[ArrayElement]) -> Result<List<ArrayElement>, AllocError> {
+    let mut turned = List::new(turn.alloc);
+    for item in items {
+        turned.push(turned_item(turn, item)?)?;
+    }
+    Ok(turned)
+}
+
+/// A copy of an item of a list of initial values.
+fn turned_item(turn: Turn, item: &ArrayElement) -> Result<ArrayElement, AllocError> {
+    match item {
+        ArrayElement::Single(value) => Ok(ArrayElement::Single(turn.constant(*value))),
+        ArrayElement::Repeated(position, count, value) => {
+            let value = turned_value(turn, value)?;
+            Ok(ArrayElement::Repeated(turn.position(*position), *count, value))
+        }
+    }
+}
+
+/// A copy of the value of an item, where there is one.
+fn turned_value(
+    turn: Turn,
+    value: &Option<Boxed<Constant>>,
+) -> Result<Option<Boxed<Constant>>, AllocError> {
+    match value {
+        Some(value) => {
+            let value = turn.constant(*value.get());
+            Ok(Some(Boxed::new(turn.alloc, value)?))
+        }
+        None => Ok(None),
+    }
+}
