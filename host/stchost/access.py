@@ -5,22 +5,19 @@ import hmac
 import os
 import re
 import secrets
-import stat
 import time
 import tomllib
-from dataclasses import dataclass
 from pathlib import Path
+from typing import NamedTuple
 
 from . import Trouble
-
 
 LONGEST = 20.0  # seconds
 FORGOTTEN = 60.0  # seconds after which wrong tokens don't count any more
 TOKEN = re.compile(r"[\w-]{16,200}", re.ASCII)
 
 
-@dataclass(frozen=True)
-class Person:
+class Person(NamedTuple):
     name: str
     acts: bool
 
@@ -34,19 +31,17 @@ def make(path: Path) -> None:
 
 
 def load(path: Path) -> dict[str, Person]:
-    """The persons by their tokens, who may act first. Trouble where the file isn't its owner's alone, or isn't as it has to be."""
+    """The persons by their tokens, who may act first. Trouble where the file isn't its owner's alone, or is wrong."""
     try:
-        if stat.S_IMODE(path.stat().st_mode) & 0o077:
-            raise Trouble(f"{path}: others may read this file of tokens: chmod 600 it")
+        if path.stat().st_mode & 0o077:
+            raise ValueError("others may read this file of tokens: chmod 600 it")
         data = tomllib.loads(path.read_text("utf-8"))
+        rows = [(kind, name, str(token)) for kind in ("act", "look") for name, token in data.get(kind, {}).items()]
+        found = {token: Person(name, kind == "act") for kind, name, token in rows}
+        if wrong := [person.name for token, person in found.items() if not TOKEN.fullmatch(token)]:
+            raise ValueError(f"the token of {wrong[0]} has to be of 16 letters, digits, - and _, or more")
     except (OSError, ValueError) as error:
         raise Trouble(f"{path}: {error}") from error
-    found: dict[str, Person] = {}
-    for kind in ("act", "look"):
-        for name, token in data.get(kind, {}).items():
-            if not TOKEN.fullmatch(str(token)):
-                raise Trouble(f"{path}: the token of {name} has to be of 16 letters, digits, - and _, or more")
-            found[token] = Person(name, kind == "act")
     return found
 
 
@@ -60,9 +55,9 @@ class Gate:
     async def who(self, token: str, address: str) -> Person | None:
         """The person with this token, or None. Right tokens aren't slowed down by others' wrong ones."""
         given = token.encode("utf-8", "replace")
-        found = [person for known, person in self._persons.items() if hmac.compare_digest(known.encode(), given)]
-        if found:
-            return found[0]
+        for known, person in self._persons.items():
+            if hmac.compare_digest(known.encode(), given):
+                return person
         now = time.monotonic()
         self._wrong = {key: entry for key, entry in self._wrong.items() if now - entry[1] < FORGOTTEN}
         count, _ = self._wrong.get(address, (0, now))

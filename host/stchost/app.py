@@ -2,7 +2,6 @@
 
 import argparse
 import asyncio
-import fcntl
 import gc
 import os
 import selectors
@@ -12,13 +11,13 @@ import sys
 import time
 
 from . import Trouble, access
-from .clock import Monotonic
+from .clock import Clock
 from .devices import links
 from .engine import Engine
 from .journal import Journal
 from .modbus_server import ModbusServer
 from .plant import Plant, load
-from .session import Session, program
+from .session import Session, explain, program
 from .web import Web
 
 
@@ -32,33 +31,31 @@ def prefer(priority: int) -> None:
 
 async def serve(engine: Engine, scans: asyncio.Task[None]) -> None:
     """Serves the page and Modbus until the engine has ended."""
-    plant = engine.plant
+    plant, notice = engine.plant, "running"
     while not engine.status:  # a long journal takes its time
         if scans.done():
             return
         await asyncio.sleep(0.02)
-    web = Web(engine, access.Gate(access.load(plant.tokens_file)))
-    server = ModbusServer(plant.server, engine) if plant.server else None
-    await web.start()
-    if server is not None:
+    servers: list[Web | ModbusServer] = [Web(engine, access.Gate(access.load(plant.tokens_file)))]
+    servers += [ModbusServer(plant.server, engine)] if plant.server else []
+    for server in servers:
         await server.start()
-    print(f"{plant.name}: http://{plant.page.host}:{web.port}/" + (f", Modbus at port {server.port}" if server else ""), flush=True)
-    notice = "running"
+    modbus = f", Modbus at port {servers[1].port}" if plant.server else ""
+    print(f"{plant.name}: http://{plant.page.host}:{servers[0].port}/{modbus}", flush=True)
     while not scans.done():
-        if (now := engine.status["notice"]) != notice:
-            notice = now
+        if engine.status["notice"] != notice:
+            notice = engine.status["notice"]
             print(f"{plant.name}: {notice}", file=sys.stderr, flush=True)
         await asyncio.sleep(0.2)
-    if server is not None:
+    for server in servers:
         await server.close()
-    await web.close()
 
 
 async def main_loop(plant: Plant) -> None:
     """Runs until a signal comes, or the engine can't go on."""
     here = asyncio.get_running_loop()
     there = asyncio.SelectorEventLoop(selectors.SelectSelector())  # `epoll` would round times up to milliseconds
-    clock, file = Monotonic(), plant.journal
+    clock, file = Clock(), plant.journal
     journal = Journal(plant.state_folder / "journal", file.piece, file.limit, file.sync)
     engine = Engine(plant, clock, journal, Session.start, lambda types: links(plant, types, clock.now))
 
@@ -82,15 +79,8 @@ def run(plant: Plant, fresh: bool) -> None:
     plant.state_folder.mkdir(mode=0o700, parents=True, exist_ok=True)
     with (plant.state_folder / "lock").open("w") as lock:
         os.set_inheritable(lock.fileno(), True)  # the journal's writer holds it too, as long as there is something to write
-        end = time.monotonic() + 5
-        while True:
-            try:
-                fcntl.flock(lock, fcntl.LOCK_EX | fcntl.LOCK_NB)
-                break
-            except BlockingIOError as error:
-                if time.monotonic() > end:
-                    raise Trouble("another host runs this plant") from error
-                time.sleep(0.05)
+        if subprocess.run(["flock", "-w", "5", str(lock.fileno())], pass_fds=[lock.fileno()], check=False).returncode:
+            raise Trouble("another host runs this plant")
         access.make(plant.tokens_file)
         subprocess.run([program(), "--version"], check=True, stdout=subprocess.DEVNULL)  # builds it, where it isn't built
         journal = plant.state_folder / "journal"
@@ -98,13 +88,14 @@ def run(plant: Plant, fresh: bool) -> None:
             journal.rename(journal.with_name(f"journal-{time.strftime('%Y%m%d-%H%M%S')}"))
         if plant.priority:
             prefer(plant.priority)
-        sys.setswitchinterval(0.0005)  # the thread of scans waits no longer than this for the other one
+        sys.setswitchinterval(0.00002)  # the thread of scans waits no longer than this for the other one
+        explain("fault M")  # its page is read now, not at a fault
         gc.freeze()
         asyncio.run(main_loop(plant))
 
 
 def main() -> None:
-    parser = argparse.ArgumentParser(prog="host/run", description="Runs a plant: its program by the clock, its page, its connections.")
+    parser = argparse.ArgumentParser("host/run", description="Runs a plant: its program, its page, its connections.")
     parser.add_argument("plant", help="the plant's file, with or without .toml")
     parser.add_argument("--fresh", action="store_true", help="loads the program anew; the journal is set aside")
     parser.add_argument("--check", action="store_true", help="reads the plant's file and stops")

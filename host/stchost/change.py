@@ -1,18 +1,19 @@
-"""What an online change would do, found out beside the plant: by `stc check`, `stc layout` and a session that nobody else uses."""
+"""What an online change would do, found out beside the plant: by `stc check`, `stc layout` and a session of its own."""
 
-from collections.abc import Sequence
+from collections.abc import Collection, Sequence
 from dataclasses import asdict, dataclass, field
 from typing import Any
 
 from . import Trouble
 from .plant import Mapped, Plant, Point
 from .replay import Start
-from .session import TEXT_LIMIT, Leaf, Session, ask, checked, encoded, explain, layout_of
+from .session import TEXT_LIMIT, Session, ask, checked, encoded, explain, layout_of
 from .values import BITS, to_number, to_text
 
 AT_ONCE = 250  # commands between two resets: 256 can be undone at most
 LISTED = 200  # leaves of a list that are told
 LISTS = ("dropped", "new", "renamed", "lost")
+Types = dict[str, str]  # of the leaves of a text, by their paths, in order
 
 
 @dataclass
@@ -20,6 +21,7 @@ class Preview:
     """What a change would answer and do."""
 
     line: str
+    version: int  # of the program that it would change
     answer: str = ""
     messages: str = ""
     blocked: str = ""
@@ -29,8 +31,7 @@ class Preview:
     new: list[str] = field(default_factory=list)
     renamed: list[tuple[str, str]] = field(default_factory=list)
     lost: list[str] = field(default_factory=list)
-    leaves: list[Leaf] = field(default_factory=list)
-    version: int = 0  # of the program that it would change
+    types: Types = field(default_factory=dict)
 
     @property
     def ok(self) -> bool:
@@ -38,16 +39,18 @@ class Preview:
 
     def told(self) -> dict[str, Any]:
         """The preview for a page: lists are cut, and their lengths told."""
-        plain = {key: value for key, value in asdict(self).items() if key not in ("line", "leaves")}
+        plain = {key: value for key, value in asdict(self).items() if key not in ("line", "types")}
+        cut = {key: plain[key][:LISTED] for key in LISTS}
         counts = {key: len(plain[key]) for key in LISTS}
         reply = self.blocked or self.messages.strip() or self.answer
-        return {**plain, **{key: plain[key][:LISTED] for key in LISTS}, "counts": counts, "reply": reply, "bad": not self.ok, "ok": self.ok}
+        return {**plain, **cut, "counts": counts, "reply": reply, "bad": not self.ok, "ok": self.ok}
 
 
-async def preview(plant: Plant, old: str, forced: Sequence[str], text: str, renames: Sequence[str], start: Start) -> Preview:
-    """What a change from the text `old` would do. `forced` are the leaves that are forced now."""
-    body, renames = text.replace("\r\n", "\n"), " ".join(renames).split()
-    found = Preview(checked(" ".join(["change", *renames]) + "\n" + body + "\n" * (not body.endswith("\n")) + "end_change"))
+async def preview(plant: Plant, old: str, version: int, forced: Sequence[str], text: str, words: str, start: Start) -> Preview:
+    """What a change from the text `old` by words OLD=NEW would do. `forced` are the leaves that are forced now."""
+    body, renames = text.replace("\r\n", "\n"), words.split()
+    line = " ".join(["change", *renames]) + "\n" + body + "\n" * (not body.endswith("\n")) + "end_change"
+    found = Preview(checked(line), version)
     if len(encoded(text)) > TEXT_LIMIT:
         found.answer = "refused S4 line 1"
         return found
@@ -55,33 +58,37 @@ async def preview(plant: Plant, old: str, forced: Sequence[str], text: str, rena
     found.answer = answer.strip()
     if found.answer != "ok":
         return found
-    found.leaves = await layout_of(text, plant.main)
-    await _try(await layout_of(old, plant.main), await start(old, plant.main, 1), renames, found)
-    gone = {path.upper() for path in found.dropped}
-    found.lost = [path for path in forced if path.upper() in gone]
+    found.types = await layout_of(text, plant.main)
+    before = await layout_of(old, plant.main)
+    await _try(before, await start(old, plant.main, 1), renames, found)
+    gone = set(found.dropped)
+    found.lost = [path for path in forced if path in gone]
     try:
-        await connections(plant, text, found.leaves, start)
+        await connections(plant, text, found.types, start)
+        for point in plant.input + plant.output:
+            if found.types[point.path] != before[point.path]:
+                raise Trouble(f"{point.path}, which the plant's file connects, would get another type")
     except Trouble as error:
         found.blocked = str(error)
     return found
 
 
-async def _try(before: Sequence[Leaf], session: Session, renames: Sequence[str], found: Preview) -> None:
+async def _try(before: Types, session: Session, renames: Sequence[str], found: Preview) -> None:
     """Forces all leaves of the old text, changes it, and looks which leaves are forced then: these were kept."""
     settable: set[str] = set()
     try:
         for first in range(0, len(before), AT_ONCE):
-            some = before[first:first + AT_ONCE]
-            replies = await session.exchange([*(f"force {leaf.path} {to_text(leaf.type, 0)}" for leaf in some), "reset"])
-            settable |= {leaf.path for leaf, reply in zip(some, replies) if reply == "ok"}
-        found.answer, *shown = await session.exchange([found.line, *(f"show {leaf.path}" for leaf in found.leaves)])
+            some = list(before)[first:first + AT_ONCE]
+            replies = await session.exchange([*(f"force {path} {to_text(before[path], 0)}" for path in some), "reset"])
+            settable |= {path for path, reply in zip(some, replies) if reply == "ok"}
+        found.answer, *shown = await session.exchange([found.line, *(f"show {path}" for path in found.types)])
     finally:
         await session.close()
-    if not found.answer.startswith("ok"):
+    kept = {path for path, reply in zip(found.types, shown) if reply.endswith(" forced")}
+    if found.answer.startswith("ok"):
+        _compare(before, settable, kept, renames, found)
+    else:
         found.messages = f"{found.answer}: {explain(found.answer)}"
-        return
-    kept = {leaf.path.upper() for leaf, reply in zip(found.leaves, shown) if reply.endswith(" forced")}
-    _compare(before, settable, kept, renames, found)
 
 
 def renamed(path: str, renames: Sequence[str]) -> str:
@@ -92,32 +99,24 @@ def renamed(path: str, renames: Sequence[str]) -> str:
     return path
 
 
-def _compare(before: Sequence[Leaf], settable: set[str], kept: set[str], renames: Sequence[str], found: Preview) -> None:
+def _compare(before: Types, settable: Collection[str], kept: Collection[str], renames: Sequence[str], found: Preview) -> None:
     """Fills the lists. What no operator forces is kept where its counterpart is there and nothing around it was replaced."""
-    after = {leaf.path.upper(): leaf for leaf in found.leaves}
-    pairs = [(leaf, after.get(renamed(leaf.path, renames).upper())) for leaf in before]
-    replaced = {leaf.path.rpartition(".")[0] for leaf, image in pairs
-                if leaf.path in settable and image and image.type == leaf.type and image.path.upper() not in kept}
-    images = set()
-    for leaf, image in pairs:
-        if image and leaf.path not in settable:
-            there = image.type == leaf.type and leaf.path.rpartition(".")[0] not in replaced
-        else:
-            there = image is not None and image.path.upper() in kept
-        if image is None or not there:
-            found.dropped.append(leaf.path)
-            continue
-        images.add(image.path)
-        if image.path.upper() != leaf.path.upper():
-            found.renamed.append((leaf.path, image.path))
-    found.new = [leaf.path for leaf in found.leaves if leaf.path not in images]
+    after = {path.upper(): path for path in found.types}
+    pairs = [(path, after.get(renamed(path, renames).upper(), "")) for path in before]
+    same = {path for path, image in pairs if image and found.types[image] == before[path]}
+    replaced = {path.rpartition(".")[0] for path, image in pairs if path in same and path in settable and image not in kept}
+    stay = {path: image for path, image in pairs
+            if (image in kept if path in settable else path in same and path.rpartition(".")[0] not in replaced)}
+    images = set(stay.values())
     found.kept = len(images)
+    found.dropped = [path for path in before if path not in stay]
+    found.renamed = [(path, image) for path, image in stay.items() if path.upper() != image.upper()]
+    found.new = [path for path in found.types if path not in images]
     found.exact = found.answer == f"ok kept {found.kept} dropped {len(found.dropped)} new {len(found.new)}"
 
 
-async def connections(plant: Plant, text: str, leaves: Sequence[Leaf], start: Start) -> None:
+async def connections(plant: Plant, text: str, types: Types, start: Start) -> None:
     """Trouble where the text hasn't what the plant's file connects: inputs under VAR_INPUT, outputs, types that fit."""
-    types = {leaf.path: leaf.type for leaf in leaves}
     qualities = [point.quality for point in plant.input if point.quality]
     inputs = [point.path for point in plant.input] + qualities
     for path in inputs + [point.path for point in plant.output]:
@@ -130,7 +129,9 @@ async def connections(plant: Plant, text: str, leaves: Sequence[Leaf], start: St
             to_number(types[point.path], point.fault or "")
         except ValueError as error:
             raise Trouble(f"{point.path}: `fault` of the plant's file: {error}") from error
-    _check_forms(plant, types)
+    placed: list[Point | Mapped] = [point for point in plant.input + plant.output if point.table]
+    for item in [*placed, *(plant.server.map if plant.server else ())]:
+        _check_form(item, types.get(item.path))
     if sum(len(path) + 28 for path in inputs) > 3_900 + 256 * 280:
         raise Trouble("these are more inputs than can be given before one scan")
     session = await start(text, plant.main, 1)
@@ -143,13 +144,10 @@ async def connections(plant: Plant, text: str, leaves: Sequence[Leaf], start: St
         await session.close()
 
 
-def _check_forms(plant: Plant, types: dict[str, str]) -> None:
+def _check_form(item: Point | Mapped, type_name: str | None) -> None:
     """Trouble where a variable doesn't fit its register: TIME and types of 64 bits need a form of the plant's file."""
-    placed: list[Point | Mapped] = [point for point in plant.input + plant.output if point.table]
-    placed += plant.server.map if plant.server else ()
-    for item in placed:
-        type_name, is_bit = types.get(item.path, ""), item.table in ("coil", "discrete")
-        if type_name and is_bit is not (type_name == "BOOL") and (is_bit or item.form is None):
-            raise Trouble(f"{item.path} is a {type_name}, and doesn't fit the table {item.table}")
-        if type_name and not is_bit and item.form is None and BITS[type_name] > 32:
-            raise Trouble(f"{item.path} is a {type_name}: `form` is to say how it lies in registers")
+    is_bit = item.table in ("coil", "discrete")
+    if type_name and is_bit is not (type_name == "BOOL") and (is_bit or item.form is None):
+        raise Trouble(f"{item.path} is a {type_name}, and doesn't fit the table {item.table}")
+    if type_name and not is_bit and item.form is None and BITS[type_name] > 32:
+        raise Trouble(f"{item.path} is a {type_name}: `form` is to say how it lies in registers")

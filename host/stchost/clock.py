@@ -3,25 +3,16 @@
 import asyncio
 import time
 from dataclasses import asdict, dataclass
-from typing import Protocol
 
 
-class Clock(Protocol):
-    """What tells the time, in seconds, and waits."""
-
-    def now(self) -> float: ...
-
-    async def wait(self, event: asyncio.Event, until: float) -> None:
-        """Returns once the event is set, or at the moment `until`."""
-
-
-class Monotonic:
-    """The machine's monotonic clock."""
+class Clock:
+    """The machine's monotonic clock, in seconds."""
 
     def now(self) -> float:
         return time.monotonic()
 
     async def wait(self, event: asyncio.Event, until: float) -> None:
+        """Returns once the event is set, or at the moment `until`."""
         alarm = asyncio.get_running_loop().call_later(until - time.monotonic(), event.set)
         await event.wait()
         alarm.cancel()
@@ -48,9 +39,7 @@ class Cycle:
     """Cycles of `period` ms. The n-th has its place n periods behind the start, however late the ones before it came."""
 
     def __init__(self, clock: Clock, period: int, first: int = 0) -> None:
-        self.clock = clock
-        self.period = period / 1000
-        self.figures = Figures()
+        self.clock, self.period, self.figures = clock, period / 1000, Figures()
         self.moment = self._first = first  # the newest one that was given, and the one of the start
         self._start = self._began = clock.now()
         self._number = 0

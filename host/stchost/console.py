@@ -14,6 +14,7 @@ from prompt_toolkit.history import FileHistory
 from prompt_toolkit.patch_stdout import patch_stdout
 
 from . import Trouble, access
+from .engine import VERBS
 from .plant import Plant, load
 from .session import TEXT_LIMIT
 
@@ -25,8 +26,8 @@ change FILE [OLD=NEW ..]    does it
 hold | go                   holds the scans, or lets them go on
 log | takeback N            who did what; takes command N back
 # ..                        a comment; quit ends the console"""
-OWN = ("list", "watch", "preview", "change", "log", "takeback")
-VERBS = ["show", "write", "force", "release", "undo", "reset", "status", *OWN, "hold", "go", "help", "quit"]
+OWN = ("list", "watch", "preview", "change", "log", "takeback", "hold", "go", "help", "quit")
+Answer = dict[str, Any]
 
 
 class Console:
@@ -34,10 +35,9 @@ class Console:
 
     def __init__(self, socket: aiohttp.ClientWebSocketResponse) -> None:
         self.socket = socket
-        self.answers: asyncio.Queue[dict[str, Any]] = asyncio.Queue()
+        self.answers: asyncio.Queue[Answer] = asyncio.Queue()
         self.watched: set[str] = set()
-        self.failed = False
-        self.notice = "running"
+        self.failed, self.going, self.notice = False, True, "running"
 
     async def listen(self) -> None:
         """Takes what the host sends: answers, and new values of what is watched."""
@@ -48,12 +48,12 @@ class Console:
             if (notice := news.get("status", {}).get("notice", self.notice)) != self.notice:
                 self.notice = notice
                 print(f"the program is {notice}", file=sys.stderr)
-            for path, (text, forced) in news.get("values", {}).items():
-                if path in self.watched:
-                    print(f"{path} = {text}" + " forced" * forced, flush=True)
-        self.answers.put_nowait({"reply": "the host has ended", "bad": True, "ended": True})
+            for path in self.watched & news.get("values", {}).keys():
+                tell(path, *news["values"][path])
+        self.going = False
+        self.answers.put_nowait({"reply": "the host has ended", "bad": True})
 
-    async def ask(self, what: str, **words: Any) -> dict[str, Any]:
+    async def ask(self, what: str, **words: Any) -> Answer:
         await self.socket.send_json({"id": 1, "do": what, **words})
         return await self.answers.get()
 
@@ -64,18 +64,13 @@ class Console:
             found += [row[0] for row in rows]
         return found
 
-    async def obey(self, line: str) -> bool:
-        """Does one command, and prints what is answered. The answer is whether to go on."""
+    async def obey(self, line: str) -> None:
+        """Does one command, and prints what is answered."""
         verb, *words = line.split() or ["#"]
-        if verb == "help":
-            print(HELP)
-        if verb in ("help", "quit") or verb.startswith("#"):
-            return verb != "quit"
+        if verb.startswith("#"):
+            return
         try:
-            if verb in ("hold", "go"):
-                answer = await self.ask("hold", held=verb == "hold")
-            else:
-                answer = await (getattr(self, f"_{verb}")(*words) if verb in OWN else self.ask("line", line=line))
+            answer = await (getattr(self, f"do_{verb}")(*words) if verb in OWN else self.ask("line", line=line))
         except TypeError:
             answer = {"reply": f"`help` says what belongs behind `{verb}`", "bad": True}
         except (ValueError, OSError) as error:
@@ -83,21 +78,33 @@ class Console:
         self.failed |= answer.get("bad", False)
         if answer.get("reply"):
             print(answer["reply"] + (f"  ({answer['why']})" if answer.get("why") else ""), flush=True)
-        return not answer.get("ended")
 
-    async def _list(self, *words: str) -> dict[str, Any]:
+    async def do_help(self) -> Answer:
+        return {"reply": HELP}
+
+    async def do_quit(self) -> Answer:
+        self.going = False
+        return {}
+
+    async def do_hold(self) -> Answer:
+        return await self.ask("hold", held=True)
+
+    async def do_go(self) -> Answer:
+        return await self.ask("hold", held=False)
+
+    async def do_list(self, *words: str) -> Answer:
         answer = await self.ask("list", search=" ".join(words))
         for path, type_name, text, forced in answer.get("rows", []):
-            print(f"{path} : {type_name} = {text}" + " forced" * forced)
+            tell(f"{path} : {type_name}", text, forced)
         return {**answer, "reply": f"{answer['count']} variables"} if "count" in answer else answer
 
-    async def _watch(self, *words: str) -> dict[str, Any]:
+    async def do_watch(self, *words: str) -> Answer:
         answer = await self.ask("watch", paths=words)
         self.watched = set(answer.get("paths", []))
         missing = len(words) - len(self.watched)
         return {"reply": f"{missing} of these aren't there", "bad": True} if missing else answer
 
-    async def _preview(self, file: str, *renames: str) -> dict[str, Any]:
+    async def do_preview(self, file: str, *renames: str) -> Answer:
         await self.socket.send_bytes(Path(file).read_bytes()[:TEXT_LIMIT + 1])
         found = await self.ask("preview", renames=renames)
         for key in ("dropped", "new", "renamed", "lost"):
@@ -105,38 +112,43 @@ class Console:
                 print(f"{key}: {item if isinstance(item, str) else ' -> '.join(item)}")
         return found
 
-    async def _change(self, file: str, *renames: str) -> dict[str, Any]:
-        answer = await self._preview(file, *renames)
-        return answer if answer["bad"] else await self.ask("change")
+    async def do_change(self, file: str, *renames: str) -> Answer:
+        found = await self.do_preview(file, *renames)
+        return found if found["bad"] else await self.ask("change")
 
-    async def _log(self) -> dict[str, Any]:
+    async def do_log(self) -> Answer:
         answer = await self.ask("log")
         for number, _, who, line, reply, state, _ in reversed(answer.get("rows", [])):
             print(f"{number} {who}: {line}: {state or reply}")
         return answer
 
-    async def _takeback(self, number: str) -> dict[str, Any]:
+    async def do_takeback(self, number: str) -> Answer:
         answer = await self.ask("take_back", number=int(number))
         for other in answer.get("others", []):
             print(f"now answered otherwise: {other}")
         return answer
 
 
+def tell(path: str, text: str, forced: bool) -> None:
+    print(f"{path} = {text}" + " forced" * forced, flush=True)
+
+
 async def talk(console: Console, plant: Plant) -> None:
     """Takes commands: from a terminal with history and completion, or from a script on standard input."""
     if not sys.stdin.isatty():
         for line in sys.stdin:
-            if not await console.obey(line.strip()):
-                return
+            if console.going:
+                await console.obey(line.strip())
         return
-    words = WordCompleter(VERBS + await console.paths(), ignore_case=True, WORD=True)
+    paths: list[str] = []
+    words = WordCompleter(lambda: [*VERBS, *OWN, *paths], ignore_case=True, WORD=True)
     history = FileHistory(str(plant.state_folder / "console.history"))
     prompt: PromptSession[str] = PromptSession(history=history, completer=words, complete_while_typing=False)
     with patch_stdout():
-        going = True
-        while going:
+        while console.going:
+            paths = await console.paths()
             try:
-                going = await console.obey(await prompt.prompt_async(f"{plant.name}> "))
+                await console.obey(await prompt.prompt_async(f"{plant.name}> "))
             except KeyboardInterrupt:
                 continue
             except EOFError:
@@ -161,7 +173,7 @@ async def connect(plant: Plant, name: str | None) -> int:
 
 
 def main() -> int:
-    parser = argparse.ArgumentParser(prog="host/console", description="A terminal for a plant that runs. Scripts come on standard input.")
+    parser = argparse.ArgumentParser("host/console", description="A terminal for a plant that runs; scripts by standard input.")
     parser.add_argument("plant", help="the plant's file, with or without .toml")
     parser.add_argument("--as", dest="name", help="whose token of the plant's file of tokens")
     words = parser.parse_args()

@@ -25,20 +25,22 @@ class Link:
 
     def __init__(self, name: str, device: Device, share: float) -> None:
         self.name, self.device, self.share = name, device, share
-        self.good = False
-        self.trouble = "nothing was read yet"
+        self.good, self.trouble = False, "nothing was read yet"
         self.behind = 0  # how often the device was too slow for its share
         self._reading: asyncio.Task[dict[str, int]] | None = None
         self._writing: asyncio.Task[None] | None = None
         self._left = share  # of this cycle
 
+    def told(self) -> dict[str, Any]:
+        return {"name": self.name, "good": self.good, "trouble": self.trouble, "behind": self.behind}
+
     async def poll(self) -> dict[str, int]:
         """What the device gives within its share; nothing where it doesn't, and then it isn't good."""
         self._left = self.share
-        self._reading = self._reading or asyncio.create_task(self.device.read())
-        if not await self._waited(self._reading, "it gives no values in its share of the cycle"):
+        task = self._reading = self._reading or asyncio.create_task(self.device.read())
+        if not await self._waited(task, "it gives no values in its share of the cycle"):
             return {}
-        task, self._reading = self._reading, None
+        self._reading = None
         return task.result() if self.good else {}
 
     async def push(self, numbers: dict[str, int]) -> None:
@@ -75,28 +77,23 @@ class Link:
 
 
 class Tank:
-    """A tank of 1,000 mm with a pump and a drain whose flow rises and falls. `level` is measured; `pump` and `alarm` are switched."""
+    """A tank of 1,000 mm with a pump and a drain whose flow rises and falls."""
 
     inputs, outputs = ("level",), ("pump", "alarm")
-
-    def __init__(self) -> None:
-        self.level, self.age = 500.0, 0.0
+    level, age = 500.0, 0.0
 
     def step(self, seconds: float, outputs: dict[str, int]) -> dict[str, int]:
         self.age += seconds
         flow = 22.0 + 10.0 * math.sin(self.age / 9)
-        self.level += seconds * ((60.0 if outputs.get("pump") else 0.0) - flow)
-        self.level = min(1000.0, max(0.0, self.level))
+        self.level = min(1000.0, max(0.0, self.level + seconds * ((60.0 if outputs.get("pump") else 0.0) - flow)))
         return {"level": round(self.level)}
 
 
 class Conveyor:
-    """A belt with a part each 1.5 s before a light barrier. `barrier` is measured; `belt`, `pusher`, `fan` and `alarm` are switched."""
+    """A belt with a part each 1.5 s before a light barrier."""
 
     inputs, outputs = ("barrier",), ("belt", "pusher", "fan", "alarm")
-
-    def __init__(self) -> None:
-        self.way = 0.0
+    way = 0.0
 
     def step(self, seconds: float, outputs: dict[str, int]) -> dict[str, int]:
         self.way += seconds if outputs.get("belt") else 0.0
@@ -112,9 +109,8 @@ class Simulation:
     def __init__(self, file: DeviceFile, inputs: Sequence[Point], outputs: Sequence[Point], now: Callable[[], float]) -> None:
         self.model = MODELS[file.model]()
         for points, names in ((inputs, self.model.inputs), (outputs, self.model.outputs)):
-            for point in points:
-                if point.name not in names:
-                    raise Trouble(f"{point.path}: the model {file.model} has here {', '.join(names)}")
+            if wrong := [point.path for point in points if point.name not in names]:
+                raise Trouble(f"{wrong[0]}: the model {file.model} has here {', '.join(names)}")
         self.inputs, self.outputs = inputs, outputs
         self.now, self.then = now, now()
         self.given: dict[str, int] = {}
@@ -139,8 +135,10 @@ def links(plant: Plant, types: dict[str, str], now: Callable[[], float]) -> list
     made = []
     for file in plant.device:
         inputs, outputs = ([point for point in points if point.device == file.name] for points in (plant.input, plant.output))
-        device: Device = Remote(file, inputs, outputs, types)
+        device: Device
         if file.kind == "simulation":
             device = Simulation(file, inputs, outputs, now)
+        else:
+            device = Remote(file, inputs, outputs, types)
         made.append(Link(file.name, device, file.share / 100 * plant.cycle / 1000))
     return made

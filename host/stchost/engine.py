@@ -3,25 +3,27 @@
 import asyncio
 import math
 from collections import deque
-from collections.abc import Awaitable, Callable, Coroutine, Iterator, Sequence
+from collections.abc import Awaitable, Callable, Coroutine, Sequence
+from contextlib import suppress
 from functools import partial
+from itertools import islice
 from typing import Any, NamedTuple, TypeVar
 
 from . import Trouble, journal as journals
-from .change import connections
+from .change import Preview, Types, connections
 from .clock import Clock, Cycle
 from .devices import Link
 from .inputs import Inputs
 from .journal import Base, Journal, Record
 from .plant import Plant
-from .replay import Replay, Start, Story, restore, taken_back
-from .session import Gone, Leaf, Session, checked, explain, layout_of, words_of
+from .replay import NO_BASE, UNDOABLE, Command, Replay, Start, Story, restore
+from .session import Gone, Session, checked, explain, layout_of, words_of
 from .values import to_number
 
 QUEUE_LIMIT = 1_000
 CHUNK = 200  # leaves that are shown at one go
-VERBS = ("show", "write", "force", "release", "reset", "undo", "status")
 QUIET = ("show", "status")  # these change nothing, and aren't kept
+VERBS = (*QUIET, *UNDOABLE[:3], "reset", "undo")
 Result = TypeVar("Result")
 Work = Callable[[], Awaitable[Any]]
 
@@ -41,14 +43,13 @@ class Engine:
     """Runs a plant: one session with `stc`, its devices, its journal, and a queue of what others want of it."""
 
     def __init__(self, plant: Plant, clock: Clock, journal: Journal, start: Start,
-                 links: Callable[[dict[str, str]], list[Link]], layout: Callable[..., Awaitable[list[Leaf]]] = layout_of) -> None:
-        self.plant, self.clock, self.journal, self.start, self.layout = plant, clock, journal, start, layout
-        self._make_links = links
+                 links: Callable[[Types], list[Link]], layout: Callable[..., Awaitable[Types]] = layout_of) -> None:
+        self.plant, self.clock, self.journal = plant, clock, journal
+        self.start, self.layout, self._make_links = start, layout, links
         self.links: list[Link] = []
         self.session: Session | None = None
         self.story = Story()
-        self.leaves: list[Leaf] = []
-        self.types: dict[str, str] = {}  # of each leaf, by its path
+        self.types: Types = {}
         self.spelled: dict[str, str] = {}  # each leaf's path, by the same in capitals
         self.values: dict[str, Value] = {}
         self.inputs = Inputs((), {})
@@ -57,13 +58,11 @@ class Engine:
         self.watched: dict[object, Sequence[str]] = {}  # the leaves that each client looks at
         self.trend: deque[tuple[int, list[str]]] = deque(maxlen=max(1, plant.trend_keep * 1000 // plant.page.refresh))
         self.notes: deque[tuple[int, str, str]] = deque(maxlen=200)
-        self.fault = ""
         self.held = False
-        self.trouble = ""  # why nothing runs at all
+        self.fault = self.trouble = ""  # why the program is halted, and why nothing runs at all
         self.restarts = self.forces = self.undos = 0
         self.status: dict[str, Any] = {}
         self.version = 0  # of the program's text
-        self.next_command = 1
         self.cycle = Cycle(clock, plant.cycle)
         self.guard = min(0.002, self.cycle.period / 5)  # nothing is begun so shortly before a scan
         self.loop: asyncio.AbstractEventLoop | None = None
@@ -72,7 +71,8 @@ class Engine:
         self._next_look = clock.now()  # at what is shown; never, while one is under way
         self._sweep = 0
         self._taking_back = asyncio.Lock()
-        self._closing: set[asyncio.Task[None]] = set()
+        self._news: list[Record] = []  # what is kept while a command is taken back
+        self._closing: asyncio.Task[None] | None = None  # of the session before the newest take back
         self._stopping = False
 
     # what others ask for, between two scans
@@ -84,6 +84,8 @@ class Engine:
 
     async def between(self, work: Work) -> Any:
         """Does some work between two scans, behind what waits already, and gives its result to who asked."""
+        if self.session is None:
+            raise Trouble(f"the program doesn't run: {self.trouble}")
         if len(self._queue) >= QUEUE_LIMIT:
             raise Busy("too many lines wait")
         return await self._post(work)
@@ -93,19 +95,20 @@ class Engine:
         verb = words_of(checked(line))[0]
         if verb not in VERBS:
             raise Trouble("scans are the clock's" if verb == "scan" else f"the commands are {', '.join(VERBS)}")
-        return await self.between(lambda: self._operate(who, line))
+        return str(await self.between(lambda: self._operate(who, line)))
 
-    async def change(self, who: str, line: str, leaves: list[Leaf]) -> str:
-        """A change whose new text has these leaves, and was found to fit the plant's connections."""
-        checked(line)
+    async def change(self, who: str, found: Preview) -> str:
+        """Does a change as its preview has it."""
 
         async def work() -> str:
-            reply = await self._operate(who, line)
+            if found.version != self.version:
+                raise Trouble("the program was changed since this preview")
+            reply = await self._operate(who, found.line)
             if reply.startswith("ok"):
-                self._take_program(leaves)
+                self._take_program(found.types)
             return reply
 
-        return await self.between(work)
+        return str(await self.between(work))
 
     async def set_input(self, who: str, path: str, number: int) -> None:
         """A new number for an input without a device; the next scan gives it. Trouble where it has one."""
@@ -122,63 +125,54 @@ class Engine:
         """Makes the state what it would be if a command had never been given: the journal without it is replayed beside the
         plant, and takes over between two scans. The answer has the later commands that are now answered otherwise."""
         async with self._taking_back:
-            self._may_take_back(number)
-            found = journals.bases(self.journal.folder)
-            if self.journal.trouble or not found:
-                raise Trouble("the journal doesn't reach back to a load or a reset")
-            replay = Replay(self.start, {number} | taken_back(journals.read(self.journal.folder, found[-1])))
-            news = journals.follow(self.journal.folder, found[-1])
+            await self.journal.written()
+            self._news, replay = [], Replay(self.start, {number} | self.story.gone)
+            records = journals.read(self.journal.folder, self._base_of(number))
+            await replay.feed(islice(records, self.journal.records))
             try:
-                while await replay.feed(news):
-                    await asyncio.sleep(0.001)
-                leaves = await self.layout(replay.story.text, self.plant.main)
-                await connections(self.plant, replay.story.text, leaves, self.start)
-                await self.between(lambda: self._take_over(who, number, replay, news, leaves))
+                types = await self.layout(replay.story.text, self.plant.main)
+                await connections(self.plant, replay.story.text, types, self.start)
+                await self.between(lambda: self._take_over(who, number, replay, types))
             except BaseException:
                 if replay.session is not self.session:
                     await replay.close()
                 raise
             return [f"{other.line}: {other.reply}" for other in replay.others]
 
-    def _may_take_back(self, number: int) -> None:
-        """Trouble where a command can't be taken back."""
-        command = self.story.commands.get(number)
-        if command is None or number < self.story.began or command.state or command.reply.startswith("refused"):
-            raise Trouble("this command can't be taken back")
-        if words_of(command.line)[0] not in ("write", "force", "release", "change"):
-            raise Trouble("writes, forces, releases and changes can be taken back")
-        if any(other.number > number and other.line.startswith("undo") and other.reply == "ok" for other in self.story.commands.values()):
-            raise Trouble("an undo came behind it")
+    def _base_of(self, number: int) -> int:
+        """Where the replay without a command begins. Trouble where it can't be taken back."""
+        command, commands = self.story.commands.get(number), self.story.commands.values()
+        undone = any(other.number > number and other.line.startswith("undo") and other.reply == "ok" for other in commands)
+        if (command is None or number < self.story.began or command.state or command.reply.startswith("refused") or undone
+                or words_of(command.line)[0] not in UNDOABLE):
+            raise Trouble("what can be taken back is a write, force, release or change since the newest load, reset and undo")
+        if self.journal.trouble or self.journal.base is None:
+            raise Trouble(self.journal.trouble or NO_BASE)
+        return self.journal.base
 
-    async def _take_over(self, who: str, number: int, replay: Replay, news: Iterator[Record | None], leaves: list[Leaf]) -> None:
-        """Goes on with the session of a replay, behind what was done since it was last fed."""
+    async def _take_over(self, who: str, number: int, replay: Replay, types: Types) -> None:
+        """Goes on with the session of a replay, behind what was done since."""
         text = replay.story.text
-        await self.journal.written()
-        while await replay.feed(news):
-            pass
+        await replay.feed(self._news)
         if replay.story.text != text:
             raise Trouble("the program was changed meanwhile")
-        old, self.session = self.session, replay.session
-        self.journal.append(journals.TAKEN_BACK, str(journals.wall_ms()), who, str(number))
-        self.story = replay.story
-        self.story.taken_back(number)
-        self._take_program(leaves)
+        old, self.session, self.story = self.session, replay.session, replay.story
+        self._keep(journals.TAKEN_BACK, str(journals.wall_ms()), who, str(number))
+        self.story.take_back(number)
+        self._take_program(types)
         await self._read_status()
         self.inputs.forget()
         self._note(who, f"take back {number}")
-        if old is not None:  # nobody waits for its end
-            task = asyncio.create_task(old.close())
-            self._closing.add(task)
-            task.add_done_callback(self._closing.discard)
+        self._closing = asyncio.create_task(old.close()) if old else None  # nobody waits for its end
 
     # the writer
 
     async def run(self) -> None:
         """Scans until it is stopped."""
         self.loop = asyncio.get_running_loop()
-        await self._recover()
-        self.cycle = Cycle(self.clock, self.plant.cycle, self.story.moment + self.plant.cycle if self.story.moment else 0)
         try:
+            await self._recover()
+            self.cycle = Cycle(self.clock, self.plant.cycle, self.story.moment + self.plant.cycle if self.story.moment else 0)
             while not self._stopping:
                 try:
                     await self._serve(self.cycle.place())
@@ -204,7 +198,7 @@ class Engine:
         return done
 
     async def _serve(self, until: float) -> None:
-        """Does what waits as long as there is time before the next scan. Where scans leave no time, one job is done all the same."""
+        """Does what waits while there is time before the next scan. Where scans leave none, one job is done all the same."""
         starved = until - self.clock.now() <= self.guard
         while not self._stopping:
             now = self.clock.now()
@@ -226,17 +220,12 @@ class Engine:
         if done.cancelled():
             return
         try:
-            result = await work()
+            _tell(done, await work())
         except Gone:
-            if not done.done():
-                done.set_exception(Trouble("stc ended before it replied: the line counts as not given"))
+            _tell(done, Trouble("stc ended before it replied: the line counts as not given"))
             raise
         except Exception as error:  # the writer goes on
-            if not done.done():
-                done.set_exception(error)
-        else:
-            if not done.done():
-                done.set_result(result)
+            _tell(done, error)
 
     async def _turn(self) -> None:
         """One cycle: inputs are polled, the program is scanned, and outputs are pushed."""
@@ -248,15 +237,14 @@ class Engine:
             await self._show(self._always)
         else:
             await self._scan(moment)
-        program = {path: self.values[path].text if path in self.values else safe for path, safe in self.safe.items()}
-        await self._push(self.safe if self.fault or self.trouble else program)
+        await self._push()
         self.cycle.end()
 
     async def _scan(self, moment: int) -> None:
         lines, changed = self.inputs.lines(moment)
         replies = await self._exchange([*lines, *(f"show {path}" for path in self._always)])
         for line, reply in zip(lines, replies):
-            self.journal.append(journals.SCAN, line, reply)
+            self._keep(journals.SCAN, line, reply)
             self.story.scan(line, reply)
         answer = replies[len(lines) - 1]
         self.trouble = f"a scan is answered `{answer}`" if answer.startswith("refused") else ""
@@ -265,24 +253,21 @@ class Engine:
         else:
             self.inputs.forget()
             self.fault = answer.removeprefix("fault ") if answer.startswith("fault") else self.fault
-        self._store(self._always, replies[len(lines):])
         await self.journal.settle()
+        self._store(self._always, replies[len(lines):])
 
     async def _operate(self, who: str, line: str) -> str:
         reply = (await self._exchange([line]))[0]
         verb, *words = words_of(line.split("\n", 1)[0])
         if verb in QUIET:
             return reply
-        text, number, wall = self.story.text, self.next_command, journals.wall_ms()
-        self.next_command += 1
-        self.journal.append(journals.COMMAND, str(number), str(wall), who, line, reply)
-        self.story.operation(number, wall, who, line, reply)
-        if not reply.startswith("refused"):
-            try:
-                await self._follow(verb, words, text)
-            except Gone:  # the line is kept, so that it counts; the next one finds that `stc` has ended
-                pass
+        text, command = self.story.text, Command(self.story.next_number, journals.wall_ms(), who, line, reply)
+        self._keep(journals.COMMAND, str(command.number), str(command.wall), who, line, reply)
+        self.story.operation(command)
         await self.journal.settle()
+        if not reply.startswith("refused"):
+            with suppress(Gone):  # the line is kept, so that it counts; the next one finds that `stc` has ended
+                await self._follow(verb, words, text)
         return reply
 
     async def _follow(self, verb: str, words: list[str], text: str) -> None:
@@ -293,24 +278,27 @@ class Engine:
             await self._begin_again()
         elif verb == "undo" and self.story.text is not text:
             self._take_program(await self.layout(self.story.text, self.plant.main))
-        elif verb in ("write", "force", "release") and (path := self.spelled.get(words[0].upper())):
+        elif verb in UNDOABLE and words and (path := self.spelled.get(words[0].upper())):
             await self._show([path])
-        self._soon()
-
-    def _soon(self) -> None:
-        """What has changed is shown as soon as there is time, unless a look is under way."""
-        if self._next_look < math.inf:
-            self._next_look = self.clock.now()
 
     async def _begin_again(self) -> None:
         """Behind a reset the state is the program's text and what is forced in it: a replay can begin here."""
-        self.trouble, story = "", self.story
-        for first in range(0, len(self.leaves) if self.forces else 0, CHUNK):
-            await self._show([leaf.path for leaf in self.leaves[first:first + CHUNK]])
-        forces = [[path, value.text] for path, value in self.values.items() if value.forced]
-        base = Base(story.text, story.main, story.steps, story.moment, forces if self.forces else [], self.next_command)
-        self.journal.append(journals.LOAD, base.written())
-        story.began = base.command
+        self.trouble, paths = "", list(self.types) if self.forces else []
+        for first in range(0, len(paths), CHUNK):
+            await self._show(paths[first:first + CHUNK])
+        forces = [[path, self.values[path].text] for path in paths if self.values[path].forced]
+        self._load(self.story.text, self.story.steps, forces)
+
+    def _load(self, text: str, steps: int, forces: list[list[str]]) -> None:
+        """A replay can begin here."""
+        base = Base(text, self.plant.main, steps, self.story.moment, forces, self.story.next_number)
+        self._keep(journals.LOAD, base.written())
+        self.story.begin(base)
+
+    def _keep(self, kind: str, *fields: str) -> None:
+        self.journal.append(kind, *fields)
+        if self._taking_back.locked():
+            self._news.append(Record(kind, fields))
 
     async def _exchange(self, lines: Sequence[str]) -> list[str]:
         if self.session is None:
@@ -320,7 +308,6 @@ class Engine:
     def _note(self, who: str, line: str) -> None:
         """What the host did for an operator, for the list of who did what; the controller knows nothing of it."""
         self.notes.append((journals.wall_ms(), who, line))
-        self._soon()
 
     # what the program shows
 
@@ -334,10 +321,10 @@ class Engine:
                 self.values[path] = Value(text.removesuffix(" forced"), text.endswith(" forced"))
 
     def _wanted(self) -> list[str]:
-        """What is to be shown next: what clients look at, and a few of the other leaves in turn, so that all are shown in time."""
+        """What is to be shown next: what clients look at, and a few of the other leaves in turn, so that all come in time."""
         wanted = [path for paths in list(self.watched.values()) for path in paths] + [*self.plant.trend, *self.inputs.points]
-        wanted += [leaf.path for leaf in self.leaves[self._sweep:self._sweep + CHUNK]]
-        self._sweep = self._sweep + CHUNK if self._sweep + CHUNK < len(self.leaves) else 0
+        wanted += list(self.types)[self._sweep:self._sweep + CHUNK]
+        self._sweep = self._sweep + CHUNK if self._sweep + CHUNK < len(self.types) else 0
         return [path for path in dict.fromkeys(wanted) if path in self.types]
 
     async def _look(self, paths: Sequence[str]) -> None:
@@ -347,8 +334,7 @@ class Engine:
             self._post(partial(self._look, paths[CHUNK:]))
             return
         await self._read_status()
-        none = Value("", False)
-        self.trend.append((self.cycle.moment, [self.values.get(path, none).text for path in self.plant.trend]))
+        self.trend.append((self.cycle.moment, [self.text_of(path) for path in self.plant.trend]))
         self.status = self.told()
         self._next_look = self.clock.now() + self.plant.page.refresh / 1000
 
@@ -360,36 +346,37 @@ class Engine:
 
     def told(self) -> dict[str, Any]:
         """What every client is told."""
-        state = "trouble" if self.trouble or self.session is None else "halted" if self.fault else "held" if self.held else "running"
-        undo = self.story.undoable[-1][0] if self.story.undoable else None
-        journal = self.journal.told()
-        lost = "" if journal["reaches"] else "the journal doesn't reach back to a load or a reset"
-        notice = " ".join(filter(None, [state, self.fault, self.trouble, self.journal.trouble, lost]))
+        stopped = "trouble" if self.trouble or self.session is None else "halted" if self.fault else ""
+        state, journal = stopped or ("held" if self.held else "running"), self.journal.told()
+        lost = "" if journal["reaches"] else NO_BASE
         return {
-            "state": state, "notice": notice, "fault": self.fault, "why": explain(f"fault {self.fault}"), "trouble": self.trouble,
-            "moment": self.story.moment, "version": self.version, "forces": self.forces, "undos": self.undos,
-            "undo": undo.line if undo else "", "period": self.plant.cycle, **self.cycle.figures.told(),
-            "waiting": len(self._queue), "restarts": self.restarts, "journal": journal,
-            "devices": [{"name": link.name, "good": link.good, "trouble": link.trouble, "behind": link.behind} for link in self.links],
-            "good": dict(self.inputs.good), "driven": dict(self.driven),
+            "state": state, "notice": " ".join(filter(None, [state, self.fault, self.trouble, self.journal.trouble, lost])),
+            "fault": self.fault, "why": explain(f"fault {self.fault}"), "trouble": self.trouble, "moment": self.story.moment,
+            "version": self.version, "forces": self.forces, "undos": self.undos,
+            "undo": self.story.undoable[-1][0].line if self.story.undoable else "", "period": self.plant.cycle,
+            **self.cycle.figures.told(), "waiting": len(self._queue), "restarts": self.restarts, "journal": journal,
+            "devices": [link.told() for link in self.links], "good": dict(self.inputs.good), "driven": dict(self.driven),
         }
 
-    async def _push(self, texts: dict[str, str]) -> None:
-        self.driven = dict(texts)
-        numbers = self._numbers(texts)
+    async def _push(self) -> None:
+        """Gives the outputs what the program has, or their values for a fault where it doesn't run."""
+        known = {path: self.text_of(path) for path in self.safe if path in self.values}
+        self.driven = self.safe if self.fault or self.trouble else {**self.safe, **known}
+        numbers = self._numbers(self.driven)
         await asyncio.gather(*(link.push(numbers) for link in self.links))
+
+    def text_of(self, path: str) -> str:
+        return self.values[path].text if path in self.values else ""
 
     def _numbers(self, texts: dict[str, str]) -> dict[str, int]:
         return {path: to_number(self.types[path], text) for path, text in texts.items() if path in self.types}
 
     # how it begins, and begins again
 
-    def _take_program(self, leaves: list[Leaf]) -> None:
-        self.leaves = leaves
-        self.types = {leaf.path: leaf.type for leaf in leaves}
-        self.spelled = {leaf.path.upper(): leaf.path for leaf in leaves}
-        self.values = {path: value for path, value in self.values.items() if path in self.types}
-        mapped = [item.path for item in self.plant.server.map if item.path in self.types] if self.plant.server else []
+    def _take_program(self, types: Types) -> None:
+        self.types, self.spelled = types, {path.upper(): path for path in types}
+        self.values = {path: value for path, value in self.values.items() if path in types}
+        mapped = [item.path for item in self.plant.server.map if item.path in types] if self.plant.server else []
         self._always = list(dict.fromkeys([*self.safe, *mapped]))  # the leaves that are shown behind each scan
         self.version += 1
         self._sweep = 0
@@ -398,20 +385,16 @@ class Engine:
         """Starts where the journal ends; or loads the program where there is no journal."""
         self.journal.close()
         replay = await restore(self.start, self.journal.folder)
-        self.journal.resume()
+        self.journal.resume(replay.records if replay else 0)
         if replay is None:
             text = self.plant.text.read_bytes().decode("utf-8", "surrogateescape")
-            self.session = await self.start(text, self.plant.main, self.plant.steps)
-            base = Base(text, self.plant.main, self.plant.steps, 0, [], 1)
-            self.journal.append(journals.LOAD, base.written())
-            self.story = Story()
-            self.story.begin(base)
+            self.session, self.story = await self.start(text, self.plant.main, self.plant.steps), Story()
+            self._load(text, self.plant.steps, [])
         else:
             self.session, self.story = replay.session, replay.story
-        self.next_command = max([self.story.began - 1, *self.story.commands]) + 1
-        leaves = await self.layout(self.story.text, self.plant.main)
-        await connections(self.plant, self.story.text, leaves, self.start)
-        self._take_program(leaves)
+        types = await self.layout(self.story.text, self.plant.main)
+        await connections(self.plant, self.story.text, types, self.start)
+        self._take_program(types)
         await self._read_status()
         self.links = self.links or self._make_links(self.types)
         self.inputs = Inputs(self.plant.input, self.types)
@@ -421,18 +404,25 @@ class Engine:
 
     async def _restart(self, why: str) -> None:
         """`stc` has ended: the outputs get their values for a fault, and it is started again from the journal."""
-        self.trouble, self.session = why, None
+        self.trouble, self.session, pause = why, None, 0.0
         self.restarts += 1
-        await self._push(self.safe)
-        pause = retry = 0.0
-        while self.session is None and not self._stopping:
+        await self._push()
+        while self.trouble and not self._stopping:
             self.status = self.told()
             while self._queue:
-                self._queue.popleft()[1].set_exception(Trouble(f"the program doesn't run: {self.trouble}"))
-            if (retry := retry - 0.1) < 0:
-                retry = pause = min(30.0, pause * 2 + 0.5)
-                try:
-                    return await self._recover()
-                except (Gone, OSError, Trouble) as error:
-                    self.trouble, self.session = str(error), None
-            await asyncio.sleep(0.1)
+                _tell(self._queue.popleft()[1], Trouble(f"the program doesn't run: {self.trouble}"))
+            self._event.clear()
+            await self.clock.wait(self._event, self.clock.now() + pause)
+            try:
+                await self._recover()
+            except (OSError, Trouble) as error:
+                pause = min(30.0, pause * 2 + 0.5)
+                if self.session is not None:
+                    await self.session.close()
+                self.trouble, self.session = str(error), None
+
+
+def _tell(done: asyncio.Future[Any], result: Any) -> None:
+    """Gives who asked a result or an error, if that one still waits."""
+    if not done.done():
+        done.set_exception(result) if isinstance(result, Exception) else done.set_result(result)

@@ -3,20 +3,17 @@
 from collections.abc import Sequence
 
 from .plant import Point
-from .session import encoded
+from .session import LINE_LIMIT, encoded
 from .values import fits, to_text
-
-LINE_LIMIT = 4_096
 
 
 class Inputs:
     """Inputs with a device follow it. Those without one are given what a Modbus client sets, once."""
 
     def __init__(self, points: Sequence[Point], types: dict[str, str]) -> None:
-        self.points = {point.path: point for point in points}
-        self.types = types
+        self.points, self.types = {point.path: point for point in points}, types
         self.numbers: dict[str, int] = {}
-        self.good: dict[str, bool] = {point.path: point.device is None for point in points}
+        self.good = {point.path: point.device is None for point in points}
         self._given: dict[str, str] = {}
 
     def take(self, path: str, number: int) -> None:
@@ -26,16 +23,16 @@ class Inputs:
             self._given.pop(path, None)
 
     def poll(self, device: str, numbers: dict[str, int]) -> None:
-        """What a device gave. The inputs that it didn't give, or not as their types have it, keep the last one and aren't good."""
-        for path, point in self.points.items():
-            if point.device == device:
-                self.good[path] = path in numbers and fits(self.types[path], numbers[path])
-                if self.good[path]:
-                    self.take(path, numbers[path])
+        """What a device gave. Inputs that it didn't give, or not as their types have it, keep the last one and aren't good."""
+        for path in [path for path, point in self.points.items() if point.device == device]:
+            self.good[path] = path in numbers and fits(self.types[path], numbers[path])
+            if self.good[path]:
+                self.take(path, numbers[path])
 
     def forget(self) -> None:
         """Something else than a scan may have changed the inputs of the program: the next scan gives all that follow devices."""
-        self._given = {path: text for path, text in self._given.items() if path in self.points and self.points[path].device is None}
+        by_hand = [path for path, point in self.points.items() if point.device is None]
+        self._given = {path: self._given[path] for path in by_hand if path in self._given}
 
     def lines(self, moment: int) -> tuple[list[str], dict[str, str]]:
         """The scan of a moment, behind writes of what has no room in its line; and what the program has then been given."""

@@ -8,13 +8,13 @@ from typing import Any
 from pymodbus.client.base import ModbusClientProtocol
 from pymodbus.framer.socket_framer import ModbusSocketFramer
 
-from .plant import DeviceFile, Point
+from .plant import BITS, DeviceFile, Point
 from .values import pack, size_of, unpack
 
 logging.getLogger("pymodbus").setLevel(logging.CRITICAL)
 PATIENCE = 5.0  # seconds that a device has to answer; a cycle doesn't wait that long
-AT_ONCE = {"coil": 1_000, "discrete": 1_000, "input": 100, "holding": 100}
-READ = {"coil": "read_coils", "discrete": "read_discrete_inputs", "input": "read_input_registers", "holding": "read_holding_registers"}
+READ = {"coil": "read_coils", "discrete": "read_discrete_inputs",
+        "input": "read_input_registers", "holding": "read_holding_registers"}
 
 
 class Remote:
@@ -31,10 +31,9 @@ class Remote:
         for run in self.inputs:
             table, first, count = self._span(run)
             answer = await self._ask(READ[table], first, count)
-            words = answer.bits if table in ("coil", "discrete") else answer.registers
+            words = answer.bits if table in BITS else answer.registers
             for point in run:
-                place = point.address - first
-                numbers[point.path] = unpack(point, self.types[point.path], words[place:place + self._size(point)])
+                numbers[point.path] = unpack(point, self.types[point.path], words[point.address - first:][:self._size(point)])
         return numbers
 
     async def write(self, numbers: dict[str, int]) -> None:
@@ -54,7 +53,7 @@ class Remote:
         runs: list[list[Point]] = []
         for point in sorted(points, key=lambda point: (point.table, point.address)):
             table, first, count = self._span(runs[-1]) if runs else ("", 0, 0)
-            if point.table == table and point.address == first + count and count + 2 <= AT_ONCE[table]:
+            if (point.table, point.address) == (table, first + count) and count + 2 <= (1_000 if table in BITS else 100):
                 runs[-1].append(point)
             else:
                 runs.append([point])
@@ -80,7 +79,9 @@ class Remote:
 
     async def _request(self, call: str, words: tuple[object, ...]) -> Any:
         if self._protocol is None or not self._protocol.connected:
+            def protocol() -> Any:
+                return ModbusClientProtocol(framer=ModbusSocketFramer)
+
             loop = asyncio.get_running_loop()
-            made = loop.create_connection(lambda: ModbusClientProtocol(framer=ModbusSocketFramer), self.file.host, self.file.port)
-            _, self._protocol = await made
+            _, self._protocol = await loop.create_connection(protocol, self.file.host, self.file.port)
         return await getattr(self._protocol, call)(*words, slave=self.file.unit)

@@ -3,41 +3,38 @@
 import ipaddress
 import tomllib
 from collections.abc import Sequence
-from dataclasses import MISSING, dataclass, field, fields, is_dataclass
+from dataclasses import MISSING, dataclass, fields, is_dataclass
 from pathlib import Path
-from typing import Any, Literal, TypeVar, get_args, get_origin, get_type_hints
+from typing import Annotated, Any, Literal, TypeVar, get_args, get_origin, get_type_hints
 
 from . import Trouble
 
 FORMS = {"BIT": 1, "INT16": 1, "UINT16": 1, "INT32": 2, "UINT32": 2}  # how many coils or registers each takes
 READING, WRITING = (1, 2, 3, 4), (5, 6, 15, 16)  # functions of Modbus
-TABLES = ("coil", "discrete", "input", "holding")
+BITS, REGISTERS = ("coil", "discrete"), ("input", "holding")
 Kind = TypeVar("Kind")
 Order = Literal["big", "little"]
+Port = Annotated[int, range(65_536)]
+table = dataclass(frozen=True, kw_only=True)
 
 
-def number(low: int, high: int, default: Any = MISSING) -> Any:
-    """A key with a number in bounds."""
-    return field(default=default, metadata={"low": low, "high": high})
-
-
-@dataclass(frozen=True, kw_only=True)
+@table
 class Register:
     """A place in the tables of Modbus, and how a number lies there. Without a form the variable's type decides."""
 
     table: Literal["coil", "discrete", "input", "holding"] | None = None
-    address: int = number(0, 65_535, 0)
+    address: Annotated[int, range(65_536)] = 0
     form: Literal["BIT", "INT16", "UINT16", "INT32", "UINT32"] | None = None
     words: Order = "big"
     bytes: Order = "big"
 
 
-@dataclass(frozen=True, kw_only=True)
+@table
 class Mapped(Register):
     path: str
 
 
-@dataclass(frozen=True, kw_only=True)
+@table
 class Point(Register):
     """A process input or output: a variable, and what it is at its device."""
 
@@ -51,71 +48,67 @@ class Point(Register):
     fault: str | None = None  # of an output: what the plant gets where the program doesn't run
     quality: str | None = None  # of an input: the BOOL input that tells the program whether it is good
 
-    @property
-    def label(self) -> str:
-        return self.title or self.path.split(".", 1)[-1].replace("_", " ")
 
-
-@dataclass(frozen=True, kw_only=True)
+@table
 class DeviceFile:
     name: str
     kind: Literal["simulation", "modbus"]
     model: Literal["tank", "conveyor"] = "tank"
     host: str = "127.0.0.1"
-    port: int = number(1, 65_535, 502)
-    unit: int = number(0, 255, 1)
-    share: int = number(1, 80, 30)  # percent of the cycle
+    port: Port = 502
+    unit: Annotated[int, range(256)] = 1
+    share: Annotated[int, range(1, 81)] = 30  # percent of the cycle
 
 
-@dataclass(frozen=True, kw_only=True)
+@table
 class Allowed:
     address: str
-    functions: tuple[int, ...] = READING
+    functions: tuple[Annotated[int, READING + WRITING], ...] = READING
 
     @property
     def network(self) -> ipaddress.IPv4Network | ipaddress.IPv6Network:
         return ipaddress.ip_network(self.address)
 
 
-@dataclass(frozen=True, kw_only=True)
+@table
 class ServerFile:
     host: str = "127.0.0.1"
-    port: int = number(0, 65_535, 502)
-    clients: int = number(1, 64, 8)
-    idle: int = number(1, 3_600, 60)
+    port: Port = 502
+    clients: Annotated[int, range(1, 65)] = 8
+    idle: Annotated[int, range(1, 3_601)] = 60
     allow: tuple[Allowed, ...] = ()
     map: tuple[Mapped, ...] = ()
 
 
-@dataclass(frozen=True, kw_only=True)
+@table
 class JournalFile:
     sync: Literal["never", "second", "always"] = "second"
-    piece: int = number(4_096, 1 << 30, 16_000_000)
-    limit: int = number(65_536, 1 << 50, 4_000_000_000)
+    piece: Annotated[int, range(4_096, (1 << 30) + 1)] = 16_000_000
+    limit: Annotated[int, range(65_536, (1 << 50) + 1)] = 4_000_000_000
 
 
-@dataclass(frozen=True, kw_only=True)
+@table
 class PageFile:
     host: str = "127.0.0.1"
-    port: int = number(0, 65_535, 8080)
+    port: Port = 8080
     names: tuple[str, ...] = ()
-    clients: int = number(1, 100, 16)
-    refresh: int = number(50, 10_000, 250)
+    clients: Annotated[int, range(1, 101)] = 16
+    refresh: Annotated[int, range(50, 10_001)] = 250
 
 
-@dataclass(frozen=True, kw_only=True)
+@table
 class Plant:
     program: str
-    cycle: int = number(1, 60_000)
+    cycle: Annotated[int, range(1, 60_001)]
     name: str = ""
     about: str = ""
     main: str = "Main"
-    steps: int = number(1, 10_000_000, 100_000)
-    priority: int = number(0, 90, 0)
+    steps: Annotated[int, range(1, 10_000_001)] = 100_000
+    priority: Annotated[int, range(91)] = 0
     state: str = ""
     tokens: str = ""
     trend: tuple[str, ...] = ()
-    trend_keep: int = number(10, 86_400, 600)
+    trend_keep: Annotated[int, range(10, 86_401)] = 600
     journal: JournalFile = JournalFile()
     page: PageFile = PageFile()
     device: tuple[DeviceFile, ...] = ()
@@ -153,63 +146,62 @@ def _check(plant: Plant) -> None:
     kinds = {device.name: device.kind for device in plant.device}
     if len(kinds) < len(plant.device):
         raise ValueError("two devices have one name")
-    points = plant.input + plant.output
-    paths = [point.path.upper() for point in points]
-    for place, point in enumerate(points):
-        is_output = place >= len(plant.input)
-        if paths.index(point.path.upper()) < place:
+    seen: set[str] = set()
+    for point in plant.input + plant.output:
+        is_output = point in plant.output
+        if point.path.upper() in seen:
             raise ValueError(f"{point.path} stands twice")
+        seen.add(point.path.upper())
         if point.device is not None and point.device not in kinds:
             raise ValueError(f"{point.path}: there is no device `{point.device}`")
         if is_output and point.fault is None:
             raise ValueError(f"{point.path}: the key `fault` is missing")
         if kinds.get(point.device or "") == "modbus":
-            _check_register(point, point.path, ("coil", "holding") if is_output else TABLES)
+            _check_register(point, point.path, ("coil", "holding") if is_output else BITS + REGISTERS)
     for item in plant.server.map if plant.server else ():
-        _check_register(item, item.path, TABLES)
-    for entry in plant.server.allow if plant.server else ():
-        if not (entry.network and set(entry.functions) <= set(READING + WRITING)):
-            raise ValueError(f"`functions` are among {READING + WRITING}")
+        _check_register(item, item.path, BITS + REGISTERS)
+    _ = [entry.network for entry in (plant.server.allow if plant.server else ())]  # ValueError where it is none
 
 
 def _check_register(register: Register, path: str, tables: Sequence[str]) -> None:
     if register.table not in tables:
         raise ValueError(f"{path}: `table` is one of {', '.join(tables)}")
-    if register.form is not None and (register.table in ("coil", "discrete")) is not (register.form == "BIT"):
+    if register.form is not None and (register.table in BITS) is not (register.form == "BIT"):
         raise ValueError(f"{path}: `form` doesn't fit the table {register.table}")
 
 
-def _read(kind: type[Kind], table: Any, where: str, **values: Any) -> Kind:
+def _read(kind: type[Kind], found: Any, where: str, **values: Any) -> Kind:
     """A table of the file as what it is to be, with some values beside it. Keys that aren't known are refused."""
-    if not isinstance(table, dict):
-        raise Trouble(f"{where}: a table is due")
-    hints = get_type_hints(kind)
-    known = {item.name: item for item in fields(kind) if item.name not in values}  # type: ignore[arg-type]
-    for key, value in table.items():
-        if key not in known:
-            raise Trouble(f"{where}: there is no key `{key}`")
-        values[key] = _value(value, hints[key], known[key].metadata, f"{where}: `{key}`")
-    for key, item in known.items():
-        if key not in values and item.default is MISSING:
-            raise Trouble(f"{where}: the key `{key}` is missing")
+    if not isinstance(found, dict):
+        raise ValueError(f"{where}: a table is due")
+    hints = get_type_hints(kind, include_extras=True)
+    if unknown := [key for key in found if key not in hints or key in values]:
+        raise ValueError(f"{where}: there is no key `{unknown[0]}`")
+    values |= {key: _value(value, hints[key], f"{where}: `{key}`") for key, value in found.items()}
+    for item in fields(kind):
+        if item.name not in values and item.default is MISSING:
+            raise ValueError(f"{where}: the key `{item.name}` is missing")
     return kind(**values)
 
 
-def _value(value: Any, hint: Any, bounds: Any, where: str) -> Any:
+def _value(value: Any, hint: Any, where: str) -> Any:
     """A value of the file, if it is of the type of its key and in its bounds."""
+    bounds: Any = None
     if type(None) in get_args(hint):  # a key that may be left out
         hint = get_args(hint)[0]
+    if get_origin(hint) is Annotated:
+        hint, bounds = get_args(hint)
     if get_origin(hint) is tuple:
         if not isinstance(value, list):
-            raise Trouble(f"{where} is to be a list")
-        return tuple(_value(item, get_args(hint)[0], bounds, f"{where} {place}") for place, item in enumerate(value, 1))
+            raise ValueError(f"{where} is to be a list")
+        return tuple(_value(item, get_args(hint)[0], f"{where} {place}") for place, item in enumerate(value, 1))
     if is_dataclass(hint):
-        return _read(hint, value, where)  # type: ignore[arg-type]
+        return _read(hint, value, where)
     if get_origin(hint) is Literal:
-        if value not in get_args(hint):
-            raise Trouble(f"{where} is one of {', '.join(get_args(hint))}")
-    elif type(value) is not hint:
-        raise Trouble(f"{where} is to be of type {hint.__name__}")
-    elif bounds and not bounds["low"] <= value <= bounds["high"]:
-        raise Trouble(f"{where} is from {bounds['low']} to {bounds['high']}")
+        hint, bounds = str, get_args(hint)
+    if type(value) is not hint:
+        raise ValueError(f"{where} is to be of type {hint.__name__}")
+    if bounds is not None and value not in bounds:
+        ends = f"from {bounds[0]} to {bounds[-1]}" if isinstance(bounds, range) else f"one of {', '.join(map(str, bounds))}"
+        raise ValueError(f"{where} is {ends}")
     return value

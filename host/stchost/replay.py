@@ -14,8 +14,10 @@ from .journal import Base, Record
 from .session import Session, layout_of
 
 Start = Callable[[str, str, int], Awaitable[Session]]
-BATCH = 2_000  # lines that are sent at one go
+BATCH = 250  # lines that are sent at one go
 KEPT = 2_000  # commands that are remembered
+UNDOABLE = ("write", "force", "release", "change")  # what `undo` and a take back undo
+NO_BASE = "the journal doesn't reach back to a load or a reset"
 
 
 @dataclass
@@ -38,13 +40,15 @@ class Story:
     main: str = ""
     steps: int = 0
     moment: int = 0
-    began: int = 0  # the number of the first command behind the newest load or reset
+    began: int = 1  # the number of the first command behind the newest load or reset
+    next_number: int = 1  # of the command that comes next
     commands: dict[int, Command] = field(default_factory=dict)
     undoable: list[tuple[Command, str]] = field(default_factory=list)  # each with the text before it
+    gone: set[int] = field(default_factory=set)  # the commands that were taken back
 
     def begin(self, base: Base) -> None:
-        self.text, self.main, self.steps = base.text, base.main, base.steps
-        self.moment, self.began = base.moment, base.command
+        self.text, self.main, self.steps, self.moment, _, self.began = base
+        self.next_number = self.began
         self.undoable.clear()
 
     def scan(self, line: str, reply: str) -> None:
@@ -54,25 +58,25 @@ class Story:
             if not reply.startswith("fault"):
                 self.moment = int(line.split(" ", 2)[1])
 
-    def operation(self, number: int, wall: int, who: str, line: str, reply: str) -> Command:
+    def operation(self, command: Command) -> None:
         """An operator's line was answered."""
-        first, _, text = line.partition("\n")
-        command = self.commands[number] = Command(number, wall, who, first, reply)
+        line, command.line = command.line, command.line.partition("\n")[0]
+        self.commands[command.number], self.next_number = command, command.number + 1
         if len(self.commands) > KEPT:
             del self.commands[next(iter(self.commands))]
-        verb = "" if reply.startswith("refused") else line.split(None, 1)[0]
+        verb = "" if command.state or command.reply.startswith("refused") else line.split(None, 1)[0]
         if verb == "reset":
             self.undoable.clear()
         elif verb == "undo":
             undone, self.text = self.undoable.pop()
             undone.state = "undone"
-        elif verb in ("write", "force", "release", "change"):
+        elif verb in UNDOABLE:
             self.undoable.append((command, self.text))
             if verb == "change":
-                self.text = text.rpartition("end_change")[0]
-        return command
+                self.text = line.partition("\n")[2].rpartition("end_change")[0]
 
-    def taken_back(self, number: int) -> None:
+    def take_back(self, number: int) -> None:
+        self.gone.add(number)
         if number in self.commands:
             self.commands[number].state = "taken back"
 
@@ -84,35 +88,45 @@ class Replay:
         self.start, self.skipped = start, frozenset(skipped)
         self.session: Session | None = None
         self.story = Story()
-        self.lines = 0
+        self.records = self.lines = 0
         self.others: list[Command] = []  # that are answered otherwise for want of a command that was taken back
         self._open: set[int] = set()  # the commands that are skipped, but weren't yet taken back when the record was written
 
-    async def feed(self, records: Iterator[Record | None]) -> bool:
-        """Replays some records behind those before, up to None. The answer is whether there may be more."""
-        some = [record for record in takewhile(bool, islice(records, BATCH)) if record]
-        if some and self.session is None:
-            await self._begin(some[0])
-        elif any(record.kind == journal.LOAD for record in some):
-            raise Trouble("a reset came meanwhile")
-        sent = [record for record in some if self._counts(record)]
-        replies = iter(await self.session.exchange([record.fields[-2] for record in sent]) if self.session else ())
-        for record in some:
-            if record.kind == journal.TAKEN_BACK:
-                self.story.taken_back(int(record.fields[2]))
-                self._open.discard(int(record.fields[2]))
-            elif record.kind in (journal.SCAN, journal.COMMAND):
-                self._note(record, next(replies) if self._counts(record) else None)
-        self.lines += len(sent)
-        return len(some) == BATCH
+    async def feed(self, records: Iterable[Record]) -> None:
+        """Replays records behind those before. Where this fails the session is closed."""
+        records = iter(records)
+        try:
+            while some := list(islice(records, BATCH)):
+                await self._feed(some)
+                await asyncio.sleep(0)
+        except BaseException:
+            await self.close()
+            raise
 
     async def close(self) -> None:
         if self.session is not None:
             await self.session.close()
 
+    async def _feed(self, some: list[Record]) -> None:
+        if self.session is None:
+            await self._begin(some[0])
+        elif any(record.kind == journal.LOAD for record in some):
+            raise Trouble("a reset came meanwhile")
+        assert self.session is not None
+        sent = [record.fields[-2] for record in some if self._counts(record)]
+        replies = iter(await self.session.exchange(sent))
+        for record in some:
+            if record.kind == journal.TAKEN_BACK:
+                number = int(record.fields[2])
+                self.story.take_back(number)
+                self._open.discard(number)
+            elif record.kind in (journal.SCAN, journal.COMMAND):
+                self._note(record, next(replies) if self._counts(record) else None)
+        self.records, self.lines = self.records + len(some), self.lines + len(sent)
+
     async def _begin(self, record: Record) -> None:
         if record.kind != journal.LOAD:
-            raise Trouble("the journal doesn't reach back to a load or a reset")
+            raise Trouble(NO_BASE)
         base = record.base
         self.session = await self.start(base.text, base.main, base.steps)
         self.story.begin(base)
@@ -134,42 +148,29 @@ class Replay:
             self.story.scan(line, reply or "")
             return
         number, wall, who = int(record.fields[0]), int(record.fields[1]), record.fields[2]
-        if reply is None:
-            self._open.add(number)
-            self.story.commands[number] = Command(number, wall, who, line.split("\n", 1)[0], wanted, "taken back")
-        else:
-            command = self.story.operation(number, wall, who, line, reply)
-            self.others += [command] if reply != wanted else []
-
-
-def taken_back(records: Iterable[Record]) -> set[int]:
-    """The commands that some of these records take back."""
-    return {int(record.fields[2]) for record in records if record.kind == journal.TAKEN_BACK}
+        self._open |= {number} if reply is None else set()
+        command = Command(number, wall, who, line, reply or wanted, "taken back" if reply is None else "")
+        self.story.operation(command)
+        self.others += [command] if command.reply != wanted else []
 
 
 async def restore(start: Start, folder: Path, moment: int | None = None) -> Replay | None:
     """The state behind the last scan up to a moment, or at the end of a journal. None where there is no journal."""
     if next(journal.read(folder), None) is None:
         return None
-    heads = [(number, next(journal.read(folder, number)).base.moment) for number in journal.bases(folder)]
-    reaching = [number for number, begins in heads if moment is None or begins <= moment]
+    heads = journal.bases(folder)
     if not heads:
-        raise Trouble("the journal doesn't reach back to a load or a reset")
+        raise Trouble(NO_BASE)
+    reaching = [number for number, base in heads.items() if moment is None or base.moment <= moment]
     if not reaching:
-        raise Trouble(f"a replay can go back to moment {heads[0][1]}, and no further")
+        raise Trouble(f"a replay can go back to moment {min(base.moment for base in heads.values())}, and no further")
 
     def records() -> Iterator[Record]:
         found = journal.read(folder, reaching[-1])
         return takewhile(lambda record: moment is None or (record.moment or 0) <= moment, found)
 
-    replay = Replay(start, taken_back(records()))
-    feed = records()
-    try:
-        while await replay.feed(feed):
-            await asyncio.sleep(0)
-    except BaseException:
-        await replay.close()
-        raise
+    replay = Replay(start, (int(record.fields[2]) for record in records() if record.kind == journal.TAKEN_BACK))
+    await replay.feed(records())
     return replay
 
 
@@ -180,7 +181,7 @@ async def show(folder: Path, moment: int | None, words: list[str]) -> None:
     if replay is None or replay.session is None:
         raise Trouble("there is no journal")
     took = time.monotonic() - began
-    leaves = [leaf.path for leaf in await layout_of(replay.story.text, replay.story.main)]
+    leaves = await layout_of(replay.story.text, replay.story.main)
     wanted = [path for path in leaves if all(word.upper() in path.upper() for word in words)]
     print(*await replay.session.exchange(["status", *(f"show {path}" for path in wanted)]), sep="\n")
     await replay.close()

@@ -9,17 +9,16 @@ BITS = {
     "BYTE": 8, "WORD": 16, "DWORD": 32, "LWORD": 64, "TIME": 64,
 }
 SIGNED = {"SINT", "INT", "DINT", "LINT", "TIME"}
-DURATION = re.compile(r"T#(-?\d+)ms", re.I)
+NUMBER = re.compile(r"T#(?P<TIME>-?\d+)ms|16#(?P<hex>[\dA-F]+)|(?P<plain>-?\d+)", re.I)
 
 
-def range_of(bits: int, signed: bool) -> tuple[int, int]:
-    return (-(1 << (bits - 1)), (1 << (bits - 1)) - 1) if signed else (0, (1 << bits) - 1)
+def range_of(bits: int, signed: bool) -> range:
+    return range(-(1 << (bits - 1)), 1 << (bits - 1)) if signed else range(1 << bits)
 
 
 def fits(type_name: str, number: int) -> bool:
     """Whether a type has a number; TIME has milliseconds."""
-    least, most = range_of(BITS[type_name], type_name in SIGNED)
-    return least <= number <= most
+    return number in range_of(BITS[type_name], type_name in SIGNED)
 
 
 def to_text(type_name: str, number: int) -> str:
@@ -31,15 +30,11 @@ def to_text(type_name: str, number: int) -> str:
 
 def to_number(type_name: str, text: str) -> int:
     """The number of a value as `stc` shows it. ValueError where it is none of the type."""
-    number: int | None
-    if type_name == "TIME":
-        match = DURATION.fullmatch(text)
-        number = int(match[1]) if match else None
-    elif type_name == "BOOL":
-        number = {"TRUE": 1, "FALSE": 0, "1": 1, "0": 0}.get(text.upper())
-    else:
-        number = int(text[3:], 16) if text.startswith("16#") else int(text)
-    if number is None or not fits(type_name, number):
+    if type_name == "BOOL":
+        text = {"TRUE": "1", "FALSE": "0"}.get(text.upper(), text)
+    match = NUMBER.fullmatch(text)
+    number = int(match[match.lastgroup or 0], 16 if match["hex"] else 10) if match else -1
+    if match is None or (type_name == "TIME") is not (match["TIME"] is not None) or not fits(type_name, number):
         raise ValueError(f"{text} is no {type_name}")
     return number
 
@@ -62,8 +57,8 @@ def pack(place: Register, type_name: str, number: int) -> list[int]:
     form = form_of(place, type_name)
     if form == "BIT":
         return [int(number != 0)]
-    least, most = range_of(16 * FORMS[form], form.startswith("I"))
-    data = min(most, max(least, number)).to_bytes(2 * FORMS[form], "big", signed=least < 0)
+    has = range_of(16 * FORMS[form], form.startswith("I"))
+    data = min(has[-1], max(has[0], number)).to_bytes(2 * FORMS[form], "big", signed=has[0] < 0)
     return _ordered(place, [int.from_bytes(data[at:at + 2], "big") for at in range(0, len(data), 2)])
 
 

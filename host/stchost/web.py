@@ -3,6 +3,7 @@
 import asyncio
 import json
 from collections.abc import Awaitable, Callable
+from contextlib import suppress
 from dataclasses import astuple
 from pathlib import Path
 from typing import Any
@@ -12,8 +13,8 @@ from aiohttp import WSMsgType, web
 from . import Trouble
 from .access import Gate, Person
 from .change import Preview, preview
-from .engine import QUIET, Busy, Engine, Value
-from .session import TEXT_LIMIT, Gone, decoded, explain
+from .engine import QUIET, Engine, Value
+from .session import TEXT_LIMIT, decoded, explain
 
 PAGE = Path(__file__).resolve().parents[1] / "page"
 FILES = {"/": "index.html", "/page.css": "page.css", "/page.js": "page.js"}
@@ -30,15 +31,9 @@ HEADERS = {
     "X-Content-Type-Options": "nosniff", "Referrer-Policy": "no-referrer", "Cache-Control": "no-store",
 }
 LOOKS = ("watch", "list", "log", "program")  # requests that change nothing
-ERRORS = (Trouble, Gone, OSError)
+GONE = (asyncio.TimeoutError, ConnectionError)  # a client that is slow, or has left
 Handler = Callable[[web.Request], Awaitable[web.StreamResponse]]
-
-
-class Closed(asyncio.Protocol):
-    """What a connection above the limit gets."""
-
-    def connection_made(self, transport: asyncio.BaseTransport) -> None:
-        transport.close()
+Answer = dict[str, Any]
 
 
 class Client:
@@ -62,35 +57,30 @@ class Web:
         self.port = 0
         self._previewing = asyncio.Semaphore(PREVIEWS)
         app = web.Application(middlewares=[self._guard])
-        app.add_routes([web.get(path, self._page) for path in FILES])
-        app.add_routes([web.get("/live", self._live)])
+        app.add_routes([web.get(path, self._page) for path in FILES] + [web.get("/live", self._live)])
         self._runner = web.AppRunner(app, access_log=None, keepalive_timeout=FIRST_TIME)
-        self._server: asyncio.base_events.Server | None = None
 
     async def start(self) -> None:
         await self._runner.setup()
-        loop = asyncio.get_running_loop()
-        self._server = await loop.create_server(self._connection, self.file.host, self.file.port, backlog=32)
+        made = asyncio.get_running_loop().create_server(self._connection, self.file.host, self.file.port, backlog=32)
+        self._server = await made
         self.port = self._server.sockets[0].getsockname()[1]
 
     async def close(self) -> None:
-        if self._server is not None:
-            self._server.close()
+        self._server.close()
         await self._runner.cleanup()
 
     def _connection(self) -> asyncio.BaseProtocol:
-        """A connection, if there aren't too many. One that asks for nothing in time is closed."""
+        """A connection. One too many is closed at once, and one that asks for nothing in time then."""
         server = self._runner.server
         assert server is not None
-        if len(server.connections) >= 2 * self.file.clients + SPARE:
-            return Closed()
-        made = server()
+        made, room = server(), 2 * self.file.clients + SPARE - len(server.connections)
 
         def close_idle() -> None:
             if made.transport is not None and made._current_request is None:
                 made.force_close()
 
-        asyncio.get_running_loop().call_later(FIRST_TIME, close_idle)
+        asyncio.get_running_loop().call_later(FIRST_TIME if room > 0 else 0, close_idle)
         return made
 
     @web.middleware
@@ -98,8 +88,8 @@ class Web:
         """Refuses requests for other hosts, and those that another origin's page makes."""
         names = {"127.0.0.1", "localhost", "[::1]", self.file.host, *self.file.names}
         hosts = {f"{name}:{self.port}" for name in names} | set(self.file.names)
-        origin = request.headers.get("Origin")
-        if request.host not in hosts or origin not in (None, f"http://{request.host}", f"https://{request.host}"):
+        if (request.host not in hosts
+                or request.headers.get("Origin") not in (None, f"http://{request.host}", f"https://{request.host}")):
             raise web.HTTPForbidden(text="this origin isn't served\n")
         response = await handler(request)
         if not response.prepared:
@@ -113,53 +103,45 @@ class Web:
         """A client. Its token stands where a browser can put one: it is asked for as the protocol of the WebSocket."""
         token = request.headers.get("Sec-WebSocket-Protocol", "")
         person = await self.gate.who(token, request.remote or "")
-        full = len(self.clients) >= self.file.clients
         limit = TEXT_LIMIT + 2 if person and person.acts else MESSAGE_LIMIT
         socket = web.WebSocketResponse(max_msg_size=limit, heartbeat=20, compress=False, protocols=(token,))
         await socket.prepare(request)
-        if person is None or full:
+        if person is None or len(self.clients) >= self.file.clients:
             await socket.send_json({"refused": "too many clients" if person else "this token isn't known"})
             await socket.close()
             return socket
         client = Client(person)
         self.clients.add(client)
         teller = asyncio.create_task(self._tell(socket, client))
-        try:
+        with suppress(*GONE):
             async for message in socket:
                 if message.type == WSMsgType.BINARY:
                     client.text = decoded(message.data)
-                    continue
-                if message.type != WSMsgType.TEXT or len(message.data) > MESSAGE_LIMIT:
+                elif message.type == WSMsgType.TEXT and len(message.data) <= MESSAGE_LIMIT:
+                    await asyncio.wait_for(socket.send_json(await self._answer(client, message.data)), SEND_TIME)
+                    client.changed.set()
+                else:
                     break
-                answer = json.dumps(await self._answer(client, message.data))
-                await asyncio.wait_for(socket.send_str(answer), SEND_TIME)
-                client.changed.set()
-        except (asyncio.TimeoutError, ConnectionError):
-            pass
-        finally:
-            teller.cancel()
-            self.clients.discard(client)
-            self.engine.watched.pop(client, None)
+        teller.cancel()
+        self.clients.discard(client)
+        self.engine.watched.pop(client, None)
         return socket
 
     async def _tell(self, socket: web.WebSocketResponse, client: Client) -> None:
         """Sends what the plant is, and then what has changed, as often as the plant's file says, or as the client takes it."""
-        news = {"hello": self._hello(client.person)}
-        try:
+        with suppress(*GONE):
+            await asyncio.wait_for(socket.send_json({"hello": self._hello(client.person)}), SEND_TIME)
             while not socket.closed:
-                await asyncio.wait_for(socket.send_str(json.dumps(news)), SEND_TIME)
-                try:
-                    await asyncio.wait_for(client.changed.wait(), self.file.refresh / 1000 if "status" in news else 0)
-                except asyncio.TimeoutError:
-                    pass
-                client.changed.clear()
                 news = {"status": self.engine.status, "values": self._values(client)}
-        except (asyncio.TimeoutError, ConnectionError):
-            await socket.close()
+                await asyncio.wait_for(socket.send_json(news), SEND_TIME)
+                with suppress(asyncio.TimeoutError):
+                    await asyncio.wait_for(client.changed.wait(), self.file.refresh / 1000)
+                client.changed.clear()
+        await socket.close()
 
-    def _hello(self, person: Person) -> dict[str, Any]:
+    def _hello(self, person: Person) -> Answer:
         plant = self.engine.plant
-        inputs, outputs = ([{**vars(point), "title": point.label} for point in points] for points in (plant.input, plant.output))
+        inputs, outputs = ([vars(point) for point in points] for points in (plant.input, plant.output))
         return {"who": person.name, "acts": person.acts, "plant": plant.name, "about": plant.about, "inputs": inputs,
                 "outputs": outputs, "trend": plant.trend, "past": list(self.engine.trend)[-2_000:]}
 
@@ -171,7 +153,7 @@ class Web:
         client.sent.update(news)
         return news
 
-    async def _answer(self, client: Client, message: str) -> dict[str, Any]:
+    async def _answer(self, client: Client, message: str) -> Answer:
         """The answer to one request of a client: JSON with a number, with what it asks for, and with the words of that."""
         number = None
         try:
@@ -185,66 +167,65 @@ class Web:
             return {"id": number, "bad": reply.startswith("refused"), "why": explain(reply), **answer}
         except (ValueError, TypeError, LookupError, AttributeError):
             return {"id": number, "reply": "this request isn't understood", "bad": True}
-        except ERRORS as error:
+        except (Trouble, OSError) as error:
             return {"id": number, "reply": str(error), "bad": True}
 
     # the requests, each with its words
 
-    async def ask_watch(self, client: Client, paths: list[str]) -> dict[str, Any]:
+    async def ask_watch(self, client: Client, paths: list[str]) -> Answer:
         spelled = self.engine.spelled
         client.paths = [spelled[path.upper()] for path in paths[:WATCH_LIMIT] if path.upper() in spelled]
-        for path in client.paths:
-            client.sent.pop(path, None)
+        client.sent = {path: value for path, value in client.sent.items() if path not in client.paths}
         self.engine.watched[client] = client.paths
         return {"paths": client.paths}
 
-    async def ask_list(self, client: Client, search: str = "", only: str = "", first: int = 0, count: int = LIST_LIMIT) -> dict[str, Any]:
+    async def ask_list(self, client: Client, search: str = "", only: str = "all", first: int = 0) -> Answer:
         """The leaves whose path has all words of a search; `forced`, `steps` and `plain` ones only where that is asked for."""
         words, values, types = search.upper().split(), dict(self.engine.values), self.engine.types
         kinds: dict[str, Callable[[str], bool]] = {
-            "": lambda path: True,
+            "all": lambda path: True,
             "forced": lambda path: path in values and values[path].forced,
             "steps": lambda path: path.endswith(".$M") and path[:-2] + "X" in types,
             "plain": lambda path: "$" not in path}
         found = [path for path in types if all(word in path.upper() for word in words) and kinds[only](path)]
-        rows = [[path, types[path], *values.get(path, ("", False))] for path in found[first:first + min(LIST_LIMIT, count)]]
+        rows = [[path, types[path], *values.get(path, ("", False))] for path in found[first:first + LIST_LIMIT]]
         return {"rows": rows, "count": len(found)}
 
-    async def ask_program(self, client: Client) -> dict[str, Any]:
+    async def ask_program(self, client: Client) -> Answer:
         return {"text": self.engine.story.text.encode("utf-8", "replace").decode()}
 
-    async def ask_line(self, client: Client, line: str) -> dict[str, Any]:
+    async def ask_line(self, client: Client, line: str) -> Answer:
         return {"reply": await self.engine.asked(self.engine.operate(client.person.name, line))}
 
-    async def ask_hold(self, client: Client, held: bool) -> dict[str, Any]:
+    async def ask_hold(self, client: Client, held: bool) -> Answer:
         await self.engine.asked(self.engine.hold(client.person.name, held))
         return {"reply": "held" if held else "going on"}
 
-    async def ask_preview(self, client: Client, renames: list[str]) -> dict[str, Any]:
+    async def ask_preview(self, client: Client, renames: list[str]) -> Answer:
         """What the text that was sent before would do as a change. Who asked may then do just this."""
-        engine, version = self.engine, self.engine.version
+        engine, text = self.engine, client.text
         forced = [path for path, value in list(engine.values.items()) if value.forced]
-        text, client.text, client.preview = client.text, "", None
+        client.text, client.preview = "", None
         async with self._previewing:
-            found = await preview(engine.plant, engine.story.text, forced, text, renames, engine.start)
-        found.version = version
+            words = " ".join(renames)
+            found = await preview(engine.plant, engine.story.text, engine.version, forced, text, words, engine.start)
         client.preview = found if found.ok else None
         return found.told()
 
-    async def ask_change(self, client: Client) -> dict[str, Any]:
+    async def ask_change(self, client: Client) -> Answer:
         """Does the change that this client had a preview of last."""
         found, client.preview = client.preview, None
-        if found is None or found.version != self.engine.version:
-            raise Trouble("a change is done after its preview, if no other one came between")
-        return {"reply": await self.engine.asked(self.engine.change(client.person.name, found.line, found.leaves))}
+        if found is None:
+            raise Trouble("a change is done after its preview")
+        return {"reply": await self.engine.asked(self.engine.change(client.person.name, found))}
 
-    async def ask_take_back(self, client: Client, number: int) -> dict[str, Any]:
+    async def ask_take_back(self, client: Client, number: int) -> Answer:
         others = await self.engine.asked(self.engine.take_back(client.person.name, number))
         return {"reply": "taken back", "others": others[:50]}
 
-    async def ask_log(self, client: Client) -> dict[str, Any]:
+    async def ask_log(self, client: Client) -> Answer:
         """Who did what, the newest first: number, time, who, line, reply, state, and whether it may be taken back."""
         story = self.engine.story
         rows: list[list[Any]] = [[*astuple(item), item.number >= story.began] for item in list(story.commands.values())[-300:]]
         rows += [[0, wall, who, line, "", "", False] for wall, who, line in list(self.engine.notes)]
-        return {"rows": sorted(rows, key=lambda row: -row[1])[:300]}
+        return {"rows": sorted(rows, key=lambda row: -int(row[1]))[:300]}

@@ -1,15 +1,16 @@
-"""What the tests share: hosts that run plants in folders of their own, clients of them, and how late the machine is by itself."""
+"""What the tests share: hosts in folders of their own, clients of them, sessions with `stc` that share nothing with the host."""
 
 import asyncio
 import fcntl
 import inspect
+import re
 import signal
 import socket
 import subprocess
 import sys
+import tempfile
 import time
-import tomllib
-from collections.abc import AsyncIterator, Callable, Iterator
+from collections.abc import AsyncIterator, Callable, Collection, Iterator, Sequence
 from contextlib import asynccontextmanager
 from pathlib import Path
 from typing import Any
@@ -18,17 +19,63 @@ import pytest
 
 HOST = Path(__file__).resolve().parents[1]
 sys.path[:0] = [str(HOST), str(HOST / "tests")]
-from programs import BLOCKS, FILE  # noqa: E402
 from stchost import packages  # noqa: E402
+from stchost.session import program  # noqa: E402
 
-ACT = "anna-anna-anna-anna"
-LOOK = "luca-luca-luca-luca"
+ACT, LOOK = "anna-anna-anna-anna", "luca-luca-luca-luca"
+BLOCKS = """FUNCTION_BLOCK Cycler
+VAR_INPUT Go : BOOL; END_VAR
+VAR_OUTPUT Turns : INT; END_VAR
+INITIAL_STEP Rest: END_STEP
+STEP Work: Count(P); END_STEP
+TRANSITION FROM Rest TO Work := Rest.T >= T#70ms; END_TRANSITION
+TRANSITION FROM Work TO Rest := Work.T >= T#40ms; END_TRANSITION
+ACTION Count: Turns := Turns + 1; END_ACTION
+END_FUNCTION_BLOCK
+PROGRAM Main
+VAR_INPUT Go, Raw_Ok : BOOL; Raw : INT; Count : UDINT; END_VAR
+VAR_OUTPUT Lamp, Horn : BOOL; Speed : INT; Total : UDINT; END_VAR
+VAR N : DINT; Z : INT := 1; Q : INT; Delay : TON; Ticks : CTU; Band : INT := 7; Cycle : Cycler; END_VAR
+VAR Big : DINT := -70000; Age : TIME := T#90s; Small : SINT := -5; END_VAR
+N := N + 1;
+Delay(IN := Go, PT := T#300ms);
+Lamp := Delay.Q;
+Ticks(CU := NOT Ticks.CU, PV := 100, R := FALSE);
+Cycle(Go := Go);
+Speed := Raw + 1;
+Total := Count + 1;
+Q := 10 / Z;
+END_PROGRAM
+"""
+FILE = """
+name = "Test"
+program = "plant.st"
+cycle = 10
+priority = 20
+trend = ["Main.N", "Main.Lamp"]
+page = {port = PAGE_PORT, refresh = 50}
+journal = {sync = "never", piece = 100000}
+device = [{name = "sim", kind = "simulation", model = "tank"}]
+input = [{path = "Main.Raw", device = "sim", name = "level"}, {path = "Main.Go"}]
+output = [{path = "Main.Lamp", device = "sim", name = "pump", fault = "FALSE"},
+          {path = "Main.Horn", device = "sim", name = "alarm", fault = "TRUE"}]
+[server]
+port = MODBUS_PORT
+clients = 4
+idle = 30
+allow = [{address = "127.0.0.1", functions = [1, 2, 3, 4, 5, 6, 15, 16]}]
+map = [
+  {path = "Main.Go", table = "coil", address = 0}, {path = "Main.Delay.IN", table = "discrete", address = 0},
+  {path = "$running", table = "discrete", address = 8}, {path = "Main.Big", table = "input", address = 0},
+  {path = "Main.Band", table = "holding", address = 0}, {path = "Main.Big", table = "holding", address = 1},
+  {path = "Main.Age", table = "holding", address = 3, form = "UINT32", words = "little"},
+  {path = "Main.Small", table = "holding", address = 5}, {path = "Main.Q", table = "holding", address = 6}]
+"""
 NOISE = """
-import os, sys, threading, time
+import os, select, sys, time
 os.sched_setscheduler(0, os.SCHED_RR, os.sched_param(21)) if os.geteuid() == 0 else None
-worst, ended = 0.0, threading.Event()
-threading.Thread(target=lambda: (sys.stdin.read(), ended.set()), daemon=True).start()
-while not ended.is_set():
+worst = 0.0
+while not select.select([sys.stdin], [], [], 0)[0]:
     due = time.monotonic() + 0.01
     time.sleep(0.01)
     worst = max(worst, time.monotonic() - due)
@@ -47,7 +94,7 @@ def pytest_pyfunc_call(pyfuncitem: Any) -> bool | None:
 
 def needs(*names: str) -> pytest.MarkDecorator:
     """Skips a test where a package isn't there, and names it."""
-    missing = packages.missing(names)
+    missing = packages.missing(*names)
     return pytest.mark.skipif(bool(missing), reason=f"missing: {', '.join(missing)}")
 
 
@@ -68,13 +115,45 @@ def ended(made: socket.socket) -> bool:
         return True
 
 
-def wait_for(what: Callable[[], Any], seconds: float = 45.0) -> Any:
+def wait_for(what: Callable[[], Any], seconds: float = 60.0) -> Any:
     """What it gives once that is true."""
     end = time.monotonic() + seconds
     while not (found := what()):
         assert time.monotonic() < end, "it didn't become true in time"
         time.sleep(0.02)
     return found
+
+
+def lines_of(journal: Path, without: Collection[int] = ()) -> tuple[str, list[str]]:
+    """The text that was loaded and the lines of a journal, read by nobody else's code."""
+    text, lines = "", []
+    for row in "".join(path.read_text("utf-8") for path in sorted(journal.glob("*.journal"))).split("\n")[:-1]:
+        kind, *fields = row[9:].split("\t")
+        if kind == "L" and not text:
+            text = re.findall(r'"text": "(.*?)", "main"', fields[0])[0].replace("\\\\", "\\").encode().decode("unicode_escape")
+        elif kind == "S":
+            lines.append(fields[0])
+        elif kind == "C" and int(fields[0]) not in without:
+            lines.append(fields[3].replace("\\n", "\n").replace("\\t", "\t").replace("\\\\", "\\"))
+    return text, lines
+
+
+def stc(verb: str, text: str, lines: Sequence[str] = ()) -> list[str]:
+    """What `stc` writes of a text, and answers to lines."""
+    with tempfile.NamedTemporaryFile("w", suffix=".st") as file:
+        file.write(text)
+        file.flush()
+        command, script = [program(), verb, file.name, "--program", "Main"], "".join(line + "\n" for line in lines)
+        return subprocess.run(command, input=script, capture_output=True, text=True).stdout.splitlines()
+
+
+LEAVES = [line.split(" ", 3)[3] for line in stc("layout", BLOCKS)]
+STATE = ["status", *(f"show {path}" for path in LEAVES)]  # lines whose answers are all that the program holds
+
+
+def state(text: str, lines: Sequence[str]) -> list[str]:
+    """The answers to STATE behind these lines."""
+    return stc("run", text, [*lines, *STATE])[-len(STATE):]
 
 
 class Client:
@@ -95,6 +174,12 @@ class Client:
     async def lines(self, *lines: str) -> list[str]:
         return [await self.line(line) for line in lines]
 
+    async def sees(self, line: str, reply: str) -> None:
+        """Waits until a line is answered so."""
+        async with asyncio.timeout(60):
+            while await self.line(line) != reply:
+                await asyncio.sleep(0.02)
+
     async def until(self, what: Callable[[dict[str, Any]], bool]) -> dict[str, Any]:
         """The next status of which something is true."""
         return (await self.next(lambda news: bool(news.get("status")) and what(news["status"])))["status"]
@@ -104,7 +189,7 @@ class Client:
         await self.until(lambda status: status["state"] == "held")
 
     async def next(self, what: Callable[[dict[str, Any]], bool]) -> dict[str, Any]:
-        async with asyncio.timeout(45):
+        async with asyncio.timeout(60):
             while not what(news := await self.live.receive_json()):
                 pass
         return news
@@ -113,49 +198,45 @@ class Client:
 class Host:
     """A plant in a folder of its own, and the process that runs it."""
 
-    def __init__(self, folder: Path, program: str, file: str) -> None:
-        self.folder, self.port, self.modbus = folder, free_port(), free_port()
+    def __init__(self, folder: Path, text: str, file: str) -> None:
+        self.folder, self.port, self.modbus, self.plant = folder, free_port(), free_port(), str(folder / "plant")
         self.url, self.journal = f"http://127.0.0.1:{self.port}", folder / "plant.state" / "journal"
-        (folder / "plant.st").write_text(program)
+        (folder / "plant.state").mkdir(parents=True)
+        (folder / "plant.st").write_text(text)
         (folder / "plant.toml").write_text(file.replace("PAGE_PORT", str(self.port)).replace("MODBUS_PORT", str(self.modbus)))
-        (folder / "plant.state").mkdir()
         tokens = folder / "plant.state" / "tokens.toml"
         tokens.write_text(f'[act]\nanna = "{ACT}"\n[look]\nluca = "{LOOK}"\n')
         tokens.chmod(0o600)
         self.process: subprocess.Popen[str] | None = None
 
     def start(self, *words: str) -> None:
-        command = [str(HOST / "run"), str(self.folder / "plant"), *words]
+        command = [str(HOST / "run"), self.plant, *words]
         self.process = subprocess.Popen(command, stdout=subprocess.PIPE, stderr=subprocess.STDOUT, text=True)
         line = self.process.stdout.readline()  # type: ignore[union-attr]
         assert "http://" in line, line + self.process.communicate()[0]
 
-    def stop(self, number: int = signal.SIGTERM) -> None:
-        if self.process is not None:
-            self.process.send_signal(number)
-            self.process.communicate(timeout=30)
-            self.process = None
-            with (self.folder / "plant.state" / "lock").open() as lock:  # until the journal is written
-                fcntl.flock(lock, fcntl.LOCK_EX)
-
-    def tool(self, *words: str, script: str = "") -> tuple[int, str]:
-        """The status of one of the host's programs, and what it prints."""
-        done = subprocess.run([str(HOST / words[0]), *words[1:]], input=script, capture_output=True, text=True, timeout=60)
-        return done.returncode, done.stdout + done.stderr
-
-    def refused_start(self) -> str:
-        status, said = self.tool("run", str(self.folder / "plant"))
-        assert status == 1
+    def stop(self, number: int = signal.SIGTERM) -> str:
+        """Ends it. The answer has what it said on its terminal."""
+        if self.process is None:
+            return ""
+        self.process.send_signal(number)
+        said, self.process = self.process.communicate(timeout=60)[0], None
+        with (self.folder / "plant.state" / "lock").open() as lock:  # until the journal is written
+            fcntl.flock(lock, fcntl.LOCK_EX)
         return said
 
-    def console(self, script: str) -> str:
+    def tool(self, *words: str, script: str = "", status: int | None = None) -> str:
+        """What one of the host's programs prints."""
+        done = subprocess.run([str(HOST / words[0]), *words[1:]], input=script, capture_output=True, text=True, timeout=60)
+        assert status in (None, done.returncode), done.stdout + done.stderr
+        return done.stdout + done.stderr
+
+    def console(self, script: str, status: int | None = None) -> str:
         """What the console prints for a script."""
-        return self.tool("console", str(self.folder / "plant"), script=script)[1]
+        return self.tool("console", self.plant, script=script, status=status)
 
     def replayed(self, *words: str) -> list[str]:
-        status, said = self.tool("replay", str(self.journal), *words)
-        assert status == 0, said
-        return said.splitlines()[:-1]
+        return self.tool("replay", str(self.journal), *words, status=0).splitlines()[:-1]
 
     @asynccontextmanager
     async def client(self, token: str = ACT) -> AsyncIterator[Client]:
@@ -172,15 +253,16 @@ class Host:
 
     @asynccontextmanager
     async def undelayed(self) -> AsyncIterator[None]:
-        """No scan comes later meanwhile than a cycle and what the machine is late by itself."""
+        """No scan comes later meanwhile than a cycle and what the machine is late by itself; one place may be lost."""
         before = await self.status()
         with subprocess.Popen([sys.executable, "-c", NOISE], stdin=subprocess.PIPE, stdout=subprocess.PIPE, text=True) as noise:
             yield
             late = 3 * float((await asyncio.to_thread(noise.communicate, ""))[0])
         after = await self.status()
         cycles = after["cycles"] - before["cycles"]
-        assert cycles > 50 and after["lateness_worst"] < max(before["period"] + late, before["lateness_worst"] + 1), (late, before, after)
-        assert after["skipped"] - before["skipped"] <= cycles * late / 300, (late, before, after)
+        most = max(before["period"] + late, before["lateness_worst"] + 1)
+        assert cycles > 50 and after["lateness_worst"] < most, (late, before, after)
+        assert after["skipped"] - before["skipped"] <= 1 + cycles * late / 300, (late, before, after)
 
 
 @pytest.fixture
@@ -188,10 +270,8 @@ def make_host(tmp_path: Path) -> Iterator[Callable[..., Host]]:
     """Makes hosts, and stops them behind the test."""
     made: list[Host] = []
 
-    def make(program: str = BLOCKS, file: str = FILE, start: bool = True) -> Host:
-        folder = tmp_path / str(len(made))
-        folder.mkdir()
-        made.append(Host(folder, program, file))
+    def make(text: str = BLOCKS, file: str = FILE, start: bool = True) -> Host:
+        made.append(Host(tmp_path / str(len(made)), text, file))
         if start:
             made[-1].start()
         return made[-1]

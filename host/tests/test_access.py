@@ -10,11 +10,8 @@ import time
 
 import pytest
 
-from conftest import ACT, HOST, LOOK, Host, ended, needs, wait_for
-from programs import FILE
-from stchost import Trouble, access
-from stchost import plant as plants
-from stchost.plant import load
+from conftest import ACT, FILE, HOST, LOOK, Host, ended, needs, wait_for
+from stchost import Trouble, access, plant as plants
 
 pytestmark = needs("aiohttp")
 
@@ -57,20 +54,23 @@ async def test_other_origins_and_hosts_are_refused(host: Host) -> None:
         assert (await get(host, path, **headers))[0] == status
 
 
-async def test_wrong_tokens_wait_longer_each_time() -> None:
-    gate, took = access.Gate({ACT: access.Person("anna", True)}, 0.02), []
-    for token, address in [("wrong", "a")] * 5 + [(ACT, "a"), ("wrong", "b")]:
-        began = time.monotonic()
-        await gate.who(token, address)
-        took.append(time.monotonic() - began)
-    assert all(took[place] >= 0.02 * 2 ** place for place in range(5)) and took[5] < 0.02 <= took[6] < 0.3
+async def test_wrong_tokens_wait_longer_each_time(monkeypatch: pytest.MonkeyPatch) -> None:
+    gate, waits = access.Gate({ACT: access.Person("anna", True)}), []
+
+    async def sleep(seconds: float) -> None:
+        waits.append(seconds)
+
+    monkeypatch.setattr(asyncio, "sleep", sleep)
+    for token, address in [("wrong", "a")] * 7 + [(ACT, "a"), ("wrong", "b")]:
+        assert (await gate.who(token, address) is None) is (token == "wrong")
+    assert waits == [0.5, 1, 2, 4, 8, 16, 20, 0.5]
 
 
 def test_the_file_of_tokens_is_its_owners_alone(tmp_path) -> None:
     path = tmp_path / "tokens.toml"
     access.make(path)
     assert os.stat(path).st_mode & 0o777 == 0o600 and len(access.load(path)) == 2
-    for text, mode, error in [("", 0o640, "others may read"), ('[act]\nx = "short"\n', 0o600, "16 letters"), ("[act", 0o600, "Expected")]:
+    for text, mode, error in [("", 0o640, "others"), ('[act]\nx = "short"\n', 0o600, "16 letters"), ("[act", 0o600, "Expected")]:
         path.write_text(text)
         path.chmod(mode)
         with pytest.raises(Trouble, match=error):
@@ -78,19 +78,23 @@ def test_the_file_of_tokens_is_its_owners_alone(tmp_path) -> None:
 
 
 @pytest.mark.parametrize("line, error", [
-    ("cycle = 0", "`cycle` is from 1 to 60000"), ("cycle = 10\nspeed = 3", "there is no key `speed`"), ("", "the key `cycle` is missing"),
-    ("cycle = true", "`cycle` is to be of type int"), ("cycle = ", "Invalid value"), ("cycle = 10\ninput = 3", "`input` is to be a list"),
-    ('cycle = 10\n[[output]]\npath = "Main.A"', "the key `fault` is missing"), ("cycle = 10\njournal = {sync = \"often\"}", "`sync` is one of"),
-    ('cycle = 10\n[[input]]\npath = "Main.A"\ndevice = "d"', "there is no device"), ("cycle = 10\nserver = {map = [3]}", "a table is due")])
+    ("cycle = 0", "`cycle` is from 1 to 60000"), ("cycle = 10\nspeed = 3", "there is no key `speed`"),
+    ("", "the key `cycle` is missing"), ("cycle = true", "`cycle` is to be of type int"), ("cycle = ", "Invalid value"),
+    ("cycle = 10\ninput = 3", "`input` is to be a list"), ('cycle = 10\n[[output]]\npath = "Main.A"', "`fault` is missing"),
+    ('cycle = 10\njournal = {sync = "often"}', "`sync` is one of"), ("cycle = 10\nserver = {map = [3]}", "a table is due"),
+    ('cycle = 10\n[[input]]\npath = "Main.A"\ndevice = "d"', "there is no device"),
+    ('cycle = 10\nserver = {allow = [{address = "::/0", functions = [7]}]}', "`functions` 1 is one of 1, 2, 3, 4, 5, 6, 15, 16"),
+    ('cycle = 10\nserver = {allow = [{address = "here"}]}', "'here' does not appear to be an IPv4 or IPv6 network"),
+    ('cycle = 10\nserver = {map = [{path = "Main.A", table = "coil", form = "INT16"}]}', "`form` doesn't fit the table coil")])
 def test_a_plants_file_that_is_wrong_is_refused_with_its_place(tmp_path, line: str, error: str) -> None:
     (tmp_path / "p.toml").write_text('program = "p.st"\n' + line)
     with pytest.raises(Trouble, match=error):
-        load(tmp_path / "p.toml")
+        plants.load(tmp_path / "p.toml")
 
 
 def test_a_program_without_what_is_connected_is_refused(make_host) -> None:
     host = make_host(file=FILE.replace('{path = "Main.Go"}', '{path = "Main.Band"}'), start=False)
-    assert "Main.Band is no VAR_INPUT of the program: refused O12" in host.refused_start()
+    assert "Main.Band is no VAR_INPUT of the program: refused O12" in host.tool("run", host.plant, status=1)
 
 
 async def test_floods_slow_readers_and_half_open_connections_delay_no_scan(make_host) -> None:
@@ -102,11 +106,10 @@ async def test_floods_slow_readers_and_half_open_connections_delay_no_scan(make_
         count = 0
         async with aiohttp.ClientSession() as session:
             while time.monotonic() < until:
-                try:
+                with contextlib.suppress(aiohttp.ClientError, asyncio.TimeoutError):
                     async with session.get(host.url + "/page.js", timeout=2) as response:
                         count += len(await response.read()) > 0
-                except (aiohttp.ClientError, asyncio.TimeoutError):
-                    await asyncio.sleep(0.01)
+                await asyncio.sleep(0)
         return count
 
     async def lines(until: float) -> int:
@@ -120,10 +123,10 @@ async def test_floods_slow_readers_and_half_open_connections_delay_no_scan(make_
         idle = [socket.create_connection(("127.0.0.1", host.port)) for _ in range(40)]
         idle[0].sendall(b"GET / HTTP/1.1\r\nX: ")
         idle[1].sendall(b"\xff" * 100_000)
-        idle[2].sendall(b"GET /page.js HTTP/1.1\r\nHost: 127.0.0.1:%d\r\n\r\n" % host.port * 500)
+        idle[2].sendall(b"GET /page.js HTTP/1.1\r\nHost: 127.0.0.1:%d\r\n\r\n" % host.port * 500)  # it reads no answers
         until = time.monotonic() + 4
         counts = await asyncio.gather(*(flood(until) for _ in range(4)), lines(until), lines(until))
-        assert counts[-1] > 100, counts
+        assert all(counts), counts
         for made in idle:
             made.close()
 
@@ -142,8 +145,8 @@ async def test_sizes_and_numbers_are_bounded(make_host) -> None:
     async with host.client() as client, host.client(LOOK) as other:
         assert await refused(host, ACT) == "too many clients"
         assert (await client.ask("preview", text="x" * 1_200_000, renames=[]))["answer"] == "refused S4 line 1"
-        for bad in ("[]", "{}", "x", '{"do": "__init__"}', '{"do": "line", "line": 5}', '{"do": "line", "line": ""}', '{"do": "list", "only": "x"}',
-                    json.dumps({"do": "line", "line": "show " + "A" * 5_000})):
+        for bad in ("[]", "{}", "x", '{"do": "__init__"}', '{"do": "line", "line": 5}', '{"do": "line", "line": ""}',
+                    '{"do": "list", "only": "x"}', json.dumps({"do": "line", "line": "show " + "A" * 5_000})):
             await other.live.send_str(bad)
             assert (await other.next(lambda news: "id" in news))["bad"] is True
         with contextlib.suppress(OSError):  # it is cut off
@@ -153,7 +156,8 @@ async def test_sizes_and_numbers_are_bounded(make_host) -> None:
 
 def test_the_manual_has_every_key() -> None:
     page = (HOST.parent / "docs" / "HOST.md").read_text()
-    kinds = (plants.Plant, plants.JournalFile, plants.PageFile, plants.DeviceFile, plants.Point, plants.ServerFile, plants.Allowed)
+    kinds = [kind for kind in vars(plants).values() if dataclasses.is_dataclass(kind)]
     tables = {"file", "journal", "page", "device", "input", "output", "server", "allow", "map"}
     keys = {item.name for kind in kinds for item in dataclasses.fields(kind)} - tables
+    assert len(keys) > 30
     assert [name for name in sorted(keys) if f"`{name}`" not in page] == []

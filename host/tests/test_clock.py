@@ -6,18 +6,17 @@ from pathlib import Path
 
 import pytest
 
-from stchost.clock import Cycle
+from stchost.clock import Clock, Cycle
 from stchost.engine import Engine
 from stchost.journal import Journal
 from stchost.plant import load
-from stchost.session import Leaf
 
 FILE = 'program = "p.st"\ncycle = 10\ninput = [{path = "Main.In", device = "d"}, {path = "Main.By_Hand"}]\n'
 FILE += 'device = [{name = "d", kind = "simulation"}]\npage = {refresh = 10000}\n'
 Visit = tuple[float, Callable[[], Awaitable[object]]]  # what comes at a time
 
 
-class FakeClock:
+class FakeClock(Clock):
     """A clock that stands still but where the test moves it, or the engine waits."""
 
     def __init__(self) -> None:
@@ -61,7 +60,8 @@ class FakeSession:
             return "refused O1"
         if verb in ("write", "force"):
             self.values[words[0]] = words[1] + " forced" * (verb == "force")
-        return {"show": f"{words[0]} = {self.values.get(words[0])}" if words else "", "status": "running 0 forces 0 undo 0"}.get(verb, "ok")
+        shown = f"{words[0]} = {self.values.get(words[0])}" if words else ""
+        return {"show": shown, "status": "running 0 forces 0 undo 0"}.get(verb, "ok")
 
     async def close(self) -> None:
         pass
@@ -80,8 +80,8 @@ class Bench:
         async def start(text: str, main: str, steps: int) -> FakeSession:
             return next(sessions, FakeSession(self.clock, lambda line: 0.0))  # the first one is the plant's
 
-        async def layout(text: str, main: str) -> list[Leaf]:
-            return [Leaf(path, "INT") for path in self.session.values]
+        async def layout(text: str, main: str) -> dict[str, str]:
+            return dict.fromkeys(self.session.values, "INT")
 
         journal = Journal(folder / "journal", 1 << 20, 1 << 30, "never")
         self.engine = Engine(load(folder / "p.toml"), self.clock, journal, start, lambda types: [], layout)
@@ -107,7 +107,7 @@ def bench(tmp_path: Path) -> Bench:
 @pytest.mark.parametrize("lateness, work, moments, places, figures", [
     ([0] * 1000, [0.001] * 1000, [*range(0, 10_000, 10)], [*range(0, 10_000, 10)], (1000, 0, 0, 0, 0.0, 1.0)),  # no drift
     ([0, 0.004, 0, 0], [0.001] * 4, [0, 14, 20, 30], [0, 10, 20, 30], (4, 1, 0, 0, 4.0, 1.0)),  # the next one keeps its place
-    ([0] * 5, [0.001, 0.035, 0.001, 0.001, 0.001], [0, 10, 45, 50, 60], [0, 10, 40, 50, 60], (5, 1, 1, 2, 5.0, 35.0))])  # no moment goes back
+    ([0] * 5, [0.001, 0.035, 0.001, 0.001, 0.001], [0, 10, 45, 50, 60], [0, 10, 40, 50, 60], (5, 1, 1, 2, 5.0, 35.0))])
 def test_cycles_have_their_places(lateness, work, moments: list[int], places: list[int], figures: tuple[float, ...]) -> None:
     clock = FakeClock()
     cycle, begun, due = Cycle(clock, 10), [], []

@@ -6,8 +6,7 @@ import re
 import select
 import subprocess
 
-from conftest import HOST, Host, needs
-from programs import BLOCKS
+from conftest import BLOCKS, HOST, Host, needs
 
 pytestmark = needs("aiohttp", "prompt_toolkit")
 
@@ -34,29 +33,33 @@ watch Main.Ticks.CV
 quit
 show Main.Never
 """
-    status, out = host.tool("console", str(host.folder / "plant"), script=script)
-    for wanted in ("ok\nMain.Band : INT = 9 forced\n1 variables\n", "S2", "renamed: Main.Band -> Main.Width\n", "new: Main.More\n",
-                   "dropped 0 new 1\n", "Main.Width = 9 forced\n", "held\n", "refused O4", "refused O5", "refused O3", "refused O1",
-                   "going on\n", "none.st", "invalid literal"):
+    out = host.console(script, status=3)
+    for wanted in ("ok\nMain.Band : INT = 9 forced\n1 variables\n", "S2", "renamed: Main.Band -> Main.Width\n",
+                   "new: Main.More\n", "dropped 0 new 1\n", "Main.Width = 9 forced\n", "held\n", "refused O4", "refused O5",
+                   "refused O3", "refused O1", "going on\n", "none.st", "invalid literal"):
         assert wanted in out, out
-    assert "Never" not in out and status == 3
+    assert "Never" not in out
 
 
 def test_the_prompt_has_history_completion_and_what_is_watched(host: Host) -> None:
+    (host.folder / "new.st").write_text(BLOCKS.replace("Band", "Width"))
     screen, terminal = pty.openpty()
-    console = subprocess.Popen([str(HOST / "console"), str(host.folder / "plant")], stdin=terminal, stdout=terminal, stderr=terminal)
+    console = subprocess.Popen([HOST / "console", host.plant], stdin=terminal, stdout=terminal, stderr=terminal)
     seen = ""
 
     def see(words: str) -> None:
         nonlocal seen
-        while not re.search(words, seen):
-            assert select.select([screen], [], [], 20)[0], seen
+        while not re.search(words, seen, re.S):
+            assert select.select([screen], [], [], 60)[0], seen
             seen += re.sub(r"\x1b\[[\d;?]*[A-Za-z]", "", os.read(screen, 65_536).decode(errors="replace"))
         seen = ""
 
-    for keys, words in [("", "Test>"), ("forc\t", "force"), (" main.ba\t", "Main.Band"), (" 9\r", r"ok\W"), ("show Main.Band\r", "Main.Band = 9 forced"),
-                        ("\x1b[A\x1b[A\r", r"ok\W"), ("watch Main.N\r", r"Main.N = \d+\s+Main.N = \d+"), ("quit\r", "quit")]:
+    for keys, words in [("", "Test>"), ("forc\t", "force"), (" main.ba\t", "Main.Band"), (" 9\r", r"ok\W"),
+                        ("show Main.Band\r", "Main.Band = 9 forced"), ("\x1b[A\x1b[A\r", r"ok\W"),
+                        (f"change {host.folder}/new.st Main.Band=Main.Width\r", "dropped 0 new 0"),
+                        ("show main.wi\t", "Main.Width"), ("\r", "= 9 forced"),
+                        ("watch Main.N\r", r"Main.N = \d+\s+Main.N = \d+"), ("quit\r", "quit")]:
         os.write(screen, keys.encode())
-        see(words)
+        see(words + ".*Test>" if keys.endswith("\r") and keys != "quit\r" else words)
     assert console.wait(30) == 0
     assert "force Main.Band 9" in (host.folder / "plant.state" / "console.history").read_text()

@@ -3,33 +3,35 @@
 import asyncio
 import os
 import random
+import re
 import shutil
 import signal
 import subprocess
 
-from conftest import Host, needs, wait_for
-from programs import BLOCKS, FILE, LEAVES, STATE, lines_of, state
+from conftest import BLOCKS, FILE, HOST, LEAVES, STATE, Host, lines_of, needs, state, wait_for
 from stchost import journal
 from stchost.replay import restore
 from stchost.session import Session
 
 pytestmark = needs("aiohttp")
-COMMANDS = ["write Main.Band {}", "force Main.Q {}", "release Main.Q", "write Main.Go TRUE", "write Main.Go FALSE", "force Main.Raw {}",
-            "release Main.Raw", "undo", "write Main.Total {}", "reset"]
+EXAMPLES = HOST.parent / "examples"
+COMMANDS = ["write Main.Band {}", "force Main.Q {}", "release Main.Q", "write Main.Go TRUE", "write Main.Go FALSE",
+            "force Main.Raw {}", "release Main.Raw", "undo", "write Main.Total {}", "reset"]
 
 
 async def test_a_fault_halts_and_the_host_goes_on_serving(host: Host) -> None:
     async with host.client() as client:
         await client.until(lambda status: status["moment"] > 50 and status["driven"].get("Main.Horn") == "FALSE")
         assert await client.line("write Main.Z 0") == "ok"
-        assert (await client.until(lambda status: status["state"] == "halted"))["fault"] == "F2 Main line 20"
+        assert (await client.until(lambda status: status["state"] == "halted"))["fault"] == "F2 Main line 22"
         status = await client.until(lambda status: status["driven"] == {"Main.Lamp": "FALSE", "Main.Horn": "TRUE"})
         await client.until(lambda later: later["cycles"] > status["cycles"] + 5)
-        assert (await client.line("status")).startswith("halted F2 Main line 20")
-        assert "the program is halted F2 Main line 20" in await asyncio.to_thread(host.console, "show Main.Z")
+        assert (await client.line("status")).startswith("halted F2 Main line 22")
+        assert "the program is halted F2 Main line 22" in await asyncio.to_thread(host.console, "show Main.Z")
         assert await client.lines("show Main.Z", "reset") == ["Main.Z = 0", "ok"]
         status = await client.until(lambda status: status["state"] == "running")
         await client.until(lambda later: later["moment"] > status["moment"] and later["driven"]["Main.Horn"] == "FALSE")
+    assert "Test: halted F2 Main line 22\n" in host.stop()
 
 
 async def test_kills_at_random_moments_lose_nothing(host: Host) -> None:
@@ -85,7 +87,7 @@ async def test_a_damaged_journal_is_refused_with_its_place(host: Host) -> None:
     place = data.find(b"\n", len(data) // 2) + 12
     data[place] ^= 1
     path.write_bytes(data)
-    assert f"from byte {data.rfind(10, 0, place) + 1} on: its checksum doesn't fit" in host.refused_start()
+    assert f"from byte {data.rfind(10, 0, place) + 1} on: its checksum doesn't fit" in host.tool("run", host.plant, status=1)
 
 
 async def test_a_replay_shows_any_moment(host: Host) -> None:
@@ -107,21 +109,28 @@ async def test_a_reset_lets_a_replay_begin_there(host: Host) -> None:
         await client.lines("reset", "write Main.Total 9")
     await asyncio.sleep(0.2)
     host.stop(signal.SIGKILL)
-    assert len(journal.bases(host.journal)) == 2
-    assert host.replayed() == state(*lines_of(host.journal))
+    first, second = journal.bases(host.journal).items()
+    assert host.replayed() == state(*lines_of(host.journal)) and second[1].forces == [["Main.Band", "44"]]
+    for number, path in journal.pieces(host.journal):
+        if number < second[0]:
+            path.unlink()
+    said = host.tool("replay", str(host.journal), "--at", "1", status=1)
+    assert first[1].moment == 0 and f"can go back to moment {second[1].moment}, and no further" in said
 
 
 async def test_beyond_its_limit_the_journal_says_that_it_does_not_reach_back(make_host) -> None:
     host = make_host(file=FILE.replace("piece = 100000", "piece = 4096, limit = 65536"))
     async with host.client() as client:
+        assert set(await client.lines(*["write Main." + "A" * 4_000 + " 1"] * 20)) == {"refused O1"}
         await client.until(lambda status: not status["journal"]["reaches"])
     host.stop()
     assert sum(path.stat().st_size for path in host.journal.iterdir()) <= 65_536
-    assert "doesn't reach back" in host.refused_start()
+    assert "doesn't reach back" in host.tool("run", host.plant, status=1)
     host.start("--fresh")
 
 
-async def test_a_change_does_what_its_preview_says_and_is_taken_back_exactly(host: Host) -> None:
+async def test_a_change_does_what_its_preview_says_and_is_taken_back_exactly(make_host) -> None:
+    host = make_host(file=FILE.replace("piece = 100000", "piece = 4096"))
     new = BLOCKS.replace("N : DINT;", "Number : DINT; Extra : BOOL;").replace("N := N + 1;", "Number := Number + 1;")
     new = new.replace("Delay : TON;", "Delay : TOF;").replace("Band : INT := 7; ", "")
     async with host.client() as client:
@@ -132,11 +141,12 @@ async def test_a_change_does_what_its_preview_says_and_is_taken_back_exactly(hos
         assert found["ok"] and found["exact"], found
         assert found["lost"] == ["Main.Band"] and found["renamed"] == [["Main.N", "Main.Number"]]
         assert found["dropped"] == ["Main.Delay." + name for name in ("IN", "PT", "Q", "ET", "$RUN", "$START")] + ["Main.Band"]
-        assert found["new"] == ["Main.Extra"] + ["Main.Delay." + name for name in ("IN", "PT", "Q", "ET", "$M", "$RUN", "$START")]
+        fresh = ["IN", "PT", "Q", "ET", "$M", "$RUN", "$START"]
+        assert found["new"] == ["Main.Extra"] + ["Main.Delay." + name for name in fresh]
         answer = await client.ask("change")
         assert answer["reply"] == found["answer"] == f"ok kept {found['kept']} dropped 7 new 8"
         assert await client.lines("show Main.Number", "show Main.Band") == ["Main.Number = 1000 forced", "refused O1"]
-        await asyncio.sleep(0.2)
+        await client.until(lambda status: status["journal"]["pieces"] > 3)
         number = next(row[0] for row in (await client.ask("log"))["rows"] if row[3].startswith("change"))
         answer = await client.ask("take_back", number=number)
         assert answer["reply"] == "taken back" and answer["others"] == []
@@ -157,6 +167,7 @@ async def test_what_is_done_while_scans_are_held_is_undone_exactly(host: Host) -
         assert await client.lines("force Main.Q 3", "write Main.Band 1") == ["ok", "ok"]
         assert (await client.ask("change"))["reply"].endswith("dropped 0 new 1")
         assert (await client.until(lambda status: status["undos"] == 3))["undo"] == "change"
+        wait_for(lambda: host.replayed()[0].endswith(" forces 1 undo 3"))  # so has a replay
         assert await client.lines("undo", "undo", "undo") == ["ok"] * 3
         assert await client.lines(*STATE) == before
         assert await client.line("undo") == "refused O7"
@@ -167,11 +178,33 @@ async def test_what_is_done_while_scans_are_held_is_undone_exactly(host: Host) -
 async def test_a_text_that_is_refused_says_why_and_changes_nothing(host: Host) -> None:
     async with host.client() as client:
         found = await client.ask("preview", text=BLOCKS.replace("10 / Z;", "10 / Zz;"), renames=[])
-        assert not found["ok"] and found["answer"] == "refused C1 line 20" and "Q := 10 / Zz;" in found["messages"]
+        assert not found["ok"] and found["answer"] == "refused C1 line 22" and "Q := 10 / Zz;" in found["messages"]
         assert (await client.ask("change"))["bad"]
-        found = await client.ask("preview", text=BLOCKS.replace(" Raw : INT; END_VAR", " END_VAR VAR Raw : INT; END_VAR"), renames=[])
-        assert found["answer"].startswith("ok") and found["blocked"].startswith("Main.Raw is no VAR_INPUT") and not found["ok"]
-        assert (await client.ask("change"))["bad"]
+        for old, new, why in [(" Raw : INT;", " END_VAR VAR Raw : INT; END_VAR VAR_INPUT", "Main.Raw is no VAR_INPUT"),
+                              ("Raw : INT;", "Raw : SINT;", "Main.Raw, which the plant's file connects, would get another type"),
+                              ("Raw : INT;", "", "the program has no Main.Raw")]:
+            text = BLOCKS.replace(old, new).replace("Raw + 1", "1")
+            found = await client.ask("preview", text=text, renames=[])
+            assert found["answer"].startswith("ok") and found["blocked"].startswith(why) and not found["ok"], found
+            assert (await client.ask("change"))["bad"]
         for line in ("scan 99999999", "change", "show", " ", "write Main.Q 1\nreset"):
             assert (await client.ask("line", line=line))["bad"], line
     assert lines_of(host.journal)[0] == BLOCKS and len(LEAVES) > 20
+
+
+async def test_the_examples_run(make_host) -> None:
+    async def both(name: str, line: str, path: str) -> None:
+        """A variable of an example gets both its values behind a line."""
+        file = (EXAMPLES / f"{name}.toml").read_text().replace(f'"{name}.st"', '"plant.st"')
+        for table, port in (("page", "PAGE_PORT"), ("server", "MODBUS_PORT")):
+            file = re.sub(rf"(\[{table}\]\nport = )\d+", rf"\1{port}", file)
+        host = make_host((EXAMPLES / f"{name}.st").read_text(), file)
+        async with host.client() as client:
+            assert await client.line(line) == "ok"
+            await client.ask("watch", paths=[path])
+            for value in ("TRUE", "FALSE"):
+                await client.next(lambda news: news.get("values", {}).get(path, [""])[0] == value)
+
+    await asyncio.gather(both("tank", "write Main.Acknowledge FALSE", "Main.Pump"),
+                         both("conveyor", "write Main.Start TRUE", "Main.Barrier"),
+                         both("lights", "write Main.Button TRUE", "Main.Green"))

@@ -1,7 +1,10 @@
 """The journal as a file: torn and damaged records, pieces, and how far back it reaches."""
 
+import asyncio
+import os
 import shutil
 from pathlib import Path
+from types import SimpleNamespace
 
 import pytest
 
@@ -26,7 +29,7 @@ def test_records_come_back_as_they_were_written(tmp_path: Path) -> None:
     records = list(read(tmp_path))
     assert records[0].base == BASE
     assert records[1].fields == ("scan 0", "ok")
-    assert records[2].fields[0] == "1" and records[2].fields[2:] == ("anna", "change\nA\t\\0\nend_change", "ok kept 1 dropped 0 new 0")
+    assert records[2].fields == ("1", "0", "anna", "change\nA\t\\0\nend_change", "ok kept 1 dropped 0 new 0")
 
 
 def test_a_cut_in_the_last_records_drops_what_is_torn_and_no_more(tmp_path: Path) -> None:
@@ -42,7 +45,7 @@ def test_a_cut_in_the_last_records_drops_what_is_torn_and_no_more(tmp_path: Path
         whole = sum(end <= cut for end in ends)
         assert list(read(folder)) == records[:whole]
         again = Journal(folder, 1 << 20, 1 << 30, "never")
-        again.resume()
+        again.resume(whole)
         again.append(journal.SCAN, "scan 99", "ok")
         again.close()
         assert [*read(folder)] == [*records[:whole], journal.Record("S", ("scan 99", "ok"))]
@@ -77,15 +80,33 @@ def test_what_is_missing_is_found(tmp_path: Path, loss: str) -> None:
 def test_at_its_limit_it_drops_the_oldest_pieces_and_says_how_far_it_reaches(tmp_path: Path) -> None:
     made = write(tmp_path, piece=4_096, count=400, limit=16_384)
     told = made.told()
-    assert told["bytes"] <= 16_384 and told["reaches"] is False and journal.bases(tmp_path) == []
+    assert told["bytes"] <= 16_384 and told["reaches"] is False and journal.bases(tmp_path) == {}
     made.append(journal.LOAD, BASE.written())
     assert made.told()["reaches"] is True
     made.close()
 
 
+@pytest.mark.parametrize("sync, synced", [("never", 0), ("second", 1), ("always", 3)])
+async def test_the_disk_is_asked_as_the_file_has_it(tmp_path: Path, monkeypatch, sync: str, synced: int) -> None:
+    sizes, clock = [], SimpleNamespace(monotonic=lambda: clock.now, now=100.0)
+    monkeypatch.setattr(os, "fsync", lambda file: sizes.append(os.fstat(file).st_size))
+    monkeypatch.setattr(journal, "time", clock)
+    made = Journal(tmp_path, 1 << 20, 1 << 30, sync)
+    made.append(journal.LOAD, BASE.written())
+    for step in (0.5, 0.4, 0.2):
+        clock.now += step
+        made.append(journal.SCAN, "scan 0", "ok")
+        await made.settle()
+        assert sync != "always" or sizes[-1] == made.told()["bytes"]  # all is on the disk before anyone is told
+    while len(sizes) < synced:
+        await asyncio.sleep(0.01)
+    assert len(sizes) == synced
+    made.close()
+
+
 def test_values_as_lines_have_them() -> None:
-    for type_name, text, number in [("BOOL", "TRUE", 1), ("INT", "-32768", -32768), ("WORD", "16#FF", 255), ("TIME", "T#-90000ms", -90000),
-                                    ("UDINT", "4294967295", 4294967295), ("LINT", "-9223372036854775808", -(1 << 63))]:
+    for type_name, text, number in [("BOOL", "TRUE", 1), ("INT", "-32768", -32768), ("WORD", "16#FF", 255),
+                                    ("TIME", "T#-90000ms", -90000), ("LINT", "-9223372036854775808", -(1 << 63))]:
         assert to_number(type_name, text) == number
         assert to_number(type_name, to_text(type_name, number)) == number
     for type_name, text in [("INT", "32768"), ("BOOL", "2"), ("TIME", "5"), ("UINT", "-1"), ("INT", "x")]:

@@ -1,6 +1,7 @@
 """Modbus TCP both ways: pymodbus and mbpoll as clients of the host, and a server of pymodbus as its remote device."""
 
 import asyncio
+import contextlib
 import re
 import socket
 import struct
@@ -10,59 +11,27 @@ import time
 
 import pytest
 
-from conftest import Host, ended, free_port, needs, wait_for
+from conftest import BLOCKS, FILE, Host, ended, free_port, needs, wait_for
 from stchost.plant import Register
 from stchost.values import pack, unpack
 
 pytestmark = needs("aiohttp", "pymodbus", "serial_asyncio")
-PROGRAM = """PROGRAM Main
-VAR_INPUT Start : BOOL; Level : INT; Count : UDINT; Level_Ok : BOOL; END_VAR
-VAR_OUTPUT Motor : BOOL; Speed : INT; Total : DINT; END_VAR
-VAR Wanted : INT := 70; Big : DINT := -70000; Age : TIME := T#90s; Small : SINT := -5; Locked : INT; END_VAR
-Motor := Start;
-Speed := Level + Wanted;
-Total := UDINT_TO_DINT(Count) + 1;
-END_PROGRAM
-"""
-FILE = """
-name = "M"
-program = "plant.st"
-cycle = 20
-priority = 20
-page = {port = PAGE_PORT, refresh = 50}
-input = [{path = "Main.Start"}]
-[server]
-port = MODBUS_PORT
-clients = 4
-idle = 30
-allow = [{address = "127.0.0.1", functions = [1, 2, 3, 4, 5, 6, 15, 16]}]
-map = [
-  {path = "Main.Start", table = "coil", address = 0}, {path = "Main.Motor", table = "discrete", address = 0},
-  {path = "$running", table = "discrete", address = 8}, {path = "Main.Speed", table = "input", address = 0},
-  {path = "Main.Big", table = "input", address = 1}, {path = "Main.Wanted", table = "holding", address = 0},
-  {path = "Main.Big", table = "holding", address = 1}, {path = "Main.Small", table = "holding", address = 5},
-  {path = "Main.Age", table = "holding", address = 3, form = "UINT32", words = "little"},
-  {path = "Main.Locked", table = "holding", address = 6}]
-"""
 
 
-@pytest.fixture
-def host(make_host) -> Host:
-    return make_host(PROGRAM, FILE)
-
-
+@contextlib.contextmanager
 def client_of(host: Host):
     from pymodbus.client import ModbusTcpClient
 
-    client = ModbusTcpClient("127.0.0.1", port=host.modbus, timeout=5)
+    client = ModbusTcpClient("127.0.0.1", port=host.modbus, timeout=20)
     assert client.connect()
-    return client
+    yield client
+    client.close()
 
 
 @pytest.mark.parametrize("form, words, order, number, registers", [
-    ("INT16", "big", "big", -2, [0xFFFE]), ("UINT16", "big", "little", 0x1234, [0x3412]), ("UINT32", "big", "big", 0x12345678, [0x1234, 0x5678]),
-    ("UINT32", "little", "big", 0x12345678, [0x5678, 0x1234]), ("INT32", "big", "little", 0x12345678, [0x3412, 0x7856]),
-    ("INT32", "little", "little", -2, [0xFEFF, 0xFFFF])])
+    ("INT16", "big", "big", -2, [0xFFFE]), ("UINT16", "big", "little", 0x1234, [0x3412]),
+    ("UINT32", "big", "big", 0x12345678, [0x1234, 0x5678]), ("UINT32", "little", "big", 0x12345678, [0x5678, 0x1234]),
+    ("INT32", "big", "little", 0x12345678, [0x3412, 0x7856]), ("INT32", "little", "little", -2, [0xFEFF, 0xFFFF])])
 def test_numbers_in_registers(form, words, order, number: int, registers: list[int]) -> None:
     register = Register(table="holding", form=form, words=words, bytes=order)
     assert pack(register, "DINT", number) == registers and unpack(register, "DINT", registers) == number
@@ -74,58 +43,58 @@ def test_numbers_that_a_form_has_not_are_held_at_its_ends() -> None:
 
 
 def test_pymodbus_reads_and_writes_what_is_mapped(host: Host) -> None:
-    client = client_of(host)
-    assert client.read_holding_registers(0, 7).registers == [70, 0xFFFE, 0xEE90, 90_000 & 0xFFFF, 90_000 >> 16, 0xFFFB, 0]
-    assert client.write_coil(0, True).function_code == 5
-    wait_for(lambda: client.read_discrete_inputs(0, 1).bits[0])
-    assert client.write_coils(0, [False]).function_code == 15
-    wait_for(lambda: not client.read_discrete_inputs(0, 1).bits[0])
-    assert client.write_registers(0, [71, 0xFFFF, 0xFFFE]).function_code == 16
-    wait_for(lambda: client.read_input_registers(0, 3).registers == [71, 0xFFFF, 0xFFFE])
-    assert host.console("force Main.Locked 3").startswith("ok")
-    for answer, code in [(client.write_register(6, 4), 4), (client.write_register(1, 4), 2), (client.write_register(40, 4), 2),
-                         (client.write_register(5, 300), 3), (client.read_holding_registers(5, 9), 2), (client.read_coils(3, 1), 2),
-                         (client.mask_write_register(0, 1, 1), 1)]:
-        assert answer.isError() and answer.exception_code == code
-    assert "modbus 127.0.0.1: write Main.Locked 4: refused O4" in host.console("log")
-    assert client.read_discrete_inputs(8, 1).bits[0]
-    host.console("hold")
-    wait_for(lambda: not client.read_discrete_inputs(8, 1).bits[0])
-    client.close()
+    with client_of(host) as client:
+        assert client.read_holding_registers(0, 7).registers == [7, 0xFFFE, 0xEE90, 90_000 & 0xFFFF, 90_000 >> 16, 0xFFFB, 10]
+        assert client.write_coil(0, True).function_code == 5
+        wait_for(lambda: client.read_discrete_inputs(0, 1).bits[0])
+        assert client.write_coils(0, [False]).function_code == 15
+        wait_for(lambda: not client.read_discrete_inputs(0, 1).bits[0])
+        assert client.write_registers(0, [71, 0xFFFF, 0xFFFE]).function_code == 16
+        wait_for(lambda: client.read_holding_registers(0, 1).registers == [71])
+        wait_for(lambda: client.read_input_registers(0, 2).registers == [0xFFFF, 0xFFFE])
+        assert host.console("force Main.Q 3").startswith("ok")
+        for answer, code in [(client.write_register(6, 4), 4), (client.write_register(1, 4), 2),
+                             (client.write_register(40, 4), 2), (client.write_register(5, 300), 3),
+                             (client.read_holding_registers(5, 9), 2), (client.read_coils(3, 1), 2),
+                             (client.mask_write_register(0, 1, 1), 1)]:
+            assert answer.isError() and answer.exception_code == code
+        assert "modbus 127.0.0.1: write Main.Q 4: refused O4" in host.console("log")
+        assert client.read_discrete_inputs(8, 1).bits[0]
+        host.console("hold")
+        wait_for(lambda: not client.read_discrete_inputs(8, 1).bits[0])
 
 
 @needs("mbpoll")
 def test_mbpoll_reads_and_writes_what_is_mapped(host: Host) -> None:
     def mbpoll(*words: str) -> str:
-        command = ["mbpoll", "-m", "tcp", "-p", str(host.modbus), "-0", "-1", *words]
-        done = subprocess.run(command, capture_output=True, text=True, timeout=20)
+        command = ["mbpoll", "-m", "tcp", "-p", str(host.modbus), "-0", "-1", "-o", "10", *words]
+        done = subprocess.run(command, capture_output=True, text=True, timeout=60)
         return done.stdout + done.stderr
 
     here = "127.0.0.1"
-    assert re.search(r"\[1\]:\s+-70000", mbpoll("-t", "3:int", "-B", "-r", "1", here))
+    assert re.search(r"\[0\]:\s+-70000", mbpoll("-t", "3:int", "-B", "-r", "0", here))
     assert re.search(r"\[3\]:\s+90000", mbpoll("-t", "4:int", "-r", "3", here))
     assert "Written 1 references" in mbpoll("-t", "4", "-r", "0", here, "75")
     assert "Written 1 references" in mbpoll("-t", "0", "-r", "0", here, "1")
     wait_for(lambda: re.search(r"\[0\]:\s+1\s", mbpoll("-t", "1", "-r", "0", here)))
-    assert re.search(r"\[0\]:\s+75", mbpoll("-t", "3", "-r", "0", here))
+    wait_for(lambda: re.search(r"\[0\]:\s+75", mbpoll("-t", "4", "-r", "0", here)))
     assert "Illegal data address" in mbpoll("-t", "4", "-r", "50", here)
 
 
 def test_who_may_by_address_and_function(make_host) -> None:
-    none = make_host(PROGRAM, FILE.replace('"127.0.0.1", functions', '"10.0.0.0/8", functions'))
+    none = make_host(file=FILE.replace('"127.0.0.1", functions', '"10.0.0.0/8", functions'))
     with socket.create_connection(("127.0.0.1", none.modbus)) as made:
         assert made.recv(1) == b""
-    client = client_of(make_host(PROGRAM, FILE.replace(", functions = [1, 2, 3, 4, 5, 6, 15, 16]", "")))
-    assert not client.read_holding_registers(0, 1).isError()
-    assert client.write_register(0, 1).exception_code == 1
-    client.close()
+    with client_of(make_host(file=FILE.replace(", functions = [1, 2, 3, 4, 5, 6, 15, 16]", ""))) as client:
+        assert not client.read_holding_registers(0, 1).isError()
+        assert client.write_register(0, 1).exception_code == 1
 
 
 async def test_bad_frames_half_open_and_slow_clients_delay_no_scan(make_host) -> None:
-    host = make_host(PROGRAM, FILE.replace("idle = 30", "idle = 2"))
+    host = make_host(file=FILE.replace("idle = 30", "idle = 2").replace("cycle = 10", "cycle = 20"))
 
     def connected() -> socket.socket:
-        return socket.create_connection(("127.0.0.1", host.modbus), timeout=10)
+        return socket.create_connection(("127.0.0.1", host.modbus), timeout=30)
 
     def talk(data: bytes) -> bytes:
         with connected() as made:
@@ -141,17 +110,17 @@ async def test_bad_frames_half_open_and_slow_clients_delay_no_scan(make_host) ->
             assert talk(request) == answer
         for function in range(256):
             said = talk(struct.pack(">HHHBBHH", 1, 0, 6, 1, function, 0, 0xFFFF))
-            assert said[7] & 0x80 and said[8] == (3 if function in (1, 2, 3, 4, 5, 15, 16) else 1) or function == 6, function
+            wanted = 3 if function in (1, 2, 3, 4, 5, 15, 16) else 1
+            assert (said[7] & 0x80 and said[8] == wanted) or function == 6, function
         held = [connected() for _ in range(12)]  # half-open: eight of them above the limit
         wait_for(lambda: sum(map(ended, held)) == 12)
         slow = connected()
         slow.setblocking(False)
         request, end = struct.pack(">HHHBBHH", 1, 0, 6, 1, 3, 0, 7) * 200, time.monotonic() + 2
         while time.monotonic() < end and not ended(slow):
-            try:
+            with contextlib.suppress(OSError):
                 slow.send(request)
-            except OSError:
-                time.sleep(0.01)
+            time.sleep(0.001)
 
 
 class Rack:
@@ -175,11 +144,12 @@ class Rack:
         threading.Thread(target=asyncio.run, args=(server,), daemon=True).start()
 
 
-RACK = FILE.partition("input =")[0].replace("cycle = 20", "cycle = 50") + """
+RACK = FILE.partition("device =")[0].replace("cycle = 10", "cycle = 50") + """
 device = [{name = "rack", kind = "modbus", port = RACK_PORT, share = 50}]
-input = [{path = "Main.Start", device = "rack", table = "discrete"}, {path = "Main.Count", device = "rack", table = "input", address = 1, words = "little"},
-         {path = "Main.Level", device = "rack", table = "input", quality = "Main.Level_Ok"}]
-output = [{path = "Main.Motor", device = "rack", table = "coil", address = 3, fault = "FALSE"},
+input = [{path = "Main.Go", device = "rack", table = "discrete"},
+         {path = "Main.Count", device = "rack", table = "input", address = 1, words = "little"},
+         {path = "Main.Raw", device = "rack", table = "input", quality = "Main.Raw_Ok"}]
+output = [{path = "Main.Delay.IN", device = "rack", table = "coil", address = 3, fault = "FALSE"},
           {path = "Main.Speed", device = "rack", table = "holding", fault = "-1"},
           {path = "Main.Total", device = "rack", table = "holding", address = 1, fault = "0"}]
 """
@@ -188,19 +158,19 @@ output = [{path = "Main.Motor", device = "rack", table = "coil", address = 3, fa
 async def test_a_remote_device_is_polled_and_written_and_waited_for_no_longer_than_its_share(make_host) -> None:
     rack = Rack()
     rack.inputs.setValues(1, [500, 0x5678, 0x0001])
-    host = make_host(PROGRAM, RACK.replace("RACK_PORT", str(rack.port)))
-    wait_for(lambda: rack.outputs.getValues(1, 3) == [570, 0x0001, 0x5679])
+    host = make_host(BLOCKS, RACK.replace("RACK_PORT", str(rack.port)))
+    wait_for(lambda: rack.outputs.getValues(1, 3) == [501, 0x0001, 0x5679])
     rack.discrete.setValues(1, [1])
     wait_for(lambda: rack.coils.getValues(4, 1) == [1])
     async with host.client() as client:
-        assert await client.line("show Main.Level_Ok") == "Main.Level_Ok = TRUE"
+        await client.sees("show Main.Raw_Ok", "Main.Raw_Ok = TRUE")
         rack.pause = 0.2
-        before = await client.until(lambda status: status["good"]["Main.Level"] is False)
+        before = await client.until(lambda status: status["good"]["Main.Raw"] is False)
         assert before["devices"][0]["behind"] > 0
         after = await client.until(lambda status: status["cycles"] >= before["cycles"] + 50)
-        assert after["moment"] - before["moment"] < 50 * 50 * 2, "a slow device holds up no scan"
-        assert await client.line("show Main.Level") == "Main.Level = 500"
+        assert after["moment"] - before["moment"] < 50 * 50 * 3, "a slow device holds up no scan"
+        assert await client.lines("show Main.Raw", "show Main.Raw_Ok") == ["Main.Raw = 500", "Main.Raw_Ok = FALSE"]
         rack.pause = 0.0
-        await client.until(lambda status: status["good"]["Main.Level"] and status["devices"][0]["good"])
+        await client.until(lambda status: status["good"]["Main.Raw"] and status["devices"][0]["good"])
     host.stop()
     wait_for(lambda: rack.outputs.getValues(1, 3) == [0xFFFF, 0, 0])  # the values for a fault, as the host ends

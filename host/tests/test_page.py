@@ -51,6 +51,11 @@ class Page:
 
         ActionChains(self.browser).send_keys(*keys).perform()
 
+    def replace(self, old: str, new: str) -> None:
+        """Edits the text of the new program."""
+        script = "const [old, next] = arguments; $('text').value = $('text').value.replace(old, next); $('text').oninput();"
+        self.browser.execute_script(script, old, new)
+
     def press(self, css: str) -> None:
         wait_for(lambda: self.find(css).is_enabled() and self.find(css).is_displayed())
         self.browser.execute_script("arguments[0].click()", self.find(css))
@@ -71,7 +76,7 @@ def test_a_force_a_change_and_what_is_taken_back(host: Host, browser) -> None:
     page.keys("4")
     page.sees("#program", "END_FUNCTION_BLOCK")
     page.press("#edit")
-    browser.execute_script("const t = document.getElementById('text'); t.value = t.value.replace('Band : INT := 7;', 'Other : INT;'); t.oninput();")
+    page.replace("Band : INT := 7;", "Other : INT;")
     page.press("#check")
     seen = page.sees("#preview", "forces lost")
     assert "Main.Band" in seen and "Main.Other" in seen
@@ -88,13 +93,13 @@ def test_a_refused_text_and_a_fault_say_where(host: Host, browser) -> None:
     page = Page(browser, host)
     page.keys("4")
     page.press("#edit")
-    browser.execute_script("const t = document.getElementById('text'); t.value = t.value.replace('10 / Z', '10 / Zz'); t.oninput();")
+    page.replace("10 / Z", "10 / Zz")
     page.press("#check")
     assert "C1" in page.sees("#preview", "Q := 10 / Zz;") and not page.find("#do").is_enabled()
     page.press("#leave")
     page.host.console("write Main.Z 0")
     seen = page.sees("#banner", "Q := 10 / Z;")
-    assert "divided by zero" in seen and "line 20" in seen
+    assert "divided by zero" in seen and "line 22" in seen
     assert page.text("#state") == "Halted by a fault"
     page.press("#banner button")
     assert page.text("#program li.fault") == "Q := 10 / Z;"
@@ -115,7 +120,8 @@ def test_undo_while_scans_are_held(host: Host, browser) -> None:
 
 @pytest.mark.parametrize("width, height", [(1366, 800), (820, 1100), (360, 740)])
 def test_sizes_fit_and_charts_and_trends_are_drawn(host: Host, browser, width: int, height: int) -> None:
-    browser.execute_cdp_cmd("Emulation.setDeviceMetricsOverride", {"width": width, "height": height, "deviceScaleFactor": 1, "mobile": width < 500})
+    size = {"width": width, "height": height, "deviceScaleFactor": 1, "mobile": width < 500}
+    browser.execute_cdp_cmd("Emulation.setDeviceMetricsOverride", size)
     page = Page(browser, host, LOOK)
     assert not page.find("#hold").is_displayed()
     wait_for(lambda: browser.execute_script("return document.querySelectorAll('#plot path').length") == 2)
