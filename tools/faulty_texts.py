@@ -41,12 +41,12 @@ def faulty(seed: int, texts: list[str]) -> str:
             return text[: start + chance.randrange(end - start + 1)] + chance.choice("xX_9.;") + text[end:]
 
 
-def checked(program: Program, text: str) -> tuple[str, str]:
-    """What is answered to a text, and what people are told."""
+def checked(program: Program, text: str, *words: str) -> tuple[str, str]:
+    """What is answered to a text, and what people are told, also with further words."""
     with tempfile.NamedTemporaryFile(suffix=".st") as file:
         file.write(text.encode())
         file.flush()
-        ran = subprocess.run([program.file, "check", file.name, "--program", "Main"], capture_output=True, timeout=60)
+        ran = subprocess.run([program.file, "check", file.name, "--program", "Main", *words], capture_output=True, timeout=60)
         return ran.stdout.decode().strip(), ran.stderr.decode().replace(file.name, "text.st")
 
 
@@ -74,6 +74,17 @@ def start_by_lines(program: Program, text: str, line: int, answer: str) -> int |
     return here[place][0] if 0 <= place < len(here) else None
 
 
+def failure_under(text: str, line: int, column: int, source: str, carets: str) -> str | None:
+    """How a line and a column don't lie in a text, or the line isn't shown with the first caret under the column."""
+    lines = text.split("\n")
+    meant = lines[line - 1] if line <= len(lines) else ""
+    if not 1 <= column <= len(meant) + 1:
+        return f"line {line} has no column {column}"
+    if len(meant.encode()) <= SHOWN and (source != f"    {meant}" or carets.find("^") != column + 3):
+        return f"{carets!r} doesn't stand under column {column} of {source!r}"
+    return None
+
+
 def failure_in_faulty(program: Program, text: str) -> str | None:
     """How the message on a text isn't as it has to be."""
     answer, told = checked(program, text)
@@ -86,16 +97,13 @@ def failure_in_faulty(program: Program, text: str) -> str | None:
     gcc, vim = GCC.match(head), VIM.match(head)
     if not gcc or not vim:
         return f"no editor finds {head!r}"
-    column, lines = int(gcc[3]), text.split("\n")
+    column = int(gcc[3])
     if (int(gcc[2]), int(vim["l"]), int(vim["c"])) != (line, line, column):
         return f"{head!r} is on another line than {answer!r}"
-    meant = lines[line - 1] if line <= len(lines) else ""
-    if not 1 <= column <= len(meant) + 1:
-        return f"line {line} has no column {column}"
-    if len(meant.encode()) <= SHOWN and (source != f"    {meant}" or carets.index("^") != column + 3):
-        return f"{carets!r} doesn't stand under column {column} of {source!r}"
+    if failure := failure_under(text, line, column, source, carets):
+        return failure
     start = start_by_lines(program, text, line, answer)
-    if start is not None and start != sum(len(it) + 1 for it in lines[: line - 1]) + column - 1:
+    if start is not None and start != sum(len(it) + 1 for it in text.split("\n")[: line - 1]) + column - 1:
         return f"the caret stands in column {column} of line {line}, and the fault elsewhere"
     return None
 

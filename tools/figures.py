@@ -4,6 +4,8 @@ import csv
 import re
 from pathlib import Path
 
+import suite
+
 Tables = dict[str, dict[str, dict[str, tuple[float, str]]]]  # by subject, case and name: a value and its unit
 
 
@@ -32,17 +34,20 @@ def table(cases: dict[str, dict[str, tuple[float, str]]]) -> str:
 
 
 def filled(page: str, tables: Tables) -> str:
-    """A page with a table behind each `<!-- figures SUBJECT -->`, the greatest figure behind each `<!-- most SUBJECT: NAME -->`,
-    and the machine."""
+    """A page with a table behind each `<!-- figures SUBJECT -->`, the greatest figure behind each `<!-- most SUBJECT: NAME -->`, the
+    geometric mean of figures behind each `<!-- mean SUBJECT: NAME -->`, and the machine."""
 
-    def most(found: re.Match[str]) -> str:
-        figures = [case[found[2]] for case in tables[found[1]].values() if found[2] in case]
-        return f"<!-- most {found[1]}: {found[2]} -->{shown(*max(figures))}<!-- end -->" if figures else found[0]
+    def told(found: re.Match[str]) -> str:
+        figures = [case[found[3]] for case in tables[found[2]].values() if found[3] in case]
+        if not figures:
+            return found[0]
+        figure = max(figures) if found[1] == "most" else (suite.mean([value for value, _ in figures]), figures[0][1])
+        return f"<!-- {found[1]} {found[2]}: {found[3]} -->{shown(*figure)}<!-- end -->"
 
     def machine() -> str:
         name, cores = next((case, it["cores"][0]) for case, it in tables["machine"].items() if "cores" in it)
         return f"{cores:.0f} cores of {name}, at {tables['machine']['clock']['MHz'][0]:,.0f} MHz."
 
     page = re.sub(r"<!-- machine -->[^\n]*<!-- end -->", lambda _: f"<!-- machine -->{machine()}<!-- end -->", page)
-    page = re.sub(r"<!-- most ([^:\n]+): ([^\n]+?) -->[^\n]*?<!-- end -->", most, page)
+    page = re.sub(r"<!-- (most|mean) ([^:\n]+): ([^\n]+?) -->[^\n]*?<!-- end -->", told, page)
     return re.sub(r"<!-- figures ([\w ]+) -->\n.*?<!-- end -->", lambda it: f"<!-- figures {it[1]} -->\n\n{table(tables[it[1]])}\n<!-- end -->", page, flags=re.S)

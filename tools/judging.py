@@ -7,6 +7,7 @@ from dataclasses import dataclass
 from pathlib import Path
 
 from cases import Case, Order, Part
+from suite import Bench
 
 ACCEPTED, REFUSED_TEXT, REFUSED_LINE = 0, 1, 3  # exit statuses
 SECONDS = 60  # the most that a run may take
@@ -85,10 +86,15 @@ class Program:
         replies = text.with_suffix(".replies").read_text()
         return self.failure(["run", *words], Wanted(status_of(replies), replies), session.read_text())
 
-    def failure_in_message(self, verb: str, text: Path) -> str | None:
+    def failure_in_bench(self, bench: Bench) -> str | None:
+        """A program of bench/ comes to the result that the same in Lua and in C comes to."""
+        replies = "ok\n" * bench.scans + f"Main.R = {bench.result}\n"
+        return self.failure(["run", bench.file(".st"), "--program", "Main", "--steps", "10000000"], Wanted(ACCEPTED, replies), bench.session())
+
+    def failure_in_message(self, verb: str, text: Path, *more: str) -> str | None:
         """A text that is refused has the message that stands beside it. The program runs in its folder, since the message names the file."""
         wanted = Wanted(REFUSED_TEXT, None, told=text.with_suffix(".told").read_text("latin-1"))
-        return Program(self.file, text.parent).failure([verb, text.name, "--program", "Main"], wanted)
+        return Program(self.file, text.parent).failure([verb, text.name, "--program", "Main", *more], wanted)
 
     def failure_in_explained(self, session: Path) -> str | None:
         """A session is explained on standard error as stands beside it, and isn't where it is to be quiet; its replies are the same."""

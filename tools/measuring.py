@@ -9,21 +9,24 @@ TOP = os.path.dirname(os.path.dirname(os.path.abspath(__file__)))
 
 
 def program_at_hand():
-    """The path of the program that ./stc runs, which it unpacks, or proves and builds, where that isn't done."""
+    """The path of the program that the variable STC names; else of the one that ./stc runs, which it unpacks, or proves and builds,
+    where that isn't done."""
+    if named := os.environ.get("STC"):
+        return os.path.abspath(named)
     subprocess.run([os.path.join(TOP, "stc"), "--version"], check=True, stdout=subprocess.DEVNULL)
     with open(os.path.join(TOP, "out", "stc", "current")) as it:
         return os.path.join(TOP, it.readline().strip())
 
 
 def measured(words, lines=os.devnull):
-    """Processor time in seconds, and what was written, of a run with these lines as its input."""
-    with tempfile.TemporaryFile() as written, open(lines) as typed:
-        run = subprocess.Popen(words, stdin=typed, stdout=written)
+    """Processor time in seconds, and what was written into a pipe, of a run with these lines as its input."""
+    with open(lines) as typed, subprocess.Popen(words, stdin=typed, stdout=subprocess.PIPE) as run:
+        written = run.stdout.read().decode()
         _, status, usage = os.wait4(run.pid, 0)
-        if status != 0:
-            sys.exit(f"{words}: status {status}")
-        written.seek(0)
-        return usage.ru_utime + usage.ru_stime, written.read().decode()
+        run.returncode = os.waitstatus_to_exitcode(status)
+    if status != 0:
+        sys.exit(f"{words}: status {status}")
+    return usage.ru_utime + usage.ru_stime, written
 
 
 def peak(words, lines=os.devnull):
