@@ -10,7 +10,7 @@ use st_memory::Memory;
 use st_values::Value;
 
 /// Stores a value of the leaf's type, unless the leaf is forced.
-#[inline]
+#[inline(always)]
 pub fn store_value<M: Memory>(memory: &mut M, layout: &Layout, leaf: u32, value: Value)
     requires over { M.IsOver layout.now memory.old }
     requires below { leaf < length layout.now }

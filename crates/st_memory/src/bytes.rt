@@ -11,7 +11,7 @@ use st_values::{Elem, Value, wrap};
 use std::alloc::AllocError;
 
 /// How many bytes a value of a type takes.
-#[inline]
+#[inline(always)]
 pub fn width(elem: Elem) -> usize
     ensures value { result ≡ width_of elem }
     ensures some { 1 ≤ result }
@@ -21,7 +21,7 @@ pub fn width(elem: Elem) -> usize
 }
 
 /// A number in 64 bits, one below 0 in two's complement.
-#[inline]
+#[inline(always)]
 fn pattern(number: i128) -> u64
     requires { unsigned_abs number < 2 ^ 64 }
     ensures { result ≡ cast_unsigned w64 number }
@@ -49,7 +49,7 @@ pub fn first_value(elem: Elem, bytes: &[u8]) -> Value
 }
 
 /// Puts the bytes of a value in the place of the first ones.
-#[inline]
+#[inline(always)]
 pub fn put_value(bytes: &mut [u8], value: Value)
     requires room { width_of value.elem ≤ length bytes.old }
     requires value { IsValue value }
@@ -59,7 +59,7 @@ pub fn put_value(bytes: &mut [u8], value: Value)
 }
 
 /// Puts the lowest bytes of a number, as many as a type has, in the place of the first ones.
-#[inline]
+#[inline(always)]
 fn put_low(bytes: &mut [u8], elem: Elem, number: u64)
     requires { width_of elem ≤ length bytes.old }
     ensures { bytes.new ≡ little_bytes (width_of elem) number ++ drop (width_of elem) bytes.old }
@@ -73,7 +73,7 @@ fn put_low(bytes: &mut [u8], elem: Elem, number: u64)
 }
 
 /// The value of a type whose bytes these begin with, as `first_value` gives it, with no arithmetic in 128 bits.
-#[inline]
+#[inline(always)]
 pub fn value_in(elem: Elem, bytes: &[u8]) -> Value
     requires { width_of elem ≤ length bytes.now }
     ensures { result ≡ read_bytes elem bytes.now }
@@ -86,7 +86,7 @@ pub fn value_in(elem: Elem, bytes: &[u8]) -> Value
 
 /// The number of such a value.
 #[tactic(auto, unfolding(crate::specs::Bytes::read_bytes))]
-#[inline]
+#[inline(always)]
 fn number_in(elem: Elem, bytes: &[u8]) -> i128
     requires { width_of elem ≤ length bytes.now }
     ensures { record { elem = elem; bits = result } ≡ read_bytes elem bytes.now }

@@ -44,22 +44,22 @@ impl Memory for Packed {
         Ok(Packed { bytes, marks })
     }
 
-    #[inline]
+    #[inline(always)]
     fn get(&self, layout: &Layout, leaf: u32) -> Value {
         value_at(&self.bytes, layout, leaf)
     }
 
-    #[inline]
+    #[inline(always)]
     fn set(&mut self, layout: &Layout, leaf: u32, value: Value) {
         set_value_at(&mut self.bytes, layout, leaf, value);
     }
 
-    #[inline]
+    #[inline(always)]
     fn forced(&self, layout: &Layout, leaf: u32) -> bool {
         is_marked(&self.marks, leaf)
     }
 
-    #[inline]
+    #[inline(always)]
     fn mark(&mut self, layout: &Layout, leaf: u32, on: bool) {
         put_mark(&mut self.marks, leaf, on);
     }

@@ -12,7 +12,7 @@ use st_values::Value;
 use std::alloc::AllocError;
 
 /// The value of a leaf.
-#[inline]
+#[inline(always)]
 pub fn value_at(bytes: &[u8], layout: &Layout, leaf: u32) -> Value
     requires bytes { length bytes.now ≡ total_width layout.now }
     requires below { leaf < length layout.now }
@@ -23,7 +23,7 @@ pub fn value_at(bytes: &[u8], layout: &Layout, leaf: u32) -> Value
 }
 
 /// Puts the value of a leaf in the place of the one that is there.
-#[inline]
+#[inline(always)]
 pub fn set_value_at(bytes: &mut [u8], layout: &Layout, leaf: u32, value: Value)
     requires bytes { length bytes.old ≡ total_width layout.now }
     requires below { leaf < length layout.now }
