@@ -1,5 +1,5 @@
 //! The instructions that count steps, and those of FOR.
-ghost use Rattle.std.specs.Prelude.{◌≡◌, ◌∷◌, ◌^◌, ◌+ℤ◌, ◌≤ℤ◌, ◌<ℤ◌, ℕ, ℤ, neg_ℤ, pos, IsTrue, List};
+ghost use Rattle.std.specs.Prelude.{◌≡◌, ◌∷◌, ◌^◌, ◌+ℤ◌, ◌≤ℤ◌, ◌<ℤ◌, ℕ, ℤ, neg_ℤ, pos, true, IsTrue, List};
 ghost use Rattle.st_code.specs.declared.instr.Instr.{Instr};
 ghost use Rattle.st_meaning.specs.Statements.{goes_on};
 ghost use Rattle.st_instructions.specs.Ready.{can_begin, can_go_next, can_test, has_three, next_cell, next_of};
@@ -9,6 +9,7 @@ ghost use Rattle.st_code.specs.Machine.{act, number_in};
 use crate::cells::{cell_of, number_in};
 use crate::leaves::store;
 use crate::moves::Move;
+use crate::quick::{is_less, is_signed};
 use crate::stack::Stack;
 use st_code::Instr;
 use st_layout::Layout;
@@ -17,6 +18,7 @@ use st_memory::Memory;
 use st_values::Elem;
 
 /// Does `Step`.
+#[inline]
 pub fn step(left: &mut u32) -> Move
     ensures { Counts Instr.Step result left.old left.new }
 {
@@ -28,6 +30,7 @@ pub fn step(left: &mut u32) -> Move
 }
 
 /// Does `GoBack`.
+#[inline]
 pub fn go_back(left: &mut u32, distance: usize) -> Move
     ensures { Counts (Instr.GoBack distance) result left.old left.new }
 {
@@ -47,23 +50,15 @@ pub(crate) struct Count {
 }
 
 /// The three cells on top of the stack.
-#[inline]
-pub(crate) fn count_on(stack: &mut Stack) -> Count
-    requires { IsTrue (has_three stack.old.0) }
-    ensures stack { stack.new.0 ≡ stack.old.0 }
-    ensures cells { (rest : List ℤ) × (stack.old.0 ≡ result.step ∷ result.last ∷ result.counter ∷ rest) }
-    ensures room { stack.new.1 ≡ stack.old.1 }
+#[inline(always)]
+pub(crate) fn count_on(stack: &Stack) -> Count
+    requires { IsTrue (has_three stack.now.0) }
+    ensures cells { (rest : List ℤ) × (stack.now.0 ≡ result.step ∷ result.last ∷ result.counter ∷ rest) }
 {
-    let step = stack.pop();
-    let last = stack.pop();
-    let counter = stack.pop();
-    stack.push(counter);
-    stack.push(last);
-    stack.push(step);
     Count {
-        step,
-        last,
-        counter,
+        step: stack.pick(0),
+        last: stack.pick(1),
+        counter: stack.pick(2),
     }
 }
 
@@ -82,6 +77,18 @@ pub(crate) fn set_counter(stack: &mut Stack, cell: i64)
     stack.push(step);
 }
 
+/// Whether the counter of a FOR hasn't passed its last value.
+#[inline(always)]
+pub(crate) fn count_goes_on(elem: Elem, count: Count) -> bool
+    ensures { result ≡ goes_on (number_in elem count.counter) (number_in elem count.last) (number_in elem count.step) }
+{
+    if !is_signed(elem) || count.step >= 0 {
+        !is_less(elem, count.last, count.counter)
+    } else {
+        !is_less(elem, count.counter, count.last)
+    }
+}
+
 /// Whether a counter hasn't passed the last value.
 #[inline]
 fn goes_on(counter: i128, last: i128, step: i128) -> bool
@@ -92,19 +99,6 @@ fn goes_on(counter: i128, last: i128, step: i128) -> bool
     } else {
         last <= counter
     }
-}
-
-/// Whether the counter of a FOR hasn't passed its last value.
-#[inline]
-pub(crate) fn count_goes_on(elem: Elem, count: Count) -> bool
-    ensures { result ≡ goes_on (number_in elem count.counter) (number_in elem count.last) (number_in elem count.step) }
-{
-    let step = number_in(elem, count.step);
-    goes_on(
-        number_in(elem, count.counter),
-        number_in(elem, count.last),
-        step,
-    )
 }
 
 /// The sum of two numbers of cells.
@@ -137,7 +131,46 @@ fn next_of(counter: i128, last: i128, step: i128) -> Option<i64>
 }
 
 /// The next counter of a FOR, where it hasn't passed the last value.
+#[inline(always)]
 pub(crate) fn next_counter(elem: Elem, count: Count) -> Option<i64>
+    ensures { result ≡ next_cell elem count.step count.last count.counter }
+{
+    if is_itself(elem, count.counter)
+        && is_itself(elem, count.last)
+        && is_itself(elem, count.step)
+    {
+        near_next(count)
+    } else {
+        far_next(elem, count)
+    }
+}
+
+/// Whether a cell is sure to be the number of the type itself.
+#[inline(always)]
+fn is_itself(elem: Elem, cell: i64) -> bool
+    ensures { result ≡ true → number_in elem cell ≡ cell }
+{
+    is_signed(elem) || cell >= 0
+}
+
+/// The same where the cells are the numbers themselves.
+#[inline(always)]
+fn near_next(count: Count) -> Option<i64>
+    ensures { result ≡ next_of count.counter count.last count.step }
+{
+    let next = count.counter.checked_add(count.step)?;
+    let is_within = if count.step >= 0 {
+        next <= count.last
+    } else {
+        count.last <= next
+    };
+    if is_within { Some(next) } else { None }
+}
+
+/// The same of numbers that need not fit into 64 bits with their sign.
+#[cold]
+#[inline(never)]
+fn far_next(elem: Elem, count: Count) -> Option<i64>
     ensures { result ≡ next_cell elem count.step count.last count.counter }
 {
     let step = number_in(elem, count.step);
@@ -174,6 +207,7 @@ pub fn begin<M: Memory>(
 }
 
 /// Does `Test`.
+#[inline(always)]
 pub fn test<M: Memory>(
     memory: &mut M,
     layout: &Layout,
@@ -198,6 +232,7 @@ pub fn test<M: Memory>(
 }
 
 /// Does `Next`.
+#[inline(always)]
 pub fn go_next<M: Memory>(
     memory: &mut M,
     layout: &Layout,

@@ -11,7 +11,7 @@ use st_memory::Memory;
 use st_values::Elem;
 
 /// The value of a leaf, as a cell.
-#[inline]
+#[inline(always)]
 pub fn load<M: Memory>(memory: &M, layout: &Layout, leaf: u32) -> i64
     requires over { M.IsOver layout.now memory.now }
     requires below { leaf < length (M.content layout.now memory.now).values }
@@ -47,7 +47,7 @@ fn load_any<M: Memory>(memory: &M, layout: &Layout, leaf: u32) -> i64
 }
 
 /// Stores a cell, which is a value of the leaf's type, unless the leaf is forced.
-#[inline]
+#[inline(always)]
 pub fn store<M: Memory>(memory: &mut M, layout: &Layout, elem: Elem, leaf: u32, cell: i64)
     requires over { M.IsOver layout.now memory.old }
     requires leaf { IsTrue (has_leaf (M.content layout.now memory.old).values elem leaf) }

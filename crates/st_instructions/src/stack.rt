@@ -97,6 +97,7 @@ impl Stack {
     }
 
     /// The number that stands so far below the newest.
+    #[inline]
     pub fn pick(&self, distance: usize) -> i64
         requires { distance < length self.now.0 }
         ensures { result ≡ get_or self.now.0 distance (pos 0) }

@@ -1,7 +1,7 @@
 use Rattle.std.proofs.Common.{refl, rules, w64}
 use Rattle.std.specs.Int.{w128}
 use Rattle.std.proofs.lemmas.Int.{to_z-of_z}
-use Rattle.st_instructions.proofs.counting.next_counter.Goals as goal
+use Rattle.st_instructions.proofs.counting.far_next.Goals as goal
 
 pub returns : goal.returns
 returns c =

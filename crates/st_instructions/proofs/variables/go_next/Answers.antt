@@ -1,4 +1,4 @@
-use Rattle.std.proofs.Common.{[], ◌≡◌, ◌∙◌, ◌-◌, suc, sym, rules, arith, w64}
+use Rattle.std.proofs.Common.{[], ◌≡◌, ◌-◌, suc, sym, rules, arith, w64}
 use Rattle.std.proofs.lemmas.Int.{to_z-of_z}
 use Rattle.st_instructions.proofs.Turns.{next_goes, next_passes, next_stores}
 use Rattle.st_instructions.proofs.variables.go_next.Goals as goal
@@ -22,7 +22,7 @@ returns-in-Some-clause-does c =
     let found = c.count_on-count.ensures.cells in
     let count = c.count_on-count.result in
     let values = rw (to_z-of_z w64 c.in-Some.cell (search rules)) at c.store.ensures.stored in
-    let others = rw (to_z-of_z w64 c.in-Some.cell (search rules)) at (c.set_counter.ensures.cells count.step count.last count.counter found.0 (c.count_on-count.ensures.stack ∙ found.1)) in
+    let others = rw (to_z-of_z w64 c.in-Some.cell (search rules)) at (c.set_counter.ensures.cells count.step count.last count.counter found.0 found.1) in
     λ moment line place. rw values
     (next_goes moment [] c.args.stack.now.1 c.args.elem c.args.leaf c.args.distance count.step count.last count.counter c.in-Some.cell found.0 c.args.stack.now.0 _ c.args.variables.now line place c.args.left.now (c.args.left.now - 1) less found.1 others c.requires.ready (sym c.in-Some.ensures))
 
@@ -31,5 +31,5 @@ returns-in-None-clause-does c =
     let less : c.args.left.now ≡ suc (c.args.left.now - 1) = omega (arith, c.if-left-eq0.false) in
     let found = c.count_on-count.ensures.cells in
     let count = c.count_on-count.result in
-    λ moment line place. rw c.count_on-count.ensures.stack
+    λ moment line place.
     (next_passes moment [] c.args.stack.now.1 c.args.elem c.args.leaf c.args.distance count.step count.last count.counter found.0 c.args.stack.now.0 c.args.variables.now line place c.args.left.now (c.args.left.now - 1) less found.1 c.requires.ready (sym c.in-None.ensures))

@@ -24,5 +24,5 @@ returns-clause-does c =
     let count = c.count_on-count.result in
     let goes = sym c.count_goes_on.ensures ∙ c.if-not-count_goes_on.false in
     let stored = rw (to_z-of_z w64 count.counter (search rules)) at c.store.ensures.stored in
-    λ moment line place left. rw (c.count_on-count.ensures.stack, stored)
+    λ moment line place left. rw stored
     (test_goes moment [] c.args.stack.now.1 c.args.elem c.args.leaf c.args.distance count.step count.last count.counter found.0 c.args.stack.now.0 c.args.variables.now line place left found.1 c.requires.ready goes)
