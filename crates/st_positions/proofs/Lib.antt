@@ -1,0 +1,2 @@
+mod Lexing
+mod Skips

@@ -1,2 +1,3 @@
 pub mod Lexemes
 pub mod Places
+pub mod Skips

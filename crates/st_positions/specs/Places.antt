@@ -1,5 +1,5 @@
 -- Where things stand in a text.
-use Rattle.std.specs.Prelude.{ℕ, suc, Bool, ◌+◌, ◌==◌, if◌then◌else◌, List, [], ◌∷◌}
+use Rattle.std.specs.Prelude.{ℕ, ◌+◌, ◌==◌, if◌then◌else◌, List, [], ◌∷◌}
 use Rattle.std.specs.Int.{is_in_range}
 use Rattle.std.specs.List.{sum_by}
 

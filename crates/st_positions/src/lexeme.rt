@@ -1,8 +1,10 @@
 //! The lexemes of a text: what stands between blanks and comments.
-ghost use Rattle.std.specs.Prelude.{All, IfOk};
-ghost use Rattle.st_positions.specs.Lexemes.{IsWithin};
+ghost use Rattle.std.specs.Prelude.{◌≡◌, ◌≤◌, All, IfOk, length};
+ghost use Rattle.st_positions.specs.Lexemes.{AreLexemes, IsWithin, lexeme};
+ghost use Rattle.st_tokens.specs.Characters.{is_blank};
+ghost use Rattle.st_tokens.specs.Text.{HasTokens, Tokens};
 
-use crate::skip::{comment_len, token_len};
+use crate::skip::{after_comment, after_token};
 use std::alloc::{AllocError, Global};
 
 /// A token, or what begins none: a character of no token, a word or a literal that isn't well formed, or a comment that isn't closed,
@@ -16,34 +18,46 @@ pub struct Lexeme {
 }
 
 /// Whether a byte is a blank.
-fn is_blank(byte: u8) -> bool {
+fn is_blank(byte: u8) -> bool
+    ensures { result ≡ is_blank byte }
+{
     byte == b'\t' || byte == b'\n' || byte == b'\r' || byte == b' '
 }
 
 /// The lexemes of a text, in order. Of a text that has tokens, these are its tokens.
 pub fn lexemes(alloc: Global, text: &[u8]) -> Result<Vec<Lexeme>, AllocError>
-    ensures { IfOk result (λ found. All (IsWithin text.now) found.items) }
+    ensures within { IfOk result (λ found. All (IsWithin text.now) found.items) }
+    ensures tokens { IfOk result (λ found. (ts : Tokens) → HasTokens 1 text.now ts
+        → AreLexemes text.now ts found.items) }
 {
     let mut found = Vec::new(alloc);
-    let mut start: usize = 0;
-    while start < text.len() {
-        let rest = &text[start..];
-        if is_blank(text[start]) {
-            start += 1;
+    let mut rest = text;
+    while let [first, ..] = rest {
+        if is_blank(*first) {
+            rest = &rest[1..];
         } else if rest.starts_with(b"(*") {
-            match comment_len(&rest[2..]) {
-                Some(len) => start += 2 + len,
-                None => {
-                    let end = text.len();
-                    found.push(Lexeme { start, end })?;
-                    return Ok(found);
-                }
-            }
+            let Some(remaining) = after_comment(&rest[2..]) else {
+                found.push(between(text, rest, b""))?;
+                return Ok(found);
+            };
+            rest = remaining;
         } else {
-            let end = start + token_len(rest).max(1);
-            found.push(Lexeme { start, end })?;
-            start = end;
+            let remaining = after_token(rest);
+            found.push(between(text, rest, remaining))?;
+            rest = remaining;
         }
     }
     Ok(found)
+}
+
+/// What stands between what is left of a text and what is left later.
+fn between(text: &[u8], rest: &[u8], later: &[u8]) -> Lexeme
+    requires rest { length rest.now ≤ length text.now }
+    requires later { length later.now ≤ length text.now }
+    ensures { result ≡ lexeme (length text.now) rest.now later.now }
+{
+    Lexeme {
+        start: text.len() - rest.len(),
+        end: text.len() - later.len(),
+    }
 }

@@ -1,9 +1,21 @@
-//! How many bytes a lexeme has: a token, or what begins none, or a comment.
-ghost use Rattle.std.specs.Prelude.{◌≤◌, ◌<◌, length, IfSome};
+//! What stands behind the lexeme that begins a text: a token, or what begins none, or a comment.
+ghost use Rattle.std.specs.Prelude.{◌≡◌, ◌≤◌, drop, is_some, length, take};
+ghost use Rattle.st_positions.specs.Skips.{after_base, after_comment, after_continued, after_interval, after_literal, after_prefix, after_sign, after_symbol, after_token, after_word, seen};
+ghost use Rattle.st_tokens.specs.Scanning.{after_run, double, ends_in_digit, interval_rest, is_duration_word, run};
+ghost use Rattle.st_values.specs.Words.{is_word_byte};
+
+/// Whether a word may go on with this byte.
+fn is_word_byte(byte: u8) -> bool
+    ensures { result ≡ is_word_byte byte }
+{
+    byte.is_ascii_alphanumeric() || byte == b'_'
+}
 
 /// How many bytes of a word stand at the start.
 fn run_len(text: &[u8]) -> usize
-    ensures { result ≤ length text.now }
+    ensures within { result ≤ length text.now }
+    ensures prefix { take result text.now ≡ run text.now }
+    ensures rest { drop result text.now ≡ after_run text.now }
 {
     let mut len = 0;
     while len < text.len() && is_word_byte(text[len]) {
@@ -12,111 +24,156 @@ fn run_len(text: &[u8]) -> usize
     len
 }
 
-/// Whether a word may go on with this byte.
-fn is_word_byte(byte: u8) -> bool {
-    byte.is_ascii_alphanumeric() || byte == b'_'
+/// The bytes of a word at the start, and what stands behind them.
+fn split_run(text: &[u8]) -> (&[u8], &[u8])
+    ensures prefix { result.0.now ≡ run text.now }
+    ensures rest { result.1.now ≡ after_run text.now }
+{
+    text.split_at(run_len(text))
+}
+
+/// What stands behind an optional sign.
+fn after_sign(text: &[u8]) -> &[u8]
+    ensures { result.now ≡ after_sign text.now }
+{
+    match text {
+        [b'-', rest @ ..] => rest,
+        [b'+', rest @ ..] => rest,
+        _ => text,
+    }
+}
+
+/// What stands behind an optional `#` and the digits of a base.
+fn after_base(text: &[u8]) -> &[u8]
+    ensures { result.now ≡ after_base text.now }
+{
+    if text.starts_with(b"#") {
+        split_run(&text[1..]).1
+    } else {
+        text
+    }
+}
+
+/// What stands behind a literal, which begins behind the name of a type and `#`.
+fn after_literal(text: &[u8]) -> &[u8]
+    ensures { result.now ≡ after_literal text.now }
+{
+    after_base(split_run(after_sign(text)).1)
 }
 
 /// Whether the last byte is a digit.
-fn ends_in_digit(text: &[u8]) -> bool {
-    match text {
-        [.., last] => last.is_ascii_digit(),
-        [] => false,
-    }
+fn ends_in_digit(text: &[u8]) -> bool
+    ensures { result ≡ ends_in_digit text.now }
+{
+    !text.is_empty() && text[text.len() - 1].is_ascii_digit()
 }
 
-/// How many bytes stand at the start, of what may follow the `#` of a literal.
-fn literal_len(text: &[u8]) -> usize
-    ensures { result ≤ length text.now }
+/// What stands behind the bytes that the parts of a duration may have.
+fn after_parts(text: &[u8]) -> &[u8]
+    ensures { result.now ≡ interval_rest text.now }
 {
-    let sign = usize::from(text.starts_with(b"-") || text.starts_with(b"+"));
-    sign + run_len(&text[sign..])
-}
-
-/// How many bytes the parts of a duration have at the start, behind its `#`.
-fn interval_len(text: &[u8]) -> usize
-    ensures { result ≤ length text.now }
-{
-    let len = literal_len(text);
-    let (parts, rest) = text.split_at(len);
+    let (parts, rest) = split_run(text);
     if ends_in_digit(parts) && rest.starts_with(b".") {
-        len + 1 + run_len(&rest[1..])
+        split_run(&rest[1..]).1
     } else {
-        len
+        rest
     }
+}
+
+/// What stands behind the parts of a duration, which begin behind its `#`.
+fn after_interval(text: &[u8]) -> &[u8]
+    ensures { result.now ≡ after_interval text.now }
+{
+    after_parts(after_sign(text))
 }
 
 /// Whether a literal that begins with this word and `#` is a duration.
-fn is_duration(word: &[u8]) -> bool {
+fn is_duration(word: &[u8]) -> bool
+    ensures { result ≡ is_duration_word word.now }
+{
     word.eq_ignore_ascii_case(b"T") || word.eq_ignore_ascii_case(b"TIME")
 }
 
-/// How many bytes a word or a literal has at the start, where one begins there.
-fn word_len(text: &[u8]) -> usize
-    ensures { result ≤ length text.now }
+/// What stands behind what begins with this word and `#`.
+fn after_prefix<'a>(word: &[u8], text: &'a [u8]) -> &'a [u8]
+    ensures { result.now ≡ after_prefix word.now text.now }
 {
-    let len = run_len(text);
-    let (word, rest) = text.split_at(len);
-    if len == 0 || !rest.starts_with(b"#") {
-        return len;
+    if is_duration(word) {
+        after_interval(text)
+    } else {
+        after_literal(text)
     }
-    let behind = &rest[1..];
-    len + 1
-        + if is_duration(word) {
-            interval_len(behind)
-        } else {
-            literal_len(behind)
-        }
+}
+
+/// What stands behind a word, or a literal that begins with one.
+fn after_word(text: &[u8]) -> &[u8]
+    ensures { result.now ≡ after_word text.now }
+{
+    let (word, rest) = split_run(text);
+    if rest.starts_with(b"#") {
+        after_prefix(word, &rest[1..])
+    } else {
+        rest
+    }
 }
 
 /// Whether these two bytes are one symbol.
-fn is_symbol(first: u8, second: u8) -> bool {
-    matches!(
-        (first, second),
-        (b':', b'=') | (b'<', b'=') | (b'>', b'=') | (b'<', b'>') | (b'=', b'>') | (b'.', b'.')
-    )
-}
-
-/// How many bytes continue a character of UTF-8 at the start.
-fn continued_len(text: &[u8]) -> usize
-    ensures { result ≤ length text.now }
+fn is_symbol(first: u8, second: u8) -> bool
+    ensures { result ≡ is_some (double first second) }
 {
-    let mut len = 0;
-    while len < text.len() && (0x80..=0xBF).contains(&text[len]) {
-        len += 1;
+    match second {
+        b'=' => first == b':' || first == b'<' || first == b'>',
+        b'>' => first == b'<' || first == b'=',
+        _ => first == b'.' && second == b'.',
     }
-    len
 }
 
-/// How many bytes a symbol has at the start, or a character that is none.
-fn symbol_len(text: &[u8]) -> usize
-    ensures { result ≤ length text.now }
+/// What stands behind the bytes that continue a character of UTF-8.
+fn after_continued(text: &[u8]) -> &[u8]
+    ensures { result.now ≡ after_continued text.now }
+{
+    let mut rest = text;
+    while let [first, others @ ..] = rest {
+        if !(0x80..=0xBF).contains(first) {
+            return rest;
+        }
+        rest = others;
+    }
+    rest
+}
+
+/// What stands behind a symbol, or a character that is none.
+fn after_symbol(text: &[u8]) -> &[u8]
+    ensures { result.now ≡ after_symbol text.now }
 {
     match text {
-        [] => 0,
-        [first, second, ..] if is_symbol(*first, *second) => 2,
-        [_, rest @ ..] => 1 + continued_len(rest),
+        [first, second, rest @ ..] if is_symbol(*first, *second) => rest,
+        [first, rest @ ..] if *first >= 0x80 => after_continued(rest),
+        [_, rest @ ..] => rest,
+        [] => text,
     }
 }
 
-/// How many bytes the lexeme has that begins a text: a token, or a character that begins none.
-pub fn token_len(text: &[u8]) -> usize
-    ensures { result ≤ length text.now }
+/// What stands behind the lexeme that begins a text: a token, or a character that begins none.
+pub fn after_token(text: &[u8]) -> &[u8]
+    ensures { result.now ≡ after_token text.now }
 {
-    let len = word_len(text);
-    if len == 0 { symbol_len(text) } else { len }
+    match text {
+        [first, ..] if is_word_byte(*first) => after_word(text),
+        _ => after_symbol(text),
+    }
 }
 
-/// How many bytes a comment has behind its `(*`, up to the end of the first `*)`.
-pub fn comment_len(text: &[u8]) -> Option<usize>
-    ensures { IfSome result (λ len. len ≤ length text.now) }
+/// What stands behind the first `*)` of a comment, whose `(*` stands before this text.
+pub fn after_comment(text: &[u8]) -> Option<&[u8]>
+    ensures { seen result ≡ after_comment text.now }
 {
-    let mut len = 0;
-    while len + 1 < text.len() {
-        if text[len] == b'*' && text[len + 1] == b')' {
-            return Some(len + 2);
+    let mut rest = text;
+    while let [first, second, remaining @ ..] = rest {
+        if *first == b'*' && *second == b')' {
+            return Some(remaining);
         }
-        len += 1;
+        rest = &rest[1..];
     }
     None
 }
