@@ -1,0 +1,3 @@
+mod Cyclic
+mod Kept
+mod Passing
