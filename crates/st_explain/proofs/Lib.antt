@@ -1,3 +1,5 @@
 mod Cyclic
 mod Kept
+mod Ordered
 mod Passing
+mod Telling

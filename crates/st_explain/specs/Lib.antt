@@ -1,2 +1,3 @@
 pub mod Findings
+pub mod Messages
 pub mod Places

@@ -1,4 +1,7 @@
 //! The faults of a text that is in the grammar, one behind the other.
+ghost use Rattle.std.specs.Prelude.{◌≡◌, ◌∷◌, ◌<◌, ◌≤◌, IfOk, IfSome, List, length};
+ghost use Rattle.st_explain.specs.Messages.{AreInOrder};
+ghost use Rattle.st_faults.specs.declared.fault.Fault.{Fault as Found};
 
 use crate::finding::{Finding, first_finding};
 use st_faults::Fault;
@@ -17,15 +20,20 @@ pub fn faults_from(
     units: &[Unit],
     main: &[u8],
     first: Fault,
-) -> Result<Vec<Fault>, AllocError> {
+) -> Result<Vec<Fault>, AllocError>
+    ensures first { IfOk result (λ faults. (later : List Found) × (faults.items ≡ first ∷ later)) }
+    ensures order { IfOk result (λ faults. AreInOrder faults.items) }
+    ensures few { IfOk result (λ faults. length faults.items ≤ 100) }
+{
     let mut faults = Vec::new(alloc);
-    let mut next = Some(first);
-    for _ in 0..MAX_FAULTS {
-        let Some(fault) = next else {
+    faults.push(first)?;
+    let mut last = first;
+    'later: while faults.len() < MAX_FAULTS {
+        let Some(fault) = fault_behind(alloc, units, main, last)? else {
             return Ok(faults);
         };
         faults.push(fault)?;
-        next = fault_behind(alloc, units, main, fault)?;
+        last = fault;
     }
     Ok(faults)
 }
@@ -39,8 +47,13 @@ fn fault_behind(
     units: &[Unit],
     main: &[u8],
     fault: Fault,
-) -> Result<Option<Fault>, AllocError> {
-    let start = fault.position.number.saturating_add(1);
+) -> Result<Option<Fault>, AllocError>
+    ensures { IfOk result (λ found. IfSome found (λ behind.
+        fault.position.number < behind.position.number)) }
+{
+    let Some(start) = fault.position.number.checked_add(1) else {
+        return Ok(None);
+    };
     let turn = Turn { alloc, start };
     let turned = turned_units(turn, units)?;
     let tables = Tables::new(alloc, &turned)?;

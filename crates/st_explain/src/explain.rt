@@ -1,16 +1,24 @@
 //! The message on a text.
-ghost use Rattle.std.specs.Prelude.{◌≡◌, OnOk};
+ghost use Rattle.std.specs.Prelude.{◌≡◌, ◌≤◌, ℕ, [], IfOk, List, OnOk};
 ghost use Rattle.std.specs.String.{string_bytes};
+ghost use Rattle.st_check.specs.Faults.{HasNoProgram, IsAccepted, IsFirst};
+ghost use Rattle.st_explain.specs.Messages.{IsRead, IsToldAt, IsUnread, TellsEach, TellsFault, TellsFaults, TellsFrom, TellsNoProgram, TellsSyntax, TellsUnits, syntax_number};
 ghost use Rattle.st_explain.specs.Places.{code_of, start_at};
+ghost use Rattle.st_faults.specs.declared.fault.Fault.{Fault as Found};
 ghost use Rattle.st_messages.specs.Places.{IsTold};
+ghost use Rattle.st_parser.specs.Names as names;
+ghost use Rattle.st_syntax.specs.Grammar.Texts.{Explains, IsTextOf};
+ghost use Rattle.st_tokens.specs.Text.{HasTokens, Tokens};
 
 use crate::all::faults_from;
 use crate::finding::{Finding, first_finding};
+use st_check::text_has_one_answer;
 use st_faults::Fault;
-use st_messages::{Code, Lexed, Span, Words, push_diagnosis};
-use st_positions::{Lexeme, lexemes};
+use st_messages::{Code, Lexed, Span, Words, push_diagnosis, push_heading};
+use st_positions::{Lexeme, Place, lexemes};
 use st_rule_messages::{explain_no_program, explain_rule, explain_size};
 use st_scopes::Tables;
+use st_sizes::Size;
 use st_syntax::parse;
 use st_syntax_messages::explain_syntax;
 use st_tokens::SyntaxFault;
@@ -24,54 +32,48 @@ pub fn explain_text(
     file: &str,
     text: &[u8],
     main: &[u8],
-) -> Result<String, AllocError> {
+) -> Result<String, AllocError>
+    ensures accepted { (us : List names.Unit) (number : ℕ) → IsRead text.now us
+        → IsAccepted us main.now number → IfOk result (λ m. string_bytes m ≡ []) }
+    // At the token of the first fault: its line, its column and the number of the rule.
+    ensures fault { (us : List names.Unit) (f : Found) → IsRead text.now us → IsFirst us main.now f
+        → IfOk result (λ m. TellsFault file.now text.now f (string_bytes m)) }
+    ensures no_program { (us : List names.Unit) → IsRead text.now us
+        → HasNoProgram us main.now → IfOk result (λ m. TellsNoProgram file.now (string_bytes m)) }
+    ensures unread { IsUnread text.now
+        → IfOk result (λ m. TellsSyntax file.now text.now (string_bytes m)) }
+{
+    text_has_one_answer();
     match parse(alloc, text) {
         Ok(units) => explain_units(alloc, file, text, &units, main),
-        Err(SyntaxFault::Memory) => Err(AllocError),
-        Err(SyntaxFault::NoToken { line }) => explain_grammar(alloc, file, text, 1, line),
-        Err(SyntaxFault::NotInGrammar { line }) => explain_grammar(alloc, file, text, 2, line),
-        Err(SyntaxFault::TooDeep { line }) => explain_grammar(alloc, file, text, 3, line),
-        Err(SyntaxFault::TooLong) => explain_grammar(alloc, file, text, 4, 1),
+        Err(fault) => explain_grammar(alloc, file, text, fault),
     }
 }
 
 /// The messages on all faults of a text of this file, in the order of the text, at most a hundred. The first one is that of
 /// `explain_text`. Where the text isn't in the grammar, or is no such program, or one that is too large, it is the only one.
+///
+/// That the later ones are all faults that there are, and no others, is only tested.
 pub fn explain_all(
     alloc: Global,
     file: &str,
     text: &[u8],
     main: &[u8],
-) -> Result<String, AllocError> {
+) -> Result<String, AllocError>
+    ensures accepted { (us : List names.Unit) (number : ℕ) → IsRead text.now us
+        → IsAccepted us main.now number → IfOk result (λ m. string_bytes m ≡ []) }
+    ensures fault { (us : List names.Unit) (f : Found) → IsRead text.now us → IsFirst us main.now f
+        → IfOk result (λ m. TellsFrom file.now text.now f (string_bytes m)) }
+    ensures no_program { (us : List names.Unit) → IsRead text.now us
+        → HasNoProgram us main.now → IfOk result (λ m. TellsNoProgram file.now (string_bytes m)) }
+    ensures unread { IsUnread text.now
+        → IfOk result (λ m. TellsSyntax file.now text.now (string_bytes m)) }
+{
+    text_has_one_answer();
     match parse(alloc, text) {
         Ok(units) => explain_each(alloc, file, text, &units, main),
-        Err(_) => explain_text(alloc, file, text, main),
+        Err(fault) => explain_grammar(alloc, file, text, fault),
     }
-}
-
-/// The messages on all faults of a text that is these units.
-fn explain_each(
-    alloc: Global,
-    file: &str,
-    text: &[u8],
-    units: &[Unit],
-    main: &[u8],
-) -> Result<String, AllocError> {
-    let tables = Tables::new(alloc, units)?;
-    let Finding::Fault(first) = first_finding(alloc, &tables, main)? else {
-        return explain_units(alloc, file, text, units, main);
-    };
-    let lexemes = lexemes(alloc, text)?;
-    let lexed = Lexed {
-        text,
-        lexemes: &lexemes,
-    };
-    let mut message = String::new(alloc);
-    let faults = faults_from(alloc, units, main, first)?;
-    for fault in &faults {
-        push_fault(alloc, &mut message, file, lexed, &tables, *fault)?;
-    }
-    Ok(message)
 }
 
 /// The message on a text that isn't in the grammar.
@@ -79,9 +81,13 @@ fn explain_grammar(
     alloc: Global,
     file: &str,
     text: &[u8],
-    number: u8,
-    line: u32,
-) -> Result<String, AllocError> {
+    fault: SyntaxFault,
+) -> Result<String, AllocError>
+    ensures told { Explains fault text.now
+        → IfOk result (λ m. TellsSyntax file.now text.now (string_bytes m)) }
+    ensures read { OnOk result (1 ≤ syntax_number fault) }
+{
+    let (number, line) = number_and_line(fault)?;
     let located = explain_syntax(alloc, text, number, line)?;
     let mut message = String::new(alloc);
     let code = Code {
@@ -100,6 +106,20 @@ fn explain_grammar(
     Ok(message)
 }
 
+/// The number of a refusal and its line. A text that is too long is refused on its first line.
+fn number_and_line(fault: SyntaxFault) -> Result<(u8, u32), AllocError>
+    ensures number { IfOk result (λ found. found.0 ≡ syntax_number fault) }
+    ensures read { OnOk result (1 ≤ syntax_number fault) }
+{
+    match fault {
+        SyntaxFault::Memory => Err(AllocError),
+        SyntaxFault::NoToken { line } => Ok((1, line)),
+        SyntaxFault::NotInGrammar { line } => Ok((2, line)),
+        SyntaxFault::TooDeep { line } => Ok((3, line)),
+        SyntaxFault::TooLong => Ok((4, 1)),
+    }
+}
+
 /// The message on a text that is these units.
 fn explain_units(
     alloc: Global,
@@ -107,35 +127,127 @@ fn explain_units(
     text: &[u8],
     units: &[Unit],
     main: &[u8],
-) -> Result<String, AllocError> {
+) -> Result<String, AllocError>
+    requires { IsTextOf text.now units.now }
+    ensures { IfOk result (λ m. TellsUnits file.now text.now units.now main.now (string_bytes m)) }
+{
     let tables = Tables::new(alloc, units)?;
-    let mut message = String::new(alloc);
     match first_finding(alloc, &tables, main)? {
-        Finding::Nothing => {}
-        Finding::NoProgram => {
-            let words = explain_no_program(alloc, &tables, main)?;
-            write!(message, "{file}:1:1: error: C10: ")?;
-            message.push_str(words.title.as_str())?;
-            message.push('\n')?;
-            message.push_str(words.more.as_str())?;
+        Finding::Nothing => Ok(String::new(alloc)),
+        Finding::NoProgram => no_program_message(alloc, file, &tables, main),
+        Finding::TooLarge(fault, size) => size_message(alloc, file, text, fault, size),
+        Finding::Fault(fault) => fault_message(alloc, file, text, &tables, fault),
+    }
+}
+
+/// The messages on all faults of a text that is these units.
+fn explain_each(
+    alloc: Global,
+    file: &str,
+    text: &[u8],
+    units: &[Unit],
+    main: &[u8],
+) -> Result<String, AllocError>
+    requires { IsTextOf text.now units.now }
+    ensures { IfOk result (λ m. TellsEach file.now text.now units.now main.now (string_bytes m)) }
+{
+    let tables = Tables::new(alloc, units)?;
+    match first_finding(alloc, &tables, main)? {
+        Finding::Nothing => Ok(String::new(alloc)),
+        Finding::NoProgram => no_program_message(alloc, file, &tables, main),
+        Finding::TooLarge(fault, size) => size_message(alloc, file, text, fault, size),
+        Finding::Fault(first) => {
+            let faults = faults_from(alloc, units, main, first)?;
+            faults_message(alloc, file, text, &tables, &faults)
         }
-        Finding::TooLarge(fault, size) => {
-            let lexemes = lexemes(alloc, text)?;
-            let lexed = Lexed {
-                text,
-                lexemes: &lexemes,
-            };
-            let words = explain_size(alloc, lexed.spelling(fault.position.number), size)?;
-            push_words(alloc, &mut message, file, lexed, fault, &words)?;
-        }
-        Finding::Fault(fault) => {
-            let lexemes = lexemes(alloc, text)?;
-            let lexed = Lexed {
-                text,
-                lexemes: &lexemes,
-            };
-            push_fault(alloc, &mut message, file, lexed, &tables, fault)?;
-        }
+    }
+}
+
+/// The message on a text that has no such program.
+fn no_program_message(
+    alloc: Global,
+    file: &str,
+    tables: &Tables<'_>,
+    main: &[u8],
+) -> Result<String, AllocError>
+    ensures { IfOk result (λ m. TellsNoProgram file.now (string_bytes m)) }
+{
+    let words = explain_no_program(alloc, tables, main)?;
+    let mut message = String::new(alloc);
+    let place = Place { line: 1, column: 1 };
+    let code = Code {
+        letter: 'C',
+        number: 10,
+    };
+    push_heading(&mut message, file, place, code)?;
+    message.push_str(words.title.as_str())?;
+    message.push('\n')?;
+    message.push_str(words.more.as_str())?;
+    Ok(message)
+}
+
+/// The message on a program that is too large, at its name.
+fn size_message(
+    alloc: Global,
+    file: &str,
+    text: &[u8],
+    fault: Fault,
+    size: Size,
+) -> Result<String, AllocError>
+    ensures { (ts : Tokens) → HasTokens 1 text.now ts
+        → IfOk result (λ m. TellsFault file.now text.now fault (string_bytes m)) }
+{
+    let lexemes = lexemes(alloc, text)?;
+    let lexed = Lexed {
+        text,
+        lexemes: &lexemes,
+    };
+    let words = explain_size(alloc, lexed.spelling(fault.position.number), size)?;
+    let mut message = String::new(alloc);
+    push_words(alloc, &mut message, file, lexed, fault, &words)?;
+    Ok(message)
+}
+
+/// The message on a rule that is broken at a token.
+fn fault_message(
+    alloc: Global,
+    file: &str,
+    text: &[u8],
+    tables: &Tables<'_>,
+    fault: Fault,
+) -> Result<String, AllocError>
+    ensures { (ts : Tokens) → HasTokens 1 text.now ts
+        → IfOk result (λ m. TellsFault file.now text.now fault (string_bytes m)) }
+{
+    let lexemes = lexemes(alloc, text)?;
+    let lexed = Lexed {
+        text,
+        lexemes: &lexemes,
+    };
+    let mut message = String::new(alloc);
+    push_fault(alloc, &mut message, file, lexed, tables, fault)?;
+    Ok(message)
+}
+
+/// The messages on rules that are broken at tokens, one behind the other.
+fn faults_message(
+    alloc: Global,
+    file: &str,
+    text: &[u8],
+    tables: &Tables<'_>,
+    faults: &[Fault],
+) -> Result<String, AllocError>
+    ensures { (ts : Tokens) → HasTokens 1 text.now ts
+        → IfOk result (λ m. TellsFaults file.now text.now faults.now (string_bytes m)) }
+{
+    let lexemes = lexemes(alloc, text)?;
+    let lexed = Lexed {
+        text,
+        lexemes: &lexemes,
+    };
+    let mut message = String::new(alloc);
+    for fault in faults {
+        push_fault(alloc, &mut message, file, lexed, tables, *fault)?;
     }
     Ok(message)
 }
@@ -148,7 +260,10 @@ fn push_fault(
     lexed: Lexed<'_>,
     tables: &Tables<'_>,
     fault: Fault,
-) -> Result<(), AllocError> {
+) -> Result<(), AllocError>
+    ensures { OnOk result (IsToldAt file.now lexed.entry.text.now lexed.entry.lexemes.now fault
+        (string_bytes message.old) (string_bytes message.new)) }
+{
     let words = explain_rule(alloc, lexed, tables, fault)?;
     push_words(alloc, message, file, lexed, fault, &words)
 }

@@ -1,0 +1,12 @@
+use Rattle.std.proofs.Common.{length, ◌-◌, ◌≤◌}
+use Rattle.st_explain.proofs.Ordered.{AreFrom}
+use Rattle.st_explain.proofs.all.faults_from.Given as goal
+
+abbrev pub invariant-later : goal.invariant-later
+invariant-later l = record {
+  from : AreFrom l.fn.first l.faults.items l.last;
+  few : length l.faults.items ≤ 100;
+}
+
+abbrev pub decreases-later : goal.decreases-later
+decreases-later l = 100 - length l.faults.items
