@@ -55,8 +55,7 @@ async def main_loop(plant: Plant) -> None:
     """Runs until a signal comes, or the engine can't go on."""
     here = asyncio.get_running_loop()
     there = asyncio.SelectorEventLoop(selectors.SelectSelector())  # `epoll` would round times up to milliseconds
-    clock, file = Clock(), plant.journal
-    journal = Journal(plant.state_folder / "journal", file.piece, file.limit, file.sync)
+    clock, journal = Clock(), Journal(plant.state_folder / "journal", plant.journal)
     engine = Engine(plant, clock, journal, Session.start, lambda types: links(plant, types, clock.now))
 
     def scan() -> None:

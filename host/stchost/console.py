@@ -3,6 +3,7 @@
 import argparse
 import asyncio
 import json
+import re
 import sys
 from pathlib import Path
 from typing import Any
@@ -14,19 +15,18 @@ from prompt_toolkit.history import FileHistory
 from prompt_toolkit.patch_stdout import patch_stdout
 
 from . import Trouble, access
-from .engine import VERBS
 from .plant import Plant, load
 from .session import TEXT_LIMIT
 
 HELP = """show P | write P V | force P V | release P | undo | reset | status   as a session has them
-list [WORDS]                variables whose path has all of these words, with their values
+list [WORDS]                variables whose path has all of these words, with their values; --forced has those alone
 watch P ..                  shows each new value of these; `watch` alone ends it
 preview FILE [OLD=NEW ..]   what a change to this text would do
 change FILE [OLD=NEW ..]    does it
 hold | go                   holds the scans, or lets them go on
 log | takeback N            who did what; takes command N back
-# ..                        a comment; quit ends the console"""
-OWN = ("list", "watch", "preview", "change", "log", "takeback", "hold", "go", "help", "quit")
+help | quit                 # begins a comment"""
+VERBS = re.findall(r"(?:^|\| )(\w+)", HELP, re.M)
 Answer = dict[str, Any]
 
 
@@ -36,101 +36,53 @@ class Console:
     def __init__(self, socket: aiohttp.ClientWebSocketResponse) -> None:
         self.socket = socket
         self.answers: asyncio.Queue[Answer] = asyncio.Queue()
-        self.watched: set[str] = set()
+        self.watched: list[str] = []
         self.failed, self.going, self.notice = False, True, "running"
 
     async def listen(self) -> None:
         """Takes what the host sends: answers, and new values of what is watched."""
         async for message in self.socket:
             news = json.loads(message.data)
-            if "id" in news:
+            if "reply" in news:
+                self.watched = news.get("watched", self.watched)
                 self.answers.put_nowait(news)
-            if (notice := news.get("status", {}).get("notice", self.notice)) != self.notice:
-                self.notice = notice
-                print(f"the program is {notice}", file=sys.stderr)
-            for path in self.watched & news.get("values", {}).keys():
-                tell(path, *news["values"][path])
+            elif "status" in news and news["status"]["notice"] != self.notice:
+                self.notice = news["status"]["notice"]
+                print(f"the program is {self.notice}", file=sys.stderr)
+            for path, (text, forced) in news.get("values", {}).items():
+                if path in self.watched:
+                    print(path, "=", text, forced, flush=True)
         self.going = False
         self.answers.put_nowait({"reply": "the host has ended", "bad": True})
 
-    async def ask(self, what: str, **words: Any) -> Answer:
-        await self.socket.send_json({"id": 1, "do": what, **words})
+    async def ask(self, line: str) -> Answer:
+        await self.socket.send_str(line)
         return await self.answers.get()
-
-    async def paths(self) -> list[str]:
-        """Paths for completion: the first few thousand."""
-        found: list[str] = []
-        while len(found) < 4_000 and (rows := (await self.ask("list", first=len(found))).get("rows")):
-            found += [row[0] for row in rows]
-        return found
 
     async def obey(self, line: str) -> None:
         """Does one command, and prints what is answered."""
         verb, *words = line.split() or ["#"]
-        if verb.startswith("#"):
-            return
-        try:
-            answer = await (getattr(self, f"do_{verb}")(*words) if verb in OWN else self.ask("line", line=line))
-        except TypeError:
-            answer = {"reply": f"`help` says what belongs behind `{verb}`", "bad": True}
-        except (ValueError, OSError) as error:
-            answer = {"reply": str(error), "bad": True}
-        self.failed |= answer.get("bad", False)
-        if answer.get("reply"):
+        if verb == "help":
+            print(HELP)
+        elif verb == "quit":
+            self.going = False
+        elif verb in ("preview", "change") and words:
+            try:
+                await self.socket.send_bytes(Path(words[0]).read_bytes()[:TEXT_LIMIT + 1])
+            except OSError as error:
+                return self.tell({"reply": str(error), "bad": True})
+            self.tell(answer := await self.ask(" ".join(["preview", *words[1:]])))
+            if verb == "change" and not answer["bad"]:
+                self.tell(await self.ask("change"))
+        elif not verb.startswith("#"):
+            self.tell(await self.ask(line))
+
+    def tell(self, answer: Answer) -> None:
+        self.failed |= answer["bad"]
+        for row in answer.get("rows", []):
+            print(*(word for word in row if word != ""))
+        if answer["reply"]:
             print(answer["reply"] + (f"  ({answer['why']})" if answer.get("why") else ""), flush=True)
-
-    async def do_help(self) -> Answer:
-        return {"reply": HELP}
-
-    async def do_quit(self) -> Answer:
-        self.going = False
-        return {}
-
-    async def do_hold(self) -> Answer:
-        return await self.ask("hold", held=True)
-
-    async def do_go(self) -> Answer:
-        return await self.ask("hold", held=False)
-
-    async def do_list(self, *words: str) -> Answer:
-        answer = await self.ask("list", search=" ".join(words))
-        for path, type_name, text, forced in answer.get("rows", []):
-            tell(f"{path} : {type_name}", text, forced)
-        return {**answer, "reply": f"{answer['count']} variables"} if "count" in answer else answer
-
-    async def do_watch(self, *words: str) -> Answer:
-        answer = await self.ask("watch", paths=words)
-        self.watched = set(answer.get("paths", []))
-        missing = len(words) - len(self.watched)
-        return {"reply": f"{missing} of these aren't there", "bad": True} if missing else answer
-
-    async def do_preview(self, file: str, *renames: str) -> Answer:
-        await self.socket.send_bytes(Path(file).read_bytes()[:TEXT_LIMIT + 1])
-        found = await self.ask("preview", renames=renames)
-        for key in ("dropped", "new", "renamed", "lost"):
-            for item in found.get(key, []):
-                print(f"{key}: {item if isinstance(item, str) else ' -> '.join(item)}")
-        return found
-
-    async def do_change(self, file: str, *renames: str) -> Answer:
-        found = await self.do_preview(file, *renames)
-        return found if found["bad"] else await self.ask("change")
-
-    async def do_log(self) -> Answer:
-        answer = await self.ask("log")
-        for number, _, who, line, reply, state, _ in reversed(answer.get("rows", [])):
-            print(f"{number} {who}: {line}: {state or reply}")
-        return answer
-
-    async def do_takeback(self, number: str) -> Answer:
-        answer = await self.ask("take_back", number=int(number))
-        for other in answer.get("others", []):
-            print(f"now answered otherwise: {other}")
-        return answer
-
-
-def tell(path: str, text: str, forced: bool) -> None:
-    print(f"{path} = {text}" + " forced" * forced, flush=True)
 
 
 async def talk(console: Console, plant: Plant) -> None:
@@ -141,12 +93,12 @@ async def talk(console: Console, plant: Plant) -> None:
                 await console.obey(line.strip())
         return
     paths: list[str] = []
-    words = WordCompleter(lambda: [*VERBS, *OWN, *paths], ignore_case=True, WORD=True)
+    words = WordCompleter(lambda: [*VERBS, *paths], ignore_case=True, WORD=True)
     history = FileHistory(str(plant.state_folder / "console.history"))
     prompt: PromptSession[str] = PromptSession(history=history, completer=words, complete_while_typing=False)
     with patch_stdout():
         while console.going:
-            paths = await console.paths()
+            paths = (await console.ask("paths")).get("paths", [])
             try:
                 await console.obey(await prompt.prompt_async(f"{plant.name}> "))
             except KeyboardInterrupt:

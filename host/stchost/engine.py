@@ -2,6 +2,7 @@
 
 import asyncio
 import math
+import time
 from collections import deque
 from collections.abc import Awaitable, Callable, Coroutine, Sequence
 from contextlib import suppress
@@ -9,21 +10,21 @@ from functools import partial
 from itertools import islice
 from typing import Any, NamedTuple, TypeVar
 
-from . import Trouble, journal as journals
+from . import Trouble
 from .change import Preview, Types, connections
 from .clock import Clock, Cycle
 from .devices import Link
 from .inputs import Inputs
-from .journal import Base, Journal, Record
+from .journal import Journal, Record, read
 from .plant import Plant
-from .replay import NO_BASE, UNDOABLE, Command, Replay, Start, Story, restore
-from .session import Gone, Session, checked, explain, layout_of, words_of
+from .replay import NO_BASE, UNDOABLE, Replay, Start, Story, restore
+from .session import CODE, Gone, Session, checked, explain, layout_of, words_of
 from .values import to_number
 
 QUEUE_LIMIT = 1_000
 CHUNK = 200  # leaves that are shown at one go
 QUIET = ("show", "status")  # these change nothing, and aren't kept
-VERBS = (*QUIET, *UNDOABLE[:3], "reset", "undo")
+VERBS = (*QUIET, "write", "force", "release", "reset", "undo")
 Result = TypeVar("Result")
 Work = Callable[[], Awaitable[Any]]
 
@@ -36,7 +37,7 @@ class Value(NamedTuple):
     """What `stc` shows of a leaf."""
 
     text: str
-    forced: bool
+    forced: str  # `forced`, or nothing
 
 
 class Engine:
@@ -57,12 +58,10 @@ class Engine:
         self.driven: dict[str, str] = {}  # what the outputs are given
         self.watched: dict[object, Sequence[str]] = {}  # the leaves that each client looks at
         self.trend: deque[tuple[int, list[str]]] = deque(maxlen=max(1, plant.trend_keep * 1000 // plant.page.refresh))
-        self.notes: deque[tuple[int, str, str]] = deque(maxlen=200)
         self.held = False
         self.fault = self.trouble = ""  # why the program is halted, and why nothing runs at all
-        self.restarts = self.forces = self.undos = 0
+        self.restarts = self.forces = self.undos = self.version = 0  # the last one is that of the program's text
         self.status: dict[str, Any] = {}
-        self.version = 0  # of the program's text
         self.cycle = Cycle(clock, plant.cycle)
         self.guard = min(0.002, self.cycle.period / 5)  # nothing is begun so shortly before a scan
         self.loop: asyncio.AbstractEventLoop | None = None
@@ -95,7 +94,7 @@ class Engine:
         verb = words_of(checked(line))[0]
         if verb not in VERBS:
             raise Trouble("scans are the clock's" if verb == "scan" else f"the commands are {', '.join(VERBS)}")
-        return str(await self.between(lambda: self._operate(who, line)))
+        return str(await self.between(partial(self._operate, who, line)))
 
     async def change(self, who: str, found: Preview) -> str:
         """Does a change as its preview has it."""
@@ -110,7 +109,7 @@ class Engine:
 
         return str(await self.between(work))
 
-    async def set_input(self, who: str, path: str, number: int) -> None:
+    async def set_input(self, path: str, number: int) -> None:
         """A new number for an input without a device; the next scan gives it. Trouble where it has one."""
         if self.inputs.points[path].device is not None:
             raise Trouble(f"{path} follows its device")
@@ -119,36 +118,28 @@ class Engine:
     async def hold(self, who: str, held: bool) -> None:
         """Holds the scans, so that what is done can be undone, or lets them go on. The outputs stay as they are."""
         self.held = held
-        self._note(who, "hold" if held else "go")
+        self._keep(self._by(who, "hold" if held else "go"))
 
-    async def take_back(self, who: str, number: int) -> list[str]:
+    async def take_back(self, who: str, number: int) -> list[Record]:
         """Makes the state what it would be if a command had never been given: the journal without it is replayed beside the
         plant, and takes over between two scans. The answer has the later commands that are now answered otherwise."""
         async with self._taking_back:
+            if not self.story.can_go(number):
+                raise Trouble("what can be taken back is a write, force, release or change since the newest load, reset and undo")
+            if self.journal.trouble or self.journal.base is None:
+                raise Trouble(self.journal.trouble or NO_BASE)
             await self.journal.written()
             self._news, replay = [], Replay(self.start, {number} | self.story.gone)
-            records = journals.read(self.journal.folder, self._base_of(number))
-            await replay.feed(islice(records, self.journal.records))
+            await replay.feed(islice(read(self.journal.folder, self.journal.base), self.journal.records))
             try:
                 types = await self.layout(replay.story.text, self.plant.main)
                 await connections(self.plant, replay.story.text, types, self.start)
-                await self.between(lambda: self._take_over(who, number, replay, types))
+                await self.between(partial(self._take_over, who, number, replay, types))
             except BaseException:
                 if replay.session is not self.session:
                     await replay.close()
                 raise
-            return [f"{other.line}: {other.reply}" for other in replay.others]
-
-    def _base_of(self, number: int) -> int:
-        """Where the replay without a command begins. Trouble where it can't be taken back."""
-        command, commands = self.story.commands.get(number), self.story.commands.values()
-        undone = any(other.number > number and other.line.startswith("undo") and other.reply == "ok" for other in commands)
-        if (command is None or number < self.story.began or command.state or command.reply.startswith("refused") or undone
-                or words_of(command.line)[0] not in UNDOABLE):
-            raise Trouble("what can be taken back is a write, force, release or change since the newest load, reset and undo")
-        if self.journal.trouble or self.journal.base is None:
-            raise Trouble(self.journal.trouble or NO_BASE)
-        return self.journal.base
+            return replay.others
 
     async def _take_over(self, who: str, number: int, replay: Replay, types: Types) -> None:
         """Goes on with the session of a replay, behind what was done since."""
@@ -157,12 +148,10 @@ class Engine:
         if replay.story.text != text:
             raise Trouble("the program was changed meanwhile")
         old, self.session, self.story = self.session, replay.session, replay.story
-        self._keep(journals.TAKEN_BACK, str(journals.wall_ms()), who, str(number))
-        self.story.take_back(number)
+        self._keep(self._by(who, f"takeback {number}"))
         self._take_program(types)
         await self._read_status()
         self.inputs.forget()
-        self._note(who, f"take back {number}")
         self._closing = asyncio.create_task(old.close()) if old else None  # nobody waits for its end
 
     # the writer
@@ -244,8 +233,7 @@ class Engine:
         lines, changed = self.inputs.lines(moment)
         replies = await self._exchange([*lines, *(f"show {path}" for path in self._always)])
         for line, reply in zip(lines, replies):
-            self._keep(journals.SCAN, line, reply)
-            self.story.scan(line, reply)
+            self._keep(Record(line, reply))
         answer = replies[len(lines) - 1]
         self.trouble = f"a scan is answered `{answer}`" if answer.startswith("refused") else ""
         if answer == "ok":
@@ -258,56 +246,44 @@ class Engine:
 
     async def _operate(self, who: str, line: str) -> str:
         reply = (await self._exchange([line]))[0]
-        verb, *words = words_of(line.split("\n", 1)[0])
-        if verb in QUIET:
+        if words_of(line)[0] in QUIET:
             return reply
-        text, command = self.story.text, Command(self.story.next_number, journals.wall_ms(), who, line, reply)
-        self._keep(journals.COMMAND, str(command.number), str(command.wall), who, line, reply)
-        self.story.operation(command)
+        text, record = self.story.text, self._by(who, line, reply)
+        self._keep(record)
         await self.journal.settle()
         if not reply.startswith("refused"):
             with suppress(Gone):  # the line is kept, so that it counts; the next one finds that `stc` has ended
-                await self._follow(verb, words, text)
+                await self._follow(*record.words, text=text)
         return reply
 
-    async def _follow(self, verb: str, words: list[str], text: str) -> None:
+    async def _follow(self, verb: str, path: str = "", *_: str, text: str) -> None:
         """What an accepted line means for the host. `text` is that of the program before it."""
         self.inputs.forget()
         await self._read_status()
-        if verb == "reset":
-            await self._begin_again()
+        if verb == "reset":  # the state is the program's text and what is forced in it, so that a replay can begin here
+            await self._show(list(self.types) if self.forces else [])
+            self._keep(self.story.base(f"{path}:={value.text}" for path, value in self.values.items() if value.forced))
+            self.trouble = ""
         elif verb == "undo" and self.story.text is not text:
             self._take_program(await self.layout(self.story.text, self.plant.main))
-        elif verb in UNDOABLE and words and (path := self.spelled.get(words[0].upper())):
+        elif path := self.spelled.get(path.upper(), ""):
             await self._show([path])
 
-    async def _begin_again(self) -> None:
-        """Behind a reset the state is the program's text and what is forced in it: a replay can begin here."""
-        self.trouble, paths = "", list(self.types) if self.forces else []
-        for first in range(0, len(paths), CHUNK):
-            await self._show(paths[first:first + CHUNK])
-        forces = [[path, self.values[path].text] for path in paths if self.values[path].forced]
-        self._load(self.story.text, self.story.steps, forces)
+    def _by(self, who: str, line: str, reply: str = "ok") -> Record:
+        """A line that an operator gave now."""
+        return Record(line, reply, self.story.number, time.time_ns() // 1_000_000, who)
 
-    def _load(self, text: str, steps: int, forces: list[list[str]]) -> None:
-        """A replay can begin here."""
-        base = Base(text, self.plant.main, steps, self.story.moment, forces, self.story.next_number)
-        self._keep(journals.LOAD, base.written())
-        self.story.begin(base)
-
-    def _keep(self, kind: str, *fields: str) -> None:
-        self.journal.append(kind, *fields)
+    def _keep(self, record: Record) -> None:
+        """Appends a record to the journal, and to what is told of it."""
+        self.journal.append(record)
+        self.story.take(record)
         if self._taking_back.locked():
-            self._news.append(Record(kind, fields))
+            self._news.append(record)
 
     async def _exchange(self, lines: Sequence[str]) -> list[str]:
         if self.session is None:
             raise Gone("stc doesn't run")
         return await self.session.exchange(lines)
-
-    def _note(self, who: str, line: str) -> None:
-        """What the host did for an operator, for the list of who did what; the controller knows nothing of it."""
-        self.notes.append((journals.wall_ms(), who, line))
 
     # what the program shows
 
@@ -316,9 +292,9 @@ class Engine:
 
     def _store(self, paths: Sequence[str], replies: Sequence[str]) -> None:
         for path, reply in zip(paths, replies):
-            _, known, text = reply.partition(" = ")
-            if known:
-                self.values[path] = Value(text.removesuffix(" forced"), text.endswith(" forced"))
+            if not reply.startswith("refused"):
+                text, _, forced = reply.partition(" = ")[2].partition(" ")
+                self.values[path] = Value(text, forced)
 
     def _wanted(self) -> list[str]:
         """What is to be shown next: what clients look at, and a few of the other leaves in turn, so that all come in time."""
@@ -384,14 +360,14 @@ class Engine:
     async def _recover(self) -> None:
         """Starts where the journal ends; or loads the program where there is no journal."""
         self.journal.close()
-        replay = await restore(self.start, self.journal.folder)
-        self.journal.resume(replay.records if replay else 0)
-        if replay is None:
-            text = self.plant.text.read_bytes().decode("utf-8", "surrogateescape")
-            self.session, self.story = await self.start(text, self.plant.main, self.plant.steps), Story()
-            self._load(text, self.plant.steps, [])
-        else:
+        if replay := await restore(self.start, self.journal.folder):
             self.session, self.story = replay.session, replay.story
+            self.journal.resume(replay.records)
+        else:
+            self.story = Story(self.plant.text.read_bytes().decode(*CODE), self.plant.main, self.plant.steps)
+            self.session = await self.start(self.story.text, self.story.main, self.story.steps)
+            self.journal.resume(0)
+            self._keep(self.story.base([]))
         types = await self.layout(self.story.text, self.plant.main)
         await connections(self.plant, self.story.text, types, self.start)
         self._take_program(types)

@@ -3,7 +3,7 @@
 from collections.abc import Sequence
 
 from .plant import Point
-from .session import LINE_LIMIT, encoded
+from .session import CODE, LINE_LIMIT
 from .values import fits, to_text
 
 
@@ -41,7 +41,7 @@ class Inputs:
         changed = {path: text for path, text in wanted.items() if self._given.get(path) != text}
         words, writes, room = [f"scan {moment}"], [], LINE_LIMIT - 32
         for path, text in changed.items():
-            room -= len(encoded(path)) + len(text) + 3
+            room -= len(path.encode(*CODE)) + len(text) + 3
             if room >= 0:
                 words.append(f"{path}:={text}")
             else:

@@ -72,7 +72,7 @@ class Tables:
             if not fits(type_name, number):
                 raise Refused(ModbusExceptions.IllegalValue)
             if item.path in engine.inputs.points:
-                await engine.asked(engine.set_input(who, item.path, number))
+                await engine.asked(engine.set_input(item.path, number))
                 continue
             reply = await engine.asked(engine.operate(who, f"write {item.path} {to_text(type_name, number)}"))
             if reply != "ok":
@@ -97,7 +97,7 @@ class ModbusServer:
     async def _serve(self, reader: asyncio.StreamReader, writer: asyncio.StreamWriter) -> None:
         peer = writer.get_extra_info("peername")[0]
         host = ipaddress.ip_address(peer)
-        functions = {function for entry in self.file.allow if host in entry.network for function in entry.functions}
+        functions = {function for entry in self.file.allow if host in entry.address for function in entry.functions}
         if functions and self.clients < self.file.clients:
             self.clients += 1
             try:

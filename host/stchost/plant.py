@@ -1,9 +1,8 @@
 """The file of a plant: what its program is, and what it is connected to. `docs/HOST.md` has every key."""
 
-import ipaddress
 import tomllib
-from collections.abc import Sequence
 from dataclasses import MISSING, dataclass, fields, is_dataclass
+from ipaddress import IPv4Network, IPv6Network, ip_network
 from pathlib import Path
 from typing import Annotated, Any, Literal, TypeVar, get_args, get_origin, get_type_hints
 
@@ -15,6 +14,7 @@ BITS, REGISTERS = ("coil", "discrete"), ("input", "holding")
 Kind = TypeVar("Kind")
 Order = Literal["big", "little"]
 Port = Annotated[int, range(65_536)]
+Network = IPv4Network | IPv6Network
 table = dataclass(frozen=True, kw_only=True)
 
 
@@ -62,12 +62,8 @@ class DeviceFile:
 
 @table
 class Allowed:
-    address: str
+    address: Network
     functions: tuple[Annotated[int, READING + WRITING], ...] = READING
-
-    @property
-    def network(self) -> ipaddress.IPv4Network | ipaddress.IPv6Network:
-        return ipaddress.ip_network(self.address)
 
 
 @table
@@ -143,31 +139,24 @@ def load(name: str | Path) -> Plant:
 
 def _check(plant: Plant) -> None:
     """ValueError where the tables of a file don't fit each other."""
-    kinds = {device.name: device.kind for device in plant.device}
+    kinds, points = {device.name: device.kind for device in plant.device}, plant.input + plant.output
     if len(kinds) < len(plant.device):
         raise ValueError("two devices have one name")
-    seen: set[str] = set()
-    for point in plant.input + plant.output:
-        is_output = point in plant.output
-        if point.path.upper() in seen:
+    names = [point.path.upper() for point in points]
+    for point in points:
+        if names.count(point.path.upper()) > 1:
             raise ValueError(f"{point.path} stands twice")
-        seen.add(point.path.upper())
         if point.device is not None and point.device not in kinds:
             raise ValueError(f"{point.path}: there is no device `{point.device}`")
-        if is_output and point.fault is None:
+        if point in plant.output and point.fault is None:
             raise ValueError(f"{point.path}: the key `fault` is missing")
-        if kinds.get(point.device or "") == "modbus":
-            _check_register(point, point.path, ("coil", "holding") if is_output else BITS + REGISTERS)
-    for item in plant.server.map if plant.server else ():
-        _check_register(item, item.path, BITS + REGISTERS)
-    _ = [entry.network for entry in (plant.server.allow if plant.server else ())]  # ValueError where it is none
-
-
-def _check_register(register: Register, path: str, tables: Sequence[str]) -> None:
-    if register.table not in tables:
-        raise ValueError(f"{path}: `table` is one of {', '.join(tables)}")
-    if register.form is not None and (register.table in BITS) is not (register.form == "BIT"):
-        raise ValueError(f"{path}: `form` doesn't fit the table {register.table}")
+    remote = [point for point in points if kinds.get(point.device or "") == "modbus"]
+    for item in [*remote, *(plant.server.map if plant.server else ())]:
+        tables = ("coil", "holding") if item in plant.output else BITS + REGISTERS
+        if item.table not in tables:
+            raise ValueError(f"{item.path}: `table` is one of {', '.join(tables)}")
+        if item.form is not None and (item.table in BITS) is not (item.form == "BIT"):
+            raise ValueError(f"{item.path}: `form` doesn't fit the table {item.table}")
 
 
 def _read(kind: type[Kind], found: Any, where: str, **values: Any) -> Kind:
@@ -178,30 +167,27 @@ def _read(kind: type[Kind], found: Any, where: str, **values: Any) -> Kind:
     if unknown := [key for key in found if key not in hints or key in values]:
         raise ValueError(f"{where}: there is no key `{unknown[0]}`")
     values |= {key: _value(value, hints[key], f"{where}: `{key}`") for key, value in found.items()}
-    for item in fields(kind):
-        if item.name not in values and item.default is MISSING:
-            raise ValueError(f"{where}: the key `{item.name}` is missing")
+    if missing := [item.name for item in fields(kind) if item.name not in values and item.default is MISSING]:
+        raise ValueError(f"{where}: the key `{missing[0]}` is missing")
     return kind(**values)
 
 
 def _value(value: Any, hint: Any, where: str) -> Any:
     """A value of the file, if it is of the type of its key and in its bounds."""
-    bounds: Any = None
-    if type(None) in get_args(hint):  # a key that may be left out
-        hint = get_args(hint)[0]
-    if get_origin(hint) is Annotated:
-        hint, bounds = get_args(hint)
-    if get_origin(hint) is tuple:
-        if not isinstance(value, list):
-            raise ValueError(f"{where} is to be a list")
-        return tuple(_value(item, get_args(hint)[0], f"{where} {place}") for place, item in enumerate(value, 1))
+    kind, words = get_origin(hint), get_args(hint)
+    if type(None) in words:  # a key that may be left out
+        return _value(value, words[0], where)
+    if kind in (Annotated, Literal):
+        base, bounds = words if kind is Annotated else (str, words)
+        if _value(value, base, where) not in bounds:
+            ends = f"from {bounds[0]} to {bounds[-1]}" if isinstance(bounds, range) else f"one of {', '.join(map(str, bounds))}"
+            raise ValueError(f"{where} is {ends}")
+        return value
     if is_dataclass(hint):
         return _read(hint, value, where)
-    if get_origin(hint) is Literal:
-        hint, bounds = str, get_args(hint)
-    if type(value) is not hint:
-        raise ValueError(f"{where} is to be of type {hint.__name__}")
-    if bounds is not None and value not in bounds:
-        ends = f"from {bounds[0]} to {bounds[-1]}" if isinstance(bounds, range) else f"one of {', '.join(map(str, bounds))}"
-        raise ValueError(f"{where} is {ends}")
-    return value
+    due = list if kind is tuple else str if hint is Network else hint
+    if type(value) is not due:
+        raise ValueError(f"{where} is to be of type {due.__name__}")
+    if kind is tuple:
+        return tuple(_value(item, words[0], f"{where} {place}") for place, item in enumerate(value, 1))
+    return ip_network(value) if hint is Network else value

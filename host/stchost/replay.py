@@ -4,13 +4,13 @@ import argparse
 import asyncio
 import sys
 import time
-from collections.abc import Awaitable, Callable, Iterable, Iterator
-from dataclasses import dataclass, field
+from collections.abc import Awaitable, Callable, Iterable
+from dataclasses import dataclass, field, replace
 from itertools import islice, takewhile
 from pathlib import Path
 
 from . import Trouble, journal
-from .journal import Base, Record
+from .journal import OWN, Record
 from .session import Session, layout_of
 
 Start = Callable[[str, str, int], Awaitable[Session]]
@@ -21,18 +21,6 @@ NO_BASE = "the journal doesn't reach back to a load or a reset"
 
 
 @dataclass
-class Command:
-    """What an operator did. `state` is empty, `undone` or `taken back`."""
-
-    number: int
-    wall: int
-    who: str
-    line: str
-    reply: str
-    state: str = ""
-
-
-@dataclass
 class Story:
     """What a journal tells beside the state: the text that runs, the moment, and who did what."""
 
@@ -40,45 +28,46 @@ class Story:
     main: str = ""
     steps: int = 0
     moment: int = 0
-    began: int = 1  # the number of the first command behind the newest load or reset
-    next_number: int = 1  # of the command that comes next
-    commands: dict[int, Command] = field(default_factory=dict)
-    undoable: list[tuple[Command, str]] = field(default_factory=list)  # each with the text before it
+    began: int = 1  # the number of the first command behind the newest load, reset or undo
+    number: int = 1  # of the command that comes next
+    commands: dict[int, Record] = field(default_factory=dict)
+    undoable: list[tuple[Record, str]] = field(default_factory=list)  # each with the text before it
     gone: set[int] = field(default_factory=set)  # the commands that were taken back
 
-    def begin(self, base: Base) -> None:
-        self.text, self.main, self.steps, self.moment, _, self.began = base
-        self.next_number = self.began
-        self.undoable.clear()
-
-    def scan(self, line: str, reply: str) -> None:
-        """A scan was answered. Behind one that isn't refused nothing can be undone."""
-        if line.startswith("scan ") and not reply.startswith("refused"):
+    def take(self, record: Record) -> None:
+        """Goes on by a record: a line was answered so. Behind a scan nothing can be undone."""
+        verb, *words = record.words
+        body = record.line.partition("\n")[2]
+        if record.number and verb != "load":
+            record = replace(record, line=record.line.partition("\n")[0])
+            self.commands[record.number], self.number = record, record.number + 1
+            self.commands.pop(record.number - KEPT, None)
+        if record.state or record.reply.startswith("refused"):
+            return
+        if verb in ("load", "scan", "reset"):
             self.undoable.clear()
-            if not reply.startswith("fault"):
-                self.moment = int(line.split(" ", 2)[1])
-
-    def operation(self, command: Command) -> None:
-        """An operator's line was answered."""
-        line, command.line = command.line, command.line.partition("\n")[0]
-        self.commands[command.number], self.next_number = command, command.number + 1
-        if len(self.commands) > KEPT:
-            del self.commands[next(iter(self.commands))]
-        verb = "" if command.state or command.reply.startswith("refused") else line.split(None, 1)[0]
-        if verb == "reset":
-            self.undoable.clear()
+            self.moment = record.moment if record.reply == "ok" and verb != "reset" else self.moment
+        if verb == "load":
+            self.text, self.main, self.steps, self.began, self.number = body, words[1], int(words[2]), record.number, record.number
         elif verb == "undo":
             undone, self.text = self.undoable.pop()
-            undone.state = "undone"
+            undone.state, self.began = "undone", record.number + 1
+        elif verb == "takeback":
+            self.gone.add(int(words[0]))
+            self.commands.get(int(words[0]), record).state = "taken back"
         elif verb in UNDOABLE:
-            self.undoable.append((command, self.text))
-            if verb == "change":
-                self.text = line.partition("\n")[2].rpartition("end_change")[0]
+            self.undoable.append((record, self.text))
+            self.text = body.rpartition("end_change")[0] if verb == "change" else self.text
 
-    def take_back(self, number: int) -> None:
-        self.gone.add(number)
-        if number in self.commands:
-            self.commands[number].state = "taken back"
+    def can_go(self, number: int) -> bool:
+        """Whether the journal without a command gives what would be if it had never been given."""
+        record = self.commands.get(number)
+        return (record is not None and number >= self.began and not record.state and record.words[0] in UNDOABLE
+                and not record.reply.startswith("refused"))
+
+    def base(self, forces: Iterable[str]) -> Record:
+        """A load from which a replay can begin: of the text as it is behind a reset, with what is forced in it."""
+        return Record(" ".join([f"load {self.moment} {self.main} {self.steps}", *forces]) + f"\n{self.text}", number=self.number)
 
 
 class Replay:
@@ -89,7 +78,7 @@ class Replay:
         self.session: Session | None = None
         self.story = Story()
         self.records = self.lines = 0
-        self.others: list[Command] = []  # that are answered otherwise for want of a command that was taken back
+        self.others: list[Record] = []  # that are answered otherwise for want of a command that was taken back
         self._open: set[int] = set()  # the commands that are skipped, but weren't yet taken back when the record was written
 
     async def feed(self, records: Iterable[Record]) -> None:
@@ -109,49 +98,40 @@ class Replay:
 
     async def _feed(self, some: list[Record]) -> None:
         if self.session is None:
-            await self._begin(some[0])
-        elif any(record.kind == journal.LOAD for record in some):
+            self.session = await self._begun(some[0])
+        elif any(record.words[0] == "load" for record in some):
             raise Trouble("a reset came meanwhile")
-        assert self.session is not None
-        sent = [record.fields[-2] for record in some if self._counts(record)]
-        replies = iter(await self.session.exchange(sent))
+        sent = [record for record in some if record.words[0] not in OWN and record.number not in self.skipped]
+        replies = dict(zip(map(id, sent), await self.session.exchange([record.line for record in sent])))
         for record in some:
-            if record.kind == journal.TAKEN_BACK:
-                number = int(record.fields[2])
-                self.story.take_back(number)
-                self._open.discard(number)
-            elif record.kind in (journal.SCAN, journal.COMMAND):
-                self._note(record, next(replies) if self._counts(record) else None)
+            self._take(record, replies.get(id(record), record.reply))
         self.records, self.lines = self.records + len(some), self.lines + len(sent)
 
-    async def _begin(self, record: Record) -> None:
-        if record.kind != journal.LOAD:
+    async def _begun(self, record: Record) -> Session:
+        """A session that begins with a load: its forces, and its moment."""
+        if record.words[0] != "load":
             raise Trouble(NO_BASE)
-        base = record.base
-        self.session = await self.start(base.text, base.main, base.steps)
-        self.story.begin(base)
-        forced = [f"force {path} {value}" for path, value in base.forces]
-        for first in range(0, len(forced), 250):  # a reset lets 256 more be given, and keeps them
-            await self.session.exchange([*forced[first:first + 250], "reset"])
-        await self.session.exchange([f"scan {base.moment}", "reset"] if base.moment or forced else [])
+        _, moment, main, steps, *forces = record.words
+        session = await self.start(record.line.partition("\n")[2], main, int(steps))
+        lines = ["force " + force.replace(":=", " ") for force in forces]
+        for first in range(0, len(lines), BATCH):  # a reset lets 256 more be given, and keeps them
+            await session.exchange([*lines[first:first + BATCH], "reset"])
+        await session.exchange([f"scan {moment}", "reset"] if moment != "0" else [])
+        return session
 
-    def _counts(self, record: Record) -> bool:
-        """Whether the record's line is sent."""
-        return record.kind == journal.SCAN or (record.kind == journal.COMMAND and int(record.fields[0]) not in self.skipped)
-
-    def _note(self, record: Record, reply: str | None) -> None:
-        """Takes over what a line did. `reply` is None where it wasn't sent."""
-        line, wanted = record.fields[-2:]
-        if reply not in (None, wanted) and not self._open:
-            raise Trouble(f"`{line.splitlines()[0]}` is answered `{reply}`, and in the journal `{wanted}`")
-        if record.kind == journal.SCAN:
-            self.story.scan(line, reply or "")
-            return
-        number, wall, who = int(record.fields[0]), int(record.fields[1]), record.fields[2]
-        self._open |= {number} if reply is None else set()
-        command = Command(number, wall, who, line, reply or wanted, "taken back" if reply is None else "")
-        self.story.operation(command)
-        self.others += [command] if command.reply != wanted else []
+    def _take(self, record: Record, reply: str) -> None:
+        """Takes over what a line did, and looks whether it is answered as the journal has it."""
+        if reply != record.reply and not self._open:
+            raise Trouble(f"`{' '.join(record.words)}` is answered `{reply}`, and in the journal `{record.reply}`")
+        if reply != record.reply and record.number:
+            self.others.append(record)
+        record.reply = reply
+        if record.number in self.skipped:
+            record.state = "taken back"
+            self._open.add(record.number)
+        elif record.words[0] == "takeback":
+            self._open.discard(int(record.words[1]))
+        self.story.take(record)
 
 
 async def restore(start: Start, folder: Path, moment: int | None = None) -> Replay | None:
@@ -165,11 +145,11 @@ async def restore(start: Start, folder: Path, moment: int | None = None) -> Repl
     if not reaching:
         raise Trouble(f"a replay can go back to moment {min(base.moment for base in heads.values())}, and no further")
 
-    def records() -> Iterator[Record]:
+    def records() -> Iterable[Record]:
         found = journal.read(folder, reaching[-1])
-        return takewhile(lambda record: moment is None or (record.moment or 0) <= moment, found)
+        return found if moment is None else takewhile(lambda record: record.moment <= moment, found)
 
-    replay = Replay(start, (int(record.fields[2]) for record in records() if record.kind == journal.TAKEN_BACK))
+    replay = Replay(start, (int(record.words[1]) for record in records() if record.words[0] == "takeback"))
     await replay.feed(records())
     return replay
 

@@ -17,6 +17,7 @@ ROOT = Path(__file__).resolve().parents[2]
 PATIENCE = 120.0  # seconds in which a reply has to come
 TEXT_LIMIT = 1_048_576
 LINE_LIMIT = 4_096  # bytes
+CODE = ("utf-8", "surrogateescape")  # how bytes that are no text are kept
 
 
 def program() -> str:
@@ -24,42 +25,35 @@ def program() -> str:
     return os.environ.get("STC") or str(ROOT / "stc")
 
 
-def encoded(text: str) -> bytes:
-    return text.encode("utf-8", "surrogateescape")
-
-
-def decoded(data: bytes) -> str:
-    return data.decode("utf-8", "surrogateescape")
-
-
 class Gone(Trouble):
     """The program ended, or gave no reply in time, or refused a text that is to be loaded."""
 
 
 def words_of(line: str) -> list[str]:
-    """The words of a line, as `stc` cuts it."""
-    return [word for word in line.replace("\t", " ").split(" ") if word]
+    """The words of a line's first row, as `stc` cuts it."""
+    return [word for word in line.partition("\n")[0].replace("\t", " ").split(" ") if word]
 
 
 def checked(line: str) -> str:
-    """A line that gets exactly one reply. A change has its text and `end_change` behind line feeds. Trouble for any other."""
-    first, *rest = line.split("\n")
-    verb, *words = words_of(first) or [""]
-    if not verb or "\0" in line or "\r" in first or len(encoded(first)) > LINE_LIMIT:
+    """A line that gets exactly one reply. Trouble for any other."""
+    if not words_of(line) or not {"\0", "\r", "\n"}.isdisjoint(line) or len(line.encode(*CODE)) > LINE_LIMIT:
         raise Trouble("a line has words, no control characters, and at most 4,096 bytes")
-    if verb != "change" and rest:
-        raise Trouble("a line ends where it ends")
-    early = any(words_of(text.rstrip("\r")) == ["end_change"] for text in rest[:-1])
-    if verb == "change" and (early or rest[-1:] != ["end_change"] or not all("=" in word for word in words)):
-        raise Trouble("a change has words OLD=NEW, a text, and no line `end_change` but the last one")
     return line
+
+
+def change_line(text: str, renames: Sequence[str]) -> str:
+    """The line of a change, which has its text and `end_change` behind line feeds."""
+    ends = any(words_of(row.rstrip("\r")) == ["end_change"] for row in text.split("\n"))
+    if ends or "\0" in text or not all("=" in word for word in renames):
+        raise Trouble("a change has words OLD=NEW, a text, and no line `end_change` in it")
+    return checked(" ".join(["change", *renames])) + f"\n{text}" + "\n" * (not text.endswith("\n")) + "end_change"
 
 
 @contextmanager
 def _file_of(text: str) -> Iterator[str]:
     """The name of a file that has a text as long as it is wanted."""
     with tempfile.NamedTemporaryFile(prefix="stc-host-", suffix=".st") as file:
-        file.write(encoded(text))
+        file.write(text.encode(*CODE))
         file.flush()
         yield file.name
 
@@ -91,7 +85,7 @@ class Session:
         """Sends lines, each of which gets one reply, and gives the replies in order."""
         count, data = len(lines), bytearray()
         try:
-            self._stdin.write(b"".join(encoded(line) + b"\n" for line in lines))
+            self._stdin.write("".join(line + "\n" for line in lines).encode(*CODE))
             async with asyncio.timeout(PATIENCE):
                 while count > 0:
                     some = await self._stdout.read(1 << 16)
@@ -101,7 +95,7 @@ class Session:
                     data += some
         except (OSError, asyncio.TimeoutError) as error:
             raise Gone(f"stc gives no reply: {error}") from error
-        return decoded(bytes(data)).split("\n")[:-1]
+        return data.decode(*CODE).split("\n")[:-1]
 
     async def close(self) -> None:
         """Ends the session, and the process with it."""
@@ -119,7 +113,7 @@ async def ask(verb: str, text: str, main: str) -> tuple[str, str]:
         words = (program(), verb, name, "--program", main)
         process = await asyncio.create_subprocess_exec(*words, stdin=DEVNULL, stdout=PIPE, stderr=PIPE)
         answer, said = await asyncio.wait_for(process.communicate(), PATIENCE)
-    return decoded(answer), decoded(said).replace(name, "program")
+    return answer.decode(*CODE), said.decode(*CODE).replace(name, "program")
 
 
 async def layout_of(text: str, main: str) -> dict[str, str]:
@@ -127,8 +121,7 @@ async def layout_of(text: str, main: str) -> dict[str, str]:
     answer, said = await ask("layout", text, main)
     if answer.startswith("refused"):
         raise Gone(answer + said)
-    rows = [line.split(" ", 3) for line in answer.splitlines()]
-    return {row[3]: row[2] for row in rows}
+    return {path: kind for _, _, kind, path in (line.split(" ", 3) for line in answer.splitlines())}
 
 
 @cache

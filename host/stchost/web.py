@@ -1,10 +1,9 @@
-"""The operator's page and what it asks: one WebSocket a client, with requests in JSON, and texts of programs as bytes."""
+"""The operators' page and console: one WebSocket a client, which sends lines of commands, and texts of programs as bytes."""
 
 import asyncio
-import json
+import time
 from collections.abc import Awaitable, Callable
 from contextlib import suppress
-from dataclasses import astuple
 from pathlib import Path
 from typing import Any
 
@@ -14,11 +13,11 @@ from . import Trouble
 from .access import Gate, Person
 from .change import Preview, preview
 from .engine import QUIET, Engine, Value
-from .session import TEXT_LIMIT, decoded, explain
+from .session import CODE, TEXT_LIMIT, explain, words_of
 
 PAGE = Path(__file__).resolve().parents[1] / "page"
 FILES = {"/": "index.html", "/page.css": "page.css", "/page.js": "page.js"}
-MESSAGE_LIMIT = 32_768  # bytes of a request
+MESSAGE_LIMIT = 32_768  # characters of a line
 WATCH_LIMIT = 500  # leaves that a client looks at
 LIST_LIMIT = 200  # leaves that one search gives
 FIRST_TIME = 15.0  # seconds in which a connection has to ask for something
@@ -30,7 +29,7 @@ HEADERS = {
                                "connect-src 'self'; base-uri 'none'; form-action 'none'; frame-ancestors 'none'",
     "X-Content-Type-Options": "nosniff", "Referrer-Policy": "no-referrer", "Cache-Control": "no-store",
 }
-LOOKS = ("watch", "list", "log", "program")  # requests that change nothing
+LOOKS = (*QUIET, "watch", "list", "paths", "log", "program")  # what changes nothing
 GONE = (asyncio.TimeoutError, ConnectionError)  # a client that is slow, or has left
 Handler = Callable[[web.Request], Awaitable[web.StreamResponse]]
 Answer = dict[str, Any]
@@ -39,17 +38,20 @@ Answer = dict[str, Any]
 class Client:
     """One page or console, and what it was told last."""
 
-    def __init__(self, person: Person) -> None:
-        self.person = person
-        self.paths: list[str] = []
+    def __init__(self, person: Person, socket: web.WebSocketResponse) -> None:
+        self.person, self.socket = person, socket
+        self.paths: list[str] = []  # that it looks at
         self.sent: dict[str, Value] = {}
         self.changed = asyncio.Event()
         self.text = ""  # of a program, which it sent for a preview
         self.preview: Preview | None = None  # the one that may be done
 
+    async def send(self, news: Answer) -> None:
+        await asyncio.wait_for(self.socket.send_json(news), SEND_TIME)
+
 
 class Web:
-    """Serves the page. Each client has one request at a time, and who is slow is waited for by nobody else."""
+    """Serves the page. Each client has one line at a time, and who is slow is waited for by nobody else."""
 
     def __init__(self, engine: Engine, gate: Gate) -> None:
         self.engine, self.file, self.gate = engine, engine.plant.page, gate
@@ -110,15 +112,15 @@ class Web:
             await socket.send_json({"refused": "too many clients" if person else "this token isn't known"})
             await socket.close()
             return socket
-        client = Client(person)
+        client = Client(person, socket)
         self.clients.add(client)
-        teller = asyncio.create_task(self._tell(socket, client))
+        teller = asyncio.create_task(self._tell(client))
         with suppress(*GONE):
             async for message in socket:
                 if message.type == WSMsgType.BINARY:
-                    client.text = decoded(message.data)
+                    client.text = message.data.decode(*CODE)
                 elif message.type == WSMsgType.TEXT and len(message.data) <= MESSAGE_LIMIT:
-                    await asyncio.wait_for(socket.send_json(await self._answer(client, message.data)), SEND_TIME)
+                    await client.send(await self._answer(client, message.data))
                     client.changed.set()
                 else:
                     break
@@ -127,105 +129,105 @@ class Web:
         self.engine.watched.pop(client, None)
         return socket
 
-    async def _tell(self, socket: web.WebSocketResponse, client: Client) -> None:
+    async def _tell(self, client: Client) -> None:
         """Sends what the plant is, and then what has changed, as often as the plant's file says, or as the client takes it."""
+        plant, engine = self.engine.plant, self.engine
+        inputs, outputs = ([vars(point) for point in points] for points in (plant.input, plant.output))
         with suppress(*GONE):
-            await asyncio.wait_for(socket.send_json({"hello": self._hello(client.person)}), SEND_TIME)
-            while not socket.closed:
-                news = {"status": self.engine.status, "values": self._values(client)}
-                await asyncio.wait_for(socket.send_json(news), SEND_TIME)
+            await client.send({"hello": client.person.name, "acts": client.person.acts, "plant": plant.name, "about": plant.about,
+                               "inputs": inputs, "outputs": outputs, "trend": plant.trend, "past": list(engine.trend)[-2_000:]})
+            while not client.socket.closed:
+                paths = [*client.paths, *plant.trend, *engine.inputs.points, *engine.safe]
+                news = {path: value for path in paths if (value := engine.values.get(path)) and client.sent.get(path) != value}
+                client.sent.update(news)
+                await client.send({"status": engine.status, "values": news})
                 with suppress(asyncio.TimeoutError):
                     await asyncio.wait_for(client.changed.wait(), self.file.refresh / 1000)
                 client.changed.clear()
-        await socket.close()
+        await client.socket.close()
 
-    def _hello(self, person: Person) -> Answer:
-        plant = self.engine.plant
-        inputs, outputs = ([vars(point) for point in points] for points in (plant.input, plant.output))
-        return {"who": person.name, "acts": person.acts, "plant": plant.name, "about": plant.about, "inputs": inputs,
-                "outputs": outputs, "trend": plant.trend, "past": list(self.engine.trend)[-2_000:]}
-
-    def _values(self, client: Client) -> dict[str, Value]:
-        """The values of what a client looks at that it wasn't told yet."""
-        engine = self.engine
-        paths = [*client.paths, *engine.plant.trend, *engine.inputs.points, *engine.safe]
-        news = {path: value for path in paths if (value := engine.values.get(path)) and client.sent.get(path) != value}
-        client.sent.update(news)
-        return news
-
-    async def _answer(self, client: Client, message: str) -> Answer:
-        """The answer to one request of a client: JSON with a number, with what it asks for, and with the words of that."""
-        number = None
+    async def _answer(self, client: Client, line: str) -> Answer:
+        """The answer to a line: a command of the host, or else one of the session."""
+        verb, *words = words_of(line) or [""]
         try:
-            request = json.loads(message)
-            number, what = request.pop("id", None), request.pop("do")
-            quiet = what == "line" and request["line"].split(None, 1)[0] in QUIET
-            if not (client.person.acts or what in LOOKS or quiet):
+            if not client.person.acts and verb not in LOOKS:
                 raise Trouble("this token is to look, not to act")
-            answer = await getattr(self, f"ask_{what}")(client, **request)
+            if own := getattr(self, f"do_{verb}", None):
+                answer: Answer = await own(client, *words)
+            else:
+                answer = {"reply": await self.engine.asked(self.engine.operate(client.person.name, line))}
             reply = answer.setdefault("reply", "")
-            return {"id": number, "bad": reply.startswith("refused"), "why": explain(reply), **answer}
-        except (ValueError, TypeError, LookupError, AttributeError):
-            return {"id": number, "reply": "this request isn't understood", "bad": True}
+            return {"bad": reply.startswith("refused"), "why": explain(reply), **answer}
+        except (TypeError, ValueError):
+            return {"reply": f"`help` says what belongs behind `{verb}`", "bad": True}
         except (Trouble, OSError) as error:
-            return {"id": number, "reply": str(error), "bad": True}
+            return {"reply": str(error), "bad": True}
 
-    # the requests, each with its words
+    # the host's commands, each with its words
 
-    async def ask_watch(self, client: Client, paths: list[str]) -> Answer:
+    async def do_watch(self, client: Client, *paths: str) -> Answer:
+        """Looks at leaves, so that each new value of them is told."""
         spelled = self.engine.spelled
         client.paths = [spelled[path.upper()] for path in paths[:WATCH_LIMIT] if path.upper() in spelled]
         client.sent = {path: value for path, value in client.sent.items() if path not in client.paths}
         self.engine.watched[client] = client.paths
-        return {"paths": client.paths}
+        missing = len(paths) - len(client.paths)
+        return {"watched": client.paths, "reply": f"{missing} of these aren't there" if missing else "", "bad": missing > 0}
 
-    async def ask_list(self, client: Client, search: str = "", only: str = "all", first: int = 0) -> Answer:
-        """The leaves whose path has all words of a search; `forced`, `steps` and `plain` ones only where that is asked for."""
-        words, values, types = search.upper().split(), dict(self.engine.values), self.engine.types
-        kinds: dict[str, Callable[[str], bool]] = {
-            "all": lambda path: True,
-            "forced": lambda path: path in values and values[path].forced,
-            "steps": lambda path: path.endswith(".$M") and path[:-2] + "X" in types,
-            "plain": lambda path: "$" not in path}
-        found = [path for path in types if all(word in path.upper() for word in words) and kinds[only](path)]
-        rows = [[path, types[path], *values.get(path, ("", False))] for path in found[first:first + LIST_LIMIT]]
-        return {"rows": rows, "count": len(found)}
+    async def do_list(self, client: Client, *words: str) -> Answer:
+        """The leaves whose path has all words; `--forced` has those that are, and `--plain` hides what blocks keep."""
+        values, types, none = dict(self.engine.values), self.engine.types, Value("", "")
+        search = [word.upper() for word in words if not word.startswith("--")]
+        found = [path for path in types if all(word in path.upper() for word in search)
+                 and ("--plain" not in words or "$" not in path)
+                 and ("--forced" not in words or values.get(path, none).forced)]
+        rows = [[path, types[path], *values.get(path, none)] for path in found[:LIST_LIMIT]]
+        some = f"{LIST_LIMIT} of " if len(found) > LIST_LIMIT else ""
+        return {"rows": rows, "reply": f"{some}{len(found)} variables"}
 
-    async def ask_program(self, client: Client) -> Answer:
-        return {"text": self.engine.story.text.encode("utf-8", "replace").decode()}
+    async def do_paths(self, client: Client) -> Answer:
+        """Paths for completion."""
+        return {"paths": list(self.engine.types)[:4_000]}
 
-    async def ask_line(self, client: Client, line: str) -> Answer:
-        return {"reply": await self.engine.asked(self.engine.operate(client.person.name, line))}
+    async def do_program(self, client: Client) -> Answer:
+        """The text, and the steps of its charts."""
+        types = self.engine.types
+        steps = [path[:-3] for path in types if path.endswith(".$M") and path[:-2] + "X" in types]
+        return {"text": self.engine.story.text.encode("utf-8", "replace").decode(), "steps": steps}
 
-    async def ask_hold(self, client: Client, held: bool) -> Answer:
-        await self.engine.asked(self.engine.hold(client.person.name, held))
-        return {"reply": "held" if held else "going on"}
+    async def do_hold(self, client: Client) -> Answer:
+        await self.engine.asked(self.engine.hold(client.person.name, True))
+        return {"reply": "held"}
 
-    async def ask_preview(self, client: Client, renames: list[str]) -> Answer:
+    async def do_go(self, client: Client) -> Answer:
+        await self.engine.asked(self.engine.hold(client.person.name, False))
+        return {"reply": "going on"}
+
+    async def do_preview(self, client: Client, *renames: str) -> Answer:
         """What the text that was sent before would do as a change. Who asked may then do just this."""
         engine, text = self.engine, client.text
         forced = [path for path, value in list(engine.values.items()) if value.forced]
         client.text, client.preview = "", None
         async with self._previewing:
-            words = " ".join(renames)
-            found = await preview(engine.plant, engine.story.text, engine.version, forced, text, words, engine.start)
-        client.preview = found if found.ok else None
-        return found.told()
+            found = await preview(engine.plant, engine.story.text, engine.version, forced, text, renames, engine.start)
+        client.preview = None if found.bad else found
+        return {"reply": found.trouble or found.answer, "bad": found.bad, "counts": found.counts, "rows": found.rows}
 
-    async def ask_change(self, client: Client) -> Answer:
+    async def do_change(self, client: Client) -> Answer:
         """Does the change that this client had a preview of last."""
         found, client.preview = client.preview, None
         if found is None:
             raise Trouble("a change is done after its preview")
         return {"reply": await self.engine.asked(self.engine.change(client.person.name, found))}
 
-    async def ask_take_back(self, client: Client, number: int) -> Answer:
-        others = await self.engine.asked(self.engine.take_back(client.person.name, number))
-        return {"reply": "taken back", "others": others[:50]}
+    async def do_takeback(self, client: Client, number: str) -> Answer:
+        others = await self.engine.asked(self.engine.take_back(client.person.name, int(number)))
+        return {"reply": "taken back", "rows": [["now answered otherwise", other.line, other.reply] for other in others[:50]]}
 
-    async def ask_log(self, client: Client) -> Answer:
-        """Who did what, the newest first: number, time, who, line, reply, state, and whether it may be taken back."""
+    async def do_log(self, client: Client) -> Answer:
+        """Who did what: the number of what can be taken back, when, who, line, and reply or what became of it."""
         story = self.engine.story
-        rows: list[list[Any]] = [[*astuple(item), item.number >= story.began] for item in list(story.commands.values())[-300:]]
-        rows += [[0, wall, who, line, "", "", False] for wall, who, line in list(self.engine.notes)]
-        return {"rows": sorted(rows, key=lambda row: -int(row[1]))[:300]}
+        rows = [[record.number if story.can_go(record.number) else "",
+                 time.strftime("%Y-%m-%d %H:%M:%S", time.localtime(record.wall / 1000)), record.who, record.line,
+                 record.state or record.reply] for record in list(story.commands.values())[-300:]]
+        return {"rows": rows}

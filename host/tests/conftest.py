@@ -3,7 +3,6 @@
 import asyncio
 import fcntl
 import inspect
-import re
 import signal
 import socket
 import subprocess
@@ -128,13 +127,11 @@ def lines_of(journal: Path, without: Collection[int] = ()) -> tuple[str, list[st
     """The text that was loaded and the lines of a journal, read by nobody else's code."""
     text, lines = "", []
     for row in "".join(path.read_text("utf-8") for path in sorted(journal.glob("*.journal"))).split("\n")[:-1]:
-        kind, *fields = row[9:].split("\t")
-        if kind == "L" and not text:
-            text = re.findall(r'"text": "(.*?)", "main"', fields[0])[0].replace("\\\\", "\\").encode().decode("unicode_escape")
-        elif kind == "S":
-            lines.append(fields[0])
-        elif kind == "C" and int(fields[0]) not in without:
-            lines.append(fields[3].replace("\\n", "\n").replace("\\t", "\t").replace("\\\\", "\\"))
+        line, _, *numbers = [field.encode().decode("unicode_escape") for field in row[9:].split("\t")]
+        if line.startswith("load "):
+            text = text or line.partition("\n")[2]
+        elif line.split()[0] not in ("next", "takeback", "hold", "go") and not {*map(int, numbers[:1])} & {*without}:
+            lines.append(line)
     return text, lines
 
 
@@ -162,14 +159,14 @@ class Client:
     def __init__(self, live: Any) -> None:
         self.live = live
 
-    async def ask(self, what: str, text: str = "", **words: Any) -> dict[str, Any]:
+    async def ask(self, line: str, text: str = "") -> dict[str, Any]:
         if text:
             await self.live.send_bytes(text.encode()[:1_048_577])
-        await self.live.send_json({"id": 7, "do": what, **words})
-        return await self.next(lambda news: "id" in news)
+        await self.live.send_str(line)
+        return await self.next(lambda news: "reply" in news)
 
-    async def line(self, line: str) -> str:
-        return (await self.ask("line", line=line))["reply"]
+    async def line(self, line: str, text: str = "") -> str:
+        return (await self.ask(line, text))["reply"]
 
     async def lines(self, *lines: str) -> list[str]:
         return [await self.line(line) for line in lines]
@@ -185,7 +182,7 @@ class Client:
         return (await self.next(lambda news: bool(news.get("status")) and what(news["status"])))["status"]
 
     async def hold(self) -> None:
-        await self.ask("hold", held=True)
+        await self.ask("hold")
         await self.until(lambda status: status["state"] == "held")
 
     async def next(self, what: Callable[[dict[str, Any]], bool]) -> dict[str, Any]:

@@ -83,8 +83,8 @@ class Bench:
         async def layout(text: str, main: str) -> dict[str, str]:
             return dict.fromkeys(self.session.values, "INT")
 
-        journal = Journal(folder / "journal", 1 << 20, 1 << 30, "never")
-        self.engine = Engine(load(folder / "p.toml"), self.clock, journal, start, lambda types: [], layout)
+        plant = load(folder / "p.toml")
+        self.engine = Engine(plant, self.clock, Journal(folder / "journal", plant.journal), start, lambda types: [], layout)
 
     async def run(self, seconds: float, *visits: Visit) -> list[int]:
         """The moments of the scans."""
@@ -155,7 +155,7 @@ async def test_a_long_line_delays_one_scan_and_no_more(bench: Bench) -> None:
 async def test_inputs_are_given_once_and_those_of_devices_again_behind_a_command(bench: Bench) -> None:
     async def visit() -> None:
         bench.engine.inputs.poll("d", {"Main.In": 41})
-        await bench.engine.set_input("anna", "Main.By_Hand", 7)
+        await bench.engine.set_input("Main.By_Hand", 7)
 
     await bench.run(0.05, (0.012, visit), (0.032, lambda: bench.operate("write Main.Out 0")))
     assert [line for line in bench.session.lines if line.startswith("scan")] == [

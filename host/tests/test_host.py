@@ -68,7 +68,7 @@ async def test_a_journal_cut_after_each_byte_of_its_last_records(host: Host, tmp
     host.stop()
     path, cut = sorted(host.journal.iterdir())[-1], tmp_path / "cut"
     data, text = path.read_bytes(), lines_of(host.journal)[0]
-    place = data.rfind(b"\n", 0, data.rfind(b"C\t"))
+    place = data.rfind(b"\n", 0, data.rfind(b"anna"))
     for end in range(place - 60, min(len(data), place + 250) + 1):
         shutil.rmtree(cut, ignore_errors=True)
         shutil.copytree(host.journal, cut)
@@ -110,8 +110,8 @@ async def test_a_reset_lets_a_replay_begin_there(host: Host) -> None:
     await asyncio.sleep(0.2)
     host.stop(signal.SIGKILL)
     first, second = journal.bases(host.journal).items()
-    assert host.replayed() == state(*lines_of(host.journal)) and second[1].forces == [["Main.Band", "44"]]
-    for number, path in journal.pieces(host.journal):
+    assert host.replayed() == state(*lines_of(host.journal)) and second[1].words[4:] == ["Main.Band:=44"]
+    for number, path in journal.pieces(host.journal).items():
         if number < second[0]:
             path.unlink()
     said = host.tool("replay", str(host.journal), "--at", "1", status=1)
@@ -137,19 +137,18 @@ async def test_a_change_does_what_its_preview_says_and_is_taken_back_exactly(mak
         assert await client.lines("force Main.Band 5", "force Main.Q 9", "force Main.N 1000") == ["ok"] * 3
         await client.until(lambda status: status["forces"] == 3)
         await asyncio.sleep(0.3)
-        found = await client.ask("preview", text=new, renames=["Main.N=Main.Number"])
-        assert found["ok"] and found["exact"], found
-        assert found["lost"] == ["Main.Band"] and found["renamed"] == [["Main.N", "Main.Number"]]
-        assert found["dropped"] == ["Main.Delay." + name for name in ("IN", "PT", "Q", "ET", "$RUN", "$START")] + ["Main.Band"]
-        fresh = ["IN", "PT", "Q", "ET", "$M", "$RUN", "$START"]
-        assert found["new"] == ["Main.Extra"] + ["Main.Delay." + name for name in fresh]
-        answer = await client.ask("change")
-        assert answer["reply"] == found["answer"] == f"ok kept {found['kept']} dropped 7 new 8"
+        found = await client.ask("preview Main.N=Main.Number", new)
+        old, fresh = ("IN", "PT", "Q", "ET", "$RUN", "$START"), ("IN", "PT", "Q", "ET", "$M", "$RUN", "$START")
+        assert found["rows"] == [
+            *(["dropped", "Main.Delay." + name] for name in old), ["dropped", "Main.Band"], ["new", "Main.Extra"],
+            *(["new", "Main.Delay." + name] for name in fresh), ["renamed", "Main.N -> Main.Number"], ["lost", "Main.Band"]]
+        kept = found["counts"]["kept"]
+        assert await client.line("change") == found["reply"] == f"ok kept {kept} dropped 7 new 8"
         assert await client.lines("show Main.Number", "show Main.Band") == ["Main.Number = 1000 forced", "refused O1"]
         await client.until(lambda status: status["journal"]["pieces"] > 3)
         number = next(row[0] for row in (await client.ask("log"))["rows"] if row[3].startswith("change"))
-        answer = await client.ask("take_back", number=number)
-        assert answer["reply"] == "taken back" and answer["others"] == []
+        answer = await client.ask(f"takeback {number}")
+        assert answer["reply"] == "taken back" and answer["rows"] == []
         await client.hold()
         now = await client.lines(*STATE)
         assert now == state(*lines_of(host.journal, {number})) and "Main.Band = 5 forced" in now
@@ -163,32 +162,32 @@ async def test_what_is_done_while_scans_are_held_is_undone_exactly(host: Host) -
     async with host.client() as client:
         await client.hold()
         before = await client.lines(*STATE)
-        assert (await client.ask("preview", text=BLOCKS.replace("Z : INT := 1;", "Z : INT := 1; More : INT;"), renames=[]))["ok"]
+        assert not (await client.ask("preview", BLOCKS.replace("Z : INT := 1;", "Z : INT := 1; More : INT;")))["bad"]
         assert await client.lines("force Main.Q 3", "write Main.Band 1") == ["ok", "ok"]
-        assert (await client.ask("change"))["reply"].endswith("dropped 0 new 1")
+        assert (await client.line("change")).endswith("dropped 0 new 1")
         assert (await client.until(lambda status: status["undos"] == 3))["undo"] == "change"
         wait_for(lambda: host.replayed()[0].endswith(" forces 1 undo 3"))  # so has a replay
         assert await client.lines("undo", "undo", "undo") == ["ok"] * 3
         assert await client.lines(*STATE) == before
         assert await client.line("undo") == "refused O7"
-        await client.ask("hold", held=False)
+        await client.line("go")
         await client.until(lambda status: status["state"] == "running")
 
 
 async def test_a_text_that_is_refused_says_why_and_changes_nothing(host: Host) -> None:
     async with host.client() as client:
-        found = await client.ask("preview", text=BLOCKS.replace("10 / Z;", "10 / Zz;"), renames=[])
-        assert not found["ok"] and found["answer"] == "refused C1 line 22" and "Q := 10 / Zz;" in found["messages"]
+        found = await client.ask("preview", BLOCKS.replace("10 / Z;", "10 / Zz;"))
+        assert found["bad"] and found["reply"].startswith("program:22:11: error: C1") and "Q := 10 / Zz;" in found["reply"]
         assert (await client.ask("change"))["bad"]
         for old, new, why in [(" Raw : INT;", " END_VAR VAR Raw : INT; END_VAR VAR_INPUT", "Main.Raw is no VAR_INPUT"),
                               ("Raw : INT;", "Raw : SINT;", "Main.Raw, which the plant's file connects, would get another type"),
                               ("Raw : INT;", "", "the program has no Main.Raw")]:
             text = BLOCKS.replace(old, new).replace("Raw + 1", "1")
-            found = await client.ask("preview", text=text, renames=[])
-            assert found["answer"].startswith("ok") and found["blocked"].startswith(why) and not found["ok"], found
+            found = await client.ask("preview", text)
+            assert found["counts"] and found["reply"].startswith(why) and found["bad"], found
             assert (await client.ask("change"))["bad"]
         for line in ("scan 99999999", "change", "show", " ", "write Main.Q 1\nreset"):
-            assert (await client.ask("line", line=line))["bad"], line
+            assert (await client.ask(line))["bad"], line
     assert lines_of(host.journal)[0] == BLOCKS and len(LEAVES) > 20
 
 
@@ -201,7 +200,7 @@ async def test_the_examples_run(make_host) -> None:
         host = make_host((EXAMPLES / f"{name}.st").read_text(), file)
         async with host.client() as client:
             assert await client.line(line) == "ok"
-            await client.ask("watch", paths=[path])
+            await client.ask(f"watch {path}")
             for value in ("TRUE", "FALSE"):
                 await client.next(lambda news: news.get("values", {}).get(path, [""])[0] == value)
 

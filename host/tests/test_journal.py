@@ -9,27 +9,26 @@ from types import SimpleNamespace
 import pytest
 
 from stchost import Trouble, journal
-from stchost.journal import Base, Journal, read
+from stchost.journal import Journal, Record, read
+from stchost.plant import JournalFile
 from stchost.values import to_number, to_text
 
-BASE = Base("PROGRAM Main\nEND_PROGRAM\n", "Main", 1_000, 0, [["Main.A", "5"]], 1)
+BASE = Record("load 0 Main 1000 Main.A:=5\nPROGRAM Main\nEND_PROGRAM\n", number=1)
 
 
 def write(folder: Path, piece: int = 1 << 20, count: int = 5, limit: int = 1 << 30) -> Journal:
-    made = Journal(folder, piece, limit, "never")
-    made.append(journal.LOAD, BASE.written())
+    made = Journal(folder, JournalFile(piece=piece, limit=limit, sync="never"))
+    made.append(BASE)
     for moment in range(count):
-        made.append(journal.SCAN, f"scan {moment}", "ok")
-        made.append(journal.COMMAND, "1", "0", "anna", f"change\nA\t\\{moment}\nend_change", "ok kept 1 dropped 0 new 0")
+        made.append(Record(f"scan {moment}"))
+        made.append(Record(f"change\nA\t\\{moment}\udc80\nend_change", "ok kept 1 dropped 0 new 0", 1, 5, "anna"))
     return made
 
 
 def test_records_come_back_as_they_were_written(tmp_path: Path) -> None:
     write(tmp_path).close()
-    records = list(read(tmp_path))
-    assert records[0].base == BASE
-    assert records[1].fields == ("scan 0", "ok")
-    assert records[2].fields == ("1", "0", "anna", "change\nA\t\\0\nend_change", "ok kept 1 dropped 0 new 0")
+    change = Record("change\nA\t\\0\udc80\nend_change", "ok kept 1 dropped 0 new 0", 1, 5, "anna")
+    assert list(read(tmp_path))[:3] == [BASE, Record("scan 0", "ok"), change]
 
 
 def test_a_cut_in_the_last_records_drops_what_is_torn_and_no_more(tmp_path: Path) -> None:
@@ -44,11 +43,11 @@ def test_a_cut_in_the_last_records_drops_what_is_torn_and_no_more(tmp_path: Path
         (folder / "00000001.journal").write_bytes(data[:cut])
         whole = sum(end <= cut for end in ends)
         assert list(read(folder)) == records[:whole]
-        again = Journal(folder, 1 << 20, 1 << 30, "never")
+        again = Journal(folder, JournalFile())
         again.resume(whole)
-        again.append(journal.SCAN, "scan 99", "ok")
+        again.append(Record("scan 99"))
         again.close()
-        assert [*read(folder)] == [*records[:whole], journal.Record("S", ("scan 99", "ok"))]
+        assert [*read(folder)] == [*records[:whole], Record("scan 99", "ok")]
 
 
 def test_each_damaged_byte_is_found_with_its_place(tmp_path: Path) -> None:
@@ -66,7 +65,7 @@ def test_each_damaged_byte_is_found_with_its_place(tmp_path: Path) -> None:
 @pytest.mark.parametrize("loss", ["a record", "a piece", "the end of a piece"])
 def test_what_is_missing_is_found(tmp_path: Path, loss: str) -> None:
     write(tmp_path, piece=200, count=20).close()
-    paths = [path for _, path in journal.pieces(tmp_path)]
+    paths = list(journal.pieces(tmp_path).values())
     assert len(paths) > 4 and len(list(read(tmp_path))) > 41
     lines = paths[2].read_bytes().splitlines(keepends=True)
     if loss == "a piece":
@@ -81,7 +80,7 @@ def test_at_its_limit_it_drops_the_oldest_pieces_and_says_how_far_it_reaches(tmp
     made = write(tmp_path, piece=4_096, count=400, limit=16_384)
     told = made.told()
     assert told["bytes"] <= 16_384 and told["reaches"] is False and journal.bases(tmp_path) == {}
-    made.append(journal.LOAD, BASE.written())
+    made.append(BASE)
     assert made.told()["reaches"] is True
     made.close()
 
@@ -91,11 +90,11 @@ async def test_the_disk_is_asked_as_the_file_has_it(tmp_path: Path, monkeypatch,
     sizes, clock = [], SimpleNamespace(monotonic=lambda: clock.now, now=100.0)
     monkeypatch.setattr(os, "fsync", lambda file: sizes.append(os.fstat(file).st_size))
     monkeypatch.setattr(journal, "time", clock)
-    made = Journal(tmp_path, 1 << 20, 1 << 30, sync)
-    made.append(journal.LOAD, BASE.written())
+    made = Journal(tmp_path, JournalFile(sync=sync))
+    made.append(BASE)
     for step in (0.5, 0.4, 0.2):
         clock.now += step
-        made.append(journal.SCAN, "scan 0", "ok")
+        made.append(Record("scan 0"))
         await made.settle()
         assert sync != "always" or sizes[-1] == made.told()["bytes"]  # all is on the disk before anyone is told
     while len(sizes) < synced:

@@ -58,7 +58,7 @@ def test_pymodbus_reads_and_writes_what_is_mapped(host: Host) -> None:
                              (client.read_holding_registers(5, 9), 2), (client.read_coils(3, 1), 2),
                              (client.mask_write_register(0, 1, 1), 1)]:
             assert answer.isError() and answer.exception_code == code
-        assert "modbus 127.0.0.1: write Main.Q 4: refused O4" in host.console("log")
+        assert "modbus 127.0.0.1 write Main.Q 4 refused O4" in host.console("log")
         assert client.read_discrete_inputs(8, 1).bits[0]
         host.console("hold")
         wait_for(lambda: not client.read_discrete_inputs(8, 1).bits[0])
