@@ -12,13 +12,15 @@ import time
 
 from . import Trouble, access
 from .clock import Clock
-from .devices import links
+from .devices import Device, Simulation
 from .engine import Engine
-from .journal import Journal
+from .modbus_client import Remote
 from .modbus_server import ModbusServer
 from .plant import Plant, load
-from .session import Session, explain, program
+from .session import explain, program
 from .web import Web
+
+KINDS: dict[str, type[Device]] = {"simulation": Simulation, "modbus": Remote}
 
 
 def prefer(priority: int) -> None:
@@ -32,10 +34,10 @@ def prefer(priority: int) -> None:
 async def serve(engine: Engine, scans: asyncio.Task[None]) -> None:
     """Serves the page and Modbus until the engine has ended."""
     plant, notice = engine.plant, "running"
-    while not engine.status:  # a long journal takes its time
-        if scans.done():
-            return
+    while not engine.status and not scans.done():  # a long journal takes its time
         await asyncio.sleep(0.02)
+    if scans.done():
+        return
     servers: list[Web | ModbusServer] = [Web(engine, access.Gate(access.load(plant.tokens_file)))]
     servers += [ModbusServer(plant.server, engine)] if plant.server else []
     for server in servers:
@@ -55,8 +57,7 @@ async def main_loop(plant: Plant) -> None:
     """Runs until a signal comes, or the engine can't go on."""
     here = asyncio.get_running_loop()
     there = asyncio.SelectorEventLoop(selectors.SelectSelector())  # `epoll` would round times up to milliseconds
-    clock, journal = Clock(), Journal(plant.state_folder / "journal", plant.journal)
-    engine = Engine(plant, clock, journal, Session.start, lambda types: links(plant, types, clock.now))
+    engine = Engine(plant, Clock(), lambda types: [KINDS[file.kind](file, plant, types) for file in plant.device])
 
     def scan() -> None:
         if plant.priority:

@@ -3,41 +3,42 @@
 import asyncio
 import math
 import time
-from collections.abc import Callable, Sequence
-from typing import Any, Protocol
+from typing import Any
 
 from . import Trouble
-from .plant import DeviceFile, Plant, Point
+from .plant import DeviceFile, Plant
 
 
-class Device(Protocol):
-    """A device gives the numbers of inputs and takes those of outputs, by their paths."""
+class Device:
+    """Gives the numbers of inputs and takes those of outputs, by their paths. It is waited for no longer than its share of a
+    cycle."""
 
-    async def read(self) -> dict[str, int]: ...
-
-    async def write(self, numbers: dict[str, int]) -> None: ...
-
-    async def close(self) -> None: ...
-
-
-class Link:
-    """A device that is waited for no longer than its share of a cycle."""
-
-    def __init__(self, name: str, device: Device, share: float) -> None:
-        self.name, self.device, self.share = name, device, share
+    def __init__(self, file: DeviceFile, plant: Plant, types: dict[str, str]) -> None:
+        self.file, self.types, self.share = file, types, file.share / 100 * plant.cycle / 1000
+        self.inputs = [point for point in plant.input if point.device == file.name]
+        self.outputs = [point for point in plant.output if point.device == file.name]
         self.good, self.trouble = False, "nothing was read yet"
-        self.behind = 0  # how often the device was too slow for its share
+        self.behind = 0  # how often it was too slow for its share
         self._reading: asyncio.Task[dict[str, int]] | None = None
         self._writing: asyncio.Task[None] | None = None
-        self._left = share  # of this cycle
+        self._left = self.share  # of this cycle
+
+    async def read(self) -> dict[str, int]:
+        raise NotImplementedError
+
+    async def write(self, numbers: dict[str, int]) -> None:
+        raise NotImplementedError
+
+    async def close(self) -> None:
+        """Ends a connection."""
 
     def told(self) -> dict[str, Any]:
-        return {"name": self.name, "good": self.good, "trouble": self.trouble, "behind": self.behind}
+        return {"name": self.file.name, "good": self.good, "trouble": self.trouble, "behind": self.behind}
 
     async def poll(self) -> dict[str, int]:
         """What the device gives within its share; nothing where it doesn't, and then it isn't good."""
         self._left = self.share
-        task = self._reading = self._reading or asyncio.create_task(self.device.read())
+        task = self._reading = self._reading or asyncio.create_task(self.read())
         if not await self._waited(task, "it gives no values in its share of the cycle"):
             return {}
         self._reading = None
@@ -45,7 +46,7 @@ class Link:
 
     async def push(self, numbers: dict[str, int]) -> None:
         """Gives the device these numbers, unless it is still busy with those before."""
-        self._writing = self._writing or asyncio.create_task(self.device.write(numbers))
+        self._writing = self._writing or asyncio.create_task(self.write(numbers))
         if await self._waited(self._writing, "it takes no values in its share of the cycle"):
             self._writing = None
 
@@ -54,12 +55,12 @@ class Link:
         if self._writing is not None:
             await asyncio.wait({self._writing}, timeout=2)
         try:
-            await asyncio.wait_for(self.device.write(numbers), 2)
+            await asyncio.wait_for(self.write(numbers), 2)
         except Exception as error:  # whatever a device does, the others get theirs
             self.trouble = str(error)
         if self._reading is not None:
             self._reading.cancel()
-        await self.device.close()
+        await self.close()
 
     async def _waited(self, task: asyncio.Task[Any], trouble: str) -> bool:
         """Whether a task is over, well or not, within what is left of the share."""
@@ -103,42 +104,20 @@ class Conveyor:
 MODELS: dict[str, type[Tank] | type[Conveyor]] = {"tank": Tank, "conveyor": Conveyor}
 
 
-class Simulation:
+class Simulation(Device):
     """A simulated plant: it goes on by the clock, and sees the outputs that it was given last."""
 
-    def __init__(self, file: DeviceFile, inputs: Sequence[Point], outputs: Sequence[Point], now: Callable[[], float]) -> None:
-        self.model = MODELS[file.model]()
-        for points, names in ((inputs, self.model.inputs), (outputs, self.model.outputs)):
+    def __init__(self, file: DeviceFile, plant: Plant, types: dict[str, str]) -> None:
+        super().__init__(file, plant, types)
+        self.model, self.then, self.given = MODELS[file.model](), time.monotonic(), dict[str, int]()
+        for points, names in ((self.inputs, self.model.inputs), (self.outputs, self.model.outputs)):
             if wrong := [point.path for point in points if point.name not in names]:
                 raise Trouble(f"{wrong[0]}: the model {file.model} has here {', '.join(names)}")
-        self.inputs, self.outputs = inputs, outputs
-        self.now, self.then = now, now()
-        self.given: dict[str, int] = {}
 
     async def read(self) -> dict[str, int]:
-        now = self.now()
-        shown = self.model.step(min(1.0, now - self.then), self.given)
-        self.then = now
+        then, self.then = self.then, time.monotonic()
+        shown = self.model.step(min(1.0, self.then - then), self.given)
         return {point.path: shown[point.name] for point in self.inputs}
 
     async def write(self, numbers: dict[str, int]) -> None:
         self.given = {point.name: numbers[point.path] for point in self.outputs}
-
-    async def close(self) -> None:
-        pass
-
-
-def links(plant: Plant, types: dict[str, str], now: Callable[[], float]) -> list[Link]:
-    """The devices of a plant. `types` has the type of each variable that is connected, by its path."""
-    from .modbus_client import Remote  # only here: tests of the engine need no pymodbus
-
-    made = []
-    for file in plant.device:
-        inputs, outputs = ([point for point in points if point.device == file.name] for points in (plant.input, plant.output))
-        device: Device
-        if file.kind == "simulation":
-            device = Simulation(file, inputs, outputs, now)
-        else:
-            device = Remote(file, inputs, outputs, types)
-        made.append(Link(file.name, device, file.share / 100 * plant.cycle / 1000))
-    return made

@@ -1,19 +1,17 @@
 """The engine: the one writer to `stc`. It scans by the clock and serves operators between two scans."""
 
 import asyncio
-import math
 import time
 from collections import deque
-from collections.abc import Awaitable, Callable, Coroutine, Sequence
-from contextlib import suppress
-from functools import partial
+from collections.abc import AsyncIterator, Awaitable, Callable, Coroutine, Sequence
+from contextlib import asynccontextmanager, suppress
 from itertools import islice
 from typing import Any, NamedTuple, TypeVar
 
 from . import Trouble
 from .change import Preview, Types, connections
 from .clock import Clock, Cycle
-from .devices import Link
+from .devices import Device
 from .inputs import Inputs
 from .journal import Journal, Record, read
 from .plant import Plant
@@ -24,9 +22,8 @@ from .values import to_number
 QUEUE_LIMIT = 1_000
 CHUNK = 200  # leaves that are shown at one go
 QUIET = ("show", "status")  # these change nothing, and aren't kept
-VERBS = (*QUIET, "write", "force", "release", "reset", "undo")
+VERBS = (*QUIET, *UNDOABLE[:-1], "reset", "undo", "hold", "go")  # a change is done after its preview
 Result = TypeVar("Result")
-Work = Callable[[], Awaitable[Any]]
 
 
 class Busy(Trouble):
@@ -43,11 +40,13 @@ class Value(NamedTuple):
 class Engine:
     """Runs a plant: one session with `stc`, its devices, its journal, and a queue of what others want of it."""
 
-    def __init__(self, plant: Plant, clock: Clock, journal: Journal, start: Start,
-                 links: Callable[[Types], list[Link]], layout: Callable[..., Awaitable[Types]] = layout_of) -> None:
-        self.plant, self.clock, self.journal = plant, clock, journal
-        self.start, self.layout, self._make_links = start, layout, links
-        self.links: list[Link] = []
+    start: Start = staticmethod(Session.start)
+    layout: Callable[[str, str], Awaitable[Types]] = staticmethod(layout_of)
+
+    def __init__(self, plant: Plant, clock: Clock, connect: Callable[[Types], list[Device]]) -> None:
+        self.plant, self.clock, self._connect = plant, clock, connect
+        self.journal = Journal(plant.state_folder / "journal", plant.journal)
+        self.devices: list[Device] = []
         self.session: Session | None = None
         self.story = Story()
         self.types: Types = {}
@@ -65,9 +64,8 @@ class Engine:
         self.cycle = Cycle(clock, plant.cycle)
         self.guard = min(0.002, self.cycle.period / 5)  # nothing is begun so shortly before a scan
         self.loop: asyncio.AbstractEventLoop | None = None
-        self._queue: deque[tuple[Work, asyncio.Future[Any]]] = deque()  # each with whom to tell
+        self._queue: deque[tuple[asyncio.Future[None], asyncio.Future[None]]] = deque()  # who waits for a gap, and its end
         self._event = asyncio.Event()
-        self._next_look = clock.now()  # at what is shown; never, while one is under way
         self._sweep = 0
         self._taking_back = asyncio.Lock()
         self._news: list[Record] = []  # what is kept while a command is taken back
@@ -77,29 +75,45 @@ class Engine:
     # what others ask for, between two scans
 
     async def asked(self, work: Coroutine[Any, Any, Result]) -> Result:
-        """Does something of the engine for another thread's loop, in the engine's own."""
+        """Does something of the engine for another thread's loop, in the engine's own, whatever becomes of who asked."""
         assert self.loop is not None
-        return await asyncio.wrap_future(asyncio.run_coroutine_threadsafe(work, self.loop))
+        return await asyncio.shield(asyncio.wrap_future(asyncio.run_coroutine_threadsafe(work, self.loop)))
 
-    async def between(self, work: Work) -> Any:
-        """Does some work between two scans, behind what waits already, and gives its result to who asked."""
+    @asynccontextmanager
+    async def gap(self) -> AsyncIterator[None]:
+        """A gap between two scans, behind all who wait for one already; the session is one's own in it."""
         if self.session is None:
             raise Trouble(f"the program doesn't run: {self.trouble}")
         if len(self._queue) >= QUEUE_LIMIT:
             raise Busy("too many lines wait")
-        return await self._post(work)
+        turn, end = (asyncio.get_running_loop().create_future() for _ in range(2))
+        self._queue.append((turn, end))
+        self._event.set()
+        try:
+            await turn
+            yield
+        except Gone as error:
+            end.set_exception(error)
+            raise Trouble("stc ended before it replied: the line counts as not given") from error
+        finally:
+            if not end.done():
+                end.set_result(None)
 
     async def operate(self, who: str, line: str) -> str:
         """One line of an operator, and its reply. Trouble where the host doesn't send it."""
         verb = words_of(checked(line))[0]
         if verb not in VERBS:
             raise Trouble("scans are the clock's" if verb == "scan" else f"the commands are {', '.join(VERBS)}")
-        return str(await self.between(partial(self._operate, who, line)))
+        if verb in ("hold", "go"):  # outputs stay as they are meanwhile, and what is done can be undone
+            self.held = verb == "hold"
+            self._keep(self._by(who, verb))
+            return "held" if self.held else "going on"
+        async with self.gap():
+            return await self._operate(who, line)
 
     async def change(self, who: str, found: Preview) -> str:
         """Does a change as its preview has it."""
-
-        async def work() -> str:
+        async with self.gap():
             if found.version != self.version:
                 raise Trouble("the program was changed since this preview")
             reply = await self._operate(who, found.line)
@@ -107,18 +121,11 @@ class Engine:
                 self._take_program(found.types)
             return reply
 
-        return str(await self.between(work))
-
     async def set_input(self, path: str, number: int) -> None:
         """A new number for an input without a device; the next scan gives it. Trouble where it has one."""
         if self.inputs.points[path].device is not None:
             raise Trouble(f"{path} follows its device")
         self.inputs.take(path, number)
-
-    async def hold(self, who: str, held: bool) -> None:
-        """Holds the scans, so that what is done can be undone, or lets them go on. The outputs stay as they are."""
-        self.held = held
-        self._keep(self._by(who, "hold" if held else "go"))
 
     async def take_back(self, who: str, number: int) -> list[Record]:
         """Makes the state what it would be if a command had never been given: the journal without it is replayed beside the
@@ -134,7 +141,8 @@ class Engine:
             try:
                 types = await self.layout(replay.story.text, self.plant.main)
                 await connections(self.plant, replay.story.text, types, self.start)
-                await self.between(partial(self._take_over, who, number, replay, types))
+                async with self.gap():
+                    await self._take_over(who, number, replay, types)
             except BaseException:
                 if replay.session is not self.session:
                     await replay.close()
@@ -159,6 +167,7 @@ class Engine:
     async def run(self) -> None:
         """Scans until it is stopped."""
         self.loop = asyncio.get_running_loop()
+        looker = asyncio.create_task(self._look())
         try:
             await self._recover()
             self.cycle = Cycle(self.clock, self.plant.cycle, self.story.moment + self.plant.cycle if self.story.moment else 0)
@@ -170,7 +179,8 @@ class Engine:
                 except Gone as error:
                     await self._restart(str(error))
         finally:
-            await asyncio.gather(*(link.end(self._numbers(self.safe)) for link in self.links))
+            looker.cancel()
+            await asyncio.gather(*(device.end(self._numbers(self.safe)) for device in self.devices))
             if self.session is not None:
                 await self.session.close()
             self.journal.close()
@@ -179,49 +189,30 @@ class Engine:
         self._stopping = True
         self._event.set()
 
-    def _post(self, work: Work) -> asyncio.Future[Any]:
-        done = asyncio.get_running_loop().create_future()
-        done.add_done_callback(lambda done: done.cancelled() or done.exception())  # also where nobody waits for it
-        self._queue.append((work, done))
-        self._event.set()
-        return done
-
     async def _serve(self, until: float) -> None:
-        """Does what waits while there is time before the next scan. Where scans leave none, one job is done all the same."""
+        """Lets those who wait go on while there is time before the next scan. Where scans leave none, one goes on all the same."""
         starved = until - self.clock.now() <= self.guard
         while not self._stopping:
             now = self.clock.now()
-            if now >= self._next_look:
-                self._next_look = math.inf
-                self._post(partial(self._look, self._wanted()))
             if self._queue and (starved or until - now > self.guard):
-                starved = False
-                await self._do(*self._queue.popleft())
+                turn, end = self._queue.popleft()
+                if not turn.done():  # who waits is still there
+                    starved = False
+                    turn.set_result(None)
+                    await end
             elif now >= until:
                 await asyncio.sleep(0)  # whoever else waits for the loop has a turn
                 return
             else:
                 self._event.clear()
-                await self.clock.wait(self._event, min(until, self._next_look))
-
-    async def _do(self, work: Work, done: asyncio.Future[Any]) -> None:
-        """Does some work, and tells who asked, if that one still waits."""
-        if done.cancelled():
-            return
-        try:
-            _tell(done, await work())
-        except Gone:
-            _tell(done, Trouble("stc ended before it replied: the line counts as not given"))
-            raise
-        except Exception as error:  # the writer goes on
-            _tell(done, error)
+                await self.clock.wait(self._event, until)
 
     async def _turn(self) -> None:
         """One cycle: inputs are polled, the program is scanned, and outputs are pushed."""
         moment = self.cycle.begin()
-        polled = await asyncio.gather(*(link.poll() for link in self.links))
-        for link, numbers in zip(self.links, polled):
-            self.inputs.poll(link.name, numbers)
+        polled = await asyncio.gather(*(device.poll() for device in self.devices))
+        for device, numbers in zip(self.devices, polled):
+            self.inputs.poll(device.file.name, numbers)
         if self.fault or self.held:
             await self._show(self._always)
         else:
@@ -303,16 +294,19 @@ class Engine:
         self._sweep = self._sweep + CHUNK if self._sweep + CHUNK < len(self.types) else 0
         return [path for path in dict.fromkeys(wanted) if path in self.types]
 
-    async def _look(self, paths: Sequence[str]) -> None:
-        """Shows leaves, a few at one go. Once all have been shown clients are told."""
-        await self._show(paths[:CHUNK])
-        if len(paths) > CHUNK:
-            self._post(partial(self._look, paths[CHUNK:]))
-            return
-        await self._read_status()
-        self.trend.append((self.cycle.moment, [self.text_of(path) for path in self.plant.trend]))
-        self.status = self.told()
-        self._next_look = self.clock.now() + self.plant.page.refresh / 1000
+    async def _look(self) -> None:
+        """Shows what is looked at, a few leaves in each gap. Once all have been shown clients are told."""
+        while True:
+            await asyncio.sleep(self.plant.page.refresh / 1000)
+            with suppress(Trouble):
+                paths = self._wanted()
+                for first in range(0, len(paths), CHUNK):
+                    async with self.gap():
+                        await self._show(paths[first:first + CHUNK])
+                async with self.gap():
+                    await self._read_status()
+                self.trend.append((self.cycle.moment, [self.text_of(path) for path in self.plant.trend]))
+                self.status = self.told()
 
     async def _read_status(self) -> None:
         """Takes over what `stc` says of itself: `running T forces F undo U`, or `halted F2 Main line 4 forces F undo U`."""
@@ -331,7 +325,7 @@ class Engine:
             "version": self.version, "forces": self.forces, "undos": self.undos,
             "undo": self.story.undoable[-1][0].line if self.story.undoable else "", "period": self.plant.cycle,
             **self.cycle.figures.told(), "waiting": len(self._queue), "restarts": self.restarts, "journal": journal,
-            "devices": [link.told() for link in self.links], "good": dict(self.inputs.good), "driven": dict(self.driven),
+            "devices": [device.told() for device in self.devices], "good": dict(self.inputs.good), "driven": dict(self.driven),
         }
 
     async def _push(self) -> None:
@@ -339,7 +333,7 @@ class Engine:
         known = {path: self.text_of(path) for path in self.safe if path in self.values}
         self.driven = self.safe if self.fault or self.trouble else {**self.safe, **known}
         numbers = self._numbers(self.driven)
-        await asyncio.gather(*(link.push(numbers) for link in self.links))
+        await asyncio.gather(*(device.push(numbers) for device in self.devices))
 
     def text_of(self, path: str) -> str:
         return self.values[path].text if path in self.values else ""
@@ -372,9 +366,9 @@ class Engine:
         await connections(self.plant, self.story.text, types, self.start)
         self._take_program(types)
         await self._read_status()
-        self.links = self.links or self._make_links(self.types)
+        self.devices = self.devices or self._connect(types)
         self.inputs = Inputs(self.plant.input, self.types)
-        self.trouble, self._next_look = "", self.clock.now() + self.cycle.period / 2  # behind the first scan
+        self.trouble = ""
         await self._show(self._always)
         self.status = self.told()
 
@@ -386,7 +380,8 @@ class Engine:
         while self.trouble and not self._stopping:
             self.status = self.told()
             while self._queue:
-                _tell(self._queue.popleft()[1], Trouble(f"the program doesn't run: {self.trouble}"))
+                turn, _ = self._queue.popleft()
+                turn.done() or turn.set_exception(Trouble(f"the program doesn't run: {self.trouble}"))
             self._event.clear()
             await self.clock.wait(self._event, self.clock.now() + pause)
             try:
@@ -396,9 +391,3 @@ class Engine:
                 if self.session is not None:
                     await self.session.close()
                 self.trouble, self.session = str(error), None
-
-
-def _tell(done: asyncio.Future[Any], result: Any) -> None:
-    """Gives who asked a result or an error, if that one still waits."""
-    if not done.done():
-        done.set_exception(result) if isinstance(result, Exception) else done.set_result(result)

@@ -1,9 +1,8 @@
 """The journal: each line that may change something, with its reply, in pieces with checksums.
 
 A piece is a text file of records, each on a line of its own: eight hexadecimal digits, a blank, and fields with tabs between
-them, as Python's `unicode_escape` has them. The digits are the CRC-32 of the fields, begun with that of the record before, so
-that no record can be changed, lost or moved unseen. A piece begins with a text that is loaded, or says with which checksum the
-one before it ended.
+them, as Python's `unicode_escape` has them. The digits are the CRC-32 of the fields, begun with that of the record before; the
+name of a piece has the one that its first record goes on from. So no record can be changed, lost or moved unseen.
 """
 
 import asyncio
@@ -18,7 +17,7 @@ from dataclasses import dataclass
 from functools import cached_property
 from pathlib import Path
 from subprocess import PIPE, Popen
-from typing import Any
+from typing import Any, NamedTuple
 
 from . import Trouble
 from .plant import JournalFile
@@ -26,10 +25,10 @@ from .session import words_of
 
 PIPE_SIZE = 1 << 20  # bytes that may wait for the disk before a scan does
 WRITER = ["dd", "bs=64K", "conv=fsync", "status=none"]  # copies what comes by its pipe, and sees it on the disk at the end
-NAME = re.compile(r"(\d{8})\.journal")
+NAME = re.compile(r"(\d{8})-([\da-f]{8})\.journal")
 # Lines that are the host's own, and no session's: `load MOMENT MAIN STEPS P:=V ..` with a text behind it that was loaded or
-# reset, and what is forced in it; `next CRC`, with which a piece goes on; and three that operators give
-OWN = ("load", "next", "takeback", "hold", "go")
+# reset, and what is forced in it; and three that operators give
+OWN = ("load", "takeback", "hold", "go")
 
 
 @dataclass
@@ -50,56 +49,49 @@ class Record:
     @property
     def moment(self) -> int:
         """The moment of a load or a scan, and 0 for others."""
-        verb, *words = self.words
-        return int(words[0]) if verb in ("load", "scan") else 0
-
-    def begins(self, before: int) -> bool:
-        """Whether a piece may begin with it, behind one that ended with a checksum, or behind none, which is -1."""
-        return self.words[0] == "load" or (self.words[0] == "next" and before in (-1, int(self.words[1])))
+        return int(self.words[1]) if self.words[0] in ("load", "scan") else 0
 
 
-def pieces(folder: Path) -> dict[int, Path]:
-    """The pieces of a journal by their numbers, in order."""
+class Piece(NamedTuple):
+    number: int
+    crc: int
+    path: Path
+
+
+def pieces(folder: Path) -> list[Piece]:
+    """The pieces of a journal, in order."""
     found = sorted(folder.iterdir()) if folder.is_dir() else ()
-    return {int(match[1]): path for path in found if (match := NAME.fullmatch(path.name))}
+    return [Piece(int(match[1]), int(match[2], 16), path) for path in found if (match := NAME.fullmatch(path.name))]
 
 
 def bases(folder: Path) -> dict[int, Record]:
     """The loads and resets with which pieces begin, so that a replay can begin there, by the numbers of these pieces."""
-    heads = ((number, next(read(folder, number), None)) for number in pieces(folder))
+    heads = ((piece.number, next(read(folder, piece.number), None)) for piece in pieces(folder))
     return {number: record for number, record in heads if record and record.words[0] == "load"}
-
-
-def _decode(line: bytes, before: int) -> tuple[Record, int]:
-    crc = zlib.crc32(line[9:-1], before)
-    if line[:9] != b"%08x " % crc:
-        raise ValueError("its checksum doesn't fit")
-    first, reply, *rest = (field.decode("unicode_escape") for field in line[9:-1].split(b"\t"))
-    return Record(first, reply, *(int(field) for field in rest[:2]), *rest[2:]), crc
 
 
 def read(folder: Path, first: int = 0) -> Iterator[Record]:
     """The records that are written by now, from the first piece that is there on, or from piece `first`. What lacks its end in
     the last piece is torn, and no record. Trouble where one isn't as it was written."""
-    found, crc = [piece for piece in pieces(folder).items() if piece[0] >= first], -1
-    for rank, (number, path) in enumerate(found):
-        before, crc, count, place = crc, 0, 0, 0
+    found = [piece for piece in pieces(folder) if piece.number >= first]
+    crc = found[0].crc if found else 0
+    for piece in found:
+        count, place = 1, 0
         try:
-            if number != found[0][0] + rank:
-                raise ValueError("the piece before it is missing")
-            with path.open("rb") as file:
+            if crc != piece.crc:
+                raise ValueError("records before it are missing")
+            with piece.path.open("rb") as file:
                 for line in file:
-                    if not line.endswith(b"\n"):
-                        if path == found[-1][1]:
-                            return
-                        raise ValueError("it isn't whole")
-                    record, crc = _decode(line, crc)
-                    if count == 0 and not record.begins(before):
-                        raise ValueError("records before it are missing")
+                    if piece is found[-1] and not line.endswith(b"\n"):
+                        return
+                    crc = zlib.crc32(line[9:-1], crc)
+                    if line[:9] != b"%08x " % crc or line[-1:] != b"\n":
+                        raise ValueError("its checksum doesn't fit")
+                    text, reply, *rest = (field.decode("unicode_escape") for field in line[9:-1].split(b"\t"))
+                    yield Record(text, reply, *(int(field) for field in rest[:2]), *rest[2:])
                     count, place = count + 1, place + len(line)
-                    yield record
         except ValueError as error:
-            raise Trouble(f"the journal is damaged: {path.name}: record {count + 1}, from byte {place} on: {error}") from error
+            raise Trouble(f"the journal is damaged: {piece.path.name}: record {count}, from byte {place} on: {error}") from error
 
 
 class Journal:
@@ -113,8 +105,7 @@ class Journal:
         self.base: int | None = None  # the piece where a replay begins; None where no load and no reset is left
         self.records = 0  # from there on
         self._sizes: dict[int, int] = {}  # of the pieces, in order
-        self._number = self._crc = 0
-        self._file = -1
+        self._crc, self._file = 0, -1
         self._writers: list[Popen[bytes]] = []  # the last one is that of the newest piece; those before come to their end
         self._synced = time.monotonic()
 
@@ -122,38 +113,38 @@ class Journal:
         """Goes on behind the last whole record, and cuts off a torn one. All have been read without damage: so many from the
         newest load or reset on."""
         found, self.records, self.base = pieces(self.folder), records, max(bases(self.folder), default=None)
-        self._sizes = {number: path.stat().st_size for number, path in found.items()}
-        for number, path in reversed(found.items()):
+        self._sizes = {piece.number: piece.path.stat().st_size for piece in found}
+        if found:
+            number, self._crc, path = found[-1]
             data = path.read_bytes()
-            if whole := data.rfind(b"\n") + 1:
-                os.truncate(path, whole)
+            whole = data.rfind(b"\n") + 1
+            os.truncate(path, whole)
+            if whole:
                 last = data.rfind(b"\n", 0, whole - 1) + 1
-                self._open(number, whole, int(data[last:last + 8], 16))
-                return
-            path.unlink()
-            del self._sizes[number]
+                self._crc = int(data[last:last + 8], 16)
+            self._open(path, number, whole)
 
     def append(self, record: Record) -> None:
         """Appends a record; with a text that is loaded or was reset a piece begins, since a replay can begin there. Once one
         couldn't be written nothing more is kept, and `trouble` says so."""
         if self.trouble:
             return
+        number, load = next(reversed(self._sizes), 0), record.words[0] == "load"
         try:
-            if record.words[0] == "load":
-                self._open(self._number + 1)
-                self.base, self.records = self._number, 0
-            elif self._sizes[self._number] + 64 > self.file.piece:
-                head = Record(f"next {self._crc}")
-                self._open(self._number + 1)
-                self._write(head)
-            self._write(record)
+            if load or self._sizes[number] + 64 > self.file.piece:
+                number += 1
+                self._open(self.folder / f"{number:08}-{self._crc:08x}.journal", number, 0)
+            if load:
+                self.base, self.records = number, 0
+            self._sizes[number] += self._write(record)
+            self.records += 1
         except OSError as error:
             self.trouble = f"nothing is kept any more: {error}"
 
     async def written(self) -> None:
         """Waits until what was appended stands in the files. OSError where it never will."""
         while (any(writer.poll() is None for writer in self._writers[:-1])
-               or os.fstat(self._file).st_size < self._sizes[self._number]):
+               or os.fstat(self._file).st_size < next(reversed(self._sizes.values()))):
             if self._writers[-1].poll() is not None:
                 raise OSError("the journal's writer has ended")
             await asyncio.sleep(0.001)
@@ -184,7 +175,8 @@ class Journal:
         for writer in self._writers:
             writer.wait()
 
-    def _write(self, record: Record) -> None:
+    def _write(self, record: Record) -> int:
+        """Gives a record away. The answer is its length."""
         fields = (record.line, record.reply, record.number, record.wall, record.who)[:5 if record.number else 2]
         body = b"\t".join(str(field).encode("unicode_escape") for field in fields)
         self._crc = zlib.crc32(body, self._crc)
@@ -192,23 +184,21 @@ class Journal:
         assert pipe is not None
         pipe.write(b"%08x %s\n" % (self._crc, body))
         pipe.flush()
-        self._sizes[self._number] += len(body) + 10
-        self.records += 1
+        return len(body) + 10
 
-    def _open(self, number: int, size: int = 0, crc: int = 0) -> None:
-        """Goes on with a piece, behind so many bytes, and ends the one before. The oldest ones go where there are too many."""
+    def _open(self, path: Path, number: int, size: int) -> None:
+        """Goes on with a piece, and ends the one before. The oldest ones go where there are too many."""
         self._end()
-        self._number, self._sizes[number], self._crc = number, size, crc
-        path = self.folder / f"{number:08}.journal"
+        self._sizes[number] = size
         self._file = os.open(path, os.O_WRONLY | os.O_CREAT | os.O_APPEND, 0o600)
         made = Popen(WRITER, stdin=PIPE, stdout=self._file, start_new_session=True, close_fds=False)
-        fcntl.fcntl(made.stdin, fcntl.F_SETPIPE_SZ, PIPE_SIZE)
+        fcntl.fcntl(made.stdin or -1, fcntl.F_SETPIPE_SZ, PIPE_SIZE)
         self._writers = [*(writer for writer in self._writers if writer.poll() is None), made]
-        while sum(self._sizes.values()) > self.file.limit - self.file.piece and len(self._sizes) > 1:
-            oldest = min(self._sizes)
-            pieces(self.folder)[oldest].unlink()
-            del self._sizes[oldest]
-            self.base = None if self.base == oldest else self.base
+        for oldest in pieces(self.folder)[:-1]:
+            if sum(self._sizes.values()) > self.file.limit - self.file.piece:
+                oldest.path.unlink()
+                del self._sizes[oldest.number]
+                self.base = None if self.base == oldest.number else self.base
 
     def _end(self) -> None:
         """Ends the piece, and waits for nothing: its writer goes on until all is on the disk."""
@@ -216,7 +206,7 @@ class Journal:
             os.close(self._file)
             self._file = -1
             with suppress(OSError):
-                self._writers[-1].stdin.close()
+                self._writers[-1].stdin.close()  # type: ignore[union-attr]
 
 
 def _flush(file: int) -> None:

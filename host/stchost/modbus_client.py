@@ -9,7 +9,8 @@ from typing import Any
 from pymodbus.client.base import ModbusClientProtocol
 from pymodbus.framer.socket_framer import ModbusSocketFramer
 
-from .plant import BITS, DeviceFile, Point
+from .devices import Device
+from .plant import BITS, DeviceFile, Plant, Point
 from .values import pack, size_of, unpack
 
 logging.getLogger("pymodbus").setLevel(logging.CRITICAL)
@@ -18,18 +19,17 @@ READ = {"coil": "read_coils", "discrete": "read_discrete_inputs",
         "input": "read_input_registers", "holding": "read_holding_registers"}
 
 
-class Remote:
+class Remote(Device):
     """A device behind a connection that is made when it is wanted, and made anew a second after it was lost."""
 
-    def __init__(self, file: DeviceFile, inputs: Sequence[Point], outputs: Sequence[Point], types: dict[str, str]) -> None:
-        self.file, self.types = file, types
-        self.inputs, self.outputs = self._runs(inputs), self._runs(outputs)
+    def __init__(self, file: DeviceFile, plant: Plant, types: dict[str, str]) -> None:
+        super().__init__(file, plant, types)
         self._protocol: Any = None
         self._turn = asyncio.Lock()  # one request at a time: many devices take no more
 
     async def read(self) -> dict[str, int]:
         numbers: dict[str, int] = {}
-        for run in self.inputs:
+        for run in self._runs(self.inputs):
             first, end = run[0].address, self._end(run[-1])
             answer = await self._ask(READ[str(run[0].table)], first, end - first)
             words = answer.bits if run[0].table in BITS else answer.registers
@@ -40,7 +40,7 @@ class Remote:
 
     async def write(self, numbers: dict[str, int]) -> None:
         """Writes all outputs, whether they changed or not, so that a device that was restarted has them too."""
-        for run in self.outputs:
+        for run in self._runs(self.outputs):
             words = [word for point in run for word in pack(point, self.types[point.path], numbers[point.path])]
             await self._ask("write_coils" if run[0].table == "coil" else "write_registers", run[0].address, words)
 

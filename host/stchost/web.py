@@ -195,14 +195,6 @@ class Web:
         steps = [path[:-3] for path in types if path.endswith(".$M") and path[:-2] + "X" in types]
         return {"text": self.engine.story.text.encode("utf-8", "replace").decode(), "steps": steps}
 
-    async def do_hold(self, client: Client) -> Answer:
-        await self.engine.asked(self.engine.hold(client.person.name, True))
-        return {"reply": "held"}
-
-    async def do_go(self, client: Client) -> Answer:
-        await self.engine.asked(self.engine.hold(client.person.name, False))
-        return {"reply": "going on"}
-
     async def do_preview(self, client: Client, *renames: str) -> Answer:
         """What the text that was sent before would do as a change. Who asked may then do just this."""
         engine, text = self.engine, client.text

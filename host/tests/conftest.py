@@ -130,7 +130,7 @@ def lines_of(journal: Path, without: Collection[int] = ()) -> tuple[str, list[st
         line, _, *numbers = [field.encode().decode("unicode_escape") for field in row[9:].split("\t")]
         if line.startswith("load "):
             text = text or line.partition("\n")[2]
-        elif line.split()[0] not in ("next", "takeback", "hold", "go") and not {*map(int, numbers[:1])} & {*without}:
+        elif line.split()[0] not in ("takeback", "hold", "go") and not {*map(int, numbers[:1])} & {*without}:
             lines.append(line)
     return text, lines
 

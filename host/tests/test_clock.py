@@ -8,7 +8,6 @@ import pytest
 
 from stchost.clock import Clock, Cycle
 from stchost.engine import Engine
-from stchost.journal import Journal
 from stchost.plant import load
 
 FILE = 'program = "p.st"\ncycle = 10\ninput = [{path = "Main.In", device = "d"}, {path = "Main.By_Hand"}]\n'
@@ -83,8 +82,8 @@ class Bench:
         async def layout(text: str, main: str) -> dict[str, str]:
             return dict.fromkeys(self.session.values, "INT")
 
-        plant = load(folder / "p.toml")
-        self.engine = Engine(plant, self.clock, Journal(folder / "journal", plant.journal), start, lambda types: [], layout)
+        self.engine = Engine(load(folder / "p.toml"), self.clock, lambda types: [])
+        self.engine.start, self.engine.layout = start, layout
 
     async def run(self, seconds: float, *visits: Visit) -> list[int]:
         """The moments of the scans."""

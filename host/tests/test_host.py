@@ -111,9 +111,9 @@ async def test_a_reset_lets_a_replay_begin_there(host: Host) -> None:
     host.stop(signal.SIGKILL)
     first, second = journal.bases(host.journal).items()
     assert host.replayed() == state(*lines_of(host.journal)) and second[1].words[4:] == ["Main.Band:=44"]
-    for number, path in journal.pieces(host.journal).items():
-        if number < second[0]:
-            path.unlink()
+    for piece in journal.pieces(host.journal):
+        if piece.number < second[0]:
+            piece.path.unlink()
     said = host.tool("replay", str(host.journal), "--at", "1", status=1)
     assert first[1].moment == 0 and f"can go back to moment {second[1].moment}, and no further" in said
 
