@@ -305,13 +305,10 @@ async function check() {
   $("do").disabled = true;
   $("preview").textContent = "Checking\u2026";
   socket.send(new TextEncoder().encode($("text").value).slice(0, TEXT_LIMIT + 1));
-  const found = await ask(`preview ${$("renames").value}`), counts = Object.entries(found.counts || {});
-  const listed = (kind, count) => [...found.rows.filter(row => row[0] === kind).slice(0, 8).map(row => row[1]),
-    ...count > 8 && kind !== "kept" ? [`and ${count - 8} more`] : []].map(item => el("li", {}, item));
-  const part = ([kind, count]) => el("div", {className: `box ${count ? kind : ""}`},
-    el("b", {}, count), kind === "lost" ? "forces lost" : kind, el("ul", {}, ...listed(kind, count)));
-  $("preview").replaceChildren(...found.bad ? [el("pre", {}, found.reply)] : [],
-    el("div", {className: "sum"}, ...counts.map(part)));
+  const found = await ask(`preview ${$("renames").value}`), counts = [...found.reply.matchAll(/([a-z]+) (\d+)/g)];
+  $("preview").className = found.bad ? "refused" : "";
+  $("preview").replaceChildren(...found.bad ? [found.reply] : counts.map(([, kind, count]) =>
+    el("span", {className: "box"}, el("b", {}, count), ` ${kind}`)), el("pre", {}, found.said || ""));
   $("do").disabled = found.bad;
 }
 async function change() {

@@ -1,99 +1,39 @@
-"""What an online change would do, found out beside the plant: by `stc check`, `stc layout` and a session of its own."""
+"""What an online change would do, found out beside the plant: by a session with the same text and forces, which is changed."""
 
-from collections.abc import Collection, Sequence
-from dataclasses import dataclass, field
+from collections.abc import Sequence
+from dataclasses import dataclass
 
 from . import Trouble
 from .plant import BITS, Plant
-from .replay import BATCH, Start
-from .session import CODE, TEXT_LIMIT, Session, ask, change_line, explain, layout_of
+from .session import CODE, TEXT_LIMIT, Start, ask, change_line, forcing, layout_of
 from .values import BITS_OF, to_number, to_text
 
-LISTED = 200  # leaves of a kind that are told
 Types = dict[str, str]  # of the leaves of a text, by their paths, in order
 
 
 @dataclass
 class Preview:
-    """What a change would answer and do: how many leaves are kept, and which are dropped, new and renamed, or lose a force."""
+    """What a change would answer and do, as `stc` says it: the leaves that are dropped, new and renamed, and the forces lost."""
 
     line: str
     version: int  # of the program that it would change
-    answer: str = ""
-    trouble: str = ""  # why it can't be done
-    counts: dict[str, int] = field(default_factory=dict)
-    rows: list[tuple[str, str]] = field(default_factory=list)  # each with what becomes of a leaf, and its path
-    types: Types = field(default_factory=dict)
-
-    @property
-    def bad(self) -> bool:
-        return bool(self.trouble) or not self.answer.startswith("ok")
+    answer: str
+    said: str
+    types: Types
 
 
-async def preview(plant: Plant, old: str, version: int, forced: Collection[str], text: str, renames: Sequence[str],
+async def preview(plant: Plant, old: str, version: int, forces: Sequence[str], text: str, renames: Sequence[str],
                   start: Start) -> Preview:
-    """What a change from the text `old` by words OLD=NEW would do. `forced` are the leaves that are forced now."""
-    found = Preview(change_line(text.replace("\r\n", "\n"), renames), version)
+    """What a change from the text `old` by words OLD=NEW would do. Trouble where what is connected isn't in the new text."""
     if len(text.encode(*CODE)) > TEXT_LIMIT:
-        found.answer = "refused S4 line 1"
-        return found
-    answer, said = await ask("check", text, plant.main)
-    found.answer = answer.strip()
-    if found.answer != "ok":
-        found.trouble = said.strip()
-        return found
-    before, found.types = await layout_of(old, plant.main), await layout_of(text, plant.main)
-    settable, kept = await _try(before, await start(old, plant.main, 1), found)
+        return Preview("", version, "refused S4 line 1", "", {})
+    line = change_line(text.replace("\r\n", "\n"), renames)
+    replies, said = await ask("run", old, plant.main, [*forcing(forces), line])
+    found = Preview(line, version, replies.splitlines()[-1], said, {})
     if found.answer.startswith("ok"):
-        _compare(before, settable, kept, forced, renames, found)
-        try:
-            await connections(plant, text, found.types, start, before)
-        except Trouble as error:
-            found.trouble = str(error)
-    else:
-        found.trouble = f"{found.answer}: {explain(found.answer)}"
+        found.types = await layout_of(text, plant.main)
+        await connections(plant, text, found.types, start, await layout_of(old, plant.main))
     return found
-
-
-async def _try(before: Types, session: Session, found: Preview) -> tuple[set[str], set[str]]:
-    """Forces all leaves of the old text, changes it, and looks which leaves are forced then: these were kept. The answer has
-    the leaves that can be forced, and those that were kept."""
-    settable: set[str] = set()
-    try:
-        for first in range(0, len(before), BATCH):  # a reset lets 256 more be given
-            some = list(before)[first:first + BATCH]
-            replies = await session.exchange([*(f"force {path} {to_text(before[path], 0)}" for path in some), "reset"])
-            settable |= {path for path, reply in zip(some, replies) if reply == "ok"}
-        found.answer, *shown = await session.exchange([found.line, *(f"show {path}" for path in found.types)])
-    finally:
-        await session.close()
-    return settable, {path for path, reply in zip(found.types, shown) if reply.endswith(" forced")}
-
-
-def _renamed(path: str, renames: Sequence[str]) -> str:
-    """Where a path of the old text is in the new one: the longest OLD that it begins with counts."""
-    for old, _, new in sorted((word.partition("=") for word in renames), key=lambda pair: -len(pair[0])):
-        if f"{path}.".upper().startswith((f"{old}.".upper(), f"{old}[".upper())):
-            return new + path[len(old):]
-    return path
-
-
-def _compare(before: Types, settable: Collection[str], kept: Collection[str], forced: Collection[str], renames: Sequence[str],
-             found: Preview) -> None:
-    """Fills the lists. What no operator forces is kept where its counterpart is there and nothing around it was replaced."""
-    after = {path.upper(): path for path in found.types}
-    pairs = [(path, after.get(_renamed(path, renames).upper(), "")) for path in before]
-    same = {path for path, image in pairs if image and found.types[image] == before[path]}
-    replaced = {path.rpartition(".")[0] for path, image in pairs if path in same and path in settable and image not in kept}
-    stay = {path: image for path, image in pairs
-            if (image in kept if path in settable else path in same and path.rpartition(".")[0] not in replaced)}
-    images = set(stay.values())
-    lists = {"dropped": [path for path in before if path not in stay],
-             "new": [path for path in found.types if path not in images],
-             "renamed": [f"{path} -> {image}" for path, image in stay.items() if path.upper() != image.upper()],
-             "lost": [path for path in forced if path not in stay]}
-    found.counts = {"kept": len(images), **{kind: len(paths) for kind, paths in lists.items()}}
-    found.rows = [(kind, path) for kind, paths in lists.items() for path in paths[:LISTED]]
 
 
 async def connections(plant: Plant, text: str, types: Types, start: Start, before: Types | None = None) -> None:

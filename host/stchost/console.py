@@ -79,10 +79,10 @@ class Console:
 
     def tell(self, answer: Answer) -> None:
         self.failed |= answer["bad"]
-        for row in answer.get("rows", []):
-            print(*(word for word in row if word != ""))
-        if answer["reply"]:
-            print(answer["reply"] + (f"  ({answer['why']})" if answer.get("why") else ""), flush=True)
+        reply = answer["reply"] + (f"  ({answer['why']})" if answer.get("why") else "")
+        for row in [[answer.get("said", "")], *answer.get("rows", []), [reply]]:
+            if words := [str(word) for word in row if word != ""]:
+                print(*words, flush=True)
 
 
 async def talk(console: Console, plant: Plant) -> None:

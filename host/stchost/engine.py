@@ -15,8 +15,8 @@ from .devices import Device
 from .inputs import Inputs
 from .journal import Journal, Record, read
 from .plant import Plant
-from .replay import NO_BASE, UNDOABLE, Replay, Start, Story, restore
-from .session import CODE, Gone, Session, checked, explain, layout_of, words_of
+from .replay import NO_BASE, UNDOABLE, Replay, Story, restore
+from .session import CODE, Gone, Session, Start, checked, explain, layout_of, words_of
 from .values import to_number
 
 QUEUE_LIMIT = 1_000
@@ -253,7 +253,7 @@ class Engine:
         await self._read_status()
         if verb == "reset":  # the state is the program's text and what is forced in it, so that a replay can begin here
             await self._show(list(self.types) if self.forces else [])
-            self._keep(self.story.base(f"{path}:={value.text}" for path, value in self.values.items() if value.forced))
+            self._keep(self.story.base(self.forced()))
             self.trouble = ""
         elif verb == "undo" and self.story.text is not text:
             self._take_program(await self.layout(self.story.text, self.plant.main))
@@ -334,6 +334,10 @@ class Engine:
         self.driven = self.safe if self.fault or self.trouble else {**self.safe, **known}
         numbers = self._numbers(self.driven)
         await asyncio.gather(*(device.push(numbers) for device in self.devices))
+
+    def forced(self) -> list[str]:
+        """What is forced, in words P:=V."""
+        return [f"{path}:={value.text}" for path, value in list(self.values.items()) if value.forced]
 
     def text_of(self, path: str) -> str:
         return self.values[path].text if path in self.values else ""

@@ -1,19 +1,19 @@
 """A server of Modbus TCP: HMIs and SCADA read and write what the plant's file maps. `pymodbus` has its messages."""
 
 import asyncio
-import ipaddress
 import struct
+from ipaddress import ip_address
 from typing import Any
 
 from pymodbus.factory import ServerDecoder
-from pymodbus.pdu import ExceptionResponse, ModbusExceptions
+from pymodbus.pdu import ExceptionResponse, ModbusExceptions as Code
 
 from . import Trouble
 from .engine import Busy, Engine
 from .plant import WRITING, Mapped, ServerFile
 from .values import fits, pack, size_of, to_number, to_text, unpack
 
-CODES = {"O1": ModbusExceptions.IllegalAddress, "O2": ModbusExceptions.IllegalAddress, "O3": ModbusExceptions.IllegalValue}
+CODES = {"refused O1": Code.IllegalAddress, "refused O2": Code.IllegalAddress, "refused O3": Code.IllegalValue}
 RUNNING = "$running"  # in place of a path: whether the program runs
 FRAME_TIME = 5.0  # seconds in which a frame that has begun is to end, and in which an answer is to be taken
 TABLE = {1: "coil", 2: "discrete", 3: "holding", 4: "input", 5: "coil", 6: "holding", 15: "coil", 16: "holding"}
@@ -28,55 +28,46 @@ class Tables:
 
     def __init__(self, places: dict[tuple[str, int], Mapped], engine: Engine) -> None:
         self.places, self.engine = places, engine
-        self.items: list[Mapped] = []
+        self.items: list[tuple[Mapped, str]] = []  # each with its type
         self.written: list[int] = []
-
-    def type_of(self, item: Mapped) -> str | None:
-        return "BOOL" if item.path == RUNNING else self.engine.types.get(item.path)
-
-    def size(self, item: Mapped) -> int:
-        return size_of(item, self.type_of(item) or "BOOL")
 
     def validate(self, function: int, first: int, count: int) -> bool:
         """Whether variables lie in these places, each whole and without a gap."""
-        place = first
+        types, place = {**self.engine.types, RUNNING: "BOOL"}, first
         while place < first + count:
             item = self.places.get((TABLE[function], place))
-            if item is None or self.type_of(item) is None:
+            if item is None or item.path not in types:
                 return False
-            self.items.append(item)
-            place += self.size(item)
+            self.items.append((item, types[item.path]))
+            place += size_of(*self.items[-1])
         return place == first + count
 
     def getValues(self, function: int, first: int, count: int) -> list[int]:  # noqa: N802
-        return self.written or [word for item in self.items for word in self.words(item)]
+        """What variables have behind the last scan, as it lies in coils or registers."""
+        return self.written or [word for item, kind in self.items for word in pack(item, kind, self._number(item, kind))]
 
     def setValues(self, function: int, first: int, values: list[int]) -> None:  # noqa: N802
         self.written = values
 
-    def words(self, item: Mapped) -> list[int]:
-        """What a variable has behind the last scan, as it lies in coils or registers."""
+    def _number(self, item: Mapped, kind: str) -> int:
         if item.path == RUNNING:
-            return [int(self.engine.status["state"] == "running")]
-        value, type_name = self.engine.values.get(item.path), self.type_of(item)
-        if value is None or type_name is None:
-            raise Refused(ModbusExceptions.SlaveFailure)
-        return pack(item, type_name, to_number(type_name, value.text))
+            return int(self.engine.status["state"] == "running")
+        return to_number(kind, self.engine.values[item.path].text)
 
     async def write(self, who: str) -> None:
         """An input that people set has its number with the next scan; all else is written by a line of the session."""
-        words, engine = iter(self.written), self.engine
-        for item in self.items:
-            type_name = self.type_of(item) or "BOOL"
-            number = unpack(item, type_name, [int(next(words)) for _ in range(self.size(item))])
-            if not fits(type_name, number):
-                raise Refused(ModbusExceptions.IllegalValue)
+        words, engine = list(self.written), self.engine
+        for item, kind in self.items:
+            own, words = words[:size_of(item, kind)], words[size_of(item, kind):]
+            number = unpack(item, kind, [int(word) for word in own])
+            if not fits(kind, number):
+                raise Refused(Code.IllegalValue)
             if item.path in engine.inputs.points:
                 await engine.asked(engine.set_input(item.path, number))
                 continue
-            reply = await engine.asked(engine.operate(who, f"write {item.path} {to_text(type_name, number)}"))
+            reply = await engine.asked(engine.operate(who, f"write {item.path} {to_text(kind, number)}"))
             if reply != "ok":
-                raise Refused(CODES.get(reply.removeprefix("refused "), ModbusExceptions.SlaveFailure))
+                raise Refused(CODES.get(reply, Code.SlaveFailure))
 
 
 class ModbusServer:
@@ -96,12 +87,11 @@ class ModbusServer:
 
     async def _serve(self, reader: asyncio.StreamReader, writer: asyncio.StreamWriter) -> None:
         peer = writer.get_extra_info("peername")[0]
-        host = ipaddress.ip_address(peer)
-        functions = {function for entry in self.file.allow if host in entry.address for function in entry.functions}
-        if functions and self.clients < self.file.clients:
+        allowed = {function for entry in self.file.allow if ip_address(peer) in entry.address for function in entry.functions}
+        if allowed and self.clients < self.file.clients:
             self.clients += 1
             try:
-                while await self._talk(reader, writer, functions, f"modbus {peer}"):
+                while await self._talk(reader, writer, allowed, f"modbus {peer}"):
                     pass
             except (asyncio.TimeoutError, asyncio.IncompleteReadError, OSError):
                 pass
@@ -109,7 +99,7 @@ class ModbusServer:
                 self.clients -= 1
         writer.transport.abort()
 
-    async def _talk(self, reader: asyncio.StreamReader, writer: asyncio.StreamWriter, functions: set[int], who: str) -> bool:
+    async def _talk(self, reader: asyncio.StreamReader, writer: asyncio.StreamWriter, allowed: set[int], who: str) -> bool:
         """One request and its answer. False where it is none."""
         head = await asyncio.wait_for(reader.readexactly(7), self.file.idle)
         transaction, protocol, length, unit = struct.unpack(">HHHB", head)
@@ -117,8 +107,8 @@ class ModbusServer:
             return False
         request = await asyncio.wait_for(reader.readexactly(length - 1), FRAME_TIME)
         try:
-            if request[0] not in functions:
-                raise Refused(ModbusExceptions.IllegalFunction)
+            if request[0] not in allowed:
+                raise Refused(Code.IllegalFunction)
             answer = await self._answer(request, who)
         except Refused as error:
             answer = ExceptionResponse(request[0], error.args[0])
@@ -133,12 +123,12 @@ class ModbusServer:
         try:
             request = self.decoder.decode(data)
             if data[0] == 5 and data[3:] not in (b"\0\0", b"\xff\0"):  # pymodbus takes any other number for off
-                raise Refused(ModbusExceptions.IllegalValue)
+                raise Refused(Code.IllegalValue)
             answer = request.execute(tables)
             if data[0] in WRITING and not answer.isError():
                 await tables.write(who)
         except (struct.error, LookupError) as error:
-            raise Refused(ModbusExceptions.IllegalValue) from error
+            raise Refused(Code.IllegalValue) from error
         except Trouble as error:
-            raise Refused(ModbusExceptions.SlaveBusy if isinstance(error, Busy) else ModbusExceptions.SlaveFailure) from error
+            raise Refused(Code.SlaveBusy if isinstance(error, Busy) else Code.SlaveFailure) from error
         return answer

@@ -4,17 +4,15 @@ import argparse
 import asyncio
 import sys
 import time
-from collections.abc import Awaitable, Callable, Iterable
+from collections.abc import Iterable
 from dataclasses import dataclass, field, replace
 from itertools import islice, takewhile
 from pathlib import Path
 
 from . import Trouble, journal
 from .journal import OWN, Record
-from .session import Session, layout_of
+from .session import BATCH, Session, Start, forcing, layout_of
 
-Start = Callable[[str, str, int], Awaitable[Session]]
-BATCH = 250  # lines that are sent at one go
 KEPT = 2_000  # commands that are remembered
 UNDOABLE = ("write", "force", "release", "change")  # what `undo` and a take back undo
 NO_BASE = "the journal doesn't reach back to a load or a reset"
@@ -113,10 +111,7 @@ class Replay:
             raise Trouble(NO_BASE)
         _, moment, main, steps, *forces = record.words
         session = await self.start(record.line.partition("\n")[2], main, int(steps))
-        lines = ["force " + force.replace(":=", " ") for force in forces]
-        for first in range(0, len(lines), BATCH):  # a reset lets 256 more be given, and keeps them
-            await session.exchange([*lines[first:first + BATCH], "reset"])
-        await session.exchange([f"scan {moment}", "reset"] if moment != "0" else [])
+        await session.exchange([*forcing(forces), *([f"scan {moment}"] if moment != "0" else []), "reset"])
         return session
 
     def _take(self, record: Record, reply: str) -> None:

@@ -5,7 +5,7 @@ import os
 import re
 import tempfile
 from asyncio.subprocess import DEVNULL, PIPE, Process
-from collections.abc import Iterator, Sequence
+from collections.abc import Awaitable, Callable, Iterable, Iterator, Sequence
 from contextlib import contextmanager
 from functools import cache
 from pathlib import Path
@@ -17,6 +17,7 @@ ROOT = Path(__file__).resolve().parents[2]
 PATIENCE = 120.0  # seconds in which a reply has to come
 TEXT_LIMIT = 1_048_576
 LINE_LIMIT = 4_096  # bytes
+BATCH = 250  # lines that are sent at one go
 CODE = ("utf-8", "surrogateescape")  # how bytes that are no text are kept
 
 
@@ -107,13 +108,25 @@ class Session:
             await self.process.wait()
 
 
-async def ask(verb: str, text: str, main: str) -> tuple[str, str]:
-    """What `stc check` or `stc layout` writes of a text on standard output, and what it says for people."""
+Start = Callable[[str, str, int], Awaitable[Session]]
+
+
+def forcing(forces: Iterable[str]) -> Iterator[str]:
+    """Lines that force what words P:=V say. No more than 256 commands can be undone, but a reset lets more be given."""
+    for count, word in enumerate(forces, 1):
+        yield "force " + word.replace(":=", " ")
+        if count % BATCH == 0:
+            yield "reset"
+
+
+async def ask(verb: str, text: str, main: str, lines: Iterable[str] = ()) -> tuple[str, str]:
+    """What `stc` writes of a text and lines on standard output, and what it says for people."""
     with _file_of(text) as name:
         words = (program(), verb, name, "--program", main)
-        process = await asyncio.create_subprocess_exec(*words, stdin=DEVNULL, stdout=PIPE, stderr=PIPE)
-        answer, said = await asyncio.wait_for(process.communicate(), PATIENCE)
-    return answer.decode(*CODE), said.decode(*CODE).replace(name, "program")
+        process = await asyncio.create_subprocess_exec(*words, stdin=PIPE, stdout=PIPE, stderr=PIPE)
+        data = "".join(line + "\n" for line in lines).encode(*CODE)
+        answer, said = await asyncio.wait_for(process.communicate(data), PATIENCE)
+    return answer.decode(*CODE), said.decode(*CODE).replace(name, "program").strip()
 
 
 async def layout_of(text: str, main: str) -> dict[str, str]:

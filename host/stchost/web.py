@@ -198,17 +198,16 @@ class Web:
     async def do_preview(self, client: Client, *renames: str) -> Answer:
         """What the text that was sent before would do as a change. Who asked may then do just this."""
         engine, text = self.engine, client.text
-        forced = [path for path, value in list(engine.values.items()) if value.forced]
         client.text, client.preview = "", None
         async with self._previewing:
-            found = await preview(engine.plant, engine.story.text, engine.version, forced, text, renames, engine.start)
-        client.preview = None if found.bad else found
-        return {"reply": found.trouble or found.answer, "bad": found.bad, "counts": found.counts, "rows": found.rows}
+            forced, old = engine.forced(), engine.story.text
+            client.preview = await preview(engine.plant, old, engine.version, forced, text, renames, engine.start)
+        return {"reply": client.preview.answer, "said": client.preview.said}
 
     async def do_change(self, client: Client) -> Answer:
         """Does the change that this client had a preview of last."""
         found, client.preview = client.preview, None
-        if found is None:
+        if found is None or not found.answer.startswith("ok"):
             raise Trouble("a change is done after its preview")
         return {"reply": await self.engine.asked(self.engine.change(client.person.name, found))}
 

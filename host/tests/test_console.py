@@ -34,8 +34,8 @@ quit
 show Main.Never
 """
     out = host.console(script, status=3)
-    for wanted in ("ok\nMain.Band INT 9 forced\n1 variables\n", "S2", "renamed Main.Band -> Main.Width\n",
-                   "new Main.More\n", "dropped 0 new 1\n", "Main.Width = 9 forced\n", "held\n", "refused O4", "refused O5",
+    for wanted in ("ok\nMain.Band INT 9 forced\n1 variables\n", "S2", "renamed: `Main.Band` is `Main.Width`\n",
+                   "new: `Main.More`\n", "dropped 0 new 1\n", "Main.Width = 9 forced\n", "held\n", "refused O4", "refused O5",
                    "refused O3", "refused O1", "going on\n", "none.st", "what belongs behind `takeback`"):
         assert wanted in out, out
     assert "Never" not in out

@@ -138,12 +138,11 @@ async def test_a_change_does_what_its_preview_says_and_is_taken_back_exactly(mak
         await client.until(lambda status: status["forces"] == 3)
         await asyncio.sleep(0.3)
         found = await client.ask("preview Main.N=Main.Number", new)
-        old, fresh = ("IN", "PT", "Q", "ET", "$RUN", "$START"), ("IN", "PT", "Q", "ET", "$M", "$RUN", "$START")
-        assert found["rows"] == [
-            *(["dropped", "Main.Delay." + name] for name in old), ["dropped", "Main.Band"], ["new", "Main.Extra"],
-            *(["new", "Main.Delay." + name] for name in fresh), ["renamed", "Main.N -> Main.Number"], ["lost", "Main.Band"]]
-        kept = found["counts"]["kept"]
-        assert await client.line("change") == found["reply"] == f"ok kept {kept} dropped 7 new 8"
+        assert found["reply"].endswith(" dropped 7 new 8") and not found["bad"]
+        for said in ("renamed: `Main.N` is `Main.Number`", "dropped: `Main.Delay.IN`", "`Main.Band` and 2 more",
+                     "new: `Main.Extra`", "force lost: `Main.Band` = 5"):
+            assert said in found["said"], found
+        assert await client.line("change") == found["reply"]
         assert await client.lines("show Main.Number", "show Main.Band") == ["Main.Number = 1000 forced", "refused O1"]
         await client.until(lambda status: status["journal"]["pieces"] > 3)
         number = next(row[0] for row in (await client.ask("log"))["rows"] if row[3].startswith("change"))
@@ -177,14 +176,14 @@ async def test_what_is_done_while_scans_are_held_is_undone_exactly(host: Host) -
 async def test_a_text_that_is_refused_says_why_and_changes_nothing(host: Host) -> None:
     async with host.client() as client:
         found = await client.ask("preview", BLOCKS.replace("10 / Z;", "10 / Zz;"))
-        assert found["bad"] and found["reply"].startswith("program:22:11: error: C1") and "Q := 10 / Zz;" in found["reply"]
+        assert found["bad"] and found["reply"] == "refused C1 line 22" and "Q := 10 / Zz;" in found["said"]
         assert (await client.ask("change"))["bad"]
         for old, new, why in [(" Raw : INT;", " END_VAR VAR Raw : INT; END_VAR VAR_INPUT", "Main.Raw is no VAR_INPUT"),
                               ("Raw : INT;", "Raw : SINT;", "Main.Raw, which the plant's file connects, would get another type"),
                               ("Raw : INT;", "", "the program has no Main.Raw")]:
             text = BLOCKS.replace(old, new).replace("Raw + 1", "1")
             found = await client.ask("preview", text)
-            assert found["counts"] and found["reply"].startswith(why) and found["bad"], found
+            assert found["reply"].startswith(why) and found["bad"], found
             assert (await client.ask("change"))["bad"]
         for line in ("scan 99999999", "change", "show", " ", "write Main.Q 1\nreset"):
             assert (await client.ask(line))["bad"], line

@@ -78,7 +78,7 @@ def test_a_force_a_change_and_what_is_taken_back(host: Host, browser) -> None:
     page.press("#edit")
     page.replace("Band : INT := 7;", "Other : INT;")
     page.press("#check")
-    seen = page.sees("#preview", "forces lost")
+    seen = page.sees("#preview", "force lost")
     assert "Main.Band" in seen and "Main.Other" in seen
     page.press("#do")
     page.sees("#log", "dropped 1 new 1")
