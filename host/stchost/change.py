@@ -5,7 +5,7 @@ from dataclasses import dataclass
 
 from . import Trouble
 from .plant import BITS, Plant
-from .session import CODE, TEXT_LIMIT, Start, ask, change_line, forcing, layout_of
+from .session import CODE, TEXT_LIMIT, Session, ask, change_line, forcing, layout_of
 from .values import BITS_OF, to_number, to_text
 
 Types = dict[str, str]  # of the leaves of a text, by their paths, in order
@@ -22,8 +22,7 @@ class Preview:
     types: Types
 
 
-async def preview(plant: Plant, old: str, version: int, forces: Sequence[str], text: str, renames: Sequence[str],
-                  start: Start) -> Preview:
+async def preview(plant: Plant, old: str, version: int, forces: Sequence[str], text: str, renames: Sequence[str]) -> Preview:
     """What a change from the text `old` by words OLD=NEW would do. Trouble where what is connected isn't in the new text."""
     if len(text.encode(*CODE)) > TEXT_LIMIT:
         return Preview("", version, "refused S4 line 1", "", {})
@@ -32,11 +31,11 @@ async def preview(plant: Plant, old: str, version: int, forces: Sequence[str], t
     found = Preview(line, version, replies.splitlines()[-1], said, {})
     if found.answer.startswith("ok"):
         found.types = await layout_of(text, plant.main)
-        await connections(plant, text, found.types, start, await layout_of(old, plant.main))
+        await connections(plant, text, found.types, await layout_of(old, plant.main))
     return found
 
 
-async def connections(plant: Plant, text: str, types: Types, start: Start, before: Types | None = None) -> None:
+async def connections(plant: Plant, text: str, types: Types, before: Types | None = None) -> None:
     """Trouble where the text hasn't what the plant's file connects: inputs under VAR_INPUT, outputs, types that fit, and those
     that they had before."""
     qualities = [point.quality for point in plant.input if point.quality]
@@ -51,7 +50,7 @@ async def connections(plant: Plant, text: str, types: Types, start: Start, befor
     _check_values(plant, types)
     if sum(len(path) + 28 for path in inputs) > 3_900 + 256 * 280:
         raise Trouble("these are more inputs than can be given before one scan")
-    session = await start(text, plant.main, 1)
+    session = await Session.start(text, plant.main, 1)
     try:
         lines = [line for path in inputs for line in (f"scan 0 {path}:={to_text(types[path], 0)}", "reset")]
         for path, reply in zip(inputs, (await session.exchange(lines))[::2]):

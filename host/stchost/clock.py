@@ -2,7 +2,6 @@
 
 import asyncio
 import time
-from dataclasses import asdict, dataclass
 
 
 class Clock:
@@ -18,31 +17,21 @@ class Clock:
         alarm.cancel()
 
 
-@dataclass
-class Figures:
-    """What is told of the cycles that were, in milliseconds."""
-
-    cycles: int = 0
-    late: int = 0  # began late by a millisecond and by a tenth of the cycle
-    overruns: int = 0  # weren't over when the next one was due
-    skipped: int = 0  # places that had no cycle
-    lateness_mean: float = 0.0
-    lateness_worst: float = 0.0
-    work_mean: float = 0.0
-    work_worst: float = 0.0
-
-    def told(self) -> dict[str, float]:
-        return {name: round(value, 3) for name, value in asdict(self).items()}
-
-
 class Cycle:
     """Cycles of `period` ms. The n-th has its place n periods behind the start, however late the ones before it came."""
 
     def __init__(self, clock: Clock, period: int, first: int = 0) -> None:
-        self.clock, self.period, self.figures = clock, period / 1000, Figures()
+        self.clock, self.period = clock, period / 1000
         self.moment = self._first = first  # the newest one that was given, and the one of the start
         self._start = self._began = clock.now()
         self._number = 0
+        self.cycles = self.late = self.overruns = self.skipped = 0  # `late` by a millisecond and by a tenth of the cycle
+        self.lateness_mean = self.lateness_worst = self.work_mean = self.work_worst = 0.0  # ms
+
+    def told(self) -> dict[str, float]:
+        """How many cycles there were, began late, weren't over when the next was due, and had no place; and in ms how late."""
+        names = ("cycles", "late", "overruns", "skipped", "lateness_mean", "lateness_worst", "work_mean", "work_worst")
+        return {name: round(vars(self)[name], 3) for name in names}
 
     def place(self) -> float:
         """When the cycle is due."""
@@ -51,23 +40,23 @@ class Cycle:
     def begin(self) -> int:
         """Begins the cycle that is due, or the newest one where several are. Its moment is the time since the start in ms, and
         never before the last one."""
-        self._began, figures = self.clock.now(), self.figures
+        self._began = self.clock.now()
         passed = max(0, int((self._began - self.place()) / self.period))
         self._number += passed
         late = max(0.0, self._began - self.place()) * 1000
-        figures.cycles += 1
-        figures.skipped += passed
-        figures.lateness_mean += (late - figures.lateness_mean) / figures.cycles
-        figures.lateness_worst = max(figures.lateness_worst, late)
-        figures.late += late >= max(1.0, self.period * 100)
+        self.cycles += 1
+        self.skipped += passed
+        self.lateness_mean += (late - self.lateness_mean) / self.cycles
+        self.lateness_worst = max(self.lateness_worst, late)
+        self.late += late >= max(1.0, self.period * 100)
         self.moment = max(self.moment, self._first + int((self._began - self._start) * 1000 + 0.001))
         return self.moment
 
     def end(self) -> None:
         """Ends the cycle."""
-        now, figures = self.clock.now(), self.figures
+        now = self.clock.now()
         work = (now - self._began) * 1000
-        figures.work_mean += (work - figures.work_mean) / figures.cycles
-        figures.work_worst = max(figures.work_worst, work)
+        self.work_mean += (work - self.work_mean) / self.cycles
+        self.work_worst = max(self.work_worst, work)
         self._number += 1
-        figures.overruns += now > self.place()
+        self.overruns += now > self.place()

@@ -3,7 +3,7 @@
 import asyncio
 import time
 from collections import deque
-from collections.abc import AsyncIterator, Awaitable, Callable, Coroutine, Sequence
+from collections.abc import AsyncIterator, Callable, Coroutine, Sequence
 from contextlib import asynccontextmanager, suppress
 from itertools import islice
 from typing import Any, NamedTuple, TypeVar
@@ -16,7 +16,7 @@ from .inputs import Inputs
 from .journal import Journal, Record, read
 from .plant import Plant
 from .replay import NO_BASE, UNDOABLE, Replay, Story, restore
-from .session import CODE, Gone, Session, Start, checked, explain, layout_of, words_of
+from .session import CODE, Gone, Session, checked, explain, layout_of, words_of
 from .values import to_number
 
 QUEUE_LIMIT = 1_000
@@ -39,9 +39,6 @@ class Value(NamedTuple):
 
 class Engine:
     """Runs a plant: one session with `stc`, its devices, its journal, and a queue of what others want of it."""
-
-    start: Start = staticmethod(Session.start)
-    layout: Callable[[str, str], Awaitable[Types]] = staticmethod(layout_of)
 
     def __init__(self, plant: Plant, clock: Clock, connect: Callable[[Types], list[Device]]) -> None:
         self.plant, self.clock, self._connect = plant, clock, connect
@@ -136,11 +133,11 @@ class Engine:
             if self.journal.trouble or self.journal.base is None:
                 raise Trouble(self.journal.trouble or NO_BASE)
             await self.journal.written()
-            self._news, replay = [], Replay(self.start, {number} | self.story.gone)
+            self._news, replay = [], Replay({number} | self.story.gone)
             await replay.feed(islice(read(self.journal.folder, self.journal.base), self.journal.records))
             try:
-                types = await self.layout(replay.story.text, self.plant.main)
-                await connections(self.plant, replay.story.text, types, self.start)
+                types = await layout_of(replay.story.text, self.plant.main)
+                await connections(self.plant, replay.story.text, types)
                 async with self.gap():
                     await self._take_over(who, number, replay, types)
             except BaseException:
@@ -256,7 +253,7 @@ class Engine:
             self._keep(self.story.base(self.forced()))
             self.trouble = ""
         elif verb == "undo" and self.story.text is not text:
-            self._take_program(await self.layout(self.story.text, self.plant.main))
+            self._take_program(await layout_of(self.story.text, self.plant.main))
         elif path := self.spelled.get(path.upper(), ""):
             await self._show([path])
 
@@ -324,7 +321,7 @@ class Engine:
             "fault": self.fault, "why": explain(f"fault {self.fault}"), "trouble": self.trouble, "moment": self.story.moment,
             "version": self.version, "forces": self.forces, "undos": self.undos,
             "undo": self.story.undoable[-1][0].line if self.story.undoable else "", "period": self.plant.cycle,
-            **self.cycle.figures.told(), "waiting": len(self._queue), "restarts": self.restarts, "journal": journal,
+            **self.cycle.told(), "waiting": len(self._queue), "restarts": self.restarts, "journal": journal,
             "devices": [device.told() for device in self.devices], "good": dict(self.inputs.good), "driven": dict(self.driven),
         }
 
@@ -358,16 +355,16 @@ class Engine:
     async def _recover(self) -> None:
         """Starts where the journal ends; or loads the program where there is no journal."""
         self.journal.close()
-        if replay := await restore(self.start, self.journal.folder):
+        if replay := await restore(self.journal.folder):
             self.session, self.story = replay.session, replay.story
             self.journal.resume(replay.records)
         else:
             self.story = Story(self.plant.text.read_bytes().decode(*CODE), self.plant.main, self.plant.steps)
-            self.session = await self.start(self.story.text, self.story.main, self.story.steps)
+            self.session = await Session.start(self.story.text, self.story.main, self.story.steps)
             self.journal.resume(0)
             self._keep(self.story.base([]))
-        types = await self.layout(self.story.text, self.plant.main)
-        await connections(self.plant, self.story.text, types, self.start)
+        types = await layout_of(self.story.text, self.plant.main)
+        await connections(self.plant, self.story.text, types)
         self._take_program(types)
         await self._read_status()
         self.devices = self.devices or self._connect(types)

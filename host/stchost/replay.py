@@ -11,7 +11,7 @@ from pathlib import Path
 
 from . import Trouble, journal
 from .journal import OWN, Record
-from .session import BATCH, Session, Start, forcing, layout_of
+from .session import BATCH, Session, forcing, layout_of
 
 KEPT = 2_000  # commands that are remembered
 UNDOABLE = ("write", "force", "release", "change")  # what `undo` and a take back undo
@@ -71,8 +71,8 @@ class Story:
 class Replay:
     """Sends the records of a journal to a session, but for the commands that were taken back."""
 
-    def __init__(self, start: Start, skipped: Iterable[int] = ()) -> None:
-        self.start, self.skipped = start, frozenset(skipped)
+    def __init__(self, skipped: Iterable[int] = ()) -> None:
+        self.skipped = frozenset(skipped)
         self.session: Session | None = None
         self.story = Story()
         self.records = self.lines = 0
@@ -110,7 +110,7 @@ class Replay:
         if record.words[0] != "load":
             raise Trouble(NO_BASE)
         _, moment, main, steps, *forces = record.words
-        session = await self.start(record.line.partition("\n")[2], main, int(steps))
+        session = await Session.start(record.line.partition("\n")[2], main, int(steps))
         await session.exchange([*forcing(forces), *([f"scan {moment}"] if moment != "0" else []), "reset"])
         return session
 
@@ -129,7 +129,7 @@ class Replay:
         self.story.take(record)
 
 
-async def restore(start: Start, folder: Path, moment: int | None = None) -> Replay | None:
+async def restore(folder: Path, moment: int | None = None) -> Replay | None:
     """The state behind the last scan up to a moment, or at the end of a journal. None where there is no journal."""
     if next(journal.read(folder), None) is None:
         return None
@@ -144,7 +144,7 @@ async def restore(start: Start, folder: Path, moment: int | None = None) -> Repl
         found = journal.read(folder, reaching[-1])
         return found if moment is None else takewhile(lambda record: record.moment <= moment, found)
 
-    replay = Replay(start, (int(record.words[1]) for record in records() if record.words[0] == "takeback"))
+    replay = Replay(int(record.words[1]) for record in records() if record.words[0] == "takeback")
     await replay.feed(records())
     return replay
 
@@ -152,7 +152,7 @@ async def restore(start: Start, folder: Path, moment: int | None = None) -> Repl
 async def show(folder: Path, moment: int | None, words: list[str]) -> None:
     """Prints the status and the leaves whose paths have these words; how fast the replay was goes to standard error."""
     began = time.monotonic()
-    replay = await restore(Session.start, folder, moment)
+    replay = await restore(folder, moment)
     if replay is None or replay.session is None:
         raise Trouble("there is no journal")
     took = time.monotonic() - began

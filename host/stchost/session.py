@@ -5,7 +5,7 @@ import os
 import re
 import tempfile
 from asyncio.subprocess import DEVNULL, PIPE, Process
-from collections.abc import Awaitable, Callable, Iterable, Iterator, Sequence
+from collections.abc import Iterable, Iterator, Sequence
 from contextlib import contextmanager
 from functools import cache
 from pathlib import Path
@@ -106,9 +106,6 @@ class Session:
         except asyncio.TimeoutError:
             self.process.kill()
             await self.process.wait()
-
-
-Start = Callable[[str, str, int], Awaitable[Session]]
 
 
 def forcing(forces: Iterable[str]) -> Iterator[str]:

@@ -201,7 +201,7 @@ class Web:
         client.text, client.preview = "", None
         async with self._previewing:
             forced, old = engine.forced(), engine.story.text
-            client.preview = await preview(engine.plant, old, engine.version, forced, text, renames, engine.start)
+            client.preview = await preview(engine.plant, old, engine.version, forced, text, renames)
         return {"reply": client.preview.answer, "said": client.preview.said}
 
     async def do_change(self, client: Client) -> Answer:

@@ -1,16 +1,15 @@
 """What the tests share: hosts in folders of their own, clients of them, sessions with `stc` that share nothing with the host."""
 
 import asyncio
+import contextlib
 import fcntl
-import inspect
 import signal
 import socket
 import subprocess
 import sys
 import tempfile
 import time
-from collections.abc import AsyncIterator, Callable, Collection, Iterator, Sequence
-from contextlib import asynccontextmanager
+from collections.abc import Callable, Collection, Iterator, Sequence
 from pathlib import Path
 from typing import Any
 
@@ -82,15 +81,6 @@ print(worst * 1000)
 """
 
 
-@pytest.hookimpl(tryfirst=True)
-def pytest_pyfunc_call(pyfuncitem: Any) -> bool | None:
-    """Runs a test that is a coroutine."""
-    if not inspect.iscoroutinefunction(pyfuncitem.obj):
-        return None
-    asyncio.run(pyfuncitem.obj(**{name: pyfuncitem.funcargs[name] for name in pyfuncitem._fixtureinfo.argnames}))
-    return True
-
-
 def needs(*names: str) -> pytest.MarkDecorator:
     """Skips a test where a package isn't there, and names it."""
     missing = packages.missing(*names)
@@ -156,44 +146,57 @@ def state(text: str, lines: Sequence[str]) -> list[str]:
 class Client:
     """What a page does, without the page."""
 
-    def __init__(self, live: Any) -> None:
-        self.live = live
+    def __init__(self, url: str, token: str) -> None:
+        self.runner = asyncio.Runner()
+        self.live = self.run(self._open(url, token))
+        self.hello = self.next(lambda news: True)
 
-    async def ask(self, line: str, text: str = "") -> dict[str, Any]:
+    async def _open(self, url: str, token: str) -> Any:
+        import aiohttp
+
+        self.http = aiohttp.ClientSession()
+        return await self.http.ws_connect(url + "/live", protocols=[token], max_msg_size=1 << 24)
+
+    def run(self, work: Any) -> Any:
+        return self.runner.run(asyncio.wait_for(work, 60))
+
+    def close(self) -> None:
+        self.run(self.http.close())
+        self.runner.close()
+
+    def ask(self, line: str, text: str = "") -> dict[str, Any]:
         if text:
-            await self.live.send_bytes(text.encode()[:1_048_577])
-        await self.live.send_str(line)
-        return await self.next(lambda news: "reply" in news)
+            self.run(self.live.send_bytes(text.encode()[:1_048_577]))
+        self.run(self.live.send_str(line))
+        return self.next(lambda news: "reply" in news)
 
-    async def line(self, line: str, text: str = "") -> str:
-        return (await self.ask(line, text))["reply"]
+    def line(self, line: str, text: str = "") -> str:
+        return self.ask(line, text)["reply"]
 
-    async def lines(self, *lines: str) -> list[str]:
-        return [await self.line(line) for line in lines]
+    def lines(self, *lines: str) -> list[str]:
+        return [self.line(line) for line in lines]
 
-    async def sees(self, line: str, reply: str) -> None:
+    def sees(self, line: str, reply: str) -> None:
         """Waits until a line is answered so."""
-        async with asyncio.timeout(60):
-            while await self.line(line) != reply:
-                await asyncio.sleep(0.02)
+        wait_for(lambda: self.line(line) == reply)
 
-    async def until(self, what: Callable[[dict[str, Any]], bool]) -> dict[str, Any]:
+    def until(self, what: Callable[[dict[str, Any]], bool]) -> dict[str, Any]:
         """The next status of which something is true."""
-        return (await self.next(lambda news: bool(news.get("status")) and what(news["status"])))["status"]
+        return self.next(lambda news: bool(news.get("status")) and what(news["status"]))["status"]
 
-    async def hold(self) -> None:
-        await self.ask("hold")
-        await self.until(lambda status: status["state"] == "held")
+    def hold(self) -> None:
+        assert self.line("hold") == "held"
+        self.until(lambda status: status["state"] == "held")
 
-    async def next(self, what: Callable[[dict[str, Any]], bool]) -> dict[str, Any]:
-        async with asyncio.timeout(60):
-            while not what(news := await self.live.receive_json()):
-                pass
+    def next(self, what: Callable[[dict[str, Any]], bool]) -> dict[str, Any]:
+        end = time.monotonic() + 60
+        while not what(news := self.run(self.live.receive_json())):
+            assert time.monotonic() < end, news
         return news
 
 
 class Host:
-    """A plant in a folder of its own, and the process that runs it."""
+    """A plant in a folder of its own, the process that runs it, and its clients."""
 
     def __init__(self, folder: Path, text: str, file: str) -> None:
         self.folder, self.port, self.modbus, self.plant = folder, free_port(), free_port(), str(folder / "plant")
@@ -205,6 +208,7 @@ class Host:
         tokens.write_text(f'[act]\nanna = "{ACT}"\n[look]\nluca = "{LOOK}"\n')
         tokens.chmod(0o600)
         self.process: subprocess.Popen[str] | None = None
+        self.clients: list[Client] = []
 
     def start(self, *words: str) -> None:
         command = [str(HOST / "run"), self.plant, *words]
@@ -214,6 +218,8 @@ class Host:
 
     def stop(self, number: int = signal.SIGTERM) -> str:
         """Ends it. The answer has what it said on its terminal."""
+        while self.clients:
+            self.clients.pop().close()
         if self.process is None:
             return ""
         self.process.send_signal(number)
@@ -235,27 +241,19 @@ class Host:
     def replayed(self, *words: str) -> list[str]:
         return self.tool("replay", str(self.journal), *words, status=0).splitlines()[:-1]
 
-    @asynccontextmanager
-    async def client(self, token: str = ACT) -> AsyncIterator[Client]:
-        import aiohttp
+    def client(self, token: str = ACT) -> Client:
+        self.clients.append(Client(self.url, token))
+        return self.clients[-1]
 
-        live = aiohttp.ClientSession()
-        async with live as http, http.ws_connect(self.url + "/live", protocols=[token], max_msg_size=1 << 24) as socket:
-            assert "hello" in await socket.receive_json()
-            yield Client(socket)
-
-    async def status(self) -> dict[str, Any]:
-        async with self.client(LOOK) as client:
-            return await client.until(lambda status: status["cycles"] > 20)
-
-    @asynccontextmanager
-    async def undelayed(self) -> AsyncIterator[None]:
+    @contextlib.contextmanager
+    def undelayed(self) -> Iterator[None]:
         """No scan comes later meanwhile than a cycle and what the machine is late by itself; one place may be lost."""
-        before = await self.status()
+        before = self.client(LOOK).until(lambda status: status["cycles"] > 20)
+        self.clients.pop().close()
         with subprocess.Popen([sys.executable, "-c", NOISE], stdin=subprocess.PIPE, stdout=subprocess.PIPE, text=True) as noise:
             yield
-            late = 3 * float((await asyncio.to_thread(noise.communicate, ""))[0])
-        after = await self.status()
+            late = 3 * float(noise.communicate("")[0])
+        after = self.client(LOOK).until(lambda status: True)
         cycles = after["cycles"] - before["cycles"]
         most = max(before["period"] + late, before["lateness_worst"] + 1)
         assert cycles > 50 and after["lateness_worst"] < most, (late, before, after)
@@ -282,3 +280,8 @@ def make_host(tmp_path: Path) -> Iterator[Callable[..., Host]]:
 def host(make_host: Callable[..., Host]) -> Host:
     """A host that runs the program with blocks."""
     return make_host()
+
+
+@pytest.fixture
+def client(host: Host) -> Client:
+    return host.client()

@@ -1,4 +1,4 @@
-"""The clock and the queue, over a clock that the test moves and a stand-in for `stc`."""
+"""The clock and the queue, over a clock that the test moves."""
 
 import asyncio
 from collections.abc import Awaitable, Callable, Sequence
@@ -9,9 +9,15 @@ import pytest
 from stchost.clock import Clock, Cycle
 from stchost.engine import Engine
 from stchost.plant import load
+from stchost.session import Session
 
-FILE = 'program = "p.st"\ncycle = 10\ninput = [{path = "Main.In", device = "d"}, {path = "Main.By_Hand"}]\n'
-FILE += 'device = [{name = "d", kind = "simulation"}]\npage = {refresh = 10000}\n'
+TEXT = "PROGRAM Main\nVAR_INPUT In, By_Hand : INT; END_VAR\nVAR Out : INT; END_VAR\nOut := Out;\nEND_PROGRAM\n"
+FILE = """program = "p.st"
+cycle = 10
+input = [{path = "Main.In", device = "d"}, {path = "Main.By_Hand"}]
+device = [{name = "d", kind = "simulation"}]
+page = {refresh = 10000}
+"""
 Visit = tuple[float, Callable[[], Awaitable[object]]]  # what comes at a time
 
 
@@ -38,69 +44,44 @@ class FakeClock(Clock):
         await asyncio.sleep(0)
 
 
-class FakeSession:
-    """Stands in for `stc` over a program without statements. Each line takes some time of the clock."""
-
-    def __init__(self, clock: FakeClock, cost: Callable[[str], float]) -> None:
-        self.clock, self.cost, self.values = clock, cost, {"Main.In": "0", "Main.By_Hand": "0", "Main.Out": "0"}
-        self.lines: list[str] = []
-        self.scans: list[tuple[float, int]] = []  # when each came, and its moment
-
-    async def exchange(self, lines: Sequence[str]) -> list[str]:
-        return [self.answer(line) for line in lines]
-
-    def answer(self, line: str) -> str:
-        self.lines.append(line)
-        verb, *words = line.split()
-        if verb == "scan":
-            self.scans.append((round(self.clock.time, 6), int(words[0])))
-        self.clock.time += self.cost(line)
-        if verb in ("show", "write", "force") and words[0] not in self.values:
-            return "refused O1"
-        if verb in ("write", "force"):
-            self.values[words[0]] = words[1] + " forced" * (verb == "force")
-        shown = f"{words[0]} = {self.values.get(words[0])}" if words else ""
-        return {"show": shown, "status": "running 0 forces 0 undo 0"}.get(verb, "ok")
-
-    async def close(self) -> None:
-        pass
-
-
 class Bench:
-    """An engine over the fakes, which tests run for some time with visits."""
+    """An engine over a fake clock, of which each line takes some time. Tests run it with visits."""
 
-    def __init__(self, folder: Path) -> None:
-        (folder / "p.st").write_text("PROGRAM Main\nEND_PROGRAM\n")
+    def __init__(self, folder: Path, monkeypatch: pytest.MonkeyPatch) -> None:
+        (folder / "p.st").write_text(TEXT)
         (folder / "p.toml").write_text(FILE)
         self.clock, self.cost = FakeClock(), lambda line: 0.0
-        self.session = FakeSession(self.clock, lambda line: self.cost(line))
-        sessions = iter([self.session])
-
-        async def start(text: str, main: str, steps: int) -> FakeSession:
-            return next(sessions, FakeSession(self.clock, lambda line: 0.0))  # the first one is the plant's
-
-        async def layout(text: str, main: str) -> dict[str, str]:
-            return dict.fromkeys(self.session.values, "INT")
-
+        self.lines: list[str] = []
+        self.scans: list[tuple[float, int]] = []  # when each came, and its moment
         self.engine = Engine(load(folder / "p.toml"), self.clock, lambda types: [])
-        self.engine.start, self.engine.layout = start, layout
+        real = Session.exchange
 
-    async def run(self, seconds: float, *visits: Visit) -> list[int]:
+        async def exchange(session: Session, lines: Sequence[str]) -> list[str]:
+            for line in lines if session is self.engine.session else ():
+                if line.startswith("scan"):
+                    self.scans.append((round(self.clock.time, 6), int(line.split()[1])))
+                self.lines.append(line)
+                self.clock.time += self.cost(line)
+            return await real(session, lines)
+
+        monkeypatch.setattr(Session, "exchange", exchange)
+
+    def run(self, seconds: float, *visits: Visit) -> list[int]:
         """The moments of the scans."""
         async def stop() -> None:
             self.engine.stop()
 
         self.clock.visits = [*visits, (seconds, stop)]
-        await self.engine.run()
-        return [moment for _, moment in self.session.scans]
+        asyncio.run(self.engine.run())
+        return [moment for _, moment in self.scans]
 
     async def operate(self, *lines: str) -> list[str]:
         return list(await asyncio.gather(*(self.engine.operate("anna", line) for line in lines)))
 
 
 @pytest.fixture
-def bench(tmp_path: Path) -> Bench:
-    return Bench(tmp_path)
+def bench(tmp_path: Path, monkeypatch: pytest.MonkeyPatch) -> Bench:
+    return Bench(tmp_path, monkeypatch)
 
 
 @pytest.mark.parametrize("lateness, work, moments, places, figures", [
@@ -116,46 +97,46 @@ def test_cycles_have_their_places(lateness, work, moments: list[int], places: li
         due.append(round(cycle.place() * 1000, 6))
         clock.time += long
         cycle.end()
-    told = cycle.figures.told()
+    told = cycle.told()
     assert (begun, due) == (moments, places)
     assert tuple(told[key] for key in ("cycles", "late", "overruns", "skipped", "lateness_worst", "work_worst")) == figures
 
 
-async def test_lines_wait_for_the_gap_between_two_scans(bench: Bench) -> None:
+def test_lines_wait_for_the_gap_between_two_scans(bench: Bench) -> None:
     bench.cost, replies = lambda line: 0.0001, []
 
     async def visit() -> None:
         replies.extend(await bench.operate("force Main.Out 7", "show Main.Out", "write Main.Nope 1"))
 
-    await bench.run(0.1, (0.0145, visit))
+    bench.run(0.1, (0.0145, visit))
     assert replies == ["ok", "Main.Out = 7 forced", "refused O1"]
-    first, lines = bench.session.scans[0][0], bench.session.lines
-    assert [round(at - first, 6) for at, _ in bench.session.scans] == [round(0.01 * place, 6) for place in range(10)]
+    first, lines = bench.scans[0][0], bench.lines
+    assert [round(at - first, 6) for at, _ in bench.scans] == [round(0.01 * place, 6) for place in range(10)]
     assert lines.index("force Main.Out 7") < next(place for place, line in enumerate(lines) if line.startswith("scan 20"))
 
 
-async def test_a_crowd_of_lines_delays_no_scan(bench: Bench) -> None:
+def test_a_crowd_of_lines_delays_no_scan(bench: Bench) -> None:
     bench.cost, done = lambda line: 0.0003, []
 
     async def visit() -> None:
         done.extend(await bench.operate(*(f"write Main.Out {number}" for number in range(500))))
 
-    assert await bench.run(1.0, (0.012, visit)) == [10 * place for place in range(100)]
+    assert bench.run(1.0, (0.012, visit)) == [10 * place for place in range(100)]
     assert done == ["ok"] * 500
-    assert bench.engine.cycle.figures.lateness_worst < 1.0 and bench.engine.cycle.figures.overruns == 0
+    told = bench.engine.cycle.told()
+    assert told["lateness_worst"] < 1.0 and told["overruns"] == 0
 
 
-async def test_a_long_line_delays_one_scan_and_no_more(bench: Bench) -> None:
+def test_a_long_line_delays_one_scan_and_no_more(bench: Bench) -> None:
     bench.cost = lambda line: 0.024 if line.startswith("force") else 0.0
-    moments = await bench.run(0.1, (0.012, lambda: bench.operate("force Main.Out 7")))
-    assert moments[:6] == [0, 10, 36, 40, 50, 60]
+    assert bench.run(0.1, (0.012, lambda: bench.operate("force Main.Out 7")))[:6] == [0, 10, 36, 40, 50, 60]
 
 
-async def test_inputs_are_given_once_and_those_of_devices_again_behind_a_command(bench: Bench) -> None:
+def test_inputs_are_given_once_and_those_of_devices_again_behind_a_command(bench: Bench) -> None:
     async def visit() -> None:
         bench.engine.inputs.poll("d", {"Main.In": 41})
         await bench.engine.set_input("Main.By_Hand", 7)
 
-    await bench.run(0.05, (0.012, visit), (0.032, lambda: bench.operate("write Main.Out 0")))
-    assert [line for line in bench.session.lines if line.startswith("scan")] == [
+    bench.run(0.05, (0.012, visit), (0.032, lambda: bench.operate("write Main.Out 0")))
+    assert [line for line in bench.lines if line.startswith("scan")] == [
         "scan 0", "scan 10", "scan 20 Main.In:=41 Main.By_Hand:=7", "scan 30", "scan 40 Main.In:=41"]
