@@ -176,10 +176,6 @@ class Client:
     def lines(self, *lines: str) -> list[str]:
         return [self.line(line) for line in lines]
 
-    def sees(self, line: str, reply: str) -> None:
-        """Waits until a line is answered so."""
-        wait_for(lambda: self.line(line) == reply)
-
     def until(self, what: Callable[[dict[str, Any]], bool]) -> dict[str, Any]:
         """The next status of which something is true."""
         return self.next(lambda news: bool(news.get("status")) and what(news["status"]))["status"]

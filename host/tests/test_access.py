@@ -3,9 +3,12 @@
 import asyncio
 import contextlib
 import dataclasses
+import http.client
 import os
 import socket
 import time
+from concurrent.futures import ThreadPoolExecutor
+from functools import partial
 
 import pytest
 
@@ -15,44 +18,36 @@ from stchost import Trouble, access, plant as plants
 pytestmark = needs("aiohttp")
 
 
-async def get(host: Host, path: str, **headers: str) -> tuple[int, str]:
-    import aiohttp
-
-    async with aiohttp.ClientSession() as session, session.get(host.url + path, headers=headers) as response:
-        return response.status, await response.text()
-
-
-async def refused(host: Host, token: str) -> str:
-    """What the host says as it refuses a client."""
-    import aiohttp
-
-    async with aiohttp.ClientSession() as session, session.ws_connect(host.url + "/live", protocols=[token]) as live:
-        return (await live.receive_json())["refused"]
+def get(host: Host, path: str, **headers: str) -> tuple[int, str]:
+    with contextlib.closing(http.client.HTTPConnection("127.0.0.1", host.port, timeout=20)) as connection:
+        connection.request("GET", path, headers=headers)
+        response = connection.getresponse()
+        return response.status, response.read().decode()
 
 
-async def test_without_a_token_nothing_is_shown(host: Host) -> None:
+def test_without_a_token_nothing_is_shown(host: Host) -> None:
     for path in ("/", "/page.js", "/page.css"):
-        status, text = await get(host, path)
+        status, text = get(host, path)
         assert status == 200 and "Main" not in text.replace("Main.Old=Main.New", "")
     for token in ("", "x" * 32, ACT[:-1], "system"):
-        assert await refused(host, token) == "this token isn't known"
+        assert host.client(token).hello == {"refused": "this token isn't known"}
 
 
-async def test_a_token_to_look_does_not_act(host: Host) -> None:
-    async with host.client(LOOK) as client:
-        assert await client.line("show Main.Band") == "Main.Band = 7"
-        assert "PROGRAM Main" in (await client.ask("program"))["text"]
-        for line in ("write Main.Q 1", "hold", "go", "change", "takeback 1", "preview"):
-            assert await client.ask(line) == {"reply": "this token is to look, not to act", "bad": True}
+def test_a_token_to_look_does_not_act(host: Host) -> None:
+    client = host.client(LOOK)
+    assert client.line("show Main.Band") == "Main.Band = 7"
+    assert "PROGRAM Main" in client.ask("program")["text"]
+    for line in ("write Main.Q 1", "hold", "go", "change", "takeback 1", "preview"):
+        assert client.ask(line) == {"reply": "this token is to look, not to act", "bad": True}
 
 
-async def test_other_origins_and_hosts_are_refused(host: Host) -> None:
+def test_other_origins_and_hosts_are_refused(host: Host) -> None:
     for path, status, headers in [("/", 403, {"Origin": "http://evil.example"}), ("/live", 403, {"Origin": "null"}),
                                   ("/", 403, {"Host": f"evil.example:{host.port}"}), ("/", 200, {"Origin": host.url})]:
-        assert (await get(host, path, **headers))[0] == status
+        assert get(host, path, **headers)[0] == status
 
 
-async def test_wrong_tokens_wait_longer_each_time(monkeypatch: pytest.MonkeyPatch) -> None:
+def test_wrong_tokens_wait_longer_each_time(monkeypatch: pytest.MonkeyPatch) -> None:
     gate, waits = access.Gate({ACT: access.Person("anna", True)}), []
 
     async def sleep(seconds: float) -> None:
@@ -60,7 +55,7 @@ async def test_wrong_tokens_wait_longer_each_time(monkeypatch: pytest.MonkeyPatc
 
     monkeypatch.setattr(asyncio, "sleep", sleep)
     for token, address in [("wrong", "a")] * 7 + [(ACT, "a"), ("wrong", "b")]:
-        assert (await gate.who(token, address) is None) is (token == "wrong")
+        assert (asyncio.run(gate.who(token, address)) is None) is (token == "wrong")
     assert waits == [0.5, 1, 2, 4, 8, 16, 20, 0.5]
 
 
@@ -95,59 +90,47 @@ def test_a_program_without_what_is_connected_is_refused(make_host) -> None:
     assert "Main.Band is no VAR_INPUT of the program: refused O12" in host.tool("run", host.plant, status=1)
 
 
-async def test_floods_slow_readers_and_half_open_connections_delay_no_scan(make_host) -> None:
-    import aiohttp
-
+def test_floods_slow_readers_and_half_open_connections_delay_no_scan(make_host) -> None:
     host = make_host(file=FILE.replace("refresh = 50", "refresh = 50, clients = 4"))
 
-    async def flood(until: float) -> int:
+    def flood(work) -> int:
         count = 0
-        async with aiohttp.ClientSession() as session:
-            while time.monotonic() < until:
-                with contextlib.suppress(aiohttp.ClientError, asyncio.TimeoutError):
-                    async with session.get(host.url + "/page.js", timeout=2) as response:
-                        count += len(await response.read()) > 0
-                await asyncio.sleep(0)
+        while time.monotonic() < until:
+            with contextlib.suppress(OSError, http.client.HTTPException):
+                count += bool(work())
         return count
 
-    async def lines(until: float) -> int:
-        count = 0
-        async with host.client() as client:
-            while time.monotonic() < until:
-                count += (await client.line(f"write Main.Band {count % 1000}")) == "ok"
-        return count
-
-    async with host.undelayed():
+    with host.undelayed(), ThreadPoolExecutor(6) as pool:
         idle = [socket.create_connection(("127.0.0.1", host.port)) for _ in range(40)]
         idle[0].sendall(b"GET / HTTP/1.1\r\nX: ")
         idle[1].sendall(b"\xff" * 100_000)
         idle[2].sendall(b"GET /page.js HTTP/1.1\r\nHost: 127.0.0.1:%d\r\n\r\n" % host.port * 500)  # it reads no answers
-        until = time.monotonic() + 4
-        counts = await asyncio.gather(*(flood(until) for _ in range(4)), lines(until), lines(until))
-        assert all(counts), counts
+        until, clients = time.monotonic() + 4, [host.client(), host.client()]
+        works = [partial(get, host, "/page.js")] * 4 + [partial(client.line, "write Main.Band 5") for client in clients]
+        assert all(pool.map(flood, works))
         for made in idle:
             made.close()
 
 
-async def test_connections_are_bounded_and_idle_ones_closed(make_host) -> None:
+def test_connections_are_bounded_and_idle_ones_closed(make_host) -> None:
     host = make_host(file=FILE.replace("refresh = 50", "refresh = 50, clients = 1"))
     made = [socket.create_connection(("127.0.0.1", host.port)) for _ in range(150)]
     wait_for(lambda: sum(map(ended, made)) >= 20)
     assert sum(map(ended, made)) < 150
     wait_for(lambda: sum(map(ended, made)) == 150)  # the others asked for nothing in time
-    assert (await get(host, "/"))[0] == 200
+    assert get(host, "/")[0] == 200
 
 
-async def test_sizes_and_numbers_are_bounded(make_host) -> None:
+def test_sizes_and_numbers_are_bounded(make_host) -> None:
     host = make_host(file=FILE.replace("refresh = 50", "refresh = 50, clients = 2"))
-    async with host.client() as client, host.client(LOOK) as other:
-        assert await refused(host, ACT) == "too many clients"
-        assert await client.line("preview", "x" * 1_200_000) == "refused S4 line 1"
-        for bad in ("", "__init__", "watch\0", "log x", "scan 1", "show A\nreset", "show " + "A" * 5_000):
-            assert (await other.ask(bad))["bad"] is True
-        with contextlib.suppress(OSError):  # it is cut off
-            await other.live.send_str("x" * 100_000)
-        assert await client.line("show Main.Z") == "Main.Z = 1"
+    client, other = host.client(), host.client(LOOK)
+    assert host.client().hello == {"refused": "too many clients"}
+    assert client.line("preview", "x" * 1_200_000) == "refused S4 line 1"
+    for bad in ("", "__init__", "watch\0", "log x", "scan 1", "show A\nreset", "show " + "A" * 5_000):
+        assert other.ask(bad)["bad"] is True
+    with contextlib.suppress(OSError):  # it is cut off
+        other.run(other.live.send_str("x" * 100_000))
+    assert client.line("show Main.Z") == "Main.Z = 1"
 
 
 def test_the_manual_has_every_key() -> None:
