@@ -218,8 +218,8 @@ function lane(path, i) {
     const numbers = list.map(([, texts]) => numeric(texts[path])), bit = /^(TRUE|FALSE)$/.test(valueOf(path)[0]);
     const [low, high] = bit ? [0, 1] : [Math.min(...numbers), Math.max(...numbers)];
     curve.setAttribute("d", list.map(([moment], k) => {
-      const x = (1000 * (1 - (end - moment) / span)).toFixed(1), y = (95 - 90 * (numbers[k] - low) / (high - low || 1)).toFixed(1);
-      return k ? `${bit ? `H${x}V` : `L${x} `}${y}` : `M${x} ${y}`;
+      const x = 1000 * (1 - (end - moment) / span), y = 95 - 90 * (numbers[k] - low) / (high - low || 1);
+      return `${k ? bit ? `H${x} V` : `L${x} ` : `M${x} `}${y}`;
     }).join(""));
     box.classList.toggle("bit", bit);
     title.textContent = `${short(path)}: ${human(valueOf(path)[0])}`;
@@ -237,8 +237,8 @@ async function loadProgram() {
     const at = path.lastIndexOf("."), owner = path.slice(0, at);
     owners.set(owner, [...(owners.get(owner) || []), path.slice(at + 1)]);
   }
-  $("charts").replaceChildren(...[...owners].flatMap(([owner, steps]) => [el("h2", {}, owner), drawChart(owner, steps)]));
-  if (!owners.size) $("charts").append(el("p", {className: "note"}, "This program has no charts."));
+  $("charts").replaceChildren(...[...owners].flatMap(([owner, steps]) => [el("h2", {}, owner), drawChart(owner, steps)]),
+    owners.size ? "" : "This program has no charts.");
   show(view);
 }
 const same = (one, other) => one.toUpperCase() === other.toUpperCase();
@@ -265,38 +265,21 @@ function layersOf(steps, {first, ways}) {
   return steps.map((_, step) => layer.get(step) ?? last);
 }
 function drawChart(owner, steps) {
-  const chart = waysOf(steps), layer = layersOf(steps, chart), high = 104, wide = 220;
-  const rows = steps.map((_, i) => steps.map((_, k) => k).filter(k => layer[k] === layer[i]));
-  const width = Math.max(...rows.map(row => row.length)) * wide + 160, height = Math.max(...layer) * high + 110;
-  const place = rows.map((row, i) => [width / 2 + (row.indexOf(i) - (row.length - 1) / 2) * wide, 26 + layer[i] * high]);
+  const chart = waysOf(steps), layer = layersOf(steps, chart), names = list => list.map(step => plain(steps[step])).join(" and ");
   const boxes = steps.map((step, i) => {
-    const [x, y] = place[i], name = svg("text", {x}, plain(step)), stay = svg("text", {class: "time", x, y: y + 15});
-    const frame = out => svg("rect", {x: x - 70 - out, y: y - 20 - out, width: 140 + 2 * out, height: 40 + 2 * out, rx: 6});
-    const box = svg("g", {}, ...i === chart.first ? [frame(4)] : [], frame(0), name, stay), own = `${owner}.${step}`;
+    const box = el("div", {className: i === chart.first ? "step first" : "step"}), own = `${owner}.${step}`;
     return live(box, [`${own}.X`, `${own}.T`], () => {
       const active = valueOf(`${own}.X`)[0] === "TRUE";
       box.classList.toggle("active", active);
-      name.setAttribute("y", y + (active ? -1 : 5));
-      stay.textContent = active ? human(valueOf(`${own}.T`)[0]) : "";
+      fill(box, [active, valueOf(`${own}.T`)], () => [plain(step), el("small", {}, active ? human(valueOf(`${own}.T`)[0]) : "")]);
     });
   });
-  return svg("svg", {viewBox: `0 0 ${width} ${height}`, width, height, role: "img", "aria-label": `Chart of ${owner}`},
-    ...chart.ways.flatMap(way => drawWay(way, steps, layer, place, chart.ways)), ...boxes);
-}
-function drawWay(way, steps, layer, place, ways) {
-  const stroke = (x1, y1, x2, y2, kind = "") => svg("line", {x1, y1, x2, y2, class: kind});
-  const ahead = way.to.filter(step => layer[step] > layer[way.from[0]]), jumps = way.to.filter(step => !ahead.includes(step));
-  const rivals = ways.filter(other => other.from.join() === way.from.join()), rank = rivals.indexOf(way);
-  const sources = way.from.map(step => place[step]), ends = ahead.map(step => place[step]), all = ends.length ? ends : sources;
-  const middle = all.reduce((sum, point) => sum + point[0], 0) / all.length;
-  const x = way.from.length > 1 ? middle : sources[0][0] + (rank - (rivals.length - 1) / 2) * 44;
-  const y = Math.max(...sources.map(point => point[1])) + 52 + rank * 16;
-  const words = (way.when.length > 24 ? way.when.slice(0, 23) + "\u2026" : way.when) +
-    jumps.map(step => `  \u21b5 ${plain(steps[step])}`).join("");
-  return [...sources.flatMap(([sx, sy]) => [stroke(sx, sy + 20, sx, y - 8), stroke(sx, y - 8, x, y - 8)]),
-    stroke(x, y - 8, x, y + 8), stroke(x - 11, y, x + 11, y, "bar"),
-    ...ends.flatMap(([tx, ty]) => [stroke(x, y + 8, tx, y + 8), stroke(tx, y + 8, tx, ty - 20)]),
-    svg("text", {class: "label", x: x + 15, y: y + 4}, words, svg("title", {}, way.when))];
+  const bars = chart.ways.map(({from, to, when}) => el("div", {className: "way"},
+    el("small", {}, layer.filter(other => other === layer[from[0]]).length > 1 ? `${names(from)}: ` : ""), when,
+    el("small", {}, ` \u2192 ${names(to)}`)));
+  const rows = [...new Set(layer)].sort((one, other) => one - other).flatMap(row => [
+    boxes.filter((_, i) => layer[i] === row), bars.filter((_, k) => Math.max(...chart.ways[k].from.map(i => layer[i])) === row)]);
+  return el("div", {className: "chart"}, ...rows.map(row => el("div", {}, ...row)));
 }
 
 // a change, and who did what

@@ -38,7 +38,7 @@ async def serve(engine: Engine, scans: asyncio.Task[None]) -> None:
         await asyncio.sleep(0.02)
     if scans.done():
         return
-    servers: list[Web | ModbusServer] = [Web(engine, access.Gate(access.load(plant.tokens_file)))]
+    servers: list[Web | ModbusServer] = [Web(engine, access.Gate(access.load(plant.tokens)))]
     servers += [ModbusServer(plant.server, engine)] if plant.server else []
     for server in servers:
         await server.start()
@@ -76,14 +76,14 @@ async def main_loop(plant: Plant) -> None:
 
 def run(plant: Plant, fresh: bool) -> None:
     """Runs a plant as its only host, from its journal or anew."""
-    plant.state_folder.mkdir(mode=0o700, parents=True, exist_ok=True)
-    with (plant.state_folder / "lock").open("w") as lock:
+    plant.state.mkdir(mode=0o700, parents=True, exist_ok=True)
+    with (plant.state / "lock").open("w") as lock:
         os.set_inheritable(lock.fileno(), True)  # the journal's writer holds it too, as long as there is something to write
         if subprocess.run(["flock", "-w", "5", str(lock.fileno())], pass_fds=[lock.fileno()], check=False).returncode:
             raise Trouble("another host runs this plant")
-        access.make(plant.tokens_file)
+        access.make(plant.tokens)
         subprocess.run([program(), "--version"], check=True, stdout=subprocess.DEVNULL)  # builds it, where it isn't built
-        journal = plant.state_folder / "journal"
+        journal = plant.state / "journal"
         if fresh and journal.exists():
             journal.rename(journal.with_name(f"journal-{time.strftime('%Y%m%d-%H%M%S')}"))
         if plant.priority:

@@ -94,7 +94,7 @@ async def talk(console: Console, plant: Plant) -> None:
         return
     paths: list[str] = []
     words = WordCompleter(lambda: [*VERBS, *paths], ignore_case=True, WORD=True)
-    history = FileHistory(str(plant.state_folder / "console.history"))
+    history = FileHistory(str(plant.state / "console.history"))
     prompt: PromptSession[str] = PromptSession(history=history, completer=words, complete_while_typing=False)
     with patch_stdout():
         while console.going:
@@ -109,9 +109,9 @@ async def talk(console: Console, plant: Plant) -> None:
 
 async def connect(plant: Plant, name: str | None) -> int:
     """Talks to the host of a plant, with the token of a name, or else the first one to act."""
-    tokens = [token for token, person in access.load(plant.tokens_file).items() if name in (None, person.name)]
+    tokens = [token for token, person in access.load(plant.tokens).items() if name in (None, person.name)]
     if not tokens:
-        raise Trouble(f"{plant.tokens_file}: there is no token of {name}")
+        raise Trouble(f"{plant.tokens}: there is no token of {name}")
     url = f"http://{plant.page.host}:{plant.page.port}/live"
     async with aiohttp.ClientSession() as http, http.ws_connect(url, protocols=tokens[:1], max_msg_size=1 << 24) as socket:
         hello = await socket.receive_json()

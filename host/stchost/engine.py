@@ -42,7 +42,7 @@ class Engine:
 
     def __init__(self, plant: Plant, clock: Clock, connect: Callable[[Types], list[Device]]) -> None:
         self.plant, self.clock, self._connect = plant, clock, connect
-        self.journal = Journal(plant.state_folder / "journal", plant.journal)
+        self.journal = Journal(plant.state / "journal", plant.journal)
         self.devices: list[Device] = []
         self.session: Session | None = None
         self.story = Story()
@@ -359,7 +359,7 @@ class Engine:
             self.session, self.story = replay.session, replay.story
             self.journal.resume(replay.records)
         else:
-            self.story = Story(self.plant.text.read_bytes().decode(*CODE), self.plant.main, self.plant.steps)
+            self.story = Story(self.plant.program.read_bytes().decode(*CODE), self.plant.main, self.plant.steps)
             self.session = await Session.start(self.story.text, self.story.main, self.story.steps)
             self.journal.resume(0)
             self._keep(self.story.base([]))

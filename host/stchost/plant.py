@@ -1,7 +1,7 @@
 """The file of a plant: what its program is, and what it is connected to. `docs/HOST.md` has every key."""
 
 import tomllib
-from dataclasses import MISSING, dataclass, fields, is_dataclass
+from dataclasses import MISSING, dataclass, fields, is_dataclass, replace
 from ipaddress import IPv4Network, IPv6Network, ip_network
 from pathlib import Path
 from typing import Annotated, Any, Literal, TypeVar, get_args, get_origin, get_type_hints
@@ -94,15 +94,15 @@ class PageFile:
 
 @table
 class Plant:
-    program: str
+    program: Path
     cycle: Annotated[int, range(1, 60_001)]
     name: str = ""
     about: str = ""
     main: str = "Main"
     steps: Annotated[int, range(1, 10_000_001)] = 100_000
     priority: Annotated[int, range(91)] = 0
-    state: str = ""
-    tokens: str = ""
+    state: Path = Path()
+    tokens: Path = Path()
     trend: tuple[str, ...] = ()
     trend_keep: Annotated[int, range(10, 86_401)] = 600
     journal: JournalFile = JournalFile()
@@ -111,30 +111,19 @@ class Plant:
     input: tuple[Point, ...] = ()
     output: tuple[Point, ...] = ()
     server: ServerFile | None = None
-    file: Path
-
-    @property
-    def state_folder(self) -> Path:
-        return self.file.parent / (self.state or self.file.stem + ".state")
-
-    @property
-    def tokens_file(self) -> Path:
-        return self.file.parent / self.tokens if self.tokens else self.state_folder / "tokens.toml"
-
-    @property
-    def text(self) -> Path:
-        return self.file.parent / self.program
 
 
 def load(name: str | Path) -> Plant:
     """Reads a plant's file, as it is named or with `.toml` behind that. Trouble where it can't be used."""
-    path = Path(name if str(name).endswith(".toml") else f"{name}.toml")
+    path = Path(name if str(name).endswith(".toml") else f"{name}.toml").resolve()
     try:
-        plant = _read(Plant, tomllib.loads(path.read_text("utf-8")), path.name, file=path.resolve())
+        found = {"name": path.stem, "state": f"{path.stem}.state"} | tomllib.loads(path.read_text("utf-8"))
+        found |= {"tokens": found.get("tokens", f"{found['state']}/tokens.toml")}
+        plant = _read(Plant, found, path.name)
         _check(plant)
     except (OSError, ValueError) as error:
         raise Trouble(f"{path}: {error}") from error
-    return plant
+    return replace(plant, **{key: path.parent / vars(plant)[key] for key in ("program", "state", "tokens")})
 
 
 def _check(plant: Plant) -> None:
@@ -159,14 +148,14 @@ def _check(plant: Plant) -> None:
             raise ValueError(f"{item.path}: `form` doesn't fit the table {item.table}")
 
 
-def _read(kind: type[Kind], found: Any, where: str, **values: Any) -> Kind:
-    """A table of the file as what it is to be, with some values beside it. Keys that aren't known are refused."""
+def _read(kind: type[Kind], found: Any, where: str) -> Kind:
+    """A table of the file as what it is to be. Keys that aren't known are refused."""
     if not isinstance(found, dict):
         raise ValueError(f"{where}: a table is due")
     hints = get_type_hints(kind, include_extras=True)
-    if unknown := [key for key in found if key not in hints or key in values]:
+    if unknown := [key for key in found if key not in hints]:
         raise ValueError(f"{where}: there is no key `{unknown[0]}`")
-    values |= {key: _value(value, hints[key], f"{where}: `{key}`") for key, value in found.items()}
+    values = {key: _value(value, hints[key], f"{where}: `{key}`") for key, value in found.items()}
     if missing := [item.name for item in fields(kind) if item.name not in values and item.default is MISSING]:
         raise ValueError(f"{where}: the key `{missing[0]}` is missing")
     return kind(**values)
@@ -185,9 +174,9 @@ def _value(value: Any, hint: Any, where: str) -> Any:
         return value
     if is_dataclass(hint):
         return _read(hint, value, where)
-    due = list if kind is tuple else str if hint is Network else hint
+    due = list if kind is tuple else str if hint in (Network, Path) else hint
     if type(value) is not due:
         raise ValueError(f"{where} is to be of type {due.__name__}")
     if kind is tuple:
         return tuple(_value(item, words[0], f"{where} {place}") for place, item in enumerate(value, 1))
-    return ip_network(value) if hint is Network else value
+    return ip_network(value) if hint is Network else hint(value)

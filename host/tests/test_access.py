@@ -136,7 +136,7 @@ def test_sizes_and_numbers_are_bounded(make_host) -> None:
 def test_the_manual_has_every_key() -> None:
     page = (HOST.parent / "docs" / "HOST.md").read_text()
     kinds = [kind for kind in vars(plants).values() if dataclasses.is_dataclass(kind)]
-    tables = {"file", "journal", "page", "device", "input", "output", "server", "allow", "map"}
+    tables = {"journal", "page", "device", "input", "output", "server", "allow", "map"}
     keys = {item.name for kind in kinds for item in dataclasses.fields(kind)} - tables
     assert len(keys) > 30
     assert [name for name in sorted(keys) if f"`{name}`" not in page] == []
