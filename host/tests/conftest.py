@@ -45,8 +45,7 @@ Total := Count + 1;
 Q := 10 / Z;
 END_PROGRAM
 """
-FILE = """
-name = "Test"
+FILE = """name = "Test"
 program = "plant.st"
 cycle = 10
 priority = 20
@@ -69,8 +68,7 @@ map = [
   {path = "Main.Age", table = "holding", address = 3, form = "UINT32", words = "little"},
   {path = "Main.Small", table = "holding", address = 5}, {path = "Main.Q", table = "holding", address = 6}]
 """
-NOISE = """
-import os, select, sys, time
+NOISE = """import os, select, sys, time
 os.sched_setscheduler(0, os.SCHED_RR, os.sched_param(21)) if os.geteuid() == 0 else None
 worst = 0.0
 while not select.select([sys.stdin], [], [], 0)[0]:
@@ -98,18 +96,16 @@ def ended(made: socket.socket) -> bool:
     made.setblocking(False)
     try:
         return made.recv(1) == b""
-    except BlockingIOError:
-        return False
-    except OSError:
-        return True
+    except OSError as error:
+        return not isinstance(error, BlockingIOError)
 
 
-def wait_for(what: Callable[[], Any], seconds: float = 60.0) -> Any:
+def wait_for(what: Callable[[], Any], pause: float = 0.02) -> Any:
     """What it gives once that is true."""
-    end = time.monotonic() + seconds
+    end = time.monotonic() + 60
     while not (found := what()):
         assert time.monotonic() < end, "it didn't become true in time"
-        time.sleep(0.02)
+        time.sleep(pause)
     return found
 
 
@@ -180,15 +176,8 @@ class Client:
         """The next status of which something is true."""
         return self.next(lambda news: bool(news.get("status")) and what(news["status"]))["status"]
 
-    def hold(self) -> None:
-        assert self.line("hold") == "held"
-        self.until(lambda status: status["state"] == "held")
-
     def next(self, what: Callable[[dict[str, Any]], bool]) -> dict[str, Any]:
-        end = time.monotonic() + 60
-        while not what(news := self.run(self.live.receive_json())):
-            assert time.monotonic() < end, news
-        return news
+        return wait_for(lambda: news if what(news := self.run(self.live.receive_json())) else None, pause=0)
 
 
 class Host:
@@ -224,6 +213,10 @@ class Host:
             fcntl.flock(lock, fcntl.LOCK_EX)
         return said
 
+    def client(self, token: str = ACT) -> Client:
+        self.clients.append(Client(self.url, token))
+        return self.clients[-1]
+
     def tool(self, *words: str, script: str = "", status: int | None = None) -> str:
         """What one of the host's programs prints."""
         done = subprocess.run([str(HOST / words[0]), *words[1:]], input=script, capture_output=True, text=True, timeout=60)
@@ -237,10 +230,6 @@ class Host:
     def replayed(self, *words: str) -> list[str]:
         return self.tool("replay", str(self.journal), *words, status=0).splitlines()[:-1]
 
-    def client(self, token: str = ACT) -> Client:
-        self.clients.append(Client(self.url, token))
-        return self.clients[-1]
-
     @contextlib.contextmanager
     def undelayed(self) -> Iterator[None]:
         """No scan comes later meanwhile than a cycle and what the machine is late by itself; one place may be lost."""
@@ -250,8 +239,7 @@ class Host:
             yield
             late = 3 * float(noise.communicate("")[0])
         after = self.client(LOOK).until(lambda status: True)
-        cycles = after["cycles"] - before["cycles"]
-        most = max(before["period"] + late, before["lateness_worst"] + 1)
+        cycles, most = after["cycles"] - before["cycles"], max(before["period"] + late, before["lateness_worst"] + 1)
         assert cycles > 50 and after["lateness_worst"] < most, (late, before, after)
         assert after["skipped"] - before["skipped"] <= 1 + cycles * late / 300, (late, before, after)
 
@@ -274,7 +262,6 @@ def make_host(tmp_path: Path) -> Iterator[Callable[..., Host]]:
 
 @pytest.fixture
 def host(make_host: Callable[..., Host]) -> Host:
-    """A host that runs the program with blocks."""
     return make_host()
 
 

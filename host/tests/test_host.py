@@ -59,7 +59,7 @@ def test_kills_at_random_moments_lose_nothing(host: Host) -> None:
             assert host.replayed() == state(*lines_of(host.journal))
             host.start()
     client = host.client()
-    client.hold()
+    client.line("hold")
     assert client.lines(*STATE) == state(*lines_of(host.journal))
     assert len(lines_of(host.journal)[1]) > 100
 
@@ -155,7 +155,7 @@ def test_a_change_does_what_its_preview_says_and_is_taken_back_exactly(make_host
     number = next(row[0] for row in client.ask("log")["rows"] if row[3].startswith("change"))
     answer = client.ask(f"takeback {number}")
     assert answer["reply"] == "taken back" and answer["rows"] == []
-    client.hold()
+    client.line("hold")
     now = client.lines(*STATE)
     assert now == state(*lines_of(host.journal, {number})) and "Main.Band = 5 forced" in now
     host.stop(signal.SIGKILL)
@@ -164,7 +164,7 @@ def test_a_change_does_what_its_preview_says_and_is_taken_back_exactly(make_host
 
 
 def test_what_is_done_while_scans_are_held_is_undone_exactly(host: Host, client: Client) -> None:
-    client.hold()
+    client.line("hold")
     before = client.lines(*STATE)
     assert client.line("preview", BLOCKS.replace("Z : INT := 1;", "Z : INT := 1; More : INT;")).endswith("dropped 0 new 1")
     assert client.lines("force Main.Q 3", "write Main.Band 1") == ["ok", "ok"]
