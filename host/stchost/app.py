@@ -14,9 +14,8 @@ from . import Trouble, access
 from .clock import Clock
 from .devices import Device, Simulation
 from .engine import Engine
-from .modbus_client import Remote
-from .modbus_server import ModbusServer
-from .plant import Plant, load
+from .modbus import ModbusServer, Remote
+from .plant import Table, load
 from .session import explain, program
 from .web import Web
 
@@ -53,7 +52,7 @@ async def serve(engine: Engine, scans: asyncio.Task[None]) -> None:
         await server.close()
 
 
-async def main_loop(plant: Plant) -> None:
+async def main_loop(plant: Table) -> None:
     """Runs until a signal comes, or the engine can't go on."""
     here = asyncio.get_running_loop()
     there = asyncio.SelectorEventLoop(selectors.SelectSelector())  # `epoll` would round times up to milliseconds
@@ -74,7 +73,7 @@ async def main_loop(plant: Plant) -> None:
         await scans
 
 
-def run(plant: Plant, fresh: bool) -> None:
+def run(plant: Table, fresh: bool) -> None:
     """Runs a plant as its only host, from its journal or anew."""
     plant.state.mkdir(mode=0o700, parents=True, exist_ok=True)
     with (plant.state / "lock").open("w") as lock:

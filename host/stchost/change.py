@@ -1,41 +1,29 @@
 """What an online change would do, found out beside the plant: by a session with the same text and forces, which is changed."""
 
 from collections.abc import Sequence
-from dataclasses import dataclass
 
 from . import Trouble
-from .plant import BITS, Plant
+from .plant import BITS, Table
 from .session import CODE, TEXT_LIMIT, Session, ask, change_line, forcing, layout_of
 from .values import BITS_OF, to_number, to_text
 
 Types = dict[str, str]  # of the leaves of a text, by their paths, in order
 
 
-@dataclass
-class Preview:
-    """What a change would answer and do, as `stc` says it: the leaves that are dropped, new and renamed, and the forces lost."""
-
-    line: str
-    version: int  # of the program that it would change
-    answer: str
-    said: str
-    types: Types
-
-
-async def preview(plant: Plant, old: str, version: int, forces: Sequence[str], text: str, renames: Sequence[str]) -> Preview:
-    """What a change from the text `old` by words OLD=NEW would do. Trouble where what is connected isn't in the new text."""
+async def preview(plant: Table, old: str, forces: Sequence[str], text: str, renames: Sequence[str]) -> tuple[str, str, str]:
+    """A change from the text `old` by words OLD=NEW as a line, its reply, and what `stc` says of it: the leaves that are dropped,
+    new and renamed, and the forces that are lost. Trouble where what is connected isn't in the new text."""
     if len(text.encode(*CODE)) > TEXT_LIMIT:
-        return Preview("", version, "refused S4 line 1", "", {})
+        return "", "refused S4 line 1", ""
     line = change_line(text.replace("\r\n", "\n"), renames)
     replies, said = await ask("run", old, plant.main, [*forcing(forces), line])
-    found = Preview(line, version, replies.splitlines()[-1], said, {})
-    if found.answer.startswith("ok"):
-        found.types = await layout_of(text, plant.main)
-        await connections(plant, text, found.types, await layout_of(old, plant.main))
-    return found
+    reply = replies.splitlines()[-1]
+    if reply.startswith("ok"):
+        await connections(plant, text, await layout_of(text, plant.main), await layout_of(old, plant.main))
+    return line, reply, said
 
 
-async def connections(plant: Plant, text: str, types: Types, before: Types | None = None) -> None:
+async def connections(plant: Table, text: str, types: Types, before: Types | None = None) -> None:
     """Trouble where the text hasn't what the plant's file connects: inputs under VAR_INPUT, outputs, types that fit, and those
     that they had before."""
     qualities = [point.quality for point in plant.input if point.quality]
@@ -60,7 +48,7 @@ async def connections(plant: Plant, text: str, types: Types, before: Types | Non
         await session.close()
 
 
-def _check_values(plant: Plant, types: Types) -> None:
+def _check_values(plant: Table, types: Types) -> None:
     """Trouble where a value for a fault is none, or a variable doesn't fit its register: TIME and 64 bits need a form."""
     for point in plant.output:
         try:

@@ -15,7 +15,7 @@ from prompt_toolkit.history import FileHistory
 from prompt_toolkit.patch_stdout import patch_stdout
 
 from . import Trouble, access
-from .plant import Plant, load
+from .plant import Table, load
 from .session import TEXT_LIMIT
 
 HELP = """show P | write P V | force P V | release P | undo | reset | status   as a session has them
@@ -85,7 +85,7 @@ class Console:
                 print(*words, flush=True)
 
 
-async def talk(console: Console, plant: Plant) -> None:
+async def talk(console: Console, plant: Table) -> None:
     """Takes commands: from a terminal with history and completion, or from a script on standard input."""
     if not sys.stdin.isatty():
         for line in sys.stdin:
@@ -107,7 +107,7 @@ async def talk(console: Console, plant: Plant) -> None:
                 return
 
 
-async def connect(plant: Plant, name: str | None) -> int:
+async def connect(plant: Table, name: str | None) -> int:
     """Talks to the host of a plant, with the token of a name, or else the first one to act."""
     tokens = [token for token, person in access.load(plant.tokens).items() if name in (None, person.name)]
     if not tokens:

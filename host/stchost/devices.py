@@ -1,19 +1,62 @@
-"""What stands at the other end of process inputs and outputs, and the simulated plants among it."""
+"""Process inputs, and what stands at the other end of them and of outputs, simulated plants among it."""
 
 import asyncio
 import math
 import time
+from collections.abc import Sequence
 from typing import Any
 
 from . import Trouble
-from .plant import DeviceFile, Plant
+from .plant import Table
+from .session import CODE, LINE_LIMIT
+from .values import fits, to_text
+
+
+class Inputs:
+    """The newest number of each input, whether it is good, and what a scan gives the program of it. Inputs with a device follow
+    it. Those without one are given what a Modbus client sets, once."""
+
+    def __init__(self, points: Sequence[Table], types: dict[str, str]) -> None:
+        self.points, self.types = {point.path: point for point in points}, types
+        self.numbers: dict[str, int] = {}
+        self.by_hand: dict[str, int] = {}  # that weren't given yet
+        self.good = {point.path: point.device is None for point in points}
+        self.given: dict[str, str] = {}  # what the program has; cleared where something else than a scan may have changed it
+
+    def poll(self, device: str, numbers: dict[str, int]) -> None:
+        """What a device gave. Inputs that it didn't give, or not as their types have it, keep the last one and aren't good."""
+        for path in [path for path, point in self.points.items() if point.device == device]:
+            self.good[path] = path in numbers and fits(self.types[path], numbers[path])
+            if self.good[path]:
+                self.numbers[path] = numbers[path]
+
+    def lines(self, moment: int) -> tuple[list[str], dict[str, str]]:
+        """The scan of a moment, behind writes of what has no room in its line; and what these give."""
+        wanted = {path: to_text(self.types[path], number) for path, number in self.numbers.items()}
+        wanted |= {point.quality: to_text("BOOL", self.good[path]) for path, point in self.points.items() if point.quality}
+        changed = {path: text for path, text in wanted.items() if self.given.get(path) != text}
+        changed |= {path: to_text(self.types[path], number) for path, number in self.by_hand.items()}
+        words, writes, room = [f"scan {moment}"], [], LINE_LIMIT - 32
+        for path, text in changed.items():
+            room -= len(path.encode(*CODE)) + len(text) + 3
+            if room >= 0:
+                words.append(f"{path}:={text}")
+            else:
+                writes.append(f"write {path} {text}")
+        return [*writes, " ".join(words)], changed
+
+    def accepted(self, changed: dict[str, str]) -> None:
+        """The scan was accepted."""
+        self.given |= changed
+        self.by_hand = {path: number for path, number in self.by_hand.items()
+                        if changed.get(path) != to_text(self.types[path], number)}
 
 
 class Device:
     """Gives the numbers of inputs and takes those of outputs, by their paths. It is waited for no longer than its share of a
     cycle."""
 
-    def __init__(self, file: DeviceFile, plant: Plant, types: dict[str, str]) -> None:
+    def __init__(self, file: Table, plant: Table, types: dict[str, str]) -> None:
         self.file, self.types, self.share = file, types, file.share / 100 * plant.cycle / 1000
         self.inputs = [point for point in plant.input if point.device == file.name]
         self.outputs = [point for point in plant.output if point.device == file.name]
@@ -107,7 +150,7 @@ MODELS: dict[str, type[Tank] | type[Conveyor]] = {"tank": Tank, "conveyor": Conv
 class Simulation(Device):
     """A simulated plant: it goes on by the clock, and sees the outputs that it was given last."""
 
-    def __init__(self, file: DeviceFile, plant: Plant, types: dict[str, str]) -> None:
+    def __init__(self, file: Table, plant: Table, types: dict[str, str]) -> None:
         super().__init__(file, plant, types)
         self.model, self.then, self.given = MODELS[file.model](), time.monotonic(), dict[str, int]()
         for points, names in ((self.inputs, self.model.inputs), (self.outputs, self.model.outputs)):

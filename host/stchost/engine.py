@@ -5,16 +5,14 @@ import time
 from collections import deque
 from collections.abc import AsyncIterator, Callable, Coroutine, Sequence
 from contextlib import asynccontextmanager, suppress
-from itertools import islice
 from typing import Any, NamedTuple, TypeVar
 
 from . import Trouble
-from .change import Preview, Types, connections
+from .change import Types, connections
 from .clock import Clock, Cycle
-from .devices import Device
-from .inputs import Inputs
-from .journal import Journal, Record, read
-from .plant import Plant
+from .devices import Device, Inputs
+from .journal import Journal, Record
+from .plant import Table
 from .replay import NO_BASE, UNDOABLE, Replay, Story, restore
 from .session import CODE, Gone, Session, checked, explain, layout_of, words_of
 from .values import to_number
@@ -40,7 +38,7 @@ class Value(NamedTuple):
 class Engine:
     """Runs a plant: one session with `stc`, its devices, its journal, and a queue of what others want of it."""
 
-    def __init__(self, plant: Plant, clock: Clock, connect: Callable[[Types], list[Device]]) -> None:
+    def __init__(self, plant: Table, clock: Clock, connect: Callable[[Types], list[Device]]) -> None:
         self.plant, self.clock, self._connect = plant, clock, connect
         self.journal = Journal(plant.state / "journal", plant.journal)
         self.devices: list[Device] = []
@@ -56,7 +54,7 @@ class Engine:
         self.trend: deque[tuple[int, list[str]]] = deque(maxlen=max(1, plant.trend_keep * 1000 // plant.page.refresh))
         self.held = False
         self.fault = self.trouble = ""  # why the program is halted, and why nothing runs at all
-        self.restarts = self.forces = self.undos = self.version = 0  # the last one is that of the program's text
+        self.forces = self.undos = self.version = 0  # the last one is that of the program's text
         self.status: dict[str, Any] = {}
         self.cycle = Cycle(clock, plant.cycle)
         self.guard = min(0.002, self.cycle.period / 5)  # nothing is begun so shortly before a scan
@@ -96,33 +94,29 @@ class Engine:
             if not end.done():
                 end.set_result(None)
 
-    async def operate(self, who: str, line: str) -> str:
-        """One line of an operator, and its reply. Trouble where the host doesn't send it."""
-        verb = words_of(checked(line))[0]
-        if verb not in VERBS:
+    async def operate(self, who: str, line: str, changes: str | None = None) -> str:
+        """One line of an operator, and its reply. Trouble where the host doesn't send it. A change says which text it changes."""
+        verb = "change" if changes is not None else words_of(checked(line))[0]
+        if verb not in VERBS and changes is None:
             raise Trouble("scans are the clock's" if verb == "scan" else f"the commands are {', '.join(VERBS)}")
         if verb in ("hold", "go"):  # outputs stay as they are meanwhile, and what is done can be undone
             self.held = verb == "hold"
             self._keep(self._by(who, verb))
             return "held" if self.held else "going on"
         async with self.gap():
-            return await self._operate(who, line)
-
-    async def change(self, who: str, found: Preview) -> str:
-        """Does a change as its preview has it."""
-        async with self.gap():
-            if found.version != self.version:
+            text = self.story.text
+            if changes not in (None, text):
                 raise Trouble("the program was changed since this preview")
-            reply = await self._operate(who, found.line)
-            if reply.startswith("ok"):
-                self._take_program(found.types)
-            return reply
+            reply = await self._operate(who, line)
+        if self.story.text is not text:
+            self._take_program(await layout_of(self.story.text, self.plant.main))
+        return reply
 
     async def set_input(self, path: str, number: int) -> None:
         """A new number for an input without a device; the next scan gives it. Trouble where it has one."""
         if self.inputs.points[path].device is not None:
             raise Trouble(f"{path} follows its device")
-        self.inputs.take(path, number)
+        self.inputs.by_hand[path] = number
 
     async def take_back(self, who: str, number: int) -> list[Record]:
         """Makes the state what it would be if a command had never been given: the journal without it is replayed beside the
@@ -130,33 +124,31 @@ class Engine:
         async with self._taking_back:
             if not self.story.can_go(number):
                 raise Trouble("what can be taken back is a write, force, release or change since the newest load, reset and undo")
-            if self.journal.trouble or self.journal.base is None:
-                raise Trouble(self.journal.trouble or NO_BASE)
             await self.journal.written()
-            self._news, replay = [], Replay({number} | self.story.gone)
-            await replay.feed(islice(read(self.journal.folder, self.journal.base), self.journal.records))
+            records, self._news = self.journal.records, []
+            replay = await restore(self.journal.folder, without=number)
             try:
                 types = await layout_of(replay.story.text, self.plant.main)
                 await connections(self.plant, replay.story.text, types)
                 async with self.gap():
-                    await self._take_over(who, number, replay, types)
+                    await self._take_over(who, number, replay, types, self._news[replay.records - records:])
             except BaseException:
                 if replay.session is not self.session:
                     await replay.close()
                 raise
             return replay.others
 
-    async def _take_over(self, who: str, number: int, replay: Replay, types: Types) -> None:
+    async def _take_over(self, who: str, number: int, replay: Replay, types: Types, news: list[Record]) -> None:
         """Goes on with the session of a replay, behind what was done since."""
         text = replay.story.text
-        await replay.feed(self._news)
+        await replay.feed(news)
         if replay.story.text != text:
             raise Trouble("the program was changed meanwhile")
         old, self.session, self.story = self.session, replay.session, replay.story
         self._keep(self._by(who, f"takeback {number}"))
         self._take_program(types)
         await self._read_status()
-        self.inputs.forget()
+        self.inputs.given.clear()
         self._closing = asyncio.create_task(old.close()) if old else None  # nobody waits for its end
 
     # the writer
@@ -225,9 +217,9 @@ class Engine:
         answer = replies[len(lines) - 1]
         self.trouble = f"a scan is answered `{answer}`" if answer.startswith("refused") else ""
         if answer == "ok":
-            self.inputs.given(changed)
+            self.inputs.accepted(changed)
         else:
-            self.inputs.forget()
+            self.inputs.given.clear()
             self.fault = answer.removeprefix("fault ") if answer.startswith("fault") else self.fault
         await self.journal.settle()
         self._store(self._always, replies[len(lines):])
@@ -236,24 +228,22 @@ class Engine:
         reply = (await self._exchange([line]))[0]
         if words_of(line)[0] in QUIET:
             return reply
-        text, record = self.story.text, self._by(who, line, reply)
+        record = self._by(who, line, reply)
         self._keep(record)
         await self.journal.settle()
         if not reply.startswith("refused"):
             with suppress(Gone):  # the line is kept, so that it counts; the next one finds that `stc` has ended
-                await self._follow(*record.words, text=text)
+                await self._follow(*record.words)
         return reply
 
-    async def _follow(self, verb: str, path: str = "", *_: str, text: str) -> None:
-        """What an accepted line means for the host. `text` is that of the program before it."""
-        self.inputs.forget()
+    async def _follow(self, verb: str, path: str = "", *_: str) -> None:
+        """What an accepted line means for the host."""
+        self.inputs.given.clear()
         await self._read_status()
         if verb == "reset":  # the state is the program's text and what is forced in it, so that a replay can begin here
             await self._show(list(self.types) if self.forces else [])
             self._keep(self.story.base(self.forced()))
             self.trouble = ""
-        elif verb == "undo" and self.story.text is not text:
-            self._take_program(await layout_of(self.story.text, self.plant.main))
         elif path := self.spelled.get(path.upper(), ""):
             await self._show([path])
 
@@ -321,7 +311,7 @@ class Engine:
             "fault": self.fault, "why": explain(f"fault {self.fault}"), "trouble": self.trouble, "moment": self.story.moment,
             "version": self.version, "forces": self.forces, "undos": self.undos,
             "undo": self.story.undoable[-1][0].line if self.story.undoable else "", "period": self.plant.cycle,
-            **self.cycle.told(), "waiting": len(self._queue), "restarts": self.restarts, "journal": journal,
+            **self.cycle.told(), "journal": journal,
             "devices": [device.told() for device in self.devices], "good": dict(self.inputs.good), "driven": dict(self.driven),
         }
 
@@ -355,13 +345,12 @@ class Engine:
     async def _recover(self) -> None:
         """Starts where the journal ends; or loads the program where there is no journal."""
         self.journal.close()
-        if replay := await restore(self.journal.folder):
-            self.session, self.story = replay.session, replay.story
-            self.journal.resume(replay.records)
-        else:
+        replay = await restore(self.journal.folder)
+        self.session, self.story = replay.session, replay.story
+        self.journal.resume(replay.records)
+        if self.session is None:  # there is no journal yet
             self.story = Story(self.plant.program.read_bytes().decode(*CODE), self.plant.main, self.plant.steps)
             self.session = await Session.start(self.story.text, self.story.main, self.story.steps)
-            self.journal.resume(0)
             self._keep(self.story.base([]))
         types = await layout_of(self.story.text, self.plant.main)
         await connections(self.plant, self.story.text, types)
@@ -376,7 +365,6 @@ class Engine:
     async def _restart(self, why: str) -> None:
         """`stc` has ended: the outputs get their values for a fault, and it is started again from the journal."""
         self.trouble, self.session, pause = why, None, 0.0
-        self.restarts += 1
         await self._push()
         while self.trouble and not self._stopping:
             self.status = self.told()

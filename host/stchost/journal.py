@@ -14,13 +14,13 @@ import zlib
 from collections.abc import Iterator
 from contextlib import suppress
 from dataclasses import dataclass
-from functools import cached_property
+from functools import cached_property, partial
 from pathlib import Path
 from subprocess import PIPE, Popen
-from typing import Any, NamedTuple
+from typing import Any, BinaryIO, NamedTuple
 
 from . import Trouble
-from .plant import JournalFile
+from .plant import Table
 from .session import words_of
 
 PIPE_SIZE = 1 << 20  # bytes that may wait for the disk before a scan does
@@ -98,14 +98,15 @@ class Journal:
     """Appends to the journal in a folder. The bytes go through a pipe to a process that outlives this one: so a record counts
     once it was given away, and nobody waits for the disk."""
 
-    def __init__(self, folder: Path, file: JournalFile) -> None:
+    def __init__(self, folder: Path, file: Table) -> None:
         folder.mkdir(mode=0o700, parents=True, exist_ok=True)
         self.folder, self.file = folder, file
         self.trouble = ""  # why nothing more can be kept
         self.base: int | None = None  # the piece where a replay begins; None where no load and no reset is left
         self.records = 0  # from there on
         self._sizes: dict[int, int] = {}  # of the pieces, in order
-        self._crc, self._file = 0, -1
+        self._crc = 0
+        self._file: BinaryIO | None = None  # it is closed once nobody flushes it any more
         self._writers: list[Popen[bytes]] = []  # the last one is that of the newest piece; those before come to their end
         self._synced = time.monotonic()
 
@@ -144,7 +145,7 @@ class Journal:
     async def written(self) -> None:
         """Waits until what was appended stands in the files. OSError where it never will."""
         while (any(writer.poll() is None for writer in self._writers[:-1])
-               or os.fstat(self._file).st_size < next(reversed(self._sizes.values()))):
+               or self._file and os.fstat(self._file.fileno()).st_size < next(reversed(self._sizes.values()))):
             if self._writers[-1].poll() is not None:
                 raise OSError("the journal's writer has ended")
             await asyncio.sleep(0.001)
@@ -157,7 +158,7 @@ class Journal:
         self._synced = time.monotonic()
         try:
             if second:
-                asyncio.get_running_loop().run_in_executor(None, _flush, os.dup(self._file))
+                asyncio.get_running_loop().run_in_executor(None, os.fsync, self._file)
             else:
                 await self.written()
                 await asyncio.to_thread(os.fsync, self._file)
@@ -166,8 +167,8 @@ class Journal:
 
     def told(self) -> dict[str, Any]:
         """How large the journal is, and whether a replay can begin in it."""
-        return {"bytes": sum(self._sizes.values()), "limit": self.file.limit, "pieces": len(self._sizes),
-                "reaches": self.base is not None, "trouble": self.trouble}
+        reaches = self.base is not None
+        return {"bytes": sum(self._sizes.values()), "pieces": len(self._sizes), "reaches": reaches, "trouble": self.trouble}
 
     def close(self) -> None:
         """Ends the last piece, and waits until all are on the disk."""
@@ -190,7 +191,7 @@ class Journal:
         """Goes on with a piece, and ends the one before. The oldest ones go where there are too many."""
         self._end()
         self._sizes[number] = size
-        self._file = os.open(path, os.O_WRONLY | os.O_CREAT | os.O_APPEND, 0o600)
+        self._file = open(path, "ab", opener=partial(os.open, mode=0o600))
         made = Popen(WRITER, stdin=PIPE, stdout=self._file, start_new_session=True, close_fds=False)
         fcntl.fcntl(made.stdin or -1, fcntl.F_SETPIPE_SZ, PIPE_SIZE)
         self._writers = [*(writer for writer in self._writers if writer.poll() is None), made]
@@ -202,16 +203,7 @@ class Journal:
 
     def _end(self) -> None:
         """Ends the piece, and waits for nothing: its writer goes on until all is on the disk."""
-        if self._file >= 0:
-            os.close(self._file)
-            self._file = -1
+        if self._file is not None:
+            self._file = None
             with suppress(OSError):
                 self._writers[-1].stdin.close()  # type: ignore[union-attr]
-
-
-def _flush(file: int) -> None:
-    """Writes a file to the disk, and closes it."""
-    try:
-        os.fsync(file)
-    finally:
-        os.close(file)

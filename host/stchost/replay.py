@@ -30,7 +30,6 @@ class Story:
     number: int = 1  # of the command that comes next
     commands: dict[int, Record] = field(default_factory=dict)
     undoable: list[tuple[Record, str]] = field(default_factory=list)  # each with the text before it
-    gone: set[int] = field(default_factory=set)  # the commands that were taken back
 
     def take(self, record: Record) -> None:
         """Goes on by a record: a line was answered so. Behind a scan nothing can be undone."""
@@ -51,7 +50,6 @@ class Story:
             undone, self.text = self.undoable.pop()
             undone.state, self.began = "undone", record.number + 1
         elif verb == "takeback":
-            self.gone.add(int(words[0]))
             self.commands.get(int(words[0]), record).state = "taken back"
         elif verb in UNDOABLE:
             self.undoable.append((record, self.text))
@@ -129,10 +127,11 @@ class Replay:
         self.story.take(record)
 
 
-async def restore(folder: Path, moment: int | None = None) -> Replay | None:
-    """The state behind the last scan up to a moment, or at the end of a journal. None where there is no journal."""
+async def restore(folder: Path, moment: int | None = None, without: int = -1) -> Replay:
+    """The state behind the last scan up to a moment, or at the end of a journal, as it would be without a command. Where there is
+    no journal the replay has no session."""
     if next(journal.read(folder), None) is None:
-        return None
+        return Replay()
     heads = journal.bases(folder)
     if not heads:
         raise Trouble(NO_BASE)
@@ -144,7 +143,7 @@ async def restore(folder: Path, moment: int | None = None) -> Replay | None:
         found = journal.read(folder, reaching[-1])
         return found if moment is None else takewhile(lambda record: record.moment <= moment, found)
 
-    replay = Replay(int(record.words[1]) for record in records() if record.words[0] == "takeback")
+    replay = Replay([without, *(int(record.words[1]) for record in records() if record.words[0] == "takeback")])
     await replay.feed(records())
     return replay
 
@@ -153,7 +152,7 @@ async def show(folder: Path, moment: int | None, words: list[str]) -> None:
     """Prints the status and the leaves whose paths have these words; how fast the replay was goes to standard error."""
     began = time.monotonic()
     replay = await restore(folder, moment)
-    if replay is None or replay.session is None:
+    if replay.session is None:
         raise Trouble("there is no journal")
     took = time.monotonic() - began
     leaves = await layout_of(replay.story.text, replay.story.main)

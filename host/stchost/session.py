@@ -73,13 +73,10 @@ class Session:
             words = (program(), "run", name, "--program", main, "--steps", str(steps))
             made = asyncio.create_subprocess_exec(*words, stdin=PIPE, stdout=PIPE, stderr=DEVNULL, start_new_session=True)
             session = cls(await made)  # in a session of its own no Ctrl-C ends it
-            try:
-                reply = (await session.exchange(["status"]))[0]
-                if reply.startswith("refused"):
-                    raise Gone(f"{reply}\n{(await ask('check', text, main))[1]}")
-            except BaseException:
-                await session.close()
-                raise
+            reply = (await session.exchange(["status"]))[0]
+        if reply.startswith("refused"):
+            await session.close()
+            raise Gone(f"{reply}\n{(await ask('check', text, main))[1]}")
         return session
 
     async def exchange(self, lines: Sequence[str]) -> list[str]:

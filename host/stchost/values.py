@@ -3,7 +3,7 @@
 import re
 import struct
 
-from .plant import BITS, FORMS, Register
+from .plant import BITS, FORMS, Table
 
 BITS_OF = {
     "BOOL": 1, "SINT": 8, "INT": 16, "DINT": 32, "LINT": 64, "USINT": 8, "UINT": 16, "UDINT": 32, "ULINT": 64,
@@ -38,23 +38,23 @@ def to_number(kind: str, text: str) -> int:
     return number
 
 
-def form_of(place: Register, kind: str) -> str:
+def form_of(place: Table, kind: str) -> str:
     """The form of a variable at this place: the file's, or the one that its type has."""
     by_type = ("INT" if kind in SIGNED else "UINT") + ("16" if BITS_OF[kind] <= 16 else "32")
     return "BIT" if place.table in BITS else place.form or by_type
 
 
-def size_of(place: Register, kind: str) -> int:
+def size_of(place: Table, kind: str) -> int:
     """How many coils or registers it takes."""
     return FORMS[form_of(place, kind)]
 
 
-def _layout(place: Register, size: int) -> tuple[str, int]:
+def _layout(place: Table, size: int) -> tuple[str, int]:
     """How registers lie: the bytes of each as `struct` has it, and the step from one to the next."""
     return f"{'<' if place.bytes == 'little' else '>'}{size}H", -1 if place.words == "little" else 1
 
 
-def pack(place: Register, kind: str, number: int) -> list[int]:
+def pack(place: Table, kind: str, number: int) -> list[int]:
     """The coil or registers of a number. One that the form doesn't have is held at the form's end."""
     form = form_of(place, kind)
     if form == "BIT":
@@ -64,7 +64,7 @@ def pack(place: Register, kind: str, number: int) -> list[int]:
     return list(struct.unpack(layout, data))[::step]
 
 
-def unpack(place: Register, kind: str, words: list[int]) -> int:
+def unpack(place: Table, kind: str, words: list[int]) -> int:
     """The number in a coil or in registers."""
     form, (layout, step) = form_of(place, kind), _layout(place, len(words))
     if form == "BIT":

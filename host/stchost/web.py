@@ -11,7 +11,7 @@ from aiohttp import WSMsgType, web
 
 from . import Trouble
 from .access import Gate, Person
-from .change import Preview, preview
+from .change import preview
 from .engine import QUIET, Engine, Value
 from .session import CODE, TEXT_LIMIT, explain, words_of
 
@@ -44,7 +44,7 @@ class Client:
         self.sent: dict[str, Value] = {}
         self.changed = asyncio.Event()
         self.text = ""  # of a program, which it sent for a preview
-        self.preview: Preview | None = None  # the one that may be done
+        self.preview: tuple[str, str] | None = None  # the line that may be done behind it, and the text that it changes
 
     async def send(self, news: Answer) -> None:
         await asyncio.wait_for(self.socket.send_json(news), SEND_TIME)
@@ -197,19 +197,19 @@ class Web:
 
     async def do_preview(self, client: Client, *renames: str) -> Answer:
         """What the text that was sent before would do as a change. Who asked may then do just this."""
-        engine, text = self.engine, client.text
-        client.text, client.preview = "", None
+        engine, text, client.text, client.preview = self.engine, client.text, "", None
         async with self._previewing:
-            forced, old = engine.forced(), engine.story.text
-            client.preview = await preview(engine.plant, old, engine.version, forced, text, renames)
-        return {"reply": client.preview.answer, "said": client.preview.said}
+            old = engine.story.text
+            line, reply, said = await preview(engine.plant, old, engine.forced(), text, renames)
+        client.preview = (line, old) if reply.startswith("ok") else None
+        return {"reply": reply, "said": said}
 
     async def do_change(self, client: Client) -> Answer:
         """Does the change that this client had a preview of last."""
         found, client.preview = client.preview, None
-        if found is None or not found.answer.startswith("ok"):
+        if found is None:
             raise Trouble("a change is done after its preview")
-        return {"reply": await self.engine.asked(self.engine.change(client.person.name, found))}
+        return {"reply": await self.engine.asked(self.engine.operate(client.person.name, *found))}
 
     async def do_takeback(self, client: Client, number: str) -> Answer:
         others = await self.engine.asked(self.engine.take_back(client.person.name, int(number)))

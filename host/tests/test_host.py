@@ -13,7 +13,7 @@ import pytest
 
 from conftest import BLOCKS, FILE, HOST, LEAVES, STATE, Client, Host, lines_of, needs, state, wait_for
 from stchost import journal
-from stchost.plant import JournalFile
+from stchost.plant import Table
 from stchost.replay import restore
 
 pytestmark = needs("aiohttp")
@@ -83,25 +83,14 @@ def test_a_journal_cut_after_each_byte_of_its_last_records(host: Host, client: C
         (cut / path.name).write_bytes(data[:end])
         lines, (shown, records) = lines_of(cut)[1], asyncio.run(restored())
         assert shown == state(text, lines), end
-        again = journal.Journal(cut, JournalFile())
+        again = journal.Journal(cut, Table(piece=1 << 20, limit=1 << 30, sync="never"))
         again.resume(records)
         again.append(journal.Record("scan 1000000"))
         again.close()
         assert lines_of(cut)[1] == [*lines, "scan 1000000"] and len(list(journal.read(cut))) == records + 1
 
 
-def test_a_damaged_journal_is_refused_with_its_place(host: Host) -> None:
-    time.sleep(0.3)
-    host.stop()
-    path = sorted(host.journal.iterdir())[-1]
-    data = bytearray(path.read_bytes())
-    place = data.find(b"\n", len(data) // 2) + 12
-    data[place] ^= 1
-    path.write_bytes(data)
-    assert f"from byte {data.rfind(10, 0, place) + 1} on: its checksum doesn't fit" in host.tool("run", host.plant, status=1)
-
-
-def test_a_replay_shows_any_moment(host: Host) -> None:
+def test_a_replay_shows_any_moment_but_not_of_a_damaged_journal(host: Host) -> None:
     time.sleep(0.5)
     host.stop()
     text, lines = lines_of(host.journal)
@@ -111,6 +100,12 @@ def test_a_replay_shows_any_moment(host: Host) -> None:
     wanted = state(text, [line for line in lines if int(line.split()[1]) <= at])
     assert host.replayed("--at", str(at)) == wanted
     assert host.replayed("--at", str(at), "ticks", "cv")[1:] == [row for row in wanted if "Ticks.CV" in row]
+    path = sorted(host.journal.iterdir())[-1]
+    data = bytearray(path.read_bytes())
+    place = data.find(b"\n", len(data) // 2) + 12
+    data[place] ^= 1
+    path.write_bytes(data)
+    assert f"from byte {data.rfind(10, 0, place) + 1} on: its checksum doesn't fit" in host.tool("run", host.plant, status=1)
 
 
 def test_a_reset_lets_a_replay_begin_there(host: Host, client: Client) -> None:
@@ -147,7 +142,7 @@ def test_a_change_does_what_its_preview_says_and_is_taken_back_exactly(make_host
     client.until(lambda status: status["forces"] == 3)
     time.sleep(0.3)
     found = client.ask("preview Main.N=Main.Number", new)
-    for said in ("renamed: `Main.N` is `Main.Number`", "dropped: `Main.Delay.IN`", "new: `Main.Extra`", "force lost: `Main.Band` = 5"):
+    for said in ("renamed: `Main.N` is `Main.Number`", "dropped: `Main.Delay.IN`", "new: `Main.Extra`", "lost: `Main.Band` = 5"):
         assert said in found["said"], found
     assert found["reply"].endswith(" dropped 7 new 8") and client.line("change") == found["reply"]
     assert client.lines("show Main.Number", "show Main.Band") == ["Main.Number = 1000 forced", "refused O1"]

@@ -10,7 +10,7 @@ import pytest
 
 from stchost import Trouble, journal
 from stchost.journal import Journal, Record, read
-from stchost.plant import JournalFile
+from stchost.plant import Table
 from stchost.values import to_number, to_text
 
 FIRST = "00000001-00000000.journal"
@@ -18,21 +18,16 @@ BASE = Record("load 0 Main 1000 Main.A:=5\nPROGRAM Main\nEND_PROGRAM\n", number=
 CHANGE = Record("change\nA\t\\0\udc80\nend_change", "ok kept 1 dropped 0 new 0", 1, 5, "anna")
 
 
-def write(folder: Path, piece: int = 1 << 20, count: int = 5, limit: int = 1 << 30) -> Journal:
-    made = Journal(folder, JournalFile(piece=piece, limit=limit, sync="never"))
+def write(folder: Path, piece: int = 1 << 20, count: int = 5) -> None:
+    made = Journal(folder, Table(piece=piece, limit=1 << 30, sync="never"))
     for record in [BASE, *([Record("scan 5"), CHANGE] * count)]:
         made.append(record)
     made.close()
-    return made
 
 
-def test_records_come_back_as_they_were_written(tmp_path: Path) -> None:
-    write(tmp_path)
-    assert list(read(tmp_path))[:3] == [BASE, Record("scan 5", "ok"), CHANGE]
-
-
-def test_each_damaged_byte_is_found_with_its_place(tmp_path: Path) -> None:
+def test_records_come_back_as_they_were_written_and_each_damaged_byte_is_found(tmp_path: Path) -> None:
     write(tmp_path, count=2)
+    assert list(read(tmp_path))[:3] == [BASE, Record("scan 5", "ok"), CHANGE]
     path = tmp_path / FIRST
     data = path.read_bytes()
     for place in range(len(data) - 1):
@@ -57,19 +52,14 @@ def test_what_is_missing_is_found(tmp_path: Path, loss: str) -> None:
         list(read(tmp_path))
 
 
-def test_at_its_limit_it_drops_the_oldest_pieces_and_says_how_far_it_reaches(tmp_path: Path) -> None:
-    told = write(tmp_path, piece=4_096, count=400, limit=16_384).told()
-    assert told["bytes"] <= 16_384 and told["reaches"] is False and journal.bases(tmp_path) == {}
-
-
 @pytest.mark.parametrize("sync, synced", [("never", 0), ("second", 1), ("always", 3)])
 def test_the_disk_is_asked_as_the_file_has_it(tmp_path: Path, monkeypatch, sync: str, synced: int) -> None:
     sizes, clock = [], SimpleNamespace(monotonic=lambda: clock.now, now=100.0)
-    monkeypatch.setattr(os, "fsync", lambda file: sizes.append(os.fstat(file).st_size))
+    monkeypatch.setattr(os, "fsync", lambda file: sizes.append(os.fstat(file.fileno()).st_size))
     monkeypatch.setattr(journal, "time", clock)
 
     async def scans() -> None:
-        made = Journal(tmp_path, JournalFile(sync=sync))
+        made = Journal(tmp_path, Table(piece=4_096, limit=65_536, sync=sync))
         made.append(BASE)
         for step in (0.5, 0.4, 0.2):
             clock.now += step
