@@ -183,7 +183,6 @@ function openSheet(path) {
   sheet = path;
   watch();
   $("sheet-path").textContent = path;
-  $("sheet-acts").hidden = !hello.acts;
   $("sheet-input").value = "";
   $("sheet-note").textContent = hello.inputs.some(point => point.path === path && point.device) ?
     "A process input: what is written to it stands until the next scan. Force it to hold it." : "";
@@ -237,48 +236,41 @@ async function loadProgram() {
     const at = path.lastIndexOf("."), owner = path.slice(0, at);
     owners.set(owner, [...(owners.get(owner) || []), path.slice(at + 1)]);
   }
-  $("charts").replaceChildren(...[...owners].flatMap(([owner, steps]) => [el("h2", {}, owner), drawChart(owner, steps)]),
+  $("view-charts").replaceChildren(...[...owners].flatMap(([owner, steps]) => [el("h2", {}, owner), drawChart(owner, steps)]),
     owners.size ? "" : "This program has no charts.");
   show(view);
 }
-const same = (one, other) => one.toUpperCase() === other.toUpperCase();
 function waysOf(steps) {
-  const source = text.join("\n").replace(/\(\*[^]*?\*\)/g, ""), find = name => steps.findIndex(step => same(step, name.trim()));
-  const list = words => words.replace(/[()]/g, "").split(",").map(find);
+  const source = text.join("\n").replace(/\(\*[^]*?\*\)/g, ""), wanted = steps.map(step => step.toUpperCase());
+  const places = names => names.match(/\w+/g).map(name => wanted.indexOf(name.toUpperCase()));
   for (const [, , body] of source.matchAll(/\b(PROGRAM|FUNCTION_BLOCK)\b([^]*?)\bEND_\1\b/gi)) {
-    const own = [...body.matchAll(/\b(?:INITIAL_)?STEP\s+(\w+)\s*:/gi)].map(step => step[1]);
-    if (own.length !== steps.length || !own.every((name, i) => same(name, steps[i]))) continue;
-    const ways = body.matchAll(/\bTRANSITION\b[^;]*?\bFROM\b([\w(),\s]+?)\bTO\b([\w(),\s]+):=([^]*?);\s*END_TRANSITION\b/gi);
-    return {first: Math.max(0, find(/\bINITIAL_STEP\s+(\w+)/i.exec(body)?.[1] || "")),
-      ways: [...ways].map(([, from, to, when]) => ({from: list(from), to: list(to), when: when.replace(/\s+/g, " ").trim()}))};
+    const own = [...body.matchAll(/\b(INITIAL_)?STEP\s+(\w+)\s*:/gi)];
+    if (own.map(step => step[2]).join().toUpperCase() !== wanted.join()) continue;
+    const found = body.matchAll(/\bTRANSITION\b[^;]*?\bFROM\b([\w(),\s]+?)\bTO\b([\w(),\s]+):=([^]*?);\s*END_TRANSITION\b/gi);
+    const ways = [...found].map(([, from, to, when]) => ({from: places(from), to: places(to), when: when.trim()}));
+    return {first: own.findIndex(step => step[1]), ways};
   }
   return {first: 0, ways: []};
 }
-function layersOf(steps, {first, ways}) {
-  const layer = new Map([[first, 0]]), most = row => Math.max(...row.map(step => layer.get(step)));
-  for (let size = 0; size < layer.size;) {
-    size = layer.size;
-    for (const {from, to} of ways.filter(way => way.from.every(step => layer.has(step))))
-      for (const step of to.filter(step => !layer.has(step))) layer.set(step, most(from) + 1);
-  }
-  const last = most([...layer.keys()]) + 1;
-  return steps.map((_, step) => layer.get(step) ?? last);
-}
 function drawChart(owner, steps) {
-  const chart = waysOf(steps), layer = layersOf(steps, chart), names = list => list.map(step => plain(steps[step])).join(" and ");
+  const {first, ways} = waysOf(steps), names = places => places.map(i => plain(steps[i])).join(" and ");
+  const layer = steps.map((_, i) => i === first ? 0 : Infinity), below = places => Math.max(...places.map(i => layer[i]));
+  for (const round of steps)
+    for (const {from, to} of ways)
+      for (const i of to) layer[i] = Math.min(layer[i], below(from) + 1);
   const boxes = steps.map((step, i) => {
-    const box = el("div", {className: i === chart.first ? "step first" : "step"}), own = `${owner}.${step}`;
+    const box = el("div", {className: i === first ? "step first" : "step"}), own = `${owner}.${step}`;
     return live(box, [`${own}.X`, `${own}.T`], () => {
-      const active = valueOf(`${own}.X`)[0] === "TRUE";
+      const active = valueOf(`${own}.X`)[0] === "TRUE", stay = active ? human(valueOf(`${own}.T`)[0]) : "";
       box.classList.toggle("active", active);
-      fill(box, [active, valueOf(`${own}.T`)], () => [plain(step), el("small", {}, active ? human(valueOf(`${own}.T`)[0]) : "")]);
+      fill(box, stay, () => [plain(step), el("small", {}, stay)]);
     });
   });
-  const bars = chart.ways.map(({from, to, when}) => el("div", {className: "way"},
+  const bars = ways.map(({from, to, when}) => el("div", {className: "way"},
     el("small", {}, layer.filter(other => other === layer[from[0]]).length > 1 ? `${names(from)}: ` : ""), when,
     el("small", {}, ` \u2192 ${names(to)}`)));
   const rows = [...new Set(layer)].sort((one, other) => one - other).flatMap(row => [
-    boxes.filter((_, i) => layer[i] === row), bars.filter((_, k) => Math.max(...chart.ways[k].from.map(i => layer[i])) === row)]);
+    boxes.filter((_, i) => layer[i] === row), bars.filter((_, k) => below(ways[k].from) === row)]);
   return el("div", {className: "chart"}, ...rows.map(row => el("div", {}, ...row)));
 }
 
@@ -297,17 +289,13 @@ async function check() {
 async function change() {
   $("do").disabled = true;
   if ((await act("change")).bad) return;
-  edit(false);
-  $("renames").value = "";
+  $("editor").open = false;
   show("log");
 }
-function edit(on) {
-  $("editor").hidden = !on;
-  $("program").hidden = on;
+function edit() {
   $("text").value = text.join("\n");
+  $("renames").value = $("preview").textContent = "";
   $("do").disabled = true;
-  $("preview").textContent = "";
-  if (on) $("text").focus();
 }
 async function showLog() {
   const {rows} = await ask("log");
@@ -345,8 +333,7 @@ function listen() {
   $("search").oninput = () => { clearTimeout(typing); typing = setTimeout(search, 150); };
   $("only-forced").onchange = $("hidden").onchange = search;
   $("sheet").onclose = closeSheet;
-  $("edit").onclick = () => edit(true);
-  $("leave").onclick = () => edit(false);
+  $("editor").ontoggle = edit;
   $("check").onclick = check;
   $("do").onclick = change;
   $("text").oninput = $("renames").oninput = () => $("do").disabled = true;

@@ -36,8 +36,7 @@ def load(path: Path) -> dict[str, Person]:
         if path.stat().st_mode & 0o077:
             raise ValueError("others may read this file of tokens: chmod 600 it")
         data = tomllib.loads(path.read_text("utf-8"))
-        rows = [(kind, name, str(token)) for kind in ("act", "look") for name, token in data.get(kind, {}).items()]
-        found = {token: Person(name, kind == "act") for kind, name, token in rows}
+        found = {str(token): Person(name, key == "act") for key in ("act", "look") for name, token in data.get(key, {}).items()}
         if wrong := [person.name for token, person in found.items() if not TOKEN.fullmatch(token)]:
             raise ValueError(f"the token of {wrong[0]} has to be of 16 letters, digits, - and _, or more")
     except (OSError, ValueError) as error:

@@ -179,7 +179,7 @@ class Engine:
         self._event.set()
 
     async def _serve(self, until: float) -> None:
-        """Lets those who wait go on while there is time before the next scan. Where scans leave none, one goes on all the same."""
+        """Lets those who wait go on while there is time before the next scan; where scans leave none, one all the same."""
         starved = until - self.clock.now() <= self.guard
         while not self._stopping:
             now = self.clock.now()

@@ -17,7 +17,7 @@ from dataclasses import dataclass
 from functools import cached_property, partial
 from pathlib import Path
 from subprocess import PIPE, Popen
-from typing import Any, BinaryIO, NamedTuple
+from typing import Any, BinaryIO
 
 from . import Trouble
 from .plant import Table
@@ -52,37 +52,31 @@ class Record:
         return int(self.words[1]) if self.words[0] in ("load", "scan") else 0
 
 
-class Piece(NamedTuple):
-    number: int
-    crc: int
-    path: Path
-
-
-def pieces(folder: Path) -> list[Piece]:
-    """The pieces of a journal, in order."""
+def pieces(folder: Path) -> list[tuple[int, int, Path]]:
+    """The pieces of a journal in order, each with its number and the checksum that it goes on from."""
     found = sorted(folder.iterdir()) if folder.is_dir() else ()
-    return [Piece(int(match[1]), int(match[2], 16), path) for path in found if (match := NAME.fullmatch(path.name))]
+    return [(int(match[1]), int(match[2], 16), path) for path in found if (match := NAME.fullmatch(path.name))]
 
 
 def bases(folder: Path) -> dict[int, Record]:
     """The loads and resets with which pieces begin, so that a replay can begin there, by the numbers of these pieces."""
-    heads = ((piece.number, next(read(folder, piece.number), None)) for piece in pieces(folder))
+    heads = ((number, next(read(folder, number), None)) for number, _, _ in pieces(folder))
     return {number: record for number, record in heads if record and record.words[0] == "load"}
 
 
 def read(folder: Path, first: int = 0) -> Iterator[Record]:
     """The records that are written by now, from the first piece that is there on, or from piece `first`. What lacks its end in
     the last piece is torn, and no record. Trouble where one isn't as it was written."""
-    found = [piece for piece in pieces(folder) if piece.number >= first]
-    crc = found[0].crc if found else 0
-    for piece in found:
+    found = [piece for piece in pieces(folder) if piece[0] >= first]
+    crc = found[0][1] if found else 0
+    for number, begun, path in found:
         count, place = 1, 0
         try:
-            if crc != piece.crc:
+            if crc != begun:
                 raise ValueError("records before it are missing")
-            with piece.path.open("rb") as file:
+            with path.open("rb") as file:
                 for line in file:
-                    if piece is found[-1] and not line.endswith(b"\n"):
+                    if number == found[-1][0] and not line.endswith(b"\n"):
                         return
                     crc = zlib.crc32(line[9:-1], crc)
                     if line[:9] != b"%08x " % crc or line[-1:] != b"\n":
@@ -91,7 +85,7 @@ def read(folder: Path, first: int = 0) -> Iterator[Record]:
                     yield Record(text, reply, *(int(field) for field in rest[:2]), *rest[2:])
                     count, place = count + 1, place + len(line)
         except ValueError as error:
-            raise Trouble(f"the journal is damaged: {piece.path.name}: record {count}, from byte {place} on: {error}") from error
+            raise Trouble(f"the journal is damaged: {path.name}: record {count}, from byte {place} on: {error}") from error
 
 
 class Journal:
@@ -114,7 +108,7 @@ class Journal:
         """Goes on behind the last whole record, and cuts off a torn one. All have been read without damage: so many from the
         newest load or reset on."""
         found, self.records, self.base = pieces(self.folder), records, max(bases(self.folder), default=None)
-        self._sizes = {piece.number: piece.path.stat().st_size for piece in found}
+        self._sizes = {number: path.stat().st_size for number, _, path in found}
         if found:
             number, self._crc, path = found[-1]
             data = path.read_bytes()
@@ -195,11 +189,11 @@ class Journal:
         made = Popen(WRITER, stdin=PIPE, stdout=self._file, start_new_session=True, close_fds=False)
         fcntl.fcntl(made.stdin or -1, fcntl.F_SETPIPE_SZ, PIPE_SIZE)
         self._writers = [*(writer for writer in self._writers if writer.poll() is None), made]
-        for oldest in pieces(self.folder)[:-1]:
+        for oldest, _, path in pieces(self.folder)[:-1]:
             if sum(self._sizes.values()) > self.file.limit - self.file.piece:
-                oldest.path.unlink()
-                del self._sizes[oldest.number]
-                self.base = None if self.base == oldest.number else self.base
+                path.unlink()
+                del self._sizes[oldest]
+                self.base = None if self.base == oldest else self.base
 
     def _end(self) -> None:
         """Ends the piece, and waits for nothing: its writer goes on until all is on the disk."""

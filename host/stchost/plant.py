@@ -30,8 +30,9 @@ JOURNAL = {"sync": (("never", "second", "always"), "second"), "piece": (range(4_
 PAGE = {"host": (str, HERE), "port": (PORT, 8080), "names": ([str], []), "clients": (range(1, 101), 16),
         "refresh": (range(50, 10_001), 250)}
 PLANT = {"program": (Path, GIVEN), "main": (str, "Main"), "steps": (range(1, 10_000_001), 100_000),
-         "cycle": (range(1, 60_001), GIVEN), "priority": (range(91), 0), "name": (str, GIVEN), "about": (str, ""), "state": (Path, GIVEN), "tokens": (Path, GIVEN),
-         "trend": ([str], []), "trend_keep": (range(10, 86_401), 600), "journal": (JOURNAL, {}), "page": (PAGE, {}),
+         "cycle": (range(1, 60_001), GIVEN), "priority": (range(91), 0), "name": (str, GIVEN), "about": (str, ""),
+         "state": (Path, GIVEN), "tokens": (Path, GIVEN), "trend": ([str], []), "trend_keep": (range(10, 86_401), 600),
+         "journal": (JOURNAL, {}), "page": (PAGE, {}),
          "device": ([DEVICE], []), "input": ([POINT], []), "output": ([POINT], []), "server": (SERVER, None)}
 
 

@@ -45,7 +45,8 @@ class Story:
             self.undoable.clear()
             self.moment = record.moment if record.reply == "ok" and verb != "reset" else self.moment
         if verb == "load":
-            self.text, self.main, self.steps, self.began, self.number = body, words[1], int(words[2]), record.number, record.number
+            self.text, self.main, self.steps = body, words[1], int(words[2])
+            self.began = self.number = record.number
         elif verb == "undo":
             undone, self.text = self.undoable.pop()
             undone.state, self.began = "undone", record.number + 1

@@ -64,8 +64,8 @@ class Web:
 
     async def start(self) -> None:
         await self._runner.setup()
-        made = asyncio.get_running_loop().create_server(self._connection, self.file.host, self.file.port, backlog=32)
-        self._server = await made
+        loop, file = asyncio.get_running_loop(), self.file
+        self._server = await loop.create_server(self._connection, file.host, file.port, backlog=32)
         self.port = self._server.sockets[0].getsockname()[1]
 
     async def close(self) -> None:

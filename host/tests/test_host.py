@@ -116,9 +116,9 @@ def test_a_reset_lets_a_replay_begin_there(host: Host, client: Client) -> None:
     host.stop(signal.SIGKILL)
     first, second = journal.bases(host.journal).items()
     assert host.replayed() == state(*lines_of(host.journal)) and second[1].words[4:] == ["Main.Band:=44"]
-    for piece in journal.pieces(host.journal):
-        if piece.number < second[0]:
-            piece.path.unlink()
+    for number, _, path in journal.pieces(host.journal):
+        if number < second[0]:
+            path.unlink()
     said = host.tool("replay", str(host.journal), "--at", "1", status=1)
     assert first[1].moment == 0 and f"can go back to moment {second[1].moment}, and no further" in said
 

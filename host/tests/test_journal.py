@@ -41,7 +41,7 @@ def test_records_come_back_as_they_were_written_and_each_damaged_byte_is_found(t
 @pytest.mark.parametrize("loss", ["a record", "a piece", "the end of a piece"])
 def test_what_is_missing_is_found(tmp_path: Path, loss: str) -> None:
     write(tmp_path, piece=200, count=20)
-    paths = [piece.path for piece in journal.pieces(tmp_path)]
+    paths = [path for _, _, path in journal.pieces(tmp_path)]
     assert len(paths) > 4 and len(list(read(tmp_path))) == 41
     lines = paths[2].read_bytes().splitlines(keepends=True)
     if loss == "a piece":

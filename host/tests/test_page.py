@@ -54,7 +54,7 @@ class Page:
     def check(self, old: str, new: str) -> None:
         """Checks the program with something in it replaced."""
         self.keys("4")
-        self.press("#edit")
+        self.press("#editor:not([open]) summary")
         self.run("$('text').value = $('text').value.replace(...arguments)", old, new)
         self.press("#check")
 
@@ -93,7 +93,6 @@ def test_a_refused_text_and_a_fault_say_where(page: Page) -> None:
     page.open()
     page.check("10 / Z", "10 / Zz")
     assert "C1" in page.sees("#preview", "Q := 10 / Zz;") and page.run("return $('do').disabled")
-    page.press("#leave")
     page.host.console("write Main.Z 0")
     seen = page.sees("#banner", "Q := 10 / Z;")
     assert "divided by zero" in seen and "line 22" in seen
@@ -125,6 +124,6 @@ def test_sizes_fit_and_charts_and_trends_are_drawn(page: Page) -> None:
         for key in "12453":
             page.keys(key)
             assert page.run("return document.documentElement.scrollWidth <= innerWidth"), (key, width)
-        page.sees("#charts h2", "Main.Cycle")
+        page.sees("#view-charts h2", "Main.Cycle")
         wait_for(lambda: page.run("return document.querySelectorAll('.step.active').length") == 1)
     assert not [entry for entry in page.browser.get_log("browser") if entry["level"] == "SEVERE"]
