@@ -31,8 +31,8 @@ class Busy(Trouble):
 class Value(NamedTuple):
     """What `stc` shows of a leaf."""
 
-    text: str
-    forced: str  # `forced`, or nothing
+    text: str = ""
+    forced: str = ""  # `forced`, or nothing
 
 
 class Engine:
@@ -124,6 +124,8 @@ class Engine:
         async with self._taking_back:
             if not self.story.can_go(number):
                 raise Trouble("what can be taken back is a write, force, release or change since the newest load, reset and undo")
+            if self.journal.trouble:
+                raise Trouble(self.journal.trouble)
             await self.journal.written()
             records, self._news = self.journal.records, []
             replay = await restore(self.journal.folder, without=number)
@@ -131,25 +133,21 @@ class Engine:
                 types = await layout_of(replay.story.text, self.plant.main)
                 await connections(self.plant, replay.story.text, types)
                 async with self.gap():
-                    await self._take_over(who, number, replay, types, self._news[replay.records - records:])
+                    text = replay.story.text
+                    await replay.feed(self._news[replay.records - records:])  # what was done since
+                    if replay.story.text != text:
+                        raise Trouble("the program was changed meanwhile")
+                    old, self.session, self.story = self.session, replay.session, replay.story
+                    self._closing = asyncio.create_task(old.close()) if old else None  # nobody waits for its end
+                    self._keep(self._by(who, f"takeback {number}"))
+                    self._take_program(types)
+                    self.inputs.given.clear()
+                    await self._read_status()
             except BaseException:
                 if replay.session is not self.session:
                     await replay.close()
                 raise
             return replay.others
-
-    async def _take_over(self, who: str, number: int, replay: Replay, types: Types, news: list[Record]) -> None:
-        """Goes on with the session of a replay, behind what was done since."""
-        text = replay.story.text
-        await replay.feed(news)
-        if replay.story.text != text:
-            raise Trouble("the program was changed meanwhile")
-        old, self.session, self.story = self.session, replay.session, replay.story
-        self._keep(self._by(who, f"takeback {number}"))
-        self._take_program(types)
-        await self._read_status()
-        self.inputs.given.clear()
-        self._closing = asyncio.create_task(old.close()) if old else None  # nobody waits for its end
 
     # the writer
 
@@ -233,7 +231,7 @@ class Engine:
         await self.journal.settle()
         if not reply.startswith("refused"):
             with suppress(Gone):  # the line is kept, so that it counts; the next one finds that `stc` has ended
-                await self._follow(*record.words)
+                await self._follow(*words_of(line))
         return reply
 
     async def _follow(self, verb: str, path: str = "", *_: str) -> None:
@@ -292,7 +290,7 @@ class Engine:
                         await self._show(paths[first:first + CHUNK])
                 async with self.gap():
                     await self._read_status()
-                self.trend.append((self.cycle.moment, [self.text_of(path) for path in self.plant.trend]))
+                self.trend.append((self.cycle.moment, [self.values.get(path, Value()).text for path in self.plant.trend]))
                 self.status = self.told()
 
     async def _read_status(self) -> None:
@@ -317,7 +315,7 @@ class Engine:
 
     async def _push(self) -> None:
         """Gives the outputs what the program has, or their values for a fault where it doesn't run."""
-        known = {path: self.text_of(path) for path in self.safe if path in self.values}
+        known = {path: self.values[path].text for path in self.safe if path in self.values}
         self.driven = self.safe if self.fault or self.trouble else {**self.safe, **known}
         numbers = self._numbers(self.driven)
         await asyncio.gather(*(device.push(numbers) for device in self.devices))
@@ -325,9 +323,6 @@ class Engine:
     def forced(self) -> list[str]:
         """What is forced, in words P:=V."""
         return [f"{path}:={value.text}" for path, value in list(self.values.items()) if value.forced]
-
-    def text_of(self, path: str) -> str:
-        return self.values[path].text if path in self.values else ""
 
     def _numbers(self, texts: dict[str, str]) -> dict[str, int]:
         return {path: to_number(self.types[path], text) for path, text in texts.items() if path in self.types}

@@ -14,14 +14,13 @@ import zlib
 from collections.abc import Iterator
 from contextlib import suppress
 from dataclasses import dataclass
-from functools import cached_property, partial
+from functools import partial
 from pathlib import Path
 from subprocess import PIPE, Popen
 from typing import Any, BinaryIO
 
 from . import Trouble
 from .plant import Table
-from .session import words_of
 
 PIPE_SIZE = 1 << 20  # bytes that may wait for the disk before a scan does
 WRITER = ["dd", "bs=64K", "conv=fsync", "status=none"]  # copies what comes by its pipe, and sees it on the disk at the end
@@ -42,14 +41,13 @@ class Record:
     who: str = ""
     state: str = ""  # of an operator's: empty, `undone` or `taken back`
 
-    @cached_property
-    def words(self) -> list[str]:
-        return words_of(self.line)
+    def __post_init__(self) -> None:
+        self.verb = self.line.split(None, 1)[0]
 
     @property
     def moment(self) -> int:
         """The moment of a load or a scan, and 0 for others."""
-        return int(self.words[1]) if self.words[0] in ("load", "scan") else 0
+        return int(self.line.split(None, 2)[1]) if self.verb in ("load", "scan") else 0
 
 
 def pieces(folder: Path) -> list[tuple[int, int, Path]]:
@@ -61,7 +59,7 @@ def pieces(folder: Path) -> list[tuple[int, int, Path]]:
 def bases(folder: Path) -> dict[int, Record]:
     """The loads and resets with which pieces begin, so that a replay can begin there, by the numbers of these pieces."""
     heads = ((number, next(read(folder, number), None)) for number, _, _ in pieces(folder))
-    return {number: record for number, record in heads if record and record.words[0] == "load"}
+    return {number: record for number, record in heads if record and record.verb == "load"}
 
 
 def read(folder: Path, first: int = 0) -> Iterator[Record]:
@@ -81,8 +79,8 @@ def read(folder: Path, first: int = 0) -> Iterator[Record]:
                     crc = zlib.crc32(line[9:-1], crc)
                     if line[:9] != b"%08x " % crc or line[-1:] != b"\n":
                         raise ValueError("its checksum doesn't fit")
-                    text, reply, *rest = (field.decode("unicode_escape") for field in line[9:-1].split(b"\t"))
-                    yield Record(text, reply, *(int(field) for field in rest[:2]), *rest[2:])
+                    fields = [field.decode("unicode_escape") for field in line[9:-1].split(b"\t")]
+                    yield Record(*fields[:2], *map(int, fields[2:4]), *fields[4:])
                     count, place = count + 1, place + len(line)
         except ValueError as error:
             raise Trouble(f"the journal is damaged: {path.name}: record {count}, from byte {place} on: {error}") from error
@@ -124,14 +122,21 @@ class Journal:
         couldn't be written nothing more is kept, and `trouble` says so."""
         if self.trouble:
             return
-        number, load = next(reversed(self._sizes), 0), record.words[0] == "load"
+        number, load = next(reversed(self._sizes), 0), record.verb == "load"
         try:
             if load or self._sizes[number] + 64 > self.file.piece:
                 number += 1
                 self._open(self.folder / f"{number:08}-{self._crc:08x}.journal", number, 0)
             if load:
                 self.base, self.records = number, 0
-            self._sizes[number] += self._write(record)
+            fields = (record.line, record.reply, record.number, record.wall, record.who)[:5 if record.number else 2]
+            body = b"\t".join(str(field).encode("unicode_escape") for field in fields)
+            self._crc = zlib.crc32(body, self._crc)
+            pipe = self._writers[-1].stdin
+            assert pipe is not None
+            pipe.write(b"%08x %s\n" % (self._crc, body))
+            pipe.flush()
+            self._sizes[number] += len(body) + 10
             self.records += 1
         except OSError as error:
             self.trouble = f"nothing is kept any more: {error}"
@@ -169,17 +174,6 @@ class Journal:
         self._end()
         for writer in self._writers:
             writer.wait()
-
-    def _write(self, record: Record) -> int:
-        """Gives a record away. The answer is its length."""
-        fields = (record.line, record.reply, record.number, record.wall, record.who)[:5 if record.number else 2]
-        body = b"\t".join(str(field).encode("unicode_escape") for field in fields)
-        self._crc = zlib.crc32(body, self._crc)
-        pipe = self._writers[-1].stdin
-        assert pipe is not None
-        pipe.write(b"%08x %s\n" % (self._crc, body))
-        pipe.flush()
-        return len(body) + 10
 
     def _open(self, path: Path, number: int, size: int) -> None:
         """Goes on with a piece, and ends the one before. The oldest ones go where there are too many."""

@@ -11,7 +11,7 @@ from pathlib import Path
 
 from . import Trouble, journal
 from .journal import OWN, Record
-from .session import BATCH, Session, forcing, layout_of
+from .session import BATCH, Session, forcing, layout_of, words_of
 
 KEPT = 2_000  # commands that are remembered
 UNDOABLE = ("write", "force", "release", "change")  # what `undo` and a take back undo
@@ -33,10 +33,9 @@ class Story:
 
     def take(self, record: Record) -> None:
         """Goes on by a record: a line was answered so. Behind a scan nothing can be undone."""
-        verb, *words = record.words
-        body = record.line.partition("\n")[2]
+        verb, (line, _, body) = record.verb, record.line.partition("\n")
         if record.number and verb != "load":
-            record = replace(record, line=record.line.partition("\n")[0])
+            record = replace(record, line=line)
             self.commands[record.number], self.number = record, record.number + 1
             self.commands.pop(record.number - KEPT, None)
         if record.state or record.reply.startswith("refused"):
@@ -45,13 +44,13 @@ class Story:
             self.undoable.clear()
             self.moment = record.moment if record.reply == "ok" and verb != "reset" else self.moment
         if verb == "load":
-            self.text, self.main, self.steps = body, words[1], int(words[2])
+            self.text, self.main, self.steps = body, line.split()[2], int(line.split()[3])
             self.began = self.number = record.number
         elif verb == "undo":
             undone, self.text = self.undoable.pop()
             undone.state, self.began = "undone", record.number + 1
         elif verb == "takeback":
-            self.commands.get(int(words[0]), record).state = "taken back"
+            self.commands.get(int(line.split()[1]), record).state = "taken back"
         elif verb in UNDOABLE:
             self.undoable.append((record, self.text))
             self.text = body.rpartition("end_change")[0] if verb == "change" else self.text
@@ -59,7 +58,7 @@ class Story:
     def can_go(self, number: int) -> bool:
         """Whether the journal without a command gives what would be if it had never been given."""
         record = self.commands.get(number)
-        return (record is not None and number >= self.began and not record.state and record.words[0] in UNDOABLE
+        return (record is not None and number >= self.began and not record.state and record.verb in UNDOABLE
                 and not record.reply.startswith("refused"))
 
     def base(self, forces: Iterable[str]) -> Record:
@@ -83,7 +82,15 @@ class Replay:
         records = iter(records)
         try:
             while some := list(islice(records, BATCH)):
-                await self._feed(some)
+                if self.session is None:
+                    self.session = await self._begun(some[0])
+                elif any(record.verb == "load" for record in some):
+                    raise Trouble("a reset came meanwhile")
+                sent = [record for record in some if record.verb not in OWN and record.number not in self.skipped]
+                replies = dict(zip(map(id, sent), await self.session.exchange([record.line for record in sent])))
+                for record in some:
+                    self._take(record, replies.get(id(record), record.reply))
+                self.records, self.lines = self.records + len(some), self.lines + len(sent)
                 await asyncio.sleep(0)
         except BaseException:
             await self.close()
@@ -93,22 +100,11 @@ class Replay:
         if self.session is not None:
             await self.session.close()
 
-    async def _feed(self, some: list[Record]) -> None:
-        if self.session is None:
-            self.session = await self._begun(some[0])
-        elif any(record.words[0] == "load" for record in some):
-            raise Trouble("a reset came meanwhile")
-        sent = [record for record in some if record.words[0] not in OWN and record.number not in self.skipped]
-        replies = dict(zip(map(id, sent), await self.session.exchange([record.line for record in sent])))
-        for record in some:
-            self._take(record, replies.get(id(record), record.reply))
-        self.records, self.lines = self.records + len(some), self.lines + len(sent)
-
     async def _begun(self, record: Record) -> Session:
         """A session that begins with a load: its forces, and its moment."""
-        if record.words[0] != "load":
+        if record.verb != "load":
             raise Trouble(NO_BASE)
-        _, moment, main, steps, *forces = record.words
+        _, moment, main, steps, *forces = words_of(record.line)
         session = await Session.start(record.line.partition("\n")[2], main, int(steps))
         await session.exchange([*forcing(forces), *([f"scan {moment}"] if moment != "0" else []), "reset"])
         return session
@@ -116,15 +112,15 @@ class Replay:
     def _take(self, record: Record, reply: str) -> None:
         """Takes over what a line did, and looks whether it is answered as the journal has it."""
         if reply != record.reply and not self._open:
-            raise Trouble(f"`{' '.join(record.words)}` is answered `{reply}`, and in the journal `{record.reply}`")
+            raise Trouble(f"`{record.line.splitlines()[0]}` is answered `{reply}`, and in the journal `{record.reply}`")
         if reply != record.reply and record.number:
             self.others.append(record)
         record.reply = reply
         if record.number in self.skipped:
             record.state = "taken back"
             self._open.add(record.number)
-        elif record.words[0] == "takeback":
-            self._open.discard(int(record.words[1]))
+        elif record.verb == "takeback":
+            self._open.discard(int(record.line.split()[1]))
         self.story.take(record)
 
 
@@ -144,7 +140,7 @@ async def restore(folder: Path, moment: int | None = None, without: int = -1) ->
         found = journal.read(folder, reaching[-1])
         return found if moment is None else takewhile(lambda record: record.moment <= moment, found)
 
-    replay = Replay([without, *(int(record.words[1]) for record in records() if record.words[0] == "takeback")])
+    replay = Replay([without, *(int(record.line.split()[1]) for record in records() if record.verb == "takeback")])
     await replay.feed(records())
     return replay
 

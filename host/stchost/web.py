@@ -176,7 +176,7 @@ class Web:
 
     async def do_list(self, client: Client, *words: str) -> Answer:
         """The leaves whose path has all words; `--forced` has those that are, and `--plain` hides what blocks keep."""
-        values, types, none = dict(self.engine.values), self.engine.types, Value("", "")
+        values, types, none = dict(self.engine.values), self.engine.types, Value()
         search = [word.upper() for word in words if not word.startswith("--")]
         found = [path for path in types if all(word in path.upper() for word in search)
                  and ("--plain" not in words or "$" not in path)

@@ -115,7 +115,7 @@ def test_a_reset_lets_a_replay_begin_there(host: Host, client: Client) -> None:
     time.sleep(0.2)
     host.stop(signal.SIGKILL)
     first, second = journal.bases(host.journal).items()
-    assert host.replayed() == state(*lines_of(host.journal)) and second[1].words[4:] == ["Main.Band:=44"]
+    assert host.replayed() == state(*lines_of(host.journal)) and second[1].line.split("\n")[0].endswith(" Main.Band:=44")
     for number, _, path in journal.pieces(host.journal):
         if number < second[0]:
             path.unlink()

@@ -29,17 +29,14 @@ def client_of(host: Host):
 
 
 @pytest.mark.parametrize("form, words, order, number, registers", [
-    ("INT16", "big", "big", -2, [0xFFFE]), ("UINT16", "big", "little", 0x1234, [0x3412]),
+    ("INT16", "big", "big", -2, [0xFFFE]), ("INT16", "big", "big", 70_000, [0x7FFF]),
+    ("UINT16", "big", "little", 0x1234, [0x3412]),
     ("UINT32", "big", "big", 0x12345678, [0x1234, 0x5678]), ("UINT32", "little", "big", 0x12345678, [0x5678, 0x1234]),
     ("INT32", "big", "little", 0x12345678, [0x3412, 0x7856]), ("INT32", "little", "little", -2, [0xFEFF, 0xFFFF])])
 def test_numbers_in_registers(form, words, order, number: int, registers: list[int]) -> None:
     register = Table(table="holding", form=form, words=words, bytes=order)
-    assert pack(register, "DINT", number) == registers and unpack(register, "DINT", registers) == number
-
-
-def test_numbers_that_a_form_has_not_are_held_at_its_ends() -> None:
-    assert pack(Table(table="input", form="INT16", words="big", bytes="big"), "DINT", 70_000) == [0x7FFF]
-    assert pack(Table(table="input", form="UINT32", words="big", bytes="big"), "TIME", -1) == [0, 0]
+    assert pack(register, "DINT", number) == registers
+    assert unpack(register, "DINT", registers) == {70_000: 0x7FFF}.get(number, number)  # held at the form's end
 
 
 def test_pymodbus_reads_and_writes_what_is_mapped(host: Host) -> None:
