@@ -164,7 +164,7 @@ def test_a_remote_device_is_polled_and_written_and_waited_for_no_longer_than_its
     assert before["devices"][0]["behind"] > 0
     after = client.until(lambda status: status["cycles"] >= before["cycles"] + 50)
     assert after["moment"] - before["moment"] < 50 * 50 * 3, "a slow device holds up no scan"
-    assert client.lines("show Main.Raw", "show Main.Raw_Ok") == ["Main.Raw = 500", "Main.Raw_Ok = FALSE"]
+    wait_for(lambda: client.lines("show Main.Raw", "show Main.Raw_Ok") == ["Main.Raw = 500", "Main.Raw_Ok = FALSE"])
     rack.pause = 0.0
     client.until(lambda status: status["good"]["Main.Raw"] and status["devices"][0]["good"])
     host.stop()
