@@ -117,15 +117,15 @@ function tellFigures() {
   ].map(([words, bad]) => el("span", {className: bad ? "bad" : ""}, words)));
 }
 function tellBanner() {
-  const [, unit, , at] = status.fault.split(" "), safe = "Outputs have their values for a fault";
+  const [, unit, , at] = status.fault.split(" "), row = text[at - 1] || "", safe = "Outputs have their values for a fault";
   const jump = () => { show("program"); $("program").children[at - 1]?.scrollIntoView({block: "center"}); };
   $("banner").className = status.state;
-  fill($("banner"), [status.state, status.fault, status.trouble, text.length], () => ({
+  fill($("banner"), [status.state, status.fault, status.trouble, row], () => ({
     running: () => [],
     held: () => ["Scans are held. Outputs stay as they are, and what is done now can be undone."],
     trouble: () => [`The program doesn't run: ${status.trouble}. ${safe}.`],
     halted: () => [`${status.why.replaceAll("`", "")} The program is halted in ${unit}, line ${at}. ${safe}, until a reset. `,
-      el("button", {onclick: jump}, "Show the line"), el("code", {}, (text[at - 1] || "").trim())],
+      el("button", {onclick: jump}, "Show the line"), el("code", {}, row.trim())],
   })[status.state]());
   [...$("program").children].forEach((row, i) => row.className = i + 1 === Number(at) ? "fault" : "");
 }
@@ -222,7 +222,7 @@ function lane(path, i) {
     }).join(""));
     box.classList.toggle("bit", bit);
     title.textContent = `${short(path)}: ${human(valueOf(path)[0])}`;
-    [top.textContent, bottom.textContent] = bit ? ["", ""] : [high, low];
+    [top.textContent, bottom.textContent] = bit || !list.length ? ["", ""] : [high, low];
   });
 }
 

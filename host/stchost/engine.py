@@ -13,7 +13,7 @@ from .clock import Clock, Cycle
 from .devices import Device, Inputs
 from .journal import Journal, Record
 from .plant import Table
-from .replay import NO_BASE, UNDOABLE, Replay, Story, restore
+from .replay import NO_BASE, UNDOABLE, Story, restore
 from .session import CODE, Gone, Session, checked, explain, layout_of, words_of
 from .values import to_number
 
@@ -365,7 +365,8 @@ class Engine:
             self.status = self.told()
             while self._queue:
                 turn, _ = self._queue.popleft()
-                turn.done() or turn.set_exception(Trouble(f"the program doesn't run: {self.trouble}"))
+                if not turn.done():
+                    turn.set_exception(Trouble(f"the program doesn't run: {self.trouble}"))
             self._event.clear()
             await self.clock.wait(self._event, self.clock.now() + pause)
             try:

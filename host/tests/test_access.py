@@ -86,6 +86,10 @@ def test_a_program_without_what_is_connected_is_refused(make_host) -> None:
 def test_floods_slow_readers_and_half_open_connections_delay_no_scan(make_host) -> None:
     host = make_host(file=FILE.replace("refresh = 50", "refresh = 50, clients = 4"))
 
+    def page(connection: http.client.HTTPConnection) -> bytes:
+        connection.request("GET", "/page.js")
+        return connection.getresponse().read()
+
     def flood(work) -> int:
         count = 0
         while time.monotonic() < until:
@@ -99,9 +103,10 @@ def test_floods_slow_readers_and_half_open_connections_delay_no_scan(make_host) 
         idle[1].sendall(b"\xff" * 100_000)
         idle[2].sendall(b"GET /page.js HTTP/1.1\r\nHost: 127.0.0.1:%d\r\n\r\n" % host.port * 500)  # it reads no answers
         until, clients = time.monotonic() + 4, [host.client(), host.client()]
-        works = [partial(get, host, "/page.js")] * 4 + [partial(client.line, "write Main.Band 5") for client in clients]
+        pages = [http.client.HTTPConnection("127.0.0.1", host.port, timeout=2) for _ in range(4)]
+        works = [partial(page, made) for made in pages] + [partial(client.line, "write Main.Band 5") for client in clients]
         assert all(pool.map(flood, works))
-        for made in idle:
+        for made in idle + pages:
             made.close()
 
 
