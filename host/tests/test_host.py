@@ -60,6 +60,7 @@ def test_kills_at_random_moments_lose_nothing(host: Host) -> None:
             host.start()
     client = host.client()
     client.line("hold")
+    client.until(lambda status: status["state"] == "held")
     assert client.lines(*STATE) == state(*lines_of(host.journal))
     assert len(lines_of(host.journal)[1]) > 100
 
