@@ -1,5 +1,6 @@
 """What an online change would do, found out beside the plant: by a session with the same text and forces, which is changed."""
 
+import re
 from collections.abc import Sequence
 
 from . import Trouble
@@ -17,6 +18,7 @@ async def preview(plant: Table, old: str, forces: Sequence[str], text: str, rena
         return "", "refused S4 line 1", ""
     line = change_line(text.replace("\r\n", "\n"), renames)
     replies, said = await ask("run", old, plant.main, [*forcing(forces), line])
+    said = re.sub(r"session:\d+:1: note: the change is done", "The change does this:", said)
     reply = replies.splitlines()[-1]
     if reply.startswith("ok"):
         await connections(plant, text, await layout_of(text, plant.main), await layout_of(old, plant.main))

@@ -52,7 +52,9 @@ class Record:
 
 def pieces(folder: Path) -> list[tuple[int, int, Path]]:
     """The pieces of a journal in order, each with its number and the checksum that it goes on from."""
-    found = sorted(folder.iterdir()) if folder.is_dir() else ()
+    found = sorted(folder.iterdir()) if folder.is_dir() else []
+    if other := [path.name for path in found if not NAME.fullmatch(path.name)]:
+        raise Trouble(f"the journal has {other[0]}, which is no piece of it: --fresh sets the journal aside")
     return [(int(match[1]), int(match[2], 16), path) for path in found if (match := NAME.fullmatch(path.name))]
 
 
