@@ -1,15 +1,15 @@
 -- Lemmas on a piece of a line that is taken at once.
 use Rattle.std.proofs.Common.{◌≡◌, ℕ, ◌+◌, ◌-◌, ◌<◌, ◌≤◌, Bool, true, false, List, [], ◌∷◌, ◌++◌, length, get_or, take, drop, min, refl, ap, sym, ◌∙◌, arith, suc, inl, inr, ◌⊎◌, slice_range, append_assoc, append-nil, length-append, length-drop, subst}
 use mir.Val.{bool_byte}
-use Rattle.std.specs.Prelude.{Option, Some, if◌then◌else◌, nat_lt, ◌||◌, ◌==◌}
+use Rattle.std.specs.Prelude.{Option, Some, not, if◌then◌else◌, nat_lt, ◌||◌, ◌==◌}
 use Rattle.std.specs.Io.KnownBytes.{Keeps, prepend_known}
 use Rattle.std.specs.List.{position_or_len}
 use Rattle.std.specs.Str.Lines.{strip_carriage_return}
 use Rattle.std.proofs.Math.Seq.{drop-cons, take-append-add}
 use Rattle.std.proofs.lemmas.Bool.{eqb-true, le-ltb, lt-ltb, ltb-false, ltb-true}
-use Rattle.std.proofs.lemmas.List.{drop-drop, drop-take, get_or-take, length-take, take-append-drop, take-append-le, take-take, take_all, take_min}
+use Rattle.std.proofs.lemmas.List.{drop-drop, drop-take, get_or-drop, get_or-take, length-take, take-append-drop, take-append-le, take-take, take_all, take_min}
 use Rattle.std.proofs.lemmas.List.Elements.{All-append}
-use Rattle.std.proofs.lemmas.List.Sums.{fails_before_first, passes_at_first}
+use Rattle.std.proofs.lemmas.List.Sums.{fails_before_first, passes_at_first, position_or_len_is, prefix_len-le-length}
 use Rattle.st_devices.specs.Lines.{is_lf}
 use Rattle.st_devices.specs.Pending.{NoLf, OnReading, TakesFound, TakesPiece, TakesSome}
 use Rattle.st_devices.specs.declared.input.Found.{Found}
@@ -29,6 +29,39 @@ NoLf-before : (bytes : List ℕ) → NoLf (take (position_or_len is_lf bytes) by
 NoLf-before bytes = λ k d within.
     let before : k < position_or_len is_lf bytes = omega (arith, within, length-take (position_or_len is_lf bytes) bytes) in
     ap is_lf (get_or-take (position_or_len is_lf bytes) bytes k d before) ∙ fails_before_first is_lf bytes k d before
+
+-- ---- the first LF, behind bytes that have none
+
+-- n bytes more have none
+pub none_behind : (bytes : List ℕ) (at n : ℕ) → ((k : ℕ) → k < at → is_lf (get_or bytes k 0) ≡ false) → ((k : ℕ) → at ≤ k → k < at + n → is_lf (get_or bytes k 0) ≡ false)
+    → (k : ℕ) → k < at + n → is_lf (get_or bytes k 0) ≡ false
+none_behind bytes at n none more = λ k below. none_at bytes at n none more k below (before_or_behind k at)
+  where
+    before_or_behind : (k at : ℕ) → (k < at) ⊎ (at ≤ k)
+    before_or_behind k at = grind arith
+
+    none_at : (bytes : List ℕ) (at n : ℕ) → ((k : ℕ) → k < at → is_lf (get_or bytes k 0) ≡ false) → ((k : ℕ) → at ≤ k → k < at + n → is_lf (get_or bytes k 0) ≡ false)
+        → (k : ℕ) → k < at + n → (k < at) ⊎ (at ≤ k) → is_lf (get_or bytes k 0) ≡ false
+    none_at bytes at n none more k below (inl before) = none k before
+    none_at bytes at n none more k below (inr behind) = more k behind below
+
+fails_behind : (bytes : List ℕ) (at n : ℕ) → n ≡ position_or_len is_lf (drop at bytes) → (k : ℕ) → at ≤ k → k < at + n → is_lf (get_or bytes k 0) ≡ false
+fails_behind bytes at n first k behind below =
+    let same : at + (k - at) ≡ k = omega (arith, behind) in
+    ap is_lf (ap (λ m. get_or bytes m 0) (sym same) ∙ sym (get_or-drop at bytes (k - at) 0)) ∙ fails_before_first is_lf (drop at bytes) (k - at) 0 (omega (arith, first, behind, below))
+
+-- the first is the first of the others
+pub first_behind : (bytes : List ℕ) (at n : ℕ) → at ≤ length bytes → ((k : ℕ) → k < at → is_lf (get_or bytes k 0) ≡ false)
+    → n ≡ position_or_len is_lf (take (length bytes - at) (drop at bytes)) → at + n ≡ position_or_len is_lf bytes
+first_behind bytes at n within none counted =
+    let rest = drop at bytes in
+    let size : length rest ≡ length bytes - at = length-drop at bytes in
+    let whole : take (length bytes - at) rest ≡ rest = take_all (length bytes - at) rest (omega (arith, size)) in
+    let first : n ≡ position_or_len is_lf rest = counted ∙ ap (position_or_len is_lf) whole in
+    let most : n ≤ length rest = rw first (prefix_len-le-length (λ byte. not (is_lf byte)) rest) in
+    sym (position_or_len_is is_lf bytes (at + n) 0 (omega (arith, within, size, most))
+    (none_behind bytes at n none (fails_behind bytes at n first))
+    (λ inside. ap is_lf (sym (get_or-drop at bytes n 0) ∙ ap (λ m. get_or rest m 0) first) ∙ passes_at_first is_lf rest 0 (omega (arith, first, inside, size))))
 
 range_take : (bytes : List ℕ) (at end n : ℕ) → n ≤ end - at → take n (slice_range bytes at end) ≡ slice_range bytes at (at + n)
 range_take bytes at end n within =

@@ -2,18 +2,23 @@
 //!
 //! A line ends at an LF, and a CR right before it is dropped. The last line may lack its LF. A line of more than 4,096
 //! bytes before its LF is passed over.
-ghost use Rattle.std.specs.Prelude.{◌≡◌, ◌≤◌, ◌<◌, ◌+◌, ◌++◌, nat_lt, take, true, false, Some, None, IfOk, OnErr, OnOk, OnSome, is_err, [], length, vec_len, vec_capacity};
+ghost use Rattle.std.specs.Prelude.{◌≡◌, ◌≤◌, ◌<◌, ◌+◌, ◌++◌, nat_lt, take, true, false, Some, None, IfOk, OnErr, OnOk, OnSome, is_err, not, [], length, vec_len, vec_capacity};
 ghost use Rattle.std.specs.Io.KnownBytes.{Keeps, IsAtEnd};
 ghost use Rattle.std.specs.Str.Lines.{strip_carriage_return};
-ghost use Rattle.std.specs.List.{position_or_len};
+ghost use Rattle.std.specs.List.{position_or_len, prefix_len};
+ghost use Rattle.std.specs.Simd.Lanes.{chunk};
 ghost use Rattle.st_devices.specs.Lines.{is_lf};
 ghost use Rattle.st_devices.specs.Pending.{IsFound, OnReading, TakesByte, TakesFound, TakesPart, TakesPiece};
 
 use crate::devices::{DeviceFault, Source};
 use std::alloc::{AllocError, Global};
+use std::simd::prelude::*;
 
 /// The most bytes of a line before its LF, and of a piece that is read.
 pub const MAX_LINE_BYTES: usize = 4096;
+
+/// How many bytes are searched at once for an LF.
+const LANES: usize = 16;
 
 /// What was found next in the input.
 pub enum Found {
@@ -76,6 +81,7 @@ impl Input {
     }
 
     /// Reads a piece if none is unread.
+    #[inline(always)]
     fn fill<R: Source>(&mut self, source: &mut R) -> Result<(), DeviceFault>
         requires { R.has_failed source.old ≡ false }
         ensures bytes { OnOk result (Keeps (pending self.old (R.rest source.old))
@@ -205,6 +211,37 @@ impl Input {
 
 /// How many bytes stand before the first LF.
 fn bytes_before_lf(bytes: &[u8]) -> usize
+    ensures value { result ≡ position_or_len is_lf bytes.now }
+    ensures within { result ≤ length bytes.now }
+{
+    let mut at = 0;
+    while LANES <= bytes.len() - at {
+        let count = lanes_before_lf(bytes, at);
+        if count < LANES {
+            return at + count;
+        }
+        at += LANES;
+    }
+    at + few_before_lf(&bytes[at..])
+}
+
+/// How many of the lanes that begin at a place stand before the first LF.
+fn lanes_before_lf(bytes: &[u8], at: usize) -> usize
+    requires { at + 16 ≤ length bytes.now }
+    ensures { result ≡ prefix_len (λ byte. not (is_lf byte)) (chunk at 16 bytes.now) }
+{
+    let ends = u8x16::from_slice(&bytes[at..])
+        .simd_eq(u8x16::splat(b'\n'))
+        .to_bitmask();
+    if ends == 0 {
+        LANES
+    } else {
+        ends.trailing_zeros() as usize
+    }
+}
+
+/// How many bytes stand before the first LF, where they fill no lanes.
+fn few_before_lf(bytes: &[u8]) -> usize
     ensures value { result ≡ position_or_len is_lf bytes.now }
     ensures within { result ≤ length bytes.now }
 {

@@ -17,6 +17,6 @@ pub use input::{Found, Input, MAX_LINE_BYTES};
 pub use memory_sink::Sheet;
 pub use memory_source::Bytes;
 pub use reader_source::FromReader;
-pub use words::{is_space_or_tab, split_word};
+pub use words::{is_space_or_tab, skip_blanks, split_word};
 pub use writer_sink::ToWriter;
 pub use writing::write_all;

@@ -17,7 +17,7 @@ pub fn split_word(text: &[u8]) -> Option<(&[u8], &[u8])>
 }
 
 /// A text without the blanks that it begins with.
-fn skip_blanks(text: &[u8]) -> &[u8]
+pub fn skip_blanks(text: &[u8]) -> &[u8]
     ensures words { words_of result.now ≡ words_of text.now }
     ensures first { HasNoBlankFirst result.now }
     ensures shorter { length result.now ≤ length text.now }
