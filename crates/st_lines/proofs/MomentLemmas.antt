@@ -1,14 +1,18 @@
 -- Lemmas on a moment that is read digit by digit: what is too late stays so, whatever follows.
-use Rattle.std.proofs.Common.{◌≡◌, ℕ, suc, ◌+◌, ◌*◌, ◌<◌, ◌≤◌, min, Bool, true, false, List, [], ◌∷◌, length, drop, get_or, refl, ap, sym, ◌∙◌, arith, add-one, nat_lt, ◌==◌}
+use Rattle.std.proofs.Common.{◌≡◌, ◌≢◌, ◌⊎◌, ℕ, suc, ◌+◌, ◌*◌, ◌<◌, ◌≤◌, min, Bool, true, false, List, [], ◌∷◌, length, take, drop, get_or, inl, inr, refl, ap, sym, ◌∙◌, arith, add-one, nat_lt, ◌==◌}
 use Rattle.std.specs.Char.{digit_value}
-use Rattle.std.specs.List.{list_any}
+use Rattle.std.specs.List.{list_any, position_or_len}
 use Rattle.std.specs.Prelude.{Option, Some, None, ℤ, pos, if◌then◌else◌, option_map}
 use Rattle.std.specs.Str.Parse.{digits_value_after}
 use Rattle.std.proofs.Math.Seq.{drop-cons}
+use Rattle.std.proofs.lemmas.List.{drop_all, get_or-take, length-take}
+use Rattle.std.proofs.lemmas.List.Sums.{fails_before_first, passes_at_first, position_or_len_is}
+use Rattle.st_devices.proofs.WordLemmas.{words_of-word}
+use Rattle.st_devices.specs.Words.{HasNoBlankFirst, is_blank, words_of}
 use Rattle.st_values.proofs.Cases.{is_below, is_not_below, differs}
 use Rattle.st_values.proofs.NumberLemmas.{no_underscore}
 use Rattle.st_values.specs.Numbers.{are_digits, without_underscores}
-use Rattle.st_lines.specs.ScanWords.{is_underscore, moment_of, too_late}
+use Rattle.st_lines.specs.ScanWords.{HasMomentFirst, first_moment, is_underscore, moment_of, moment_read, too_late}
 
 -- what the rest of a word gives, after the digits of n
 abbrev pub rest_moment : Bool → ℕ → List ℕ → Option ℤ
@@ -61,3 +65,90 @@ rest_moment-another after_digit n c text false is large =
 -- one more byte is none
 pub after_another : (after_digit : Bool) (n i : ℕ) (word : List ℕ) → i < length word → 10 ≤ digit_value (get_or word i 0) → rest_moment after_digit n (drop i word) ≡ None
 after_another after_digit n i word within large = rw (drop-cons word i 0 within) (rest_moment-another after_digit n (get_or word i 0) (drop (suc i) word) ((get_or word i 0) == 95) refl large)
+
+-- ---- the first word of a text
+
+-- the first word of a text that begins with one
+abbrev pub word_of : List ℕ → List ℕ
+word_of text = take (position_or_len is_blank text) text
+
+no_space : (c : ℕ) → digit_value c < 10 → c ≢ 32
+no_space c small e = let large : digit_value c ≡ 36 = rw e refl in omega arith
+
+no_tab : (c : ℕ) → digit_value c < 10 → c ≢ 9
+no_tab c small e = let large : digit_value c ≡ 36 = rw e refl in omega arith
+
+-- a digit is no blank
+pub digit_is_no_blank : (c : ℕ) → digit_value c < 10 → is_blank c ≡ false
+digit_is_no_blank c small = rw (differs c 32 (no_space c small), differs c 9 (no_tab c small)) refl
+
+below_or_at : (a b : ℕ) → a ≤ b → (a < b) ⊎ (a ≡ b)
+below_or_at a b most = grind arith
+
+below_from : (text : List ℕ) (at : ℕ) → (at < position_or_len is_blank text) ⊎ (at ≡ position_or_len is_blank text) → at < length text → is_blank (get_or text at 0) ≡ false → at < position_or_len is_blank text
+below_from text at (inl below) within no_blank = below
+below_from text at (inr same) within no_blank =
+    let blank : is_blank (get_or text (position_or_len is_blank text) 0) ≡ true = passes_at_first is_blank text 0 (rw same at within) in
+    absurd (cc (rw same at no_blank, blank))
+
+-- a byte that is no blank belongs to the word
+pub stands_in_word : (text : List ℕ) (at : ℕ) → at ≤ position_or_len is_blank text → at < length text → is_blank (get_or text at 0) ≡ false → at < position_or_len is_blank text
+stands_in_word text at most within no_blank = below_from text at (below_or_at at (position_or_len is_blank text) most) within no_blank
+
+-- a word that ends here, at a blank or with the text
+pub ends_here : (text : List ℕ) (at : ℕ) → at ≤ position_or_len is_blank text → at ≤ length text → (at < length text → is_blank (get_or text at 0) ≡ true) → at ≡ position_or_len is_blank text
+ends_here text at most within blank = sym (position_or_len_is is_blank text at 0 within (λ k before. fails_before_first is_blank text k 0 (omega (arith, before, most))) blank)
+
+pub length-word : (text : List ℕ) (at : ℕ) → at < position_or_len is_blank text → at < length text → at < length (word_of text)
+length-word text at below within = omega (arith, length-take (position_or_len is_blank text) text)
+
+pub get_or-word : (text : List ℕ) (at : ℕ) → at < position_or_len is_blank text → get_or (word_of text) at 0 ≡ get_or text at 0
+get_or-word text at below = get_or-take (position_or_len is_blank text) text at 0 below
+
+-- a word with a byte that is no digit is no moment
+pub no_moment : (text : List ℕ) (at n : ℕ) → at < position_or_len is_blank text → at < length text → rest_moment (nat_lt 0 at) n (drop at (word_of text)) ≡ moment_read (word_of text)
+    → 10 ≤ digit_value (get_or text at 0) → moment_read (word_of text) ≡ None
+no_moment text at n below within told large =
+    sym told ∙ after_another (nat_lt 0 at) n at (word_of text) (length-word text at below within) (rw (get_or-word text at below) large)
+
+first_is : (text : List ℕ) → 0 < length text → HasNoBlankFirst text → first_moment (words_of text) ≡ moment_read (word_of text)
+first_is text some first = ap first_moment (words_of-word text some first)
+
+none_of_empty : (text : List ℕ) → length text ≡ 0 → first_moment (words_of text) ≡ None
+none_of_empty [] empty = refl
+none_of_empty (byte ∷ text) empty = absurd (omega arith)
+
+empty_or_not : (text : List ℕ) → (length text ≡ 0) ⊎ (0 < length text)
+empty_or_not text = grind arith
+
+module _ (text : List ℕ) (at n : ℕ) (first : HasNoBlankFirst text) (told : rest_moment (nat_lt 0 at) n (drop at (word_of text)) ≡ moment_read (word_of text)) where
+  -- a text whose first word has a byte that is no digit
+  pub another_first : at < position_or_len is_blank text → at < length text → 10 ≤ digit_value (get_or text at 0) → first_moment (words_of text) ≡ None
+  another_first below within large = first_is text (omega (arith, within)) first ∙ no_moment text at n below within told large
+
+  none_first : (length text ≡ 0) ⊎ (0 < length text) → at ≡ 0 → (at < length text → 10 ≤ digit_value (get_or text at 0)) → first_moment (words_of text) ≡ None
+  none_first (inl empty) zero large = none_of_empty text empty
+  none_first (inr some) zero large =
+      let below : at < position_or_len is_blank text = omega (arith, zero, first some) in
+      let within : at < length text = omega (arith, zero, some) in
+      another_first below within (large within)
+
+  -- a text that begins with no digit
+  pub no_digit_first : at ≡ 0 → (at < length text → 10 ≤ digit_value (get_or text at 0)) → first_moment (words_of text) ≡ None
+  no_digit_first zero large = none_first (empty_or_not text) zero large
+
+  all_digits : 0 < at → n ≤ too_late → drop at (word_of text) ≡ [] → moment_read (word_of text) ≡ Some (pos n)
+  all_digits some small whole =
+      let is : nat_lt 0 at ≡ true = is_below 0 at some in
+      let same : min n too_late ≡ n = omega (arith, small) in
+      sym told ∙ rw (is, whole) (ap (λ m. Some (pos m)) same)
+
+  -- a text whose first word has digits alone
+  pub moment_first : 0 < at → at ≤ length text → at ≡ position_or_len is_blank text → n ≤ too_late → HasMomentFirst (pos n) (words_of (drop at text)) (words_of text)
+  moment_first some within whole small =
+      let end : drop at (word_of text) ≡ [] = drop_all at (word_of text) (omega (arith, whole, length-take (position_or_len is_blank text) text)) in
+      record {
+        word = word_of text;
+        split = rw whole (words_of-word text (omega (arith, some, within)) first);
+        reads = all_digits some small end;
+      }

@@ -1,5 +1,5 @@
 -- The words of a scan: its moment, and pairs of a path and a value.
-use Rattle.std.specs.Prelude.{ℕ, ◌==◌, ◌+◌, ◌^◌, Bool, if◌then◌else◌, nat_lt, List, [], ◌∷◌, codes, drop, length, map, min, take, ℤ, pos, Option, None, option_map}
+use Rattle.std.specs.Prelude.{ℕ, ◌≡◌, ◌==◌, ◌+◌, ◌^◌, Bool, if◌then◌else◌, nat_lt, List, [], ◌∷◌, codes, drop, length, map, min, take, ℤ, pos, Option, Some, None, option_map}
 use Rattle.std.specs.List.{list_any}
 use Rattle.st_values.specs.Numbers.{digits_read}
 use Rattle.st_values.specs.Words.{begins_with}
@@ -20,6 +20,17 @@ is_underscore byte = byte == 95
 -- the moment that a word is, where it has decimal digits alone
 abbrev pub moment_read : List ℕ → Option ℤ
 moment_read word = if list_any is_underscore word then None else option_map moment_of (digits_read 10 word)
+
+-- the moment that the first of some words is
+abbrev pub first_moment : List (List ℕ) → Option ℤ
+first_moment [] = None
+first_moment (word ∷ words) = moment_read word
+
+-- the first of some words is this moment, and the others stand after it
+pub record HasMomentFirst (moment : ℤ) (others words : List (List ℕ)) : Type 0 where
+  pub word : List ℕ
+  pub split : words ≡ word ∷ others
+  pub reads : moment_read word ≡ Some moment
 
 -- ---- pairs
 

@@ -6,7 +6,7 @@ ghost use Rattle.std.specs.List.{list_all};
 ghost use Rattle.st_devices.specs.Words.{words_of};
 ghost use Rattle.st_lines.specs.Requests.{change_request, command_request, has_equals, path_request, request_in, request_of, scan_request, value_request, word_request};
 
-use crate::pairs::{Pairs, read_moment};
+use crate::pairs::{Pairs, split_moment};
 use st_devices::split_word;
 
 /// What a line asks for. Paths and values are as the line has them.
@@ -37,7 +37,20 @@ pub enum Request<'a> {
 }
 
 /// What a line asks for.
+#[inline(always)]
 pub fn read_request(text: &[u8]) -> Request<'_>
+    requires { length text.now ≤ 4096 }
+    ensures { request_of result ≡ request_in (words_of text.now) }
+{
+    match text {
+        [b's', b'c', b'a', b'n', b' ', rest @ ..] => read_scan(rest),
+        _ => read_words(text),
+    }
+}
+
+/// What a line asks for, by its words.
+#[inline(never)]
+fn read_words(text: &[u8]) -> Request<'_>
     requires { length text.now ≤ 4096 }
     ensures { request_of result ≡ request_in (words_of text.now) }
 {
@@ -79,16 +92,17 @@ fn are_renames(words: &[u8]) -> bool
 }
 
 /// What `scan` and the words of a text ask for.
+#[inline(always)]
 fn read_scan(words: &[u8]) -> Request<'_>
     requires { length words.now ≤ 4096 }
     ensures { request_of result ≡ scan_request (words_of words.now) }
 {
-    let Some((word, rest)) = split_word(words) else {
+    let Some((moment, rest)) = split_moment(words) else {
         return Request::Unknown;
     };
-    match (Pairs::read(rest), read_moment(word)) {
-        (Some(pairs), Some(moment)) => Request::Scan(moment, pairs),
-        _ => Request::Unknown,
+    match Pairs::read(rest) {
+        Some(pairs) => Request::Scan(moment, pairs),
+        None => Request::Unknown,
     }
 }
 

@@ -11,7 +11,7 @@ loop-at-preserved c =
     let at = c.loop-at.at in
     let word = c.args.word.now in
     let whole : take (length word - at) (drop at word) ≡ drop at word = grind (arith, common_steps) in
-    let other : begins_with (codes ":=") (drop at word) ≡ false = rw whole at (sym c.starts_with.ensures.value ∙ c.if-not-starts_with.true) in
+    let other : begins_with (codes ":=") (drop at word) ≡ false = rw whole at (sym c.begins_value.ensures ∙ c.if-not-begins_value.true) in
     record {
       within = omega (arith, c.loop-at-test.true);
       so_far = omega (arith, c.loop-at.invariant.so_far, before-more word at c.loop-at-test.true other);
