@@ -13,6 +13,7 @@ pub mod RaisedRenames
 pub mod Records
 pub mod RefusedPairs
 pub mod Resets
+pub mod ScanEnds
 pub mod ScanStates
 pub mod Steps
 pub mod Texts

@@ -96,6 +96,16 @@ abbrev pub outcome_of : Result (List Value) RunFault → Scanned
 outcome_of (Ok values) = Done
 outcome_of (Err fault) = Faulted fault
 
+-- how a scan ended that left this status
+abbrev pub scan_end : Status → Scanned
+scan_end Running = Done
+scan_end (Halted fault) = Faulted fault
+
+-- what a scan answers whose end is told by the status that it left
+abbrev pub scanned_as : Result (Unit {0}) Refusal → Status → Result Scanned Refusal
+scanned_as (Ok done) status = Ok (scan_end status)
+scanned_as (Err refusal) status = Err refusal
+
 -- the machine in another state, with nothing to go back to
 abbrev pub started_anew : Machine → StateView → Machine
 started_anew m s = record { state = s; history = []; main = m.main; limit = m.limit }

@@ -2,11 +2,11 @@
 ghost use Rattle.std.specs.Prelude.{◌≡◌, ◌≢◌, ◌+◌, ◌<◌, ◌≤◌, ◌^◌, ◌++◌, ◌∷◌, [], Err, IfErr, IfOk, IfSome, List, MatchResult, Ok, OnOk, length, vec_capacity, vec_len};
 ghost use Rattle.st_control.specs.Causes.{not_paired};
 ghost use Rattle.st_control.specs.Changes.{counts_of};
-ghost use Rattle.st_control.specs.Controllers.{DropsNewest, GoesOver, Keeps, Takes, TakesChange, TakesUndo, change_record, first_controller, force_count, machine_of, record_of, shown_to};
+ghost use Rattle.st_control.specs.Controllers.{DropsNewest, GoesOver, Keeps, Takes, TakesChange, TakesUndo, change_record, first_controller, force_count, machine_of, record_of, shown_to, value_and_force};
 ghost use Rattle.st_control.specs.Loads.{IsLoaded};
 ghost use Rattle.st_control.specs.Machine.{step};
 ghost use Rattle.st_control.specs.Machine.Command.{change, force, release, write};
-ghost use Rattle.st_control.specs.Scans.{TakesScan, reset_step, scan_step};
+ghost use Rattle.st_control.specs.Scans.{TakesScan, reset_step, scan_step, scanned_as};
 ghost use Rattle.st_control.specs.States.{IsWhole, leaf_of, leaves_of};
 ghost use Rattle.st_control.specs.Texts.{IsCheckedAs};
 ghost use Rattle.st_layout.specs.Layout.{leaf_at};
@@ -154,14 +154,21 @@ impl<M: Memory> Controller<M> {
         ensures value { result ≡ shown_to self.now.state (leaf_of self.now.state path.now) }
         ensures in_range { IfOk result (λ shown. IsValue shown.0) }
     {
-        let layout = self.state.image.layout();
-        match layout.leaf(path) {
-            Some(leaf) => Ok((
-                self.state.memory.get(layout, leaf),
-                self.state.memory.forced(layout, leaf),
-            )),
+        match self.find(path) {
+            Some(leaf) => Ok(self.held(leaf)),
             None => Err(Refusal::O(NO_SUCH_PATH)),
         }
+    }
+
+    /// The value of a leaf, and whether it is forced.
+    pub fn held(&self, leaf: u32) -> (Value, bool)
+        requires { leaf < length (leaves_of self.now.state) }
+        ensures value { result ≡ value_and_force self.now.state leaf }
+        ensures in_range { IsValue result.0 }
+    {
+        let layout = self.state.image.layout();
+        let value = self.state.memory.get(layout, leaf);
+        (value, self.state.memory.forced(layout, leaf))
     }
 
     /// Sets the value of the leaf with this path.
@@ -312,10 +319,32 @@ impl<M: Memory> Controller<M> {
     pub fn scan(&mut self, now: i64, inputs: &[(u32, Value)]) -> Result<Scanned, Refusal>
         ensures step { TakesScan (scan_step now inputs.now (machine_of self.old)) self.old result self.new }
     {
+        self.run_scan(now, inputs)?;
+        match self.state.status {
+            Status::Running => Ok(Scanned::Done),
+            Status::Halted(fault) => Ok(Scanned::Faulted(fault)),
+        }
+    }
+
+    /// Scans as `scan` does it. How the scan ended is told by the status alone.
+    #[tactic(auto, using(crate::proofs::ScanEnds::scan_end_after))]
+    pub fn run_scan(&mut self, now: i64, inputs: &[(u32, Value)]) -> Result<(), Refusal>
+        ensures step { TakesScan (scan_step now inputs.now (machine_of self.old)) self.old
+            (scanned_as result self.new.state.status) self.new }
+    {
         self.state.may_scan(now, inputs)?;
-        let scanned = self.state.scan(now, inputs, self.limit);
-        self.records.clear();
-        Ok(scanned)
+        self.state.scan(now, inputs, self.limit);
+        if !self.records.is_empty() {
+            self.records.clear();
+        }
+        Ok(())
+    }
+
+    /// Whether the program runs.
+    pub fn run_status(&self) -> &Status
+        ensures { result.now ≡ self.now.state.status }
+    {
+        &self.state.status
     }
 
     /// Gives each leaf that isn't forced its initial value, and lets the program run again. The forces and the moment stay, and

@@ -2,7 +2,7 @@
 ghost use Rattle.std.specs.Prelude.{◌≡◌, Err, IfOk, MatchResult, Ok, false};
 ghost use Rattle.std.specs.List.{list_any};
 ghost use Rattle.st_check.specs.Programs.{leaves_of_program};
-ghost use Rattle.st_control.specs.Scans.{can_follow, has_no_input, has_no_leaf, has_other_type, is_halted, is_process_input, may_scan, outcome_of, reset_state, reset_values, run_of, run_with, state_after, with_inputs};
+ghost use Rattle.st_control.specs.Scans.{can_follow, has_no_input, has_no_leaf, has_other_type, is_halted, is_process_input, may_scan, reset_state, reset_values, run_of, run_with, state_after, with_inputs};
 ghost use Rattle.st_compile.specs.Programs.{HasRoom};
 
 use crate::refusal::{HALTED, MOMENT_PAST, NO_SUCH_PATH, NOT_AN_INPUT, NOT_OF_TYPE, Refusal};
@@ -54,11 +54,12 @@ impl<M: Memory> State<M> {
         }
     }
 
-    /// Stores the inputs and runs the program once, in the second memory. A fault leaves all values as they were.
-    pub(crate) fn scan(&mut self, now: i64, inputs: &[(u32, Value)], limit: u32) -> Scanned
+    /// Stores the inputs and runs the program once, in the second memory. A fault leaves all values as they were, and is told by the
+    /// status.
+    #[tactic(auto, using(crate::proofs::ScanEnds::runs_before))]
+    pub(crate) fn scan(&mut self, now: i64, inputs: &[(u32, Value)], limit: u32)
         requires { may_scan now inputs.now self.old ≡ Ok tt }
-        ensures outcome { result ≡ outcome_of (run_of now inputs.now limit self.old) }
-        ensures state { self.new ≡ state_after now self.old (run_of now inputs.now limit self.old) }
+        ensures { self.new ≡ state_after now self.old (run_of now inputs.now limit self.old) }
     {
         match run_aside(
             &self.image,
@@ -72,20 +73,9 @@ impl<M: Memory> State<M> {
             Ok(()) => {
                 mem::swap(&mut self.memory, &mut self.second);
                 self.now = now;
-                self.status = Status::Running;
-                Scanned::Done
             }
-            Err(fault) => self.halt(&fault),
+            Err(fault) => self.status = Status::Halted(fault),
         }
-    }
-
-    /// Halts the program, which a fault stopped.
-    fn halt(&mut self, fault: &RunFault) -> Scanned
-        ensures outcome { result ≡ Scanned.Faulted fault.now }
-        ensures state { self.new ≡ state_after self.old.now self.old (Err fault.now) }
-    {
-        self.status = Status::Halted(*fault);
-        Scanned::Faulted(*fault)
     }
 
     /// Gives each leaf that isn't forced its initial value, and lets the program run again.
