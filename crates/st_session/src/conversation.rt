@@ -1,5 +1,5 @@
 //! A session: each command of a source is acted on, and its reply written to a sink.
-ghost use Rattle.std.specs.Prelude.{◌≡◌, ◌≢◌, ◌≤◌, ◌<◌, ◌↔◌, ◌||◌, ◌⊎◌, [], true, false, IfOk, IsTrue, OnErr, OnOk, OnSome, is_err, length, vec_capacity};
+ghost use Rattle.std.specs.Prelude.{◌≡◌, ◌≢◌, ◌≤◌, ◌<◌, ◌↔◌, ◌||◌, ◌⊎◌, [], true, false, IfOk, IsNone, IsTrue, OnErr, OnOk, OnSome, is_err, length, vec_capacity};
 ghost use Rattle.st_control.specs.Controllers.{machine_of};
 ghost use Rattle.st_control.specs.States.{leaves_of};
 ghost use Rattle.st_devices.specs.Inputs.{has_ended, left, pending, unread};
@@ -16,7 +16,7 @@ use crate::grade::{Grade, worse};
 use crate::observer::{Exchange, Observer, Silent};
 use crate::reply::Reply;
 use crate::scanning::{reset, scan};
-use st_control::{Controller, NO_SUCH_LINE, NO_SUCH_PATH, Refusal};
+use st_control::{Controller, NO_SUCH_LINE, NO_SUCH_PATH};
 use st_devices::{DeviceFault, Found, Input, MAX_LINE_BYTES, Sink, Source, write_all};
 use st_lines::{Request, ScanValues, read_renames, read_request};
 use st_memory::Memory;
@@ -61,18 +61,21 @@ fn read_given<M: Memory>(controller: &Controller<M>, path: &[u8], text: &[u8]) -
 }
 
 /// Replies what the leaf with this path holds, and answers the grade of that.
+#[inline(never)]
 fn show<M: Memory>(controller: &Controller<M>, path: &[u8], reply: &mut Reply) -> Grade
     ensures reply { reply.new ≡ (answer (RequestView.show path.now) (machine_of controller.now)).reply }
     ensures grade { result ≡ (answer (RequestView.show path.now) (machine_of controller.now)).grade }
 {
-    let (Some(leaf), Ok((value, forced))) = (controller.find(path), controller.get(path)) else {
-        return reply.answer(Err(Refusal::O(NO_SUCH_PATH)));
+    let Some(leaf) = controller.find(path) else {
+        return reply.refuse_as(NO_SUCH_PATH);
     };
+    let (value, forced) = controller.held(leaf);
     reply.show(controller.shown(leaf), value, forced);
     Grade::Accepted
 }
 
 /// Sets the leaf with this path to the value that the text is, and answers the grade of the reply.
+#[inline(never)]
 fn write<M: Memory>(
     controller: &mut Controller<M>,
     path: &[u8],
@@ -91,6 +94,7 @@ fn write<M: Memory>(
 }
 
 /// Sets the leaf with this path to the value that the text is and forces it, and answers the grade of the reply.
+#[inline(never)]
 fn force<M: Memory>(
     controller: &mut Controller<M>,
     path: &[u8],
@@ -108,7 +112,27 @@ fn force<M: Memory>(
     reply.answer(controller.force(path, value))
 }
 
+/// Lets go of the leaf with this path, and answers the grade of the reply.
+#[inline(never)]
+fn release<M: Memory>(controller: &mut Controller<M>, path: &[u8], reply: &mut Reply) -> Grade
+    ensures machine { machine_of controller.new ≡ (answer (RequestView.release path.now) (machine_of controller.old)).machine }
+    ensures reply { reply.new ≡ (answer (RequestView.release path.now) (machine_of controller.old)).reply }
+    ensures grade { result ≡ (answer (RequestView.release path.now) (machine_of controller.old)).grade }
+{
+    reply.answer(controller.release(path))
+}
+
+/// Takes back the newest command, and answers the grade of the reply.
+#[inline(never)]
+fn undo<M: Memory>(alloc: Global, controller: &mut Controller<M>, reply: &mut Reply) -> Grade
+    ensures { Does (CanBeAsked RequestView.undo (machine_of controller.old)) result
+        (machine_of controller.old) (machine_of controller.new) reply.new }
+{
+    reply.answer(controller.undo(alloc))
+}
+
 /// Replies how the controller stands, and answers the grade of that.
+#[inline(never)]
 fn report<M: Memory>(controller: &Controller<M>, reply: &mut Reply) -> Grade
     ensures reply { reply.new ≡ (answer RequestView.status (machine_of controller.now)).reply }
     ensures grade { result ≡ (answer RequestView.status (machine_of controller.now)).grade }
@@ -136,12 +160,12 @@ fn act<M: Memory>(
         Request::Show(path) => show(controller, path, reply),
         Request::Write(path, text) => write(controller, path, text, reply),
         Request::Force(path, text) => force(controller, path, text, reply),
-        Request::Release(path) => reply.answer(controller.release(path)),
+        Request::Release(path) => release(controller, path, reply),
         Request::Scan(moment, pairs) => scan(controller, moment, pairs, values, reply),
-        Request::Undo => reply.answer(controller.undo(alloc)),
+        Request::Undo => undo(alloc, controller, reply),
         Request::Reset => reset(controller, reply),
         Request::Status => report(controller, reply),
-        Request::Change(_) | Request::Unknown => reply.answer(Err(Refusal::O(NO_SUCH_LINE))),
+        Request::Change(_) | Request::Unknown => reply.refuse_as(NO_SUCH_LINE),
     }
 }
 
@@ -178,7 +202,17 @@ impl Buffers {
     }
 }
 
+/// Lets go of a text, where there is one.
+fn let_go(text: &mut Option<Vec<u8>>)
+    ensures { IsNone text.new }
+{
+    if text.is_some() {
+        *text = None;
+    }
+}
+
 /// Reads a command, does it and makes the reply. Answers its grade, or nothing at the end.
+#[inline(never)]
 fn take_command<M: Memory, R: Source>(
     alloc: Global,
     controller: &mut Controller<M>,
@@ -198,11 +232,11 @@ fn take_command<M: Memory, R: Source>(
     ensures ended { has_ended buffers.old.input ≡ true → has_ended buffers.new.input ≡ true }
     ensures failed { R.has_failed source.new ≡ is_err result }
 {
-    buffers.text = None;
+    let_go(&mut buffers.text);
     buffers.number = buffers.input.lines().wrapping_add(1);
     match buffers.input.next_line(source, &mut buffers.line)? {
         Found::End => Ok(None),
-        Found::TooLong => Ok(Some(buffers.reply.answer(Err(Refusal::O(NO_SUCH_LINE))))),
+        Found::TooLong => Ok(Some(buffers.reply.refuse_as(NO_SUCH_LINE))),
         Found::Line => Ok(Some(do_line(alloc, controller, source, buffers)?)),
     }
 }
@@ -255,6 +289,7 @@ fn do_line<M: Memory, R: Source>(
 }
 
 /// Tells the observer of a command that was done.
+#[inline(always)]
 fn tell<M: Memory, O: Observer>(
     controller: &Controller<M>,
     observer: &mut O,
