@@ -1,5 +1,5 @@
 //! The observer that explains a session.
-ghost use Rattle.std.specs.Prelude.{⊤};
+ghost use Rattle.std.specs.Prelude.{⊤, ◌≤◌, length};
 
 use crate::change::{Changed, told_of_change};
 use crate::fault::told_of_fault;
@@ -63,32 +63,31 @@ impl<'a, R: Eprint + AllocGlobal, E: Explainer> Remarks<'a, R, E> {
     }
 
     /// Says why a line was refused.
+    #[inline(always)]
     fn tell_refusal<M: Memory>(
         &mut self,
         exchange: &Exchange<'_>,
         refusal: Refusal,
         controller: &Controller<M>,
     ) {
+        let Exchange {
+            line,
+            number,
+            text,
+            ..
+        } = *exchange;
         let alloc = self.runtime.alloc();
         match refusal {
             Refusal::O(cause) => {
                 let searches = self.may_search(cause, controller.layout().len());
-                self.say(told_of_refusal(
-                    alloc,
-                    exchange.number,
-                    exchange.line,
-                    cause,
-                    searches,
-                    controller,
-                ));
+                self.say(told_of_refusal(alloc, number, line, cause, searches, controller));
             }
             Refusal::M => {
                 let _ = eprintln!(self.runtime;
-                    "session:{}:1: error: M: there was no memory for this line, and all is as it was before",
-                    exchange.number
+                    "session:{number}:1: error: M: there was no memory for this line, and all is as it was before"
                 );
             }
-            Refusal::S { .. } | Refusal::C { .. } => self.tell_text(exchange),
+            Refusal::S { .. } | Refusal::C { .. } => self.tell_text(number, text),
         }
     }
 
@@ -107,18 +106,18 @@ impl<'a, R: Eprint + AllocGlobal, E: Explainer> Remarks<'a, R, E> {
     }
 
     /// Says why the text of a change is refused.
-    fn tell_text(&self, exchange: &Exchange<'_>) {
+    fn tell_text(&self, number: u64, text: Option<&[u8]>) {
         let _ = eprintln!(self.runtime;
-            "session:{}:1: error: the text of this change is refused, and the program goes on as it is",
-            exchange.number
+            "session:{number}:1: error: the text of this change is refused, and the program goes on as it is"
         );
-        if let Some(text) = exchange.text {
+        if let Some(text) = text {
             let alloc = self.runtime.alloc();
             self.say(self.explainer.explain(alloc, "change", text, self.main));
         }
     }
 
     /// Says where a fault ended a scan.
+    #[inline(always)]
     fn tell_fault<M: Memory>(&self, exchange: &Exchange<'_>, controller: &Controller<M>) {
         if let Status::Halted(fault) = controller.status().status {
             let text = self.past.text(self.loaded);
@@ -127,6 +126,7 @@ impl<'a, R: Eprint + AllocGlobal, E: Explainer> Remarks<'a, R, E> {
     }
 
     /// Says what a change dropped and brought, and keeps its text.
+    #[inline(always)]
     fn tell_change<M: Memory>(
         &mut self,
         exchange: &Exchange<'_>,
@@ -152,16 +152,24 @@ impl<'a, R: Eprint + AllocGlobal, E: Explainer> Remarks<'a, R, E> {
     }
 
     /// Keeps what an accepted line makes of the changes that can be undone.
+    #[inline(always)]
     fn follow(&mut self, exchange: &Exchange<'_>) {
-        if self.past.is_empty() || exchange.line.len() > MAX_LINE_BYTES {
-            return;
+        if !self.past.is_empty() && exchange.line.len() <= MAX_LINE_BYTES {
+            self.follow_line(exchange.number, exchange.line);
         }
-        match read_request(exchange.line) {
+    }
+
+    /// Keeps what the accepted line of this number makes of the changes that can be undone.
+    #[inline(never)]
+    fn follow_line(&mut self, number: u64, line: &[u8])
+        requires { length line.now ≤ 4096 }
+    {
+        match read_request(line) {
             Request::Write(..) | Request::Force(..) | Request::Release(_) => self.past.count(),
             Request::Scan(..) | Request::Reset => self.past.clear(),
             Request::Undo => {
                 if let Some(lists) = self.past.undo() {
-                    self.say_lists(exchange.number, "the change is undone", &lists);
+                    self.say_lists(number, "the change is undone", &lists);
                 }
             }
             _ => {}
@@ -183,6 +191,7 @@ fn kept_text(alloc: Global, text: Option<&[u8]>) -> Running {
 impl<'a, R: Eprint + AllocGlobal, E: Explainer> Observer for Remarks<'a, R, E> {
     ghost hears = { λ before reply now. ⊤ };
 
+    #[inline(always)]
     fn observe<M: Memory>(&mut self, exchange: &Exchange<'_>, controller: &Controller<M>) {
         match exchange.upshot {
             Upshot::Done => self.follow(exchange),
