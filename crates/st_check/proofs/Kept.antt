@@ -10,7 +10,7 @@ use Rattle.st_references.specs.References.{graph_of}
 use Rattle.st_check_units.specs.Units.{node_faults}
 use Rattle.st_check.specs.Answers.{answer_to}
 use Rattle.st_check.specs.Programs.{IsOrdered}
-use Rattle.st_check.specs.Recursions.{ExplainsUnits, first, recursions}
+use Rattle.st_check.specs.Recursions.{ExplainsUnits, IsFirstOfUnits, first, recursions}
 use Rattle.st_check.specs.declared.fault.CheckFault.{CheckFault}
 use Rattle.st_check.proofs.Cyclic.{AreAllCyclic, all_faults, all_offered, cyclic_are_all, kept_is_first, some_is_kept}
 
@@ -29,13 +29,16 @@ passes text graph order start o k none is w = record {
 }
 
 -- where no unit reaches itself
-pub refused : (text : List Section) (graph : Graph) (start o : Option Fault) (f : Fault) (e : CheckFault) → Keeps text start o → o ≡ Some f → graph ≡ graph_of (units_of text)
-    → ((a : ℕ) → Reaches graph a a → ⊥) → e ≡ answer_to f → ExplainsUnits text e
-refused text graph start o f e k kept is none same =
-    subst (ExplainsUnits text) (sym same) (first (kept_is_first text [] f no_cycle
-    (ap (offer_all None) (append-nil (node_faults (units_of text))) ∙ sym (kept_is text start o k) ∙ kept))) where
+pub refused_first : (text : List Section) (graph : Graph) (start o : Option Fault) (f : Fault) → Keeps text start o → o ≡ Some f → graph ≡ graph_of (units_of text)
+    → ((a : ℕ) → Reaches graph a a → ⊥) → IsFirstOfUnits text f
+refused_first text graph start o f k kept is none =
+    kept_is_first text [] f no_cycle (ap (offer_all None) (append-nil (node_faults (units_of text))) ∙ sym (kept_is text start o k) ∙ kept) where
       no_cycle : AreAllCyclic text []
       no_cycle a = ((λ h. absurd (omega (arith, h.1))), (λ h. absurd (none a (subst (λ g. Reaches g a a) (sym is) h))))
+
+pub refused : (text : List Section) (graph : Graph) (start o : Option Fault) (f : Fault) (e : CheckFault) → Keeps text start o → o ≡ Some f → graph ≡ graph_of (units_of text)
+    → ((a : ℕ) → Reaches graph a a → ⊥) → e ≡ answer_to f → ExplainsUnits text e
+refused text graph start o f e k kept is none same = subst (ExplainsUnits text) (sym same) (first (refused_first text graph start o f k kept is none))
 
 module _ (text : List Section) (graph : Graph) (numbers read : List ℕ) (start o o2 : Option Fault) (k : Keeps text start o)
     (offered : o2 ≡ offer_all o (recursions (units_of text) read)) (as_read : read ≡ numbers) (is : graph ≡ graph_of (units_of text)) (cyclic : AreCyclic graph numbers) where
@@ -45,9 +48,11 @@ module _ (text : List Section) (graph : Graph) (numbers read : List ℕ) (start 
   are_cyclic : AreCyclic (graph_of (units_of text)) numbers
   are_cyclic = subst (λ g. AreCyclic g numbers) is cyclic
 
+  pub refused_cyclic_first : (f : Fault) → o2 ≡ Some f → IsFirstOfUnits text f
+  refused_cyclic_first f kept = kept_is_first text numbers f (cyclic_are_all text numbers are_cyclic) (sym kept_all ∙ kept)
+
   pub refused_cyclic : (f : Fault) (e : CheckFault) → o2 ≡ Some f → e ≡ answer_to f → ExplainsUnits text e
-  refused_cyclic f e kept same =
-      subst (ExplainsUnits text) (sym same) (first (kept_is_first text numbers f (cyclic_are_all text numbers are_cyclic) (sym kept_all ∙ kept)))
+  refused_cyclic f e kept same = subst (ExplainsUnits text) (sym same) (first (refused_cyclic_first f kept))
 
   pub has_kept : IsSome o2
   has_kept = some_of o2 (λ none. some_is_kept text numbers are_cyclic (sym kept_all ∙ none)) where

@@ -1,15 +1,15 @@
 pub mod Apart
 mod Checked
-mod Cyclic
+pub mod Cyclic
 pub mod DataTypes
 mod Deciding
 pub mod DistinctNames
 pub mod ElementaryFunctions
 mod Firsts
-mod Kept
+pub mod Kept
 mod Named
 pub mod NamesStored
-mod Passing
+pub mod Passing
 mod ShortRanges
 mod ShortSubscripts
 pub mod ShortUnits

@@ -1,5 +1,3 @@
-mod Cyclic
-mod Kept
 mod Ordered
 mod Passing
 mod Telling

@@ -2,8 +2,8 @@ use Rattle.std.proofs.Common.{rules, sym, ◌∙◌, ◌<◌, length, subst, All
 use Rattle.std.proofs.lemmas.Result.{err_from_is_err_and}
 use Rattle.st_order.specs.Graphs.{AreCyclic}
 use Rattle.st_types.specs.Names.{units_of}
-use Rattle.st_explain.proofs.Cyclic.{cyclic_are_units}
-use Rattle.st_explain.proofs.Kept.{has_kept, passes, refused, refused_cyclic}
+use Rattle.st_check.proofs.Cyclic.{cyclic_are_units}
+use Rattle.st_check.proofs.Kept.{has_kept, passes, refused_cyclic_first, refused_first}
 use Rattle.st_explain.proofs.finding.ordered.Goals as goal
 
 pub returns-in_err-check_units-clause-fault : goal.returns-in_err-check_units-clause-fault
@@ -20,7 +20,7 @@ returns-in-None-clause-order c =
 
 pub returns-in-Ok-clause-fault : goal.returns-in-Ok-clause-fault
 returns-in-Ok-clause-fault c =
-    refused c.args.tables.now c.deref.result.now c.new-first.result c.check_units.new.first c.in-Some.fault
+    refused_first c.args.tables.now c.deref.result.now c.new-first.result c.check_units.new.first c.in-Some.fault
     (c.new-first.ensures, c.in_ok-check_units.ensures) (sym c.get.ensures ∙ c.in-Some.is)
     (c.deref.ensures.value ∙ c.in_ok-graph.ensures.graph) c.in-Ok.ensures.none
 
@@ -40,7 +40,7 @@ unwrap-requires c =
 
 pub returns-in-Err-Cyclic-clause-fault : goal.returns-in-Err-Cyclic-clause-fault
 returns-in-Err-Cyclic-clause-fault c =
-    refused_cyclic c.args.tables.now c.deref.result.now c.in-Err-Cyclic.numbers.items c.deref-in-Err-Cyclic.result.now c.new-first.result c.check_units.new.first c.offer_recursions.new.first
+    refused_cyclic_first c.args.tables.now c.deref.result.now c.in-Err-Cyclic.numbers.items c.deref-in-Err-Cyclic.result.now c.new-first.result c.check_units.new.first c.offer_recursions.new.first
     (c.new-first.ensures, c.in_ok-check_units.ensures) c.offer_recursions.ensures c.deref-in-Err-Cyclic.ensures.value
     (c.deref.ensures.value ∙ c.in_ok-graph.ensures.graph) (c.in-Err-Cyclic.ensures.cyclic c.in-Err-Cyclic.numbers (search rules))
     c.unwrap.result (sym c.get-in-Err-Cyclic.ensures ∙ c.unwrap.ensures)
