@@ -1,5 +1,6 @@
 """Tests of what runs the tests: worked cases are read as their page says, and a program that answers otherwise fails them."""
 
+import re
 import stat
 import sys
 import tempfile
@@ -13,7 +14,7 @@ sys.path.insert(0, str(Path(__file__).resolve().parent.parent))
 from cases import cases_in  # noqa: E402
 from figures import filled, shown  # noqa: E402
 from judging import ACCEPTED, Program, first_difference, status_of  # noqa: E402
-from schedule import SHARED, Schedule, crates_below, kept_crates, narrow_end  # noqa: E402
+from schedule import PARTS, SHARED, Schedule, crates_below, kept_crates, narrow_end  # noqa: E402
 
 CASES = """What the file is about.
 
@@ -149,6 +150,17 @@ class FiguresAreShown(unittest.TestCase):
         page = "<!-- figures scans -->\n<!-- end -->\nat most <!-- most scans: Time --><!-- end -->"
         self.assertIn("| two | 3.00 ms |", filled(page, tables))
         self.assertTrue(filled(page, tables).endswith("<!-- most scans: Time -->3.00 ms<!-- end -->"))
+
+
+class CratesNameWhatTheyUse(unittest.TestCase):
+    def test_each_library_of_a_line_is_used(self) -> None:
+        root = Path(__file__).resolve().parent.parent.parent
+        named = [line.partition(":") for line in (root / "crates.txt").read_text().splitlines() if re.match(r"\w+:", line)]
+        own = {crate for crate, _, _ in named}
+        for crate, _, libraries in named:
+            files = [it for part in PARTS for it in (root / "crates" / crate / part).rglob("*") if it.is_file()]
+            words = {word for it in files for word in re.findall(r"\w+", it.read_text())}
+            self.assertEqual([it for it in libraries.split() if it in own and it not in words], [], crate)
 
 
 if __name__ == "__main__":
