@@ -1,6 +1,6 @@
 //! What the cases share: a program, texts that are made of pieces, and a look at a controller.
-use st_control::Controller;
 use st_memory::Memory;
+use st_session::control::Controller;
 use std::alloc::{AllocError, Global};
 use std::ops::Range;
 

@@ -1,8 +1,8 @@
 //! The ways in which a text is used: what each writes, and its status.
 ghost use Rattle.std.specs.Prelude.{◌<◌};
 
-use st_control::{Controller, Refusal};
 use st_memory::Memory;
+use st_session::control::{Controller, Refusal};
 use st_session::{
     ACCEPTED, Bytes, DEVICE_FAILED, LINE_REFUSED, NO_MEMORY, NO_PROGRAM, Outcome, Sheet, Sink,
     check_text, layout_text, run_text, session,

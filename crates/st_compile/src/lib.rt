@@ -14,3 +14,4 @@ mod units;
 pub use image::{Image, compile};
 pub use laws::runs_keep_the_frame;
 pub use running::run;
+pub use st_machine::Stacks;

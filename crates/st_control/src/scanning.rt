@@ -7,9 +7,8 @@ ghost use Rattle.st_compile.specs.Programs.{HasRoom};
 
 use crate::refusal::{HALTED, MOMENT_PAST, NO_SUCH_PATH, NOT_AN_INPUT, NOT_OF_TYPE, Refusal};
 use crate::state::{State, Status, is_value_of};
-use st_compile::{Image, run};
+use st_compile::{Image, Stacks, run};
 use st_layout::Layout;
-use st_machine::Stacks;
 use st_meaning::RunFault;
 use st_memory::Memory;
 use st_tree::Role;

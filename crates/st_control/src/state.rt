@@ -11,8 +11,7 @@ use crate::record::Record;
 use crate::refusal::{
     IS_FORCED, NO_SUCH_PATH, NOT_FORCED, NOT_OF_TYPE, NOT_OPEN, Refusal, UNDO_FULL,
 };
-use st_compile::Image;
-use st_machine::Stacks;
+use st_compile::{Image, Stacks};
 use st_meaning::RunFault;
 use st_memory::Memory;
 use st_tree::{Leaf, Role};

@@ -11,9 +11,8 @@ ghost use Rattle.st_layout.specs.Pairs.{pairs_between};
 use crate::record::Record;
 use crate::scanning::room_for;
 use crate::state::State;
-use st_compile::Image;
+use st_compile::{Image, Stacks};
 use st_layout::{Layout, Plan, PlanFault, Rename};
-use st_machine::Stacks;
 use st_memory::{Memory, Saved};
 use std::alloc::{AllocError, Global};
 

@@ -1,6 +1,6 @@
 -- What is told of a result.
 use Rattle.std.specs.Prelude.{ℕ, List, Option, Result, Ok, Err, IfOk}
-use Rattle.st_control.specs.Loads.{Loaded}
+use Rattle.st_session.specs.Loads.{Loaded}
 use Rattle.st_session.specs.Runs.{HasStatus, WritesAll}
 
 -- what follows of each value follows of a result

@@ -5,8 +5,8 @@ use Rattle.std.specs.declared.io.ErrorKind.TheVariants as io_error_kinds
 use Rattle.clap.specs.Words.{IsAmong, Kinds, Text}
 use Rattle.clap.specs.declared.error.kind.ErrorKind.{ErrorKind}
 use Rattle.clap.specs.declared.error.kind.ErrorKind.TheVariants as error_kinds
-use Rattle.st_control.specs.Loads.{OfLoad}
-use Rattle.st_control.specs.Texts.{OfCheck}
+use Rattle.st_session.specs.Loads.{OfLoad}
+use Rattle.st_session.specs.Texts.{OfCheck}
 use Rattle.st_session.specs.Checks.{check_status}
 use Rattle.st_session.specs.Layouts.{OfLayout, layout_status}
 use Rattle.st_session.specs.Runs.{HasStatus}

@@ -3,8 +3,8 @@ ghost use Rattle.std.specs.Prelude.{◌≡◌, ◌≢◌, ◌⊎◌, ◌↔◌, 
 ghost use Rattle.std.specs.Io.KnownBytes.{Appends};
 ghost use Rattle.std.specs.IoError.{error_kind};
 ghost use Rattle.clap.specs.Words.{Text, kind_of};
-ghost use Rattle.st_control.specs.Loads.{OfLoad};
-ghost use Rattle.st_control.specs.Texts.{OfCheck};
+ghost use Rattle.st_session.specs.Loads.{OfLoad};
+ghost use Rattle.st_session.specs.Texts.{OfCheck};
 ghost use Rattle.st_devices.specs.Pending.{OnBytes, OnReading};
 ghost use Rattle.st_session.specs.Checks.{TellsAll, TellsPart};
 ghost use Rattle.st_session.specs.Layouts.{ListsAll, ListsPart, OfLayout};

@@ -1,14 +1,14 @@
 //! What an online change dropped and brought, and what its undo gives back.
 ghost use Rattle.std.specs.Prelude.{◌≡◌, ◌<◌, length};
-ghost use Rattle.st_control.specs.States.{FitsSaved, leaves_of};
+ghost use Rattle.st_session.specs.States.{FitsSaved, leaves_of};
 ghost use Rattle.st_check.specs.Programs.{leaves_of_program};
 
 use crate::message::{push_rest, push_value};
 use crate::words::Words;
-use st_control::{Controller, Counts, Image, Record};
 use st_layout::{Layout, Plan, PlanFault, Rename};
 use st_memory::{Memory, Saved};
 use st_messages::push_quoted;
+use st_session::control::{Controller, Counts, Image, Record};
 use st_tree::Role;
 use st_values::Value;
 use std::alloc::{AllocError, Global};

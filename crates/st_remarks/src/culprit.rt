@@ -1,11 +1,11 @@
 //! Which word of a line is at fault.
 ghost use Rattle.std.specs.Prelude.{◌≡◌, IfSome, false, is_some, not};
-ghost use Rattle.st_control.specs.States.{leaf_of};
+ghost use Rattle.st_session.specs.States.{leaf_of};
 
 use crate::words::{Spot, Words, first_word, second_word, third_word};
-use st_control::{Controller, NO_SUCH_PATH, NOT_AN_INPUT, NOT_OF_TYPE};
 use st_lines::cut_pair;
 use st_memory::Memory;
+use st_session::control::{Controller, NO_SUCH_PATH, NOT_AN_INPUT, NOT_OF_TYPE};
 use st_tree::Role;
 use st_values::read_value;
 

@@ -1,7 +1,7 @@
 //! Where a fault ended a scan.
-use st_control::{RunFault, RunFaultKind};
 use st_messages::{push_help, push_line, push_note, push_shown};
 use st_refusals::{Family, explanation_of};
+use st_session::control::{RunFault, RunFaultKind};
 use std::alloc::{AllocError, Global};
 
 /// What a person is told of a fault that ended a scan: the line of the text of the program that runs, where that is known.

@@ -5,10 +5,10 @@ use crate::change::{Changed, told_of_change};
 use crate::fault::told_of_fault;
 use crate::past::{Past, Running};
 use crate::refused::told_of_refusal;
-use st_control::{Controller, Counts, NO_SUCH_PATH, NOT_PAIRED, Refusal, Status};
 use st_devices::MAX_LINE_BYTES;
 use st_lines::{Request, read_request};
 use st_memory::Memory;
+use st_session::control::{Controller, Counts, NO_SUCH_PATH, NOT_PAIRED, Refusal, Status};
 use st_session::{Exchange, Observer, Upshot};
 use std::alloc::{AllocError, Global};
 

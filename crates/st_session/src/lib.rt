@@ -22,6 +22,7 @@ pub use reply::Upshot;
 pub use run::{
     ACCEPTED, DEVICE_FAILED, LINE_REFUSED, NO_MEMORY, NO_PROGRAM, run_text, run_text_observed,
 };
+pub use st_control as control;
 pub use st_devices::{
     Bytes, DeviceFault, FromReader, MAX_LINE_BYTES, Sheet, Sink, Source, ToWriter,
 };

@@ -5,9 +5,9 @@ ghost use Rattle.st_memory.specs.Memory.{initial_content, with_force, with_value
 
 use crate::made::counter::Counter;
 use crate::texts::FIRST;
-use st_control::{Controller, Refusal, load_image};
 use st_layout::Layout;
 use st_memory::{Cells, Memory, Packed};
+use st_session::control::{Controller, Refusal, load_image};
 use st_values::{Elem, Value};
 use std::alloc::{AllocError, Global};
 use std::io;

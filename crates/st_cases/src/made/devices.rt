@@ -4,8 +4,8 @@ ghost use Rattle.std.specs.Prelude.{◌<◌};
 use crate::made::counter::Counter;
 use crate::texts::FIRST;
 use crate::ways::{ALL_GOOD, LARGE_PIECE, MAIN};
-use st_control::{Controller, Refusal};
 use st_memory::{Cells, Memory, Packed};
+use st_session::control::{Controller, Refusal};
 use st_session::{
     ACCEPTED, Bytes, DEVICE_FAILED, FromReader, NO_PROGRAM, Outcome, Sheet, Sink, Source, ToWriter,
     check_text, layout_text, run_text, session,

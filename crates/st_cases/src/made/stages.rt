@@ -1,8 +1,8 @@
 //! A session with an online change and its undo, command by command, and what stands after each.
 use crate::texts::{FIRST, number_at};
 use crate::ways::{MAIN, STEPS};
-use st_control::{Controller, Refusal};
 use st_memory::Memory;
+use st_session::control::{Controller, Refusal};
 use std::alloc::{AllocError, Global};
 
 /// A change to the program with a variable before the others.

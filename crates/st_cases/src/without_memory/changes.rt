@@ -2,9 +2,9 @@
 use crate::without_memory::controllers::{Picture, loaded, replies};
 use crate::without_memory::scenario::{Change, Exchange, Scenario};
 use crate::without_memory::tries::{MOST_TRIES, Tries};
-use st_control::{Controller, Refusal};
 use st_layout::Rename;
 use st_memory::Memory;
+use st_session::control::{Controller, Refusal};
 use st_tree::List;
 use std::alloc::{AllocError, Global};
 

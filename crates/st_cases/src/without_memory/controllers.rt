@@ -2,8 +2,8 @@
 use crate::ways::{ALL_GOOD, LARGE_PIECE, MAIN, STEPS};
 use crate::without_memory::scenario::Exchange;
 use crate::without_memory::tries::{MOST_TRIES, Tries};
-use st_control::{Controller, Refusal, Report, Status};
 use st_memory::Memory;
+use st_session::control::{Controller, Refusal, Report, Status};
 use st_session::{Bytes, Outcome, Source, ToWriter, session};
 use st_values::Value;
 use std::alloc::{AllocError, Global};

@@ -3,8 +3,7 @@ ghost use Rattle.std.specs.Prelude.{◌≡◌};
 ghost use Rattle.st_control.specs.States.{leaves_of};
 
 use crate::state::{State, Status};
-use st_compile::Image;
-use st_machine::Stacks;
+use st_compile::{Image, Stacks};
 use st_memory::Memory;
 
 /// Takes a state apart. The pattern names all its fields.
