@@ -1,8 +1,15 @@
 -- The words of a scan: its moment, and pairs of a path and a value.
-use Rattle.std.specs.Prelude.{ℕ, ◌≡◌, ◌==◌, ◌+◌, ◌^◌, Bool, if◌then◌else◌, nat_lt, List, [], ◌∷◌, codes, drop, length, map, min, take, ℤ, pos, Option, Some, None, option_map}
+use Rattle.std.specs.Prelude.{ℕ, ◌≡◌, ◌==◌, ◌<◌, ◌+◌, ◌^◌, Bool, if◌then◌else◌, nat_lt, List, [], ◌∷◌, codes, drop, length, map, min, slice_index, take, ℤ, pos, Option, Some, None, option_map}
+use Rattle.std.specs.Char.{digit_value}
 use Rattle.std.specs.List.{list_any}
 use Rattle.st_values.specs.Numbers.{digits_read}
 use Rattle.st_values.specs.Words.{begins_with}
+
+-- ---- digits
+
+-- a decimal digit of this value stands here in a text
+abbrev pub IsDigitAt : List ℕ → ℕ → ℕ → Type 0
+IsDigitAt text at digit = (at < length text) × (digit ≡ digit_value (slice_index text at)) × (digit < 10)
 
 -- ---- moments
 

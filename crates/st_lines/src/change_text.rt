@@ -37,9 +37,11 @@ pub fn read_text<R: Source>(
         (pending input.old (R.rest source.old)) (pending input.new (R.rest source.new))
         (TakesText renames read (has_ended input.new))) }
     ensures err { (renames : List Rename) → OnErr result (OnReading
-        (pending input.old (R.rest source.old)) (R.rest source.new) (TakesPartOf (Some (new_change renames)))) }
+        (pending input.old (R.rest source.old)) (R.rest source.new)
+        (TakesPartOf (Some (new_change renames)))) }
     ensures not_ended { OnErr result (has_ended input.old ≡ false) }
-    ensures steady { OnOk result (left input.new (R.reads_left source.new) ≤ left input.old (R.reads_left source.old)) }
+    ensures steady { OnOk result (left input.new (R.reads_left source.new)
+        ≤ left input.old (R.reads_left source.old)) }
     ensures ended { has_ended input.old ≡ true → has_ended input.new ≡ true }
     ensures failed { R.has_failed source.new ≡ is_err result }
 {
@@ -63,9 +65,11 @@ fn read_lines<R: Source>(
         (pending input.old (R.rest source.old)) (pending input.new (R.rest source.new))
         (TakesLines renames is_ended (has_ended input.new) text.new)) }
     ensures err { (renames : List Rename) → OnErr result (OnReading
-        (pending input.old (R.rest source.old)) (R.rest source.new) (TakesPartOf (Some (new_change renames)))) }
+        (pending input.old (R.rest source.old)) (R.rest source.new)
+        (TakesPartOf (Some (new_change renames)))) }
     ensures not_ended { OnErr result (has_ended input.old ≡ false) }
-    ensures steady { OnOk result (left input.new (R.reads_left source.new) ≤ left input.old (R.reads_left source.old)) }
+    ensures steady { OnOk result (left input.new (R.reads_left source.new)
+        ≤ left input.old (R.reads_left source.old)) }
     ensures ended { has_ended input.old ≡ true → has_ended input.new ≡ true }
     ensures failed { R.has_failed source.new ≡ is_err result }
 {

@@ -3,7 +3,7 @@ ghost use Rattle.std.specs.Prelude.{◌≡◌, ◌≤◌, ◌<◌, IfSome, Match
 ghost use Rattle.std.specs.Char.{digit_value};
 ghost use Rattle.std.specs.List.{list_all};
 ghost use Rattle.st_devices.specs.Words.{is_blank, words_of};
-ghost use Rattle.st_lines.specs.ScanWords.{HasMomentFirst, bytes_before, first_moment, is_pair, pair_of};
+ghost use Rattle.st_lines.specs.ScanWords.{HasMomentFirst, IsDigitAt, bytes_before, first_moment, is_pair, pair_of};
 ghost use Rattle.st_values.specs.Words.{begins_with};
 
 use st_devices::{is_space_or_tab, skip_blanks, split_word};
@@ -15,7 +15,8 @@ const TOO_LATE: u64 = 1_000_000_000_000_001;
 #[inline(always)]
 pub fn split_moment(text: &[u8]) -> Option<(i64, &[u8])>
     ensures none { result ≡ None → first_moment (words_of text.now) ≡ None }
-    ensures some { IfSome result (λ split. HasMomentFirst split.0 (words_of split.1.now) (words_of text.now)) }
+    ensures some { IfSome result (λ split.
+        HasMomentFirst split.0 (words_of split.1.now) (words_of text.now)) }
     ensures room { IfSome result (λ split. length split.1.now ≤ length text.now) }
 {
     let text = skip_blanks(text);
@@ -34,8 +35,9 @@ pub fn split_moment(text: &[u8]) -> Option<(i64, &[u8])>
 
 /// The decimal digit that stands here in a text, if there is one.
 fn digit_at(text: &[u8], at: usize) -> Option<u32>
-    ensures some { IfSome result (λ digit. (at < length text.now) × (digit ≡ digit_value (slice_index text.now at)) × (digit < 10)) }
-    ensures none { result ≡ None → at < length text.now → 10 ≤ digit_value (slice_index text.now at) }
+    ensures some { IfSome result (IsDigitAt text.now at) }
+    ensures none { result ≡ None → at < length text.now
+        → 10 ≤ digit_value (slice_index text.now at) }
 {
     if at < text.len() {
         char::from(text[at]).to_digit(10)
@@ -47,7 +49,8 @@ fn digit_at(text: &[u8], at: usize) -> Option<u32>
 /// Tests whether a word that stands before this place in a text ends there.
 fn ends_word(text: &[u8], at: usize) -> bool
     ensures yes { result ≡ true → at < length text.now → is_blank (slice_index text.now at) ≡ true }
-    ensures no { result ≡ false → (at < length text.now) × (is_blank (slice_index text.now at) ≡ false) }
+    ensures no { result ≡ false
+        → (at < length text.now) × (is_blank (slice_index text.now at) ≡ false) }
 {
     at >= text.len() || is_space_or_tab(text[at])
 }
@@ -66,7 +69,8 @@ impl<'a> Pairs<'a> {
     #[inline(always)]
     pub fn read(words: &'a [u8]) -> Option<Self>
         requires { length words.now ≤ 4096 }
-        ensures { MatchOption result (list_all is_pair (words_of words.entry.now) ≡ false) (λ pairs. pairs.words.now ≡ words.entry.now) }
+        ensures { MatchOption result (list_all is_pair (words_of words.entry.now) ≡ false)
+            (λ pairs. pairs.words.now ≡ words.entry.now) }
     {
         let mut rest = words;
         while let Some((word, more)) = split_word(rest) {

@@ -40,7 +40,8 @@ fn with_byte(word: LineWord, byte: u8) -> LineWord
 
 /// The same where it has so many bytes of `end_change`.
 fn after_front(count: usize, byte: u8) -> LineWord
-    ensures { (rest : List ℕ) → ends_with result rest ≡ ends_with (LineWord.Front count) (byte ∷ rest) }
+    ensures { (rest : List ℕ) → ends_with result rest
+        ≡ ends_with (LineWord.Front count) (byte ∷ rest) }
 {
     if is_next(count, byte) {
         LineWord::Front(count + 1)
@@ -86,7 +87,8 @@ pub struct Size {
 
 /// Puts a byte at the end of a text of this size. Answers the size of the longer text.
 fn put(bytes: &mut Vec<u8>, size: Size, byte: u8) -> Size
-    ensures stored { (text : List ℕ) → IsStored bytes.old.items size text → IsStored bytes.new.items result (text ++ byte ∷ []) }
+    ensures stored { (text : List ℕ) → IsStored bytes.old.items size text
+        → IsStored bytes.new.items result (text ++ byte ∷ []) }
     ensures front { (more : List ℕ) × (bytes.new.items ≡ bytes.old.items ++ more) }
 {
     if size.len >= MAX_TEXT_BYTES {
@@ -136,7 +138,8 @@ impl SourceText {
 
     /// Puts a byte into the line that isn't ended.
     fn put(&mut self, byte: u8)
-        ensures line { (text line : List ℕ) → HoldsLine self.old text line → HoldsLine self.new text (line ++ byte ∷ []) }
+        ensures line { (text line : List ℕ) → HoldsLine self.old text line
+            → HoldsLine self.new text (line ++ byte ∷ []) }
         ensures cr { self.new.holds_cr ≡ self.old.holds_cr }
     {
         self.size = put(&mut self.bytes, self.size, byte);
@@ -145,7 +148,8 @@ impl SourceText {
 
     /// Puts the CR that was held back.
     fn put_cr(&mut self)
-        ensures line { (text part : List ℕ) → Holds self.old text part → HoldsLine self.new text part }
+        ensures line { (text part : List ℕ) → Holds self.old text part
+            → HoldsLine self.new text part }
         ensures cr { self.new.holds_cr ≡ false }
     {
         if self.holds_cr {
@@ -156,7 +160,8 @@ impl SourceText {
 
     /// Takes a byte of a line.
     pub fn take(&mut self, byte: u8)
-        ensures { (text part : List ℕ) → Holds self.old text part → Holds self.new text (part ++ byte ∷ []) }
+        ensures { (text part : List ℕ) → Holds self.old text part
+            → Holds self.new text (part ++ byte ∷ []) }
     {
         self.put_cr();
         if byte == b'\r' {
@@ -168,8 +173,10 @@ impl SourceText {
 
     /// Tests whether the line that isn't ended is the one that ends the text, and takes it off then.
     fn ends(&mut self) -> bool
-        ensures end { (text line : List ℕ) → HoldsLine self.old text line → result ≡ is_end (words_of line) }
-        ensures text { result ≡ true → (text line : List ℕ) → HoldsLine self.old text line → HoldsText self.new text }
+        ensures end { (text line : List ℕ) → HoldsLine self.old text line
+            → result ≡ is_end (words_of line) }
+        ensures text { result ≡ true → (text line : List ℕ) → HoldsLine self.old text line
+            → HoldsText self.new text }
         ensures same { result ≡ false → self.new ≡ self.old }
     {
         let is_last = is_text_end(self.word);
@@ -181,8 +188,10 @@ impl SourceText {
 
     /// Ends a line at its LF. Answers whether it is the one that ends the text.
     pub fn end_line(&mut self) -> bool
-        ensures end { (text part : List ℕ) → Holds self.old text part → result ≡ ends_text (ended_line part) }
-        ensures text { result ≡ true → (text part : List ℕ) → Holds self.old text part → HoldsText self.new text }
+        ensures end { (text part : List ℕ) → Holds self.old text part
+            → result ≡ ends_text (ended_line part) }
+        ensures text { result ≡ true → (text part : List ℕ) → Holds self.old text part
+            → HoldsText self.new text }
         ensures line { result ≡ false → (text part : List ℕ) → Holds self.old text part
             → Holds self.new (text ++ (ended_line part).text ++ 10 ∷ []) [] }
     {
@@ -198,8 +207,10 @@ impl SourceText {
 
     /// Ends the last line, which has no LF. Answers whether it is the one that ends the text.
     pub fn end_input(&mut self) -> bool
-        ensures end { (text part : List ℕ) → Holds self.old text part → result ≡ ends_text (last_line part) }
-        ensures text { result ≡ true → (text part : List ℕ) → Holds self.old text part → HoldsText self.new text }
+        ensures end { (text part : List ℕ) → Holds self.old text part
+            → result ≡ ends_text (last_line part) }
+        ensures text { result ≡ true → (text part : List ℕ) → Holds self.old text part
+            → HoldsText self.new text }
     {
         self.put_cr();
         self.ends()
