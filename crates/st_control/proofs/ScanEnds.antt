@@ -1,5 +1,5 @@
 -- What the status tells of a scan.
-use Rattle.std.proofs.Common.{◌≡◌, ℤ, true, false, List, refl, ◌∙◌, ap, sym}
+use Rattle.std.proofs.Common.{◌≡◌, ℤ, false, List, refl}
 use Rattle.std.specs.Prelude.{Err, Ok, Result}
 use Rattle.st_control.proofs.Causes.{unless_allows}
 use Rattle.st_control.specs.Scans.{Input, is_halted, may_scan, outcome_of, scan_causes, scan_end, state_after}

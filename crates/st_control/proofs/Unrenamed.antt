@@ -5,7 +5,7 @@ use Rattle.std.specs.Prelude.{Err}
 use Rattle.st_check.specs.Programs.{ProgramView}
 use Rattle.st_control.specs.Causes.{no_active_step, no_memory, not_paired, undo_full}
 use Rattle.st_control.specs.Changes.{gives_pairs, stops_chart}
-use Rattle.st_control.specs.Machine.{Cause, Heeds, change_causes, unless}
+use Rattle.st_control.specs.Machine.{Heeds, change_causes, unless}
 use Rattle.st_control.specs.States.{StateView}
 use Rattle.st_control.specs.Texts.{IsCheckedAs, refusal_of}
 use Rattle.st_control.specs.declared.refusal.Refusal.{Refusal}

@@ -66,7 +66,8 @@ impl<M: Memory> State<M> {
     ) -> Result<Plan, Refusal>
         ensures plan { IfOk result (λ plan. plan ≡ pairs_of self.entry.now renames.now image.now) }
         ensures pairable { OnOk result (gives_pairs self.entry.now renames.now image.now ≡ true) }
-        ensures pairing { IfOk result (λ plan. IsPairing (leaves_of self.entry.now) (leaves_of_program image.now) plan) }
+        ensures pairing { IfOk result
+            (λ plan. IsPairing (leaves_of self.entry.now) (leaves_of_program image.now) plan) }
         ensures not_full { OnOk result (full ≡ false) }
         ensures causes { Heeds (change_causes self.entry.now full renames.now image.now) result }
     {
@@ -92,7 +93,9 @@ impl<M: Memory> State<M> {
         requires plan { plan.now ≡ pairs_of self.old renames image }
         requires pairable { gives_pairs self.old renames image ≡ true }
         requires pairing { IsPairing (leaves_of self.old) (leaves_of_program image) plan.now }
-        ensures record { IfOk result (λ newest. newest ≡ Record.Change self.old.program (saved (pairs_of self.old renames image) self.old.content) renames) }
+        ensures record { IfOk result
+            (λ newest. newest ≡ Record.Change self.old.program
+            (saved (pairs_of self.old renames image) self.old.content) renames) }
         ensures new { OnOk result (self.new ≡ changed self.old renames image) }
         ensures back { IfOk result (λ newest. undone self.new newest ≡ self.old) }
         ensures fitting { IfOk result (λ newest. FitsRecord self.new newest) }
@@ -153,7 +156,8 @@ pub(crate) fn loses_active_step<M: Memory>(
 ) -> Result<bool, AllocError>
     requires over { M.IsOver old.now memory.now }
     requires targets { length plan.now.targets ≡ length old.now }
-    ensures { IfOk result (λ loses. loses ≡ loses_active_step old.now plan.now.targets (M.content old.now memory.now).values) }
+    ensures { IfOk result (λ loses. loses
+        ≡ loses_active_step old.now plan.now.targets (M.content old.now memory.now).values) }
 {
     let keeps = charts_with_steps(alloc, memory, old, plan)?;
     for leaf in 0..old.len() {
@@ -169,7 +173,8 @@ fn stops(old: &Layout, plan: &Plan, keeps: &[bool], leaf: u32) -> bool
     requires below { leaf < length old.now }
     requires targets { length plan.now.targets ≡ length old.now }
     requires marks { length keeps.now ≡ length old.now }
-    ensures { result ≡ (is_kept plan.now.targets leaf && (is_chart (leaf_at old.now leaf).role && not (mark_at keeps.now leaf))) }
+    ensures { result ≡ (is_kept plan.now.targets leaf
+        && (is_chart (leaf_at old.now leaf).role && not (mark_at keeps.now leaf))) }
 {
     plan.target(leaf).is_some() && is_chart(old.at(leaf).role) && !keeps[leaf as usize]
 }
@@ -183,7 +188,9 @@ fn charts_with_steps<M: Memory>(
 ) -> Result<Vec<bool>, AllocError>
     requires over { M.IsOver old.now memory.now }
     requires targets { length plan.now.targets ≡ length old.now }
-    ensures { IfOk result (λ keeps. AreMarks old.now plan.now.targets (M.content old.now memory.now).values (length old.now) keeps.items) }
+    ensures { IfOk result (λ keeps.
+        AreMarks old.now plan.now.targets (M.content old.now memory.now).values
+        (length old.now) keeps.items) }
 {
     let mut keeps = no_marks(alloc, old.len())?;
     for leaf in 0..old.len() {
@@ -207,7 +214,8 @@ fn no_marks(alloc: Global, count: u32) -> Result<Vec<bool>, AllocError>
 /// Sets the mark of this number, if there is one.
 fn set_mark(marks: &mut Vec<bool>, number: Option<u32>)
     ensures long { length marks.new.items ≡ length marks.old.items }
-    ensures marks { (k : ℕ) → k < length marks.old.items → mark_at marks.new.items k ≡ (mark_at marks.old.items k || is_number k number) }
+    ensures marks { (k : ℕ) → k < length marks.old.items
+        → mark_at marks.new.items k ≡ (mark_at marks.old.items k || is_number k number) }
 {
     if let Some(number) = number {
         let place = number as usize;
@@ -222,7 +230,8 @@ fn active_chart<M: Memory>(memory: &M, old: &Layout, plan: &Plan, leaf: u32) -> 
     requires over { M.IsOver old.now memory.now }
     requires below { leaf < length old.now }
     requires targets { length plan.now.targets ≡ length old.now }
-    ensures { result ≡ active_chart old.now plan.now.targets (M.content old.now memory.now).values leaf }
+    ensures { result ≡ active_chart old.now plan.now.targets
+        (M.content old.now memory.now).values leaf }
 {
     if plan.target(leaf).is_none() {
         return None;

@@ -72,9 +72,15 @@ impl<M: Memory> Model for Controller<M> {
 
     ghost coded = { Prim.hlevel (codes, statement.the_row.coded, expression.the_row.coded) };
 
-    ghost view = { λ c. record { state = c.state; records = c.records.items; main = c.main; limit = c.limit } };
+    ghost view = { λ c. record {
+      state = c.state;
+      records = c.records.items;
+      main = c.main;
+      limit = c.limit;
+    } };
 
-    ghost invariant = { λ c. (256 ≤ vec_capacity c.records) × (vec_len c.records ≤ 256) × IsCoherent c.state c.records.items };
+    ghost invariant = { λ c. (256 ≤ vec_capacity c.records) × (vec_len c.records ≤ 256)
+        × IsCoherent c.state c.records.items };
 }
 
 impl<M: Memory> Controller<M> {
@@ -90,7 +96,8 @@ impl<M: Memory> Controller<M> {
 
         // A text that is accepted is loaded with its units, unless memory runs out.
         ensures only { (units : List ProgramUnit) → IsCheckedAs text.now main.now (Ok units)
-            → MatchResult result (λ controller. text_of controller.state.program ≡ units) (λ refusal. refusal ≡ Refusal.M) }
+            → MatchResult result (λ controller. text_of controller.state.program ≡ units)
+            (λ refusal. refusal ≡ Refusal.M) }
     {
         let image = load_image(alloc, text, main)?;
         let name = Name::of(main).unwrap();
@@ -176,8 +183,10 @@ impl<M: Memory> Controller<M> {
     /// Refused as O1 where there is no such path, O2 where the leaf isn't open, O3 where the value isn't one of its type,
     /// O4 where it is forced, O6 where the undo list is full.
     pub fn write(&mut self, path: &[u8], value: Value) -> Result<(), Refusal>
-        ensures step { Takes (step (write path.now value) (machine_of self.old)) self.old result self.new }
-        ensures record { OnOk result (Keeps self.old self.new (record_of (write path.now value) self.old.state)) }
+        ensures step { Takes (step (write path.now value) (machine_of self.old))
+            self.old result self.new }
+        ensures record { OnOk result
+            (Keeps self.old self.new (record_of (write path.now value) self.old.state)) }
     {
         let full = self.records.len() >= MAX_RECORDS;
         match self.state.leaf_to_write(full, path, value) {
@@ -195,8 +204,10 @@ impl<M: Memory> Controller<M> {
     /// Refused as O1 where there is no such path, O2 where the leaf isn't open, O3 where the value isn't one of its type,
     /// O6 where the undo list is full.
     pub fn force(&mut self, path: &[u8], value: Value) -> Result<(), Refusal>
-        ensures step { Takes (step (force path.now value) (machine_of self.old)) self.old result self.new }
-        ensures record { OnOk result (Keeps self.old self.new (record_of (force path.now value) self.old.state)) }
+        ensures step { Takes (step (force path.now value) (machine_of self.old))
+            self.old result self.new }
+        ensures record { OnOk result
+            (Keeps self.old self.new (record_of (force path.now value) self.old.state)) }
     {
         let full = self.records.len() >= MAX_RECORDS;
         match self.state.leaf_to_force(full, path, value) {
@@ -213,8 +224,10 @@ impl<M: Memory> Controller<M> {
     ///
     /// Refused as O1 where there is no such path, O5 where the leaf isn't forced, O6 where the undo list is full.
     pub fn release(&mut self, path: &[u8]) -> Result<(), Refusal>
-        ensures step { Takes (step (release path.now) (machine_of self.old)) self.old result self.new }
-        ensures record { OnOk result (Keeps self.old self.new (record_of (release path.now) self.old.state)) }
+        ensures step { Takes (step (release path.now) (machine_of self.old))
+            self.old result self.new }
+        ensures record { OnOk result
+            (Keeps self.old self.new (record_of (release path.now) self.old.state)) }
     {
         let full = self.records.len() >= MAX_RECORDS;
         match self.state.leaf_to_release(full, path) {
@@ -231,10 +244,13 @@ impl<M: Memory> Controller<M> {
     /// renames two programs always have pairs.
     pub fn change(&mut self, alloc: Global, text: &[u8]) -> Result<Counts, Refusal>
         ensures step { TakesChange text.now [] self.old result self.new }
-        ensures counts { IfOk result (λ counts. counts ≡ counts_of self.old.state [] self.new.state.program) }
+        ensures counts { IfOk result
+            (λ counts. counts ≡ counts_of self.old.state [] self.new.state.program) }
         ensures whole { OnOk result (IsWhole self.new.state) }
         ensures paired { IfErr result (λ refusal. refusal ≢ not_paired) }
-        ensures record { OnOk result (Keeps self.old self.new (record_of (change [] (Ok self.new.state.program)) self.old.state)) }
+        ensures record { OnOk result
+            (Keeps self.old self.new
+            (record_of (change [] (Ok self.new.state.program)) self.old.state)) }
     {
         self.change_named(alloc, text, Vec::new(alloc))
     }
@@ -253,10 +269,13 @@ impl<M: Memory> Controller<M> {
         renames: Vec<Rename>,
     ) -> Result<Counts, Refusal>
         ensures step { TakesChange text.now renames.items self.old result self.new }
-        ensures counts { IfOk result (λ counts. counts ≡ counts_of self.old.state renames.items self.new.state.program) }
+        ensures counts { IfOk result
+            (λ counts. counts ≡ counts_of self.old.state renames.items self.new.state.program) }
         ensures whole { OnOk result (IsWhole self.new.state) }
         ensures paired { renames.items ≡ [] → IfErr result (λ refusal. refusal ≢ not_paired) }
-        ensures record { OnOk result (Keeps self.old self.new (record_of (change renames.items (Ok self.new.state.program)) self.old.state)) }
+        ensures record { OnOk result
+            (Keeps self.old self.new
+            (record_of (change renames.items (Ok self.new.state.program)) self.old.state)) }
     {
         let image = load_image(alloc, text, self.main.bytes())?;
         self.go_over(alloc, image, raised(renames))
@@ -272,10 +291,13 @@ impl<M: Memory> Controller<M> {
         renames: List<Rename>,
     ) -> Result<Counts, Refusal>
         ensures step { GoesOver image renames self.old result self.new }
-        ensures counts { IfOk result (λ counts. counts ≡ counts_of self.old.state renames self.new.state.program) }
+        ensures counts { IfOk result
+            (λ counts. counts ≡ counts_of self.old.state renames self.new.state.program) }
         ensures whole { OnOk result (IsWhole self.new.state) }
         ensures paired { renames ≡ [] → IfErr result (λ refusal. refusal ≢ not_paired) }
-        ensures record { OnOk result (Keeps self.old self.new (change_record self.old.state renames self.new.state.program)) }
+        ensures record { OnOk result
+            (Keeps self.old self.new
+            (change_record self.old.state renames self.new.state.program)) }
     {
         self.state.tell_pairs(&image);
         let full = self.records.len() >= MAX_RECORDS;
@@ -317,7 +339,8 @@ impl<M: Memory> Controller<M> {
     /// moment is before the last one or above `MAX_MOMENT`, O10 where the program is halted, O12 where an input is for a leaf that
     /// isn't a process input. The undo list is then as it was.
     pub fn scan(&mut self, now: i64, inputs: &[(u32, Value)]) -> Result<Scanned, Refusal>
-        ensures step { TakesScan (scan_step now inputs.now (machine_of self.old)) self.old result self.new }
+        ensures step { TakesScan (scan_step now inputs.now (machine_of self.old))
+            self.old result self.new }
     {
         self.run_scan(now, inputs)?;
         match self.state.status {

@@ -113,10 +113,14 @@ fn run_aside<M: Memory>(
     requires types { list_any (has_other_type (leaves_of_program image.now)) inputs.now ≡ false }
     ensures second { M.IsOver (leaves_of_program image.now) second.new }
     ensures room { HasRoom image.now stacks.new }
-    ensures forced { (M.content (leaves_of_program image.now) second.new).forced ≡ (M.content (leaves_of_program image.now) memory.now).forced }
+    ensures forced { (M.content (leaves_of_program image.now) second.new).forced
+        ≡ (M.content (leaves_of_program image.now) memory.now).forced }
     ensures result { MatchResult result
-        (λ done. run_with now inputs.now limit image.now (M.content (leaves_of_program image.now) memory.now) ≡ Ok (M.content (leaves_of_program image.now) second.new).values)
-        (λ fault. run_with now inputs.now limit image.now (M.content (leaves_of_program image.now) memory.now) ≡ Err fault) }
+        (λ done. run_with now inputs.now limit image.now
+        (M.content (leaves_of_program image.now) memory.now)
+        ≡ Ok (M.content (leaves_of_program image.now) second.new).values)
+        (λ fault. run_with now inputs.now limit image.now
+        (M.content (leaves_of_program image.now) memory.now) ≡ Err fault) }
 {
     second.take_from(image.layout(), memory);
     store_inputs(second, image.layout(), inputs);
@@ -183,8 +187,11 @@ fn store_inputs<M: Memory>(memory: &mut M, layout: &Layout, inputs: &[(u32, Valu
     requires leaves { list_any (has_no_leaf layout.now) inputs.now ≡ false }
     requires types { list_any (has_other_type layout.now) inputs.now ≡ false }
     ensures over { M.IsOver layout.now memory.new }
-    ensures values { (M.content layout.now memory.new).values ≡ with_inputs (M.content layout.now memory.old).forced (M.content layout.now memory.old).values inputs.now }
-    ensures forced { (M.content layout.now memory.new).forced ≡ (M.content layout.now memory.old).forced }
+    ensures values { (M.content layout.now memory.new).values
+        ≡ with_inputs (M.content layout.now memory.old).forced
+        (M.content layout.now memory.old).values inputs.now }
+    ensures forced { (M.content layout.now memory.new).forced
+        ≡ (M.content layout.now memory.old).forced }
 {
     for input in inputs {
         if !memory.forced(layout, input.0) {
@@ -197,8 +204,11 @@ fn store_inputs<M: Memory>(memory: &mut M, layout: &Layout, inputs: &[(u32, Valu
 fn reset_values<M: Memory>(memory: &mut M, layout: &Layout)
     requires over { M.IsOver layout.now memory.old }
     ensures over { M.IsOver layout.now memory.new }
-    ensures values { (M.content layout.now memory.new).values ≡ reset_values layout.now (M.content layout.now memory.old).forced (M.content layout.now memory.old).values }
-    ensures forced { (M.content layout.now memory.new).forced ≡ (M.content layout.now memory.old).forced }
+    ensures values { (M.content layout.now memory.new).values
+        ≡ reset_values layout.now (M.content layout.now memory.old).forced
+        (M.content layout.now memory.old).values }
+    ensures forced { (M.content layout.now memory.new).forced
+        ≡ (M.content layout.now memory.old).forced }
 {
     for leaf in 0..layout.len() {
         if !memory.forced(layout, leaf) {

@@ -57,9 +57,17 @@ impl<M: Memory> Model for State<M> {
 
     ghost coded = { Prim.hlevel (codes, statement.the_row.coded, expression.the_row.coded) };
 
-    ghost view = { λ s. record { program = s.image; content = M.content (leaves_of_program s.image) s.memory; now = s.now; status = s.status } };
+    ghost view = { λ s. record {
+      program = s.image;
+      content = M.content (leaves_of_program s.image) s.memory;
+      now = s.now;
+      status = s.status;
+    } };
 
-    ghost invariant = { λ s. M.IsOver (leaves_of_program s.image) s.memory × ForcesAreOpen (leaves_of_program s.image) (M.content (leaves_of_program s.image) s.memory).forced × IsMoment s.now × M.IsOver (leaves_of_program s.image) s.second × HasRoom s.image s.stacks };
+    ghost invariant = { λ s. M.IsOver (leaves_of_program s.image) s.memory
+        × ForcesAreOpen (leaves_of_program s.image)
+        (M.content (leaves_of_program s.image) s.memory).forced × IsMoment s.now
+        × M.IsOver (leaves_of_program s.image) s.second × HasRoom s.image s.stacks };
 }
 
 impl<M: Memory> State<M> {
@@ -173,7 +181,8 @@ impl<M: Memory> State<M> {
         requires below { leaf < length (leaves_of self.old) }
         requires opens { IsOpenAt (leaves_of self.old) leaf }
         requires fits { IsValueAt (leaves_of self.old) leaf value }
-        ensures record { result ≡ Record.Force leaf (value_at self.old.content.values leaf) (forced_at self.old.content.forced leaf) }
+        ensures record { result ≡ Record.Force leaf (value_at self.old.content.values leaf)
+            (forced_at self.old.content.forced leaf) }
         ensures new { self.new ≡ forced self.old leaf value }
         ensures back { undone self.new result ≡ self.old }
         ensures fitting { FitsRecord self.new result }

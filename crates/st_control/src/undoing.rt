@@ -78,8 +78,14 @@ fn go_back<M: Memory>(
     requires over { M.IsOver new.now memory.old }
     requires fits { FitsSaved (leaves_of_program old.now) new.now saved.now renames.now }
     ensures over { OnOk result (M.IsOver (leaves_of_program old.now) memory.new) }
-    ensures unmoved { OnOk result (M.content (leaves_of_program old.now) memory.new ≡ unmoved (leaves_of_program old.now) (pairs_between (leaves_of_program old.now) new.now renames.now) (M.content new.now memory.old) saved.now) }
-    ensures open { ForcesAreOpen new.now (M.content new.now memory.old).forced → OnOk result (ForcesAreOpen (leaves_of_program old.now) (M.content (leaves_of_program old.now) memory.new).forced) }
+    ensures unmoved { OnOk result
+        (M.content (leaves_of_program old.now) memory.new
+        ≡ unmoved (leaves_of_program old.now)
+        (pairs_between (leaves_of_program old.now) new.now renames.now)
+        (M.content new.now memory.old) saved.now) }
+    ensures open { ForcesAreOpen new.now (M.content new.now memory.old).forced
+        → OnOk result (ForcesAreOpen (leaves_of_program old.now)
+        (M.content (leaves_of_program old.now) memory.new).forced) }
     ensures second { IfOk result (λ room. M.IsOver (leaves_of_program old.now) room.0) }
     ensures stacks { IfOk result (λ room. HasRoom old.now room.1) }
     ensures err { OnErr result (memory.new ≡ memory.old) }
@@ -102,8 +108,12 @@ pub(crate) fn move_back<M: Memory>(
     requires over { M.IsOver new.now memory.old }
     requires fits { FitsSaved old.now new.now saved.now renames.now }
     ensures over { OnOk result (M.IsOver old.now memory.new) }
-    ensures unmoved { OnOk result (M.content old.now memory.new ≡ unmoved old.now (pairs_between old.now new.now renames.now) (M.content new.now memory.old) saved.now) }
-    ensures open { ForcesAreOpen new.now (M.content new.now memory.old).forced → OnOk result (ForcesAreOpen old.now (M.content old.now memory.new).forced) }
+    ensures unmoved { OnOk result
+        (M.content old.now memory.new
+        ≡ unmoved old.now (pairs_between old.now new.now renames.now)
+        (M.content new.now memory.old) saved.now) }
+    ensures open { ForcesAreOpen new.now (M.content new.now memory.old).forced
+        → OnOk result (ForcesAreOpen old.now (M.content old.now memory.new).forced) }
     ensures err { OnErr result (memory.new ≡ memory.old) }
 {
     match Plan::between(alloc, old, new, renames) {
