@@ -9,7 +9,7 @@ ghost use Rattle.st_lines.specs.Commands.{TakesPartOf};
 ghost use Rattle.st_lines.specs.Requests.{RequestView, request_in, request_of};
 ghost use Rattle.st_session.specs.Hearings.{HearsOver, HearsPart, HearsSession};
 ghost use Rattle.st_session.specs.Sessions.{AnswersAll, AnswersRead, Does, DoesAsked, DoesOver, LosesPart, LosesText, StopsIn, TurnsOver};
-ghost use Rattle.st_session.specs.Turns.{CanBeAsked, answer, leaf_value, value_given};
+ghost use Rattle.st_session.specs.Turns.{CanBeAsked, Gives, answer, leaf_value, value_given};
 
 use crate::change::take_change;
 use crate::grade::{Grade, worse};
@@ -63,8 +63,8 @@ fn read_given<M: Memory>(controller: &Controller<M>, path: &[u8], text: &[u8]) -
 /// Replies what the leaf with this path holds, and answers the grade of that.
 #[inline(never)]
 fn show<M: Memory>(controller: &Controller<M>, path: &[u8], reply: &mut Reply) -> Grade
-    ensures reply { reply.new ≡ (answer (RequestView.show path.now) (machine_of controller.now)).reply }
-    ensures grade { result ≡ (answer (RequestView.show path.now) (machine_of controller.now)).grade }
+    ensures { Gives (answer (RequestView.show path.now) (machine_of controller.now)) result
+        (machine_of controller.now) reply.new }
 {
     let Some(leaf) = controller.find(path) else {
         return reply.refuse_as(NO_SUCH_PATH);
@@ -82,12 +82,9 @@ fn write<M: Memory>(
     text: &[u8],
     reply: &mut Reply,
 ) -> Grade
-    ensures machine { machine_of controller.new
-        ≡ (answer (RequestView.write path.now text.now) (machine_of controller.old)).machine }
-    ensures reply { reply.new
-        ≡ (answer (RequestView.write path.now text.now) (machine_of controller.old)).reply }
-    ensures grade { result
-        ≡ (answer (RequestView.write path.now text.now) (machine_of controller.old)).grade }
+    ensures { Gives (answer (RequestView.write path.now text.now)
+        (machine_of controller.old)) result
+        (machine_of controller.new) reply.new }
 {
     let value = read_given(controller, path, text);
     reply.answer(controller.write(path, value))
@@ -101,12 +98,9 @@ fn force<M: Memory>(
     text: &[u8],
     reply: &mut Reply,
 ) -> Grade
-    ensures machine { machine_of controller.new
-        ≡ (answer (RequestView.force path.now text.now) (machine_of controller.old)).machine }
-    ensures reply { reply.new
-        ≡ (answer (RequestView.force path.now text.now) (machine_of controller.old)).reply }
-    ensures grade { result
-        ≡ (answer (RequestView.force path.now text.now) (machine_of controller.old)).grade }
+    ensures { Gives (answer (RequestView.force path.now text.now)
+        (machine_of controller.old)) result
+        (machine_of controller.new) reply.new }
 {
     let value = read_given(controller, path, text);
     reply.answer(controller.force(path, value))
@@ -115,9 +109,8 @@ fn force<M: Memory>(
 /// Lets go of the leaf with this path, and answers the grade of the reply.
 #[inline(never)]
 fn release<M: Memory>(controller: &mut Controller<M>, path: &[u8], reply: &mut Reply) -> Grade
-    ensures machine { machine_of controller.new ≡ (answer (RequestView.release path.now) (machine_of controller.old)).machine }
-    ensures reply { reply.new ≡ (answer (RequestView.release path.now) (machine_of controller.old)).reply }
-    ensures grade { result ≡ (answer (RequestView.release path.now) (machine_of controller.old)).grade }
+    ensures { Gives (answer (RequestView.release path.now) (machine_of controller.old)) result
+        (machine_of controller.new) reply.new }
 {
     reply.answer(controller.release(path))
 }
@@ -134,8 +127,8 @@ fn undo<M: Memory>(alloc: Global, controller: &mut Controller<M>, reply: &mut Re
 /// Replies how the controller stands, and answers the grade of that.
 #[inline(never)]
 fn report<M: Memory>(controller: &Controller<M>, reply: &mut Reply) -> Grade
-    ensures reply { reply.new ≡ (answer RequestView.status (machine_of controller.now)).reply }
-    ensures grade { result ≡ (answer RequestView.status (machine_of controller.now)).grade }
+    ensures { Gives (answer RequestView.status (machine_of controller.now)) result
+        (machine_of controller.now) reply.new }
 {
     reply.report(controller.status());
     Grade::Accepted
@@ -221,13 +214,16 @@ fn take_command<M: Memory, R: Source>(
 ) -> Result<Option<Grade>, DeviceFault>
     requires { R.has_failed source.old ≡ false }
     ensures ok { IfOk result (λ grade. OnReading
-        (pending buffers.old.input (R.rest source.old)) (pending buffers.new.input (R.rest source.new))
-        (DoesOver grade (has_ended buffers.new.input) (machine_of controller.old) (machine_of controller.new) buffers.new.reply)) }
+        (pending buffers.old.input (R.rest source.old))
+        (pending buffers.new.input (R.rest source.new))
+        (DoesOver grade (has_ended buffers.new.input) (machine_of controller.old)
+        (machine_of controller.new) buffers.new.reply)) }
     ensures err { OnErr result (controller.new ≡ controller.old) }
     ensures read { OnErr result (OnReading
         (pending buffers.old.input (R.rest source.old)) (R.rest source.new) (TakesPartOf None)) }
     ensures not_ended { OnErr result (has_ended buffers.old.input ≡ false) }
-    ensures progress { IfOk result (λ grade. OnSome grade (left buffers.new.input (R.reads_left source.new)
+    ensures progress { IfOk result
+        (λ grade. OnSome grade (left buffers.new.input (R.reads_left source.new)
         < left buffers.old.input (R.reads_left source.old))) }
     ensures ended { has_ended buffers.old.input ≡ true → has_ended buffers.new.input ≡ true }
     ensures failed { R.has_failed source.new ≡ is_err result }
@@ -252,8 +248,10 @@ fn do_line<M: Memory, R: Source>(
     requires works { R.has_failed source.old ≡ false }
     requires short { length buffers.old.line.items ≤ 4096 }
     ensures ok { IfOk result (λ grade. OnReading
-        (pending buffers.old.input (R.rest source.old)) (pending buffers.new.input (R.rest source.new))
-        (DoesAsked (request_in (words_of buffers.old.line.items)) grade (has_ended buffers.new.input)
+        (pending buffers.old.input (R.rest source.old))
+        (pending buffers.new.input (R.rest source.new))
+        (DoesAsked (request_in (words_of buffers.old.line.items)) grade
+        (has_ended buffers.new.input)
         (machine_of controller.old) (machine_of controller.new) buffers.new.reply)) }
     ensures err { OnErr result (controller.new ≡ controller.old) }
     ensures read { OnErr result (OnReading
@@ -325,21 +323,28 @@ fn turn<M: Memory, R: Source, W: Sink, O: Observer>(
     requires source { R.has_failed source.old ≡ false }
     requires sink { W.has_failed sink.old ≡ false }
     ensures ok { IfOk result (λ grade. OnReading
-        (pending buffers.old.input (R.rest source.old)) (pending buffers.new.input (R.rest source.new))
-        (TurnsOver grade (has_ended buffers.new.input) (machine_of controller.old) (machine_of controller.new)
+        (pending buffers.old.input (R.rest source.old))
+        (pending buffers.new.input (R.rest source.new))
+        (TurnsOver grade (has_ended buffers.new.input) (machine_of controller.old)
+        (machine_of controller.new)
         (W.taken sink.old) (W.taken sink.new))) }
     ensures err { OnErr result (OnBytes (pending buffers.old.input (R.rest source.old))
-        (StopsIn (machine_of controller.old) (machine_of controller.new) (W.taken sink.old) (W.taken sink.new))) }
+        (StopsIn (machine_of controller.old) (machine_of controller.new) (W.taken sink.old)
+        (W.taken sink.new))) }
     ensures read { R.has_failed source.new ≡ true → OnReading
         (pending buffers.old.input (R.rest source.old)) (R.rest source.new)
-        (LosesPart (has_ended buffers.old.input) (machine_of controller.old) (machine_of controller.new)
+        (LosesPart (has_ended buffers.old.input) (machine_of controller.old)
+        (machine_of controller.new)
         (W.taken sink.old) (W.taken sink.new)) }
     ensures heard { IfOk result (λ grade. OnReading
-        (pending buffers.old.input (R.rest source.old)) (pending buffers.new.input (R.rest source.new))
-        (HearsOver O.hears grade (has_ended buffers.new.input) (machine_of controller.old) (machine_of controller.new)
+        (pending buffers.old.input (R.rest source.old))
+        (pending buffers.new.input (R.rest source.new))
+        (HearsOver O.hears grade (has_ended buffers.new.input) (machine_of controller.old)
+        (machine_of controller.new)
         observer.old observer.new)) }
     ensures unheard { OnErr result (observer.new ≡ observer.old) }
-    ensures progress { IfOk result (λ grade. OnSome grade (left buffers.new.input (R.reads_left source.new)
+    ensures progress { IfOk result
+        (λ grade. OnSome grade (left buffers.new.input (R.reads_left source.new)
         < left buffers.old.input (R.reads_left source.old))) }
     ensures ended { has_ended buffers.old.input ≡ true → has_ended buffers.new.input ≡ true }
     ensures failed { (R.has_failed source.new || W.has_failed sink.new) ≡ is_err result }
@@ -366,14 +371,18 @@ fn answer_all<M: Memory, R: Source, W: Sink, O: Observer>(
     requires source { R.has_failed source.old ≡ false }
     requires sink { W.has_failed sink.old ≡ false }
     ensures ok { IfOk result (λ grade. OnBytes (pending buffers.old.input (R.rest source.old))
-        (AnswersAll grade (machine_of controller.old) (machine_of controller.new) (W.taken sink.old) (W.taken sink.new))) }
+        (AnswersAll grade (machine_of controller.old) (machine_of controller.new) (W.taken sink.old)
+        (W.taken sink.new))) }
     ensures err { OnErr result (OnBytes (pending buffers.old.input (R.rest source.old))
-        (StopsIn (machine_of controller.old) (machine_of controller.new) (W.taken sink.old) (W.taken sink.new))) }
+        (StopsIn (machine_of controller.old) (machine_of controller.new) (W.taken sink.old)
+        (W.taken sink.new))) }
     ensures read { R.has_failed source.new ≡ true → OnReading
         (pending buffers.old.input (R.rest source.old)) (R.rest source.new)
-        (AnswersRead (machine_of controller.old) (machine_of controller.new) (W.taken sink.old) (W.taken sink.new)) }
+        (AnswersRead (machine_of controller.old) (machine_of controller.new) (W.taken sink.old)
+        (W.taken sink.new)) }
     ensures heard { IfOk result (λ grade. OnBytes (pending buffers.old.input (R.rest source.old))
-        (HearsSession O.hears (machine_of controller.old) (machine_of controller.new) observer.old observer.new)) }
+        (HearsSession O.hears (machine_of controller.old)
+        (machine_of controller.new) observer.old observer.new)) }
     ensures unheard { OnErr result (OnBytes (pending buffers.old.input (R.rest source.old))
         (HearsPart O.hears (machine_of controller.old) observer.old observer.new)) }
     ensures failed { (R.has_failed source.new || W.has_failed sink.new) ≡ is_err result }
@@ -397,21 +406,28 @@ pub fn session<M: Memory, R: Source, W: Sink>(
 
     // Every command is answered, unless a device fails or there is no memory for the session's own buffers.
     ensures clean { result ≡ Outcome.Clean → OnBytes (R.rest source.old)
-        (AnswersAll Grade.Accepted (machine_of controller.old) (machine_of controller.new) (W.taken sink.old) (W.taken sink.new)) }
+        (AnswersAll Grade.Accepted (machine_of controller.old) (machine_of controller.new)
+        (W.taken sink.old) (W.taken sink.new)) }
     ensures refused { result ≡ Outcome.Refused → OnBytes (R.rest source.old)
-        (AnswersAll Grade.Refused (machine_of controller.old) (machine_of controller.new) (W.taken sink.old) (W.taken sink.new)) }
+        (AnswersAll Grade.Refused (machine_of controller.old) (machine_of controller.new)
+        (W.taken sink.old) (W.taken sink.new)) }
 
     // A command found no memory; or the session's own buffers didn't, and nothing was done.
     ensures memory { result ≡ Outcome.Memory → OnBytes (R.rest source.old)
-        (AnswersAll Grade.Memory (machine_of controller.old) (machine_of controller.new) (W.taken sink.old) (W.taken sink.new))
+        (AnswersAll Grade.Memory (machine_of controller.old) (machine_of controller.new)
+        (W.taken sink.old) (W.taken sink.new))
         ⊎ ((controller.new ≡ controller.old) × (source.new ≡ source.old) × (sink.new ≡ sink.old)) }
 
     // A device has failed, and the session ended there. Of the commands that were read whole none is lost.
     ensures device { result ≡ Outcome.Device → OnBytes (R.rest source.old)
-        (StopsIn (machine_of controller.old) (machine_of controller.new) (W.taken sink.old) (W.taken sink.new)) }
-    ensures read { R.has_failed source.new ≡ true → OnReading (R.rest source.old) (R.rest source.new)
-        (AnswersRead (machine_of controller.old) (machine_of controller.new) (W.taken sink.old) (W.taken sink.new)) }
-    ensures failed { IsTrue (R.has_failed source.new || W.has_failed sink.new) ↔ (result ≡ Outcome.Device) }
+        (StopsIn (machine_of controller.old) (machine_of controller.new) (W.taken sink.old)
+        (W.taken sink.new)) }
+    ensures read { R.has_failed source.new ≡ true
+        → OnReading (R.rest source.old) (R.rest source.new)
+        (AnswersRead (machine_of controller.old) (machine_of controller.new) (W.taken sink.old)
+        (W.taken sink.new)) }
+    ensures failed { IsTrue (R.has_failed source.new || W.has_failed sink.new)
+        ↔ (result ≡ Outcome.Device) }
 {
     session_observed(alloc, controller, source, sink, &mut Silent)
 }
@@ -430,25 +446,33 @@ pub fn session_observed<M: Memory, R: Source, W: Sink, O: Observer>(
 
     // Every command is answered, unless a device fails or there is no memory for the session's own buffers.
     ensures clean { result ≡ Outcome.Clean → OnBytes (R.rest source.old)
-        (AnswersAll Grade.Accepted (machine_of controller.old) (machine_of controller.new) (W.taken sink.old) (W.taken sink.new)) }
+        (AnswersAll Grade.Accepted (machine_of controller.old) (machine_of controller.new)
+        (W.taken sink.old) (W.taken sink.new)) }
     ensures refused { result ≡ Outcome.Refused → OnBytes (R.rest source.old)
-        (AnswersAll Grade.Refused (machine_of controller.old) (machine_of controller.new) (W.taken sink.old) (W.taken sink.new)) }
+        (AnswersAll Grade.Refused (machine_of controller.old) (machine_of controller.new)
+        (W.taken sink.old) (W.taken sink.new)) }
 
     // A command found no memory; or the session's own buffers didn't, and nothing was done.
     ensures memory { result ≡ Outcome.Memory → OnBytes (R.rest source.old)
-        (AnswersAll Grade.Memory (machine_of controller.old) (machine_of controller.new) (W.taken sink.old) (W.taken sink.new))
+        (AnswersAll Grade.Memory (machine_of controller.old) (machine_of controller.new)
+        (W.taken sink.old) (W.taken sink.new))
         ⊎ ((controller.new ≡ controller.old) × (source.new ≡ source.old) × (sink.new ≡ sink.old)) }
 
     // A device has failed, and the session ended there. Of the commands that were read whole none is lost.
     ensures device { result ≡ Outcome.Device → OnBytes (R.rest source.old)
-        (StopsIn (machine_of controller.old) (machine_of controller.new) (W.taken sink.old) (W.taken sink.new)) }
-    ensures read { R.has_failed source.new ≡ true → OnReading (R.rest source.old) (R.rest source.new)
-        (AnswersRead (machine_of controller.old) (machine_of controller.new) (W.taken sink.old) (W.taken sink.new)) }
-    ensures failed { IsTrue (R.has_failed source.new || W.has_failed sink.new) ↔ (result ≡ Outcome.Device) }
+        (StopsIn (machine_of controller.old) (machine_of controller.new) (W.taken sink.old)
+        (W.taken sink.new)) }
+    ensures read { R.has_failed source.new ≡ true
+        → OnReading (R.rest source.old) (R.rest source.new)
+        (AnswersRead (machine_of controller.old) (machine_of controller.new) (W.taken sink.old)
+        (W.taken sink.new)) }
+    ensures failed { IsTrue (R.has_failed source.new || W.has_failed sink.new)
+        ↔ (result ≡ Outcome.Device) }
 
     // The observer was told of every command that was answered, with its reply, one after another, and of nothing else.
     ensures heard { result ≢ Outcome.Device → OnBytes (R.rest source.old)
-        (HearsSession O.hears (machine_of controller.old) (machine_of controller.new) observer.old observer.new)
+        (HearsSession O.hears (machine_of controller.old)
+        (machine_of controller.new) observer.old observer.new)
         ⊎ ((result ≡ Outcome.Memory) × (observer.new ≡ observer.old)) }
     ensures heard_part { result ≡ Outcome.Device → OnBytes (R.rest source.old)
         (HearsPart O.hears (machine_of controller.old) observer.old observer.new) }

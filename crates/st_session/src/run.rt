@@ -49,13 +49,16 @@ pub fn run_text<R: Source, W: Sink>(
     requires sink { W.has_failed sink.old ≡ false }
 
     // The replies to all commands are written, or the refusal of the load, and then nothing is read.
-    ensures all { result ≢ device_failed → result ≢ no_memory → OnBytes (R.rest source.old) (λ bytes.
-        OfLoad text.now main.now steps (WritesAll bytes result (W.taken sink.old) (W.taken sink.new))) }
+    ensures all { result ≢ device_failed → result ≢ no_memory
+        → OnBytes (R.rest source.old) (λ bytes.
+        OfLoad text.now main.now steps
+        (WritesAll bytes result (W.taken sink.old) (W.taken sink.new))) }
     ensures refused { result ≡ no_program → source.new ≡ source.old }
 
     // There was no memory for some command, and the replies to all are written; or there was none before the first command was
     // read, and then nothing is read, and either that is written or nothing.
-    ensures memory { result ≡ no_memory → OnBytes (R.rest source.old) (λ bytes. OfProgram text.now main.now steps
+    ensures memory { result ≡ no_memory
+        → OnBytes (R.rest source.old) (λ bytes. OfProgram text.now main.now steps
         (λ c. WritesAll bytes no_memory (W.taken sink.old) (W.taken sink.new) (Ok c)))
         ⊎ ((source.new ≡ source.old) × ((sink.new ≡ sink.old)
         ⊎ Appends (W.taken sink.old) (W.taken sink.new) (ended (codes "refused M")))) }
@@ -68,9 +71,12 @@ pub fn run_text<R: Source, W: Sink>(
     // read whole none is lost.
     ensures part { result ≡ device_failed → OnBytes (R.rest source.old) (λ bytes.
         OfLoad text.now main.now steps (WritesPart bytes (W.taken sink.old) (W.taken sink.new))) }
-    ensures read { R.has_failed source.new ≡ true → OnReading (R.rest source.old) (R.rest source.new) (λ bytes rest.
-        OfProgram text.now main.now steps (WritesRead bytes rest (W.taken sink.old) (W.taken sink.new))) }
-    ensures failed { IsTrue (R.has_failed source.new || W.has_failed sink.new) ↔ (result ≡ device_failed) }
+    ensures read { R.has_failed source.new ≡ true
+        → OnReading (R.rest source.old) (R.rest source.new) (λ bytes rest.
+        OfProgram text.now main.now steps
+        (WritesRead bytes rest (W.taken sink.old) (W.taken sink.new))) }
+    ensures failed { IsTrue (R.has_failed source.new || W.has_failed sink.new)
+        ↔ (result ≡ device_failed) }
 {
     run_text_observed(alloc, text, main, steps, source, sink, &mut Silent)
 }
@@ -94,13 +100,16 @@ pub fn run_text_observed<R: Source, W: Sink, O: Observer>(
     requires sink { W.has_failed sink.old ≡ false }
 
     // The replies to all commands are written, or the refusal of the load, and then nothing is read.
-    ensures all { result ≢ device_failed → result ≢ no_memory → OnBytes (R.rest source.old) (λ bytes.
-        OfLoad text.now main.now steps (WritesAll bytes result (W.taken sink.old) (W.taken sink.new))) }
+    ensures all { result ≢ device_failed → result ≢ no_memory
+        → OnBytes (R.rest source.old) (λ bytes.
+        OfLoad text.now main.now steps
+        (WritesAll bytes result (W.taken sink.old) (W.taken sink.new))) }
     ensures refused { result ≡ no_program → source.new ≡ source.old }
 
     // There was no memory for some command, and the replies to all are written; or there was none before the first command was
     // read, and then nothing is read, and either that is written or nothing.
-    ensures memory { result ≡ no_memory → OnBytes (R.rest source.old) (λ bytes. OfProgram text.now main.now steps
+    ensures memory { result ≡ no_memory
+        → OnBytes (R.rest source.old) (λ bytes. OfProgram text.now main.now steps
         (λ c. WritesAll bytes no_memory (W.taken sink.old) (W.taken sink.new) (Ok c)))
         ⊎ ((source.new ≡ source.old) × ((sink.new ≡ sink.old)
         ⊎ Appends (W.taken sink.old) (W.taken sink.new) (ended (codes "refused M")))) }
@@ -113,9 +122,12 @@ pub fn run_text_observed<R: Source, W: Sink, O: Observer>(
     // read whole none is lost.
     ensures part { result ≡ device_failed → OnBytes (R.rest source.old) (λ bytes.
         OfLoad text.now main.now steps (WritesPart bytes (W.taken sink.old) (W.taken sink.new))) }
-    ensures read { R.has_failed source.new ≡ true → OnReading (R.rest source.old) (R.rest source.new) (λ bytes rest.
-        OfProgram text.now main.now steps (WritesRead bytes rest (W.taken sink.old) (W.taken sink.new))) }
-    ensures failed { IsTrue (R.has_failed source.new || W.has_failed sink.new) ↔ (result ≡ device_failed) }
+    ensures read { R.has_failed source.new ≡ true
+        → OnReading (R.rest source.old) (R.rest source.new) (λ bytes rest.
+        OfProgram text.now main.now steps
+        (WritesRead bytes rest (W.taken sink.old) (W.taken sink.new))) }
+    ensures failed { IsTrue (R.has_failed source.new || W.has_failed sink.new)
+        ↔ (result ≡ device_failed) }
 {
     match Controller::load(alloc, text, main, steps) {
         Ok(mut controller) => {
@@ -137,7 +149,8 @@ fn serve<R: Source, W: Sink, O: Observer>(
 ) -> u8
     requires source { R.has_failed source.old ≡ false }
     requires sink { W.has_failed sink.old ≡ false }
-    ensures all { result ≢ device_failed → result ≢ no_memory → OnBytes (R.rest source.old) (λ bytes.
+    ensures all { result ≢ device_failed → result ≢ no_memory
+        → OnBytes (R.rest source.old) (λ bytes.
         WritesAll bytes result (W.taken sink.old) (W.taken sink.new) (Ok controller.old)) }
     ensures loaded { result ≢ no_program }
     ensures memory { result ≡ no_memory → OnBytes (R.rest source.old) (λ bytes.
@@ -145,9 +158,11 @@ fn serve<R: Source, W: Sink, O: Observer>(
         ⊎ ((source.new ≡ source.old) × (sink.new ≡ sink.old)) }
     ensures part { result ≡ device_failed → OnBytes (R.rest source.old) (λ bytes.
         WritesPart bytes (W.taken sink.old) (W.taken sink.new) (Ok controller.old)) }
-    ensures read { R.has_failed source.new ≡ true → OnReading (R.rest source.old) (R.rest source.new) (λ bytes rest.
+    ensures read { R.has_failed source.new ≡ true
+        → OnReading (R.rest source.old) (R.rest source.new) (λ bytes rest.
         WritesRead bytes rest (W.taken sink.old) (W.taken sink.new) controller.old) }
-    ensures failed { IsTrue (R.has_failed source.new || W.has_failed sink.new) ↔ (result ≡ device_failed) }
+    ensures failed { IsTrue (R.has_failed source.new || W.has_failed sink.new)
+        ↔ (result ≡ device_failed) }
 {
     match session_observed(alloc, controller, source, sink, observer) {
         Outcome::Clean => ACCEPTED,
@@ -165,8 +180,10 @@ pub(crate) fn refuse<W: Sink>(alloc: Global, refusal: Refusal, sink: &mut W) -> 
         → WritesAll [] result (W.taken sink.old) (W.taken sink.new) (Err refusal) }
     ensures memory { result ≡ no_memory → (refusal ≢ too_long)
         × Appends (W.taken sink.old) (W.taken sink.new) (ended (codes "refused M")) }
-    ensures part { result ≡ device_failed → WritesPart [] (W.taken sink.old) (W.taken sink.new) (Err refusal)
-        ⊎ ((refusal ≢ too_long) × WritesPart [] (W.taken sink.old) (W.taken sink.new) (Err Refusal.M)) }
+    ensures part { result ≡ device_failed
+        → WritesPart [] (W.taken sink.old) (W.taken sink.new) (Err refusal)
+        ⊎ ((refusal ≢ too_long)
+        × WritesPart [] (W.taken sink.old) (W.taken sink.new) (Err Refusal.M)) }
     ensures failed { IsTrue (W.has_failed sink.new) ↔ (result ≡ device_failed) }
 {
     if is_too_long(refusal) {
@@ -203,7 +220,8 @@ fn status_of(refusal: Refusal) -> u8
 pub(crate) fn tell<W: Sink>(sink: &mut W, text: &[u8], status: u8) -> u8
     requires works { W.has_failed sink.old ≡ false }
     requires other { status ≢ device_failed }
-    ensures all { result ≢ device_failed → (result ≡ status) × Appends (W.taken sink.old) (W.taken sink.new) text.now }
+    ensures all { result ≢ device_failed
+        → (result ≡ status) × Appends (W.taken sink.old) (W.taken sink.new) text.now }
     ensures part { result ≡ device_failed → (count : ℕ)
         × Appends (W.taken sink.old) (W.taken sink.new) (take count text.now) }
     ensures failed { IsTrue (W.has_failed sink.new) ↔ (result ≡ device_failed) }
