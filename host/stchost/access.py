@@ -12,8 +12,7 @@ from typing import NamedTuple
 
 from . import Trouble
 
-LONGEST = 20.0  # seconds
-FORGOTTEN = 60.0  # seconds after which wrong tokens don't count any more
+LONGEST, FORGOTTEN = 20.0, 60.0  # seconds that a wrong token waits at most, and after which it doesn't count any more
 TOKEN = re.compile(r"[\w-]{16,200}", re.ASCII)
 
 
@@ -39,9 +38,9 @@ def load(path: Path) -> dict[str, Person]:
         found = {str(token): Person(name, key == "act") for key in ("act", "look") for name, token in data.get(key, {}).items()}
         if wrong := [person.name for token, person in found.items() if not TOKEN.fullmatch(token)]:
             raise ValueError(f"the token of {wrong[0]} has to be of 16 letters, digits, - and _, or more")
+        return found
     except (OSError, ValueError) as error:
         raise Trouble(f"{path}: {error}") from error
-    return found
 
 
 class Gate:
@@ -54,9 +53,8 @@ class Gate:
     async def who(self, token: str, address: str) -> Person | None:
         """The person with this token, or None. Right tokens aren't slowed down by others' wrong ones."""
         given = token.encode("utf-8", "replace")
-        for known, person in self._persons.items():
-            if hmac.compare_digest(known.encode(), given):
-                return person
+        if found := [person for known, person in self._persons.items() if hmac.compare_digest(known.encode(), given)]:
+            return found[0]
         now = time.monotonic()
         self._wrong = {key: entry for key, entry in self._wrong.items() if now - entry[1] < FORGOTTEN}
         count, _ = self._wrong.get(address, (0, now))

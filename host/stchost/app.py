@@ -15,7 +15,7 @@ from .clock import Clock
 from .devices import Device, Simulation
 from .engine import Engine
 from .modbus import ModbusServer, Remote
-from .plant import Table, load
+from .plant import PlantTable, load
 from .session import explain, program
 from .web import Web
 
@@ -31,30 +31,23 @@ def prefer(priority: int) -> None:
 
 
 async def serve(engine: Engine, scans: asyncio.Task[None]) -> None:
-    """Serves the page and Modbus until the engine has ended."""
+    """Serves the page and Modbus until the engine has ended, and tells on the terminal what becomes of the program."""
     plant, notice = engine.plant, "running"
     while not engine.status and not scans.done():  # a long journal takes its time
         await asyncio.sleep(0.02)
-    if scans.done():
-        return
-    servers: list[Web | ModbusServer] = [Web(engine, access.Gate(access.load(plant.tokens)))]
-    servers += [ModbusServer(plant.server, engine)] if plant.server else []
-    for server in servers:
-        await server.start()
-    modbus = f", Modbus at port {servers[1].port}" if plant.server else ""
-    print(f"{plant.name}: http://{plant.page.host}:{servers[0].port}/{modbus}", flush=True)
+    if not scans.done():
+        await (page := Web(engine, access.Gate(access.load(plant.tokens)))).start()
+        modbus = f", Modbus at port {await ModbusServer(plant.server, engine).start()}" if plant.server else ""
+        print(f"{plant.name}: http://{plant.page.host}:{page.port}/{modbus}", flush=True)
     while not scans.done():
         if engine.status["notice"] != notice:
             notice = engine.status["notice"]
             print(f"{plant.name}: {notice}", file=sys.stderr, flush=True)
         await asyncio.sleep(0.2)
-    for server in servers:
-        await server.close()
 
 
-async def main_loop(plant: Table) -> None:
+async def main_loop(plant: PlantTable) -> None:
     """Runs until a signal comes, or the engine can't go on."""
-    here = asyncio.get_running_loop()
     there = asyncio.SelectorEventLoop(selectors.SelectSelector())  # `epoll` would round times up to milliseconds
     engine = Engine(plant, Clock(), lambda types: [KINDS[file.kind](file, plant, types) for file in plant.device])
 
@@ -64,7 +57,7 @@ async def main_loop(plant: Table) -> None:
         there.run_until_complete(engine.run())
 
     for number in (signal.SIGINT, signal.SIGTERM):
-        here.add_signal_handler(number, there.call_soon_threadsafe, engine.stop)
+        asyncio.get_running_loop().add_signal_handler(number, there.call_soon_threadsafe, engine.stop)
     scans = asyncio.create_task(asyncio.to_thread(scan))
     try:
         await serve(engine, scans)
@@ -73,7 +66,7 @@ async def main_loop(plant: Table) -> None:
         await scans
 
 
-def run(plant: Table, fresh: bool) -> None:
+def run(plant: PlantTable, fresh: bool) -> None:
     """Runs a plant as its only host, from its journal or anew."""
     plant.state.mkdir(mode=0o700, parents=True, exist_ok=True)
     with (plant.state / "lock").open("w") as lock:

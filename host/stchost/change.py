@@ -4,14 +4,14 @@ import re
 from collections.abc import Sequence
 
 from . import Trouble
-from .plant import BITS, Table
-from .session import CODE, TEXT_LIMIT, Session, ask, change_line, forcing, layout_of
+from .plant import BITS, Place, PlantTable
+from .session import CODE, TEXT_LIMIT, ask, change_line, forcing, layout_of
 from .values import BITS_OF, to_number, to_text
 
 Types = dict[str, str]  # of the leaves of a text, by their paths, in order
 
 
-async def preview(plant: Table, old: str, forces: Sequence[str], text: str, renames: Sequence[str]) -> tuple[str, str, str]:
+async def preview(plant: PlantTable, old: str, forces: list[str], text: str, renames: Sequence[str]) -> tuple[str, str, str]:
     """A change from the text `old` by words OLD=NEW as a line, its reply, and what `stc` says of it: the leaves that are dropped,
     new and renamed, and the forces that are lost. Trouble where what is connected isn't in the new text."""
     if len(text.encode(*CODE)) > TEXT_LIMIT:
@@ -25,7 +25,7 @@ async def preview(plant: Table, old: str, forces: Sequence[str], text: str, rena
     return line, reply, said
 
 
-async def connections(plant: Table, text: str, types: Types, before: Types | None = None) -> None:
+async def connections(plant: PlantTable, text: str, types: Types, before: Types | None = None) -> None:
     """Trouble where the text hasn't what the plant's file connects: inputs under VAR_INPUT, outputs, types that fit, and those
     that they had before."""
     qualities = [point.quality for point in plant.input if point.quality]
@@ -37,29 +37,21 @@ async def connections(plant: Table, text: str, types: Types, before: Types | Non
             raise Trouble(f"{path} is to be a BOOL: it tells whether an input is good")
         if before and types[path] != before[path]:
             raise Trouble(f"{path}, which the plant's file connects, would get another type")
-    _check_values(plant, types)
-    if sum(len(path) + 28 for path in inputs) > 3_900 + 256 * 280:
-        raise Trouble("these are more inputs than can be given before one scan")
-    session = await Session.start(text, plant.main, 1)
-    try:
-        lines = [line for path in inputs for line in (f"scan 0 {path}:={to_text(types[path], 0)}", "reset")]
-        for path, reply in zip(inputs, (await session.exchange(lines))[::2]):
-            if reply.startswith("refused"):
-                raise Trouble(f"{path} is no VAR_INPUT of the program: {reply}")
-    finally:
-        await session.close()
-
-
-def _check_values(plant: Table, types: Types) -> None:
-    """Trouble where a value for a fault is none, or a variable doesn't fit its register: TIME and 64 bits need a form."""
     for point in plant.output:
         try:
             to_number(types[point.path], point.fault or "")
         except ValueError as error:
             raise Trouble(f"{point.path}: `fault` of the plant's file: {error}") from error
-    for item in [*plant.input, *plant.output, *(plant.server.map if plant.server else ())]:
+    items: list[Place] = [*plant.input, *plant.output, *(plant.server.map if plant.server else ())]
+    for item in items:
         kind, is_bit = types.get(item.path), item.table in BITS
         if kind and item.table and is_bit is not (kind == "BOOL") and (is_bit or item.form is None):
             raise Trouble(f"{item.path} is a {kind}, and doesn't fit the table {item.table}")
         if kind and item.table and not item.form and BITS_OF[kind] > 32:
             raise Trouble(f"{item.path} is a {kind}: `form` is to say how it lies in registers")
+    if sum(len(path) + 28 for path in inputs) > 3_900 + 256 * 280:
+        raise Trouble("these are more inputs than can be given before one scan")
+    lines = [line for path in inputs for line in (f"scan 0 {path}:={to_text(types[path], 0)}", "reset")]
+    for path, reply in zip(inputs, (await ask("run", text, plant.main, lines))[0].splitlines()[::2]):
+        if reply.startswith("refused"):
+            raise Trouble(f"{path} is no VAR_INPUT of the program: {reply}")

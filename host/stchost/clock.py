@@ -3,6 +3,7 @@
 import asyncio
 import time
 
+FIGURES = ("cycles", "late", "overruns", "skipped", "lateness_mean", "lateness_worst", "work_mean", "work_worst")
 
 class Clock:
     """The machine's monotonic clock, in seconds."""
@@ -30,8 +31,7 @@ class Cycle:
 
     def told(self) -> dict[str, float]:
         """How many cycles there were, began late, weren't over when the next was due, and had no place; and in ms how late."""
-        names = ("cycles", "late", "overruns", "skipped", "lateness_mean", "lateness_worst", "work_mean", "work_worst")
-        return {name: round(vars(self)[name], 3) for name in names}
+        return {name: round(value, 3) for name, value in vars(self).items() if name in FIGURES}
 
     def place(self) -> float:
         """When the cycle is due."""
@@ -54,8 +54,7 @@ class Cycle:
 
     def end(self) -> None:
         """Ends the cycle."""
-        now = self.clock.now()
-        work = (now - self._began) * 1000
+        work = ((now := self.clock.now()) - self._began) * 1000
         self.work_mean += (work - self.work_mean) / self.cycles
         self.work_worst = max(self.work_worst, work)
         self._number += 1

@@ -15,7 +15,7 @@ from prompt_toolkit.history import FileHistory
 from prompt_toolkit.patch_stdout import patch_stdout
 
 from . import Trouble, access
-from .plant import Table, load
+from .plant import PlantTable, load
 from .session import TEXT_LIMIT
 
 HELP = """show P | write P V | force P V | release P | undo | reset | status   as a session has them
@@ -81,11 +81,11 @@ class Console:
         self.failed |= answer["bad"]
         reply = answer["reply"] + (f"  ({answer['why']})" if answer.get("why") else "")
         for row in [[answer.get("said", "")], *answer.get("rows", []), [reply]]:
-            if words := [str(word) for word in row if word != ""]:
-                print(*words, flush=True)
+            if any(row):
+                print(*filter(None, row), flush=True)
 
 
-async def talk(console: Console, plant: Table) -> None:
+async def talk(console: Console, plant: PlantTable) -> None:
     """Takes commands: from a terminal with history and completion, or from a script on standard input."""
     if not sys.stdin.isatty():
         for line in sys.stdin:
@@ -107,16 +107,15 @@ async def talk(console: Console, plant: Table) -> None:
                 return
 
 
-async def connect(plant: Table, name: str | None) -> int:
+async def connect(plant: PlantTable, name: str | None) -> int:
     """Talks to the host of a plant, with the token of a name, or else the first one to act."""
     tokens = [token for token, person in access.load(plant.tokens).items() if name in (None, person.name)]
     if not tokens:
         raise Trouble(f"{plant.tokens}: there is no token of {name}")
     url = f"http://{plant.page.host}:{plant.page.port}/live"
     async with aiohttp.ClientSession() as http, http.ws_connect(url, protocols=tokens[:1], max_msg_size=1 << 24) as socket:
-        hello = await socket.receive_json()
-        if "refused" in hello:
-            raise Trouble(hello["refused"])
+        if refused := (await socket.receive_json()).get("refused"):
+            raise Trouble(refused)
         console = Console(socket)
         listener = asyncio.create_task(console.listen())
         await talk(console, plant)

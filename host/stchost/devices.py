@@ -3,11 +3,15 @@
 import asyncio
 import math
 import time
-from collections.abc import Sequence
+from bisect import bisect
+from collections.abc import Callable, Coroutine, Sequence
+from contextlib import suppress
+from functools import partial
+from itertools import accumulate
 from typing import Any
 
 from . import Trouble
-from .plant import Table
+from .plant import DeviceTable, PlantTable, PointTable
 from .session import CODE, LINE_LIMIT
 from .values import fits, to_text
 
@@ -16,7 +20,7 @@ class Inputs:
     """The newest number of each input, whether it is good, and what a scan gives the program of it. Inputs with a device follow
     it. Those without one are given what a Modbus client sets, once."""
 
-    def __init__(self, points: Sequence[Table], types: dict[str, str]) -> None:
+    def __init__(self, points: Sequence[PointTable], types: dict[str, str]) -> None:
         self.points, self.types = {point.path: point for point in points}, types
         self.numbers: dict[str, int] = {}
         self.by_hand: dict[str, int] = {}  # that weren't given yet
@@ -25,10 +29,9 @@ class Inputs:
 
     def poll(self, device: str, numbers: dict[str, int]) -> None:
         """What a device gave. Inputs that it didn't give, or not as their types have it, keep the last one and aren't good."""
-        for path in [path for path, point in self.points.items() if point.device == device]:
-            self.good[path] = path in numbers and fits(self.types[path], numbers[path])
-            if self.good[path]:
-                self.numbers[path] = numbers[path]
+        good = {path: number for path, number in numbers.items() if fits(self.types[path], number)}
+        self.good |= {path: path in good for path, point in self.points.items() if point.device == device}
+        self.numbers |= good
 
     def lines(self, moment: int) -> tuple[list[str], dict[str, str]]:
         """The scan of a moment, behind writes of what has no room in its line; and what these give."""
@@ -36,14 +39,11 @@ class Inputs:
         wanted |= {point.quality: to_text("BOOL", self.good[path]) for path, point in self.points.items() if point.quality}
         changed = {path: text for path, text in wanted.items() if self.given.get(path) != text}
         changed |= {path: to_text(self.types[path], number) for path, number in self.by_hand.items()}
-        words, writes, room = [f"scan {moment}"], [], LINE_LIMIT - 32
-        for path, text in changed.items():
-            room -= len(path.encode(*CODE)) + len(text) + 3
-            if room >= 0:
-                words.append(f"{path}:={text}")
-            else:
-                writes.append(f"write {path} {text}")
-        return [*writes, " ".join(words)], changed
+        words = [f"{path}:={text}" for path, text in changed.items()]
+        sizes = list(accumulate(len(word.encode(*CODE)) + 1 for word in words))
+        room = bisect(sizes, LINE_LIMIT - 32)
+        writes = ["write " + word.replace(":=", " ") for word in words[room:]]
+        return [*writes, " ".join([f"scan {moment}", *words[:room]])], changed
 
     def accepted(self, changed: dict[str, str]) -> None:
         """The scan was accepted."""
@@ -53,17 +53,16 @@ class Inputs:
 
 
 class Device:
-    """Gives the numbers of inputs and takes those of outputs, by their paths. It is waited for no longer than its share of a
-    cycle."""
+    """Gives numbers of inputs and takes those of outputs, by paths. It is waited for no longer than its share of a cycle."""
 
-    def __init__(self, file: Table, plant: Table, types: dict[str, str]) -> None:
+    def __init__(self, file: DeviceTable, plant: PlantTable, types: dict[str, str]) -> None:
         self.file, self.types, self.share = file, types, file.share / 100 * plant.cycle / 1000
-        self.inputs = [point for point in plant.input if point.device == file.name]
-        self.outputs = [point for point in plant.output if point.device == file.name]
-        self.good, self.trouble = False, "nothing was read yet"
+        self.inputs, self.outputs = ([point for point in points if point.device == file.name]
+                                     for points in (plant.input, plant.output))
+        self.turn = asyncio.Lock()  # one request at a time: many devices take no more
+        self.troubles = {"reading": "nothing was read yet", "writing": ""}
         self.behind = 0  # how often it was too slow for its share
-        self._reading: asyncio.Task[dict[str, int]] | None = None
-        self._writing: asyncio.Task[None] | None = None
+        self._tasks: dict[str, asyncio.Task[Any]] = {}  # that aren't over yet
         self._left = self.share  # of this cycle
 
     async def read(self) -> dict[str, int]:
@@ -76,48 +75,41 @@ class Device:
         """Ends a connection."""
 
     def told(self) -> dict[str, Any]:
-        return {"name": self.file.name, "good": self.good, "trouble": self.trouble, "behind": self.behind}
+        trouble = ", ".join(filter(None, self.troubles.values()))
+        return {"name": self.file.name, "good": not trouble, "trouble": trouble, "behind": self.behind}
 
     async def poll(self) -> dict[str, int]:
-        """What the device gives within its share; nothing where it doesn't, and then it isn't good."""
+        """What the device gives within its share, and nothing where it doesn't."""
         self._left = self.share
-        task = self._reading = self._reading or asyncio.create_task(self.read())
-        if not await self._waited(task, "it gives no values in its share of the cycle"):
-            return {}
-        self._reading = None
-        return task.result() if self.good else {}
+        return await self._do("reading", self.read) or {}
 
     async def push(self, numbers: dict[str, int]) -> None:
         """Gives the device these numbers, unless it is still busy with those before."""
-        self._writing = self._writing or asyncio.create_task(self.write(numbers))
-        if await self._waited(self._writing, "it takes no values in its share of the cycle"):
-            self._writing = None
+        await self._do("writing", partial(self.write, numbers))
 
     async def end(self, numbers: dict[str, int]) -> None:
         """Gives the device its last numbers, behind those that are on their way, and closes it."""
-        if self._writing is not None:
-            await asyncio.wait({self._writing}, timeout=2)
-        try:
+        if reading := self._tasks.get("reading"):
+            reading.cancel()
+        if writing := self._tasks.get("writing"):
+            await asyncio.wait({writing}, timeout=2)
+        with suppress(Exception):  # whatever a device does, the others get theirs
             await asyncio.wait_for(self.write(numbers), 2)
-        except Exception as error:  # whatever a device does, the others get theirs
-            self.trouble = str(error)
-        if self._reading is not None:
-            self._reading.cancel()
         await self.close()
 
-    async def _waited(self, task: asyncio.Task[Any], trouble: str) -> bool:
-        """Whether a task is over, well or not, within what is left of the share."""
+    async def _do(self, what: str, work: Callable[[], Coroutine[Any, Any, Any]]) -> Any:
+        """What comes of some work, begun now or before. None where it isn't over within what is left of the share, or failed."""
+        task = self._tasks[what] = self._tasks.get(what) or asyncio.create_task(work())
+        began = time.monotonic()
+        await asyncio.wait({task}, timeout=max(0.0, self._left))
+        self._left -= time.monotonic() - began
         if not task.done():
-            began = time.monotonic()
-            await asyncio.wait({task}, timeout=max(0.0, self._left))
-            self._left -= time.monotonic() - began
-        if not task.done():
-            self.good, self.trouble = False, trouble
-            self.behind += 1
-            return False
+            self.behind, self.troubles[what] = self.behind + 1, f"{what} takes longer than its share of the cycle"
+            return None
+        del self._tasks[what]
         error = asyncio.CancelledError() if task.cancelled() else task.exception()
-        self.good, self.trouble = error is None, f"{type(error).__name__}: {error}" if error else ""
-        return True
+        self.troubles[what] = f"{type(error).__name__}: {error}" if error else ""
+        return None if error else task.result()
 
 
 class Tank:
@@ -150,7 +142,7 @@ MODELS: dict[str, type[Tank] | type[Conveyor]] = {"tank": Tank, "conveyor": Conv
 class Simulation(Device):
     """A simulated plant: it goes on by the clock, and sees the outputs that it was given last."""
 
-    def __init__(self, file: Table, plant: Table, types: dict[str, str]) -> None:
+    def __init__(self, file: DeviceTable, plant: PlantTable, types: dict[str, str]) -> None:
         super().__init__(file, plant, types)
         self.model, self.then, self.given = MODELS[file.model](), time.monotonic(), dict[str, int]()
         for points, names in ((self.inputs, self.model.inputs), (self.outputs, self.model.outputs)):

@@ -5,14 +5,15 @@ import time
 from collections import deque
 from collections.abc import AsyncIterator, Callable, Coroutine, Sequence
 from contextlib import asynccontextmanager, suppress
-from typing import Any, NamedTuple, TypeVar
+from itertools import chain
+from typing import Any, TypeVar
 
 from . import Trouble
 from .change import Types, connections
 from .clock import Clock, Cycle
 from .devices import Device, Inputs
 from .journal import Journal, Record
-from .plant import Table
+from .plant import PlantTable
 from .replay import NO_BASE, UNDOABLE, Story, restore
 from .session import CODE, Gone, Session, checked, explain, layout_of, words_of
 from .values import to_number
@@ -21,6 +22,7 @@ QUEUE_LIMIT = 1_000
 CHUNK = 200  # leaves that are shown at one go
 QUIET = ("show", "status")  # these change nothing, and aren't kept
 VERBS = (*QUIET, *UNDOABLE[:-1], "reset", "undo", "hold", "go")  # a change is done after its preview
+NONE = ("", "")  # the value of a leaf that wasn't shown yet, and `forced` where it is
 Result = TypeVar("Result")
 
 
@@ -28,17 +30,10 @@ class Busy(Trouble):
     """Too many lines wait already."""
 
 
-class Value(NamedTuple):
-    """What `stc` shows of a leaf."""
-
-    text: str = ""
-    forced: str = ""  # `forced`, or nothing
-
-
 class Engine:
     """Runs a plant: one session with `stc`, its devices, its journal, and a queue of what others want of it."""
 
-    def __init__(self, plant: Table, clock: Clock, connect: Callable[[Types], list[Device]]) -> None:
+    def __init__(self, plant: PlantTable, clock: Clock, connect: Callable[[Types], list[Device]]) -> None:
         self.plant, self.clock, self._connect = plant, clock, connect
         self.journal = Journal(plant.state / "journal", plant.journal)
         self.devices: list[Device] = []
@@ -46,7 +41,7 @@ class Engine:
         self.story = Story()
         self.types: Types = {}
         self.spelled: dict[str, str] = {}  # each leaf's path, by the same in capitals
-        self.values: dict[str, Value] = {}
+        self.values: dict[str, tuple[str, str]] = {}  # as `stc` shows them, each with `forced` or nothing
         self.inputs = Inputs((), {})
         self.safe = {point.path: point.fault or "0" for point in plant.output}
         self.driven: dict[str, str] = {}  # what the outputs are given
@@ -64,8 +59,7 @@ class Engine:
         self._sweep = 0
         self._taking_back = asyncio.Lock()
         self._news: list[Record] = []  # what is kept while a command is taken back
-        self._closing: asyncio.Task[None] | None = None  # of the session before the newest take back
-        self._stopping = False
+        self._pause, self._stopping = 0.0, False  # the pause is that before `stc` is started again
 
     # what others ask for, between two scans
 
@@ -107,7 +101,13 @@ class Engine:
             text = self.story.text
             if changes not in (None, text):
                 raise Trouble("the program was changed since this preview")
-            reply = await self._operate(who, line)
+            reply = (await self._exchange([line]))[0]
+            if verb not in QUIET:
+                self._keep(self._by(who, line, reply))
+                await self.journal.settle()
+            if verb not in QUIET and not reply.startswith("refused"):
+                with suppress(Gone):  # the line is kept, so that it counts; the next one finds that `stc` has ended
+                    await self._follow(*words_of(line))
         if self.story.text is not text:
             self._take_program(await layout_of(self.story.text, self.plant.main))
         return reply
@@ -137,16 +137,13 @@ class Engine:
                     await replay.feed(self._news[replay.records - records:])  # what was done since
                     if replay.story.text != text:
                         raise Trouble("the program was changed meanwhile")
-                    old, self.session, self.story = self.session, replay.session, replay.story
-                    self._closing = asyncio.create_task(old.close()) if old else None  # nobody waits for its end
+                    self.session, replay.session, self.story = replay.session, self.session, replay.story
                     self._keep(self._by(who, f"takeback {number}"))
                     self._take_program(types)
                     self.inputs.given.clear()
                     await self._read_status()
-            except BaseException:
-                if replay.session is not self.session:
-                    await replay.close()
-                raise
+            finally:
+                await replay.close()  # whichever session isn't the plant's
             return replay.others
 
     # the writer
@@ -160,11 +157,13 @@ class Engine:
             self.cycle = Cycle(self.clock, self.plant.cycle, self.story.moment + self.plant.cycle if self.story.moment else 0)
             while not self._stopping:
                 try:
+                    if self.session is None:
+                        await self._recover()
                     await self._serve(self.cycle.place())
                     if not self._stopping:
                         await self._turn()
-                except Gone as error:
-                    await self._restart(str(error))
+                except (OSError, Trouble) as error:
+                    await self._fail(str(error))
         finally:
             looker.cancel()
             await asyncio.gather(*(device.end(self._numbers(self.safe)) for device in self.devices))
@@ -200,39 +199,19 @@ class Engine:
         polled = await asyncio.gather(*(device.poll() for device in self.devices))
         for device, numbers in zip(self.devices, polled):
             self.inputs.poll(device.file.name, numbers)
-        if self.fault or self.held:
-            await self._show(self._always)
-        else:
-            await self._scan(moment)
+        await (self._show(self._always) if self.fault or self.held else self._scan(moment))
         await self._push()
         self.cycle.end()
 
     async def _scan(self, moment: int) -> None:
         lines, changed = self.inputs.lines(moment)
-        replies = await self._exchange([*lines, *(f"show {path}" for path in self._always)])
-        for line, reply in zip(lines, replies):
-            self._keep(Record(line, reply))
-        answer = replies[len(lines) - 1]
+        answer = (await self._show(self._always, lines))[-1]
         self.trouble = f"a scan is answered `{answer}`" if answer.startswith("refused") else ""
         if answer == "ok":
             self.inputs.accepted(changed)
         else:
             self.inputs.given.clear()
             self.fault = answer.removeprefix("fault ") if answer.startswith("fault") else self.fault
-        await self.journal.settle()
-        self._store(self._always, replies[len(lines):])
-
-    async def _operate(self, who: str, line: str) -> str:
-        reply = (await self._exchange([line]))[0]
-        if words_of(line)[0] in QUIET:
-            return reply
-        record = self._by(who, line, reply)
-        self._keep(record)
-        await self.journal.settle()
-        if not reply.startswith("refused"):
-            with suppress(Gone):  # the line is kept, so that it counts; the next one finds that `stc` has ended
-                await self._follow(*words_of(line))
-        return reply
 
     async def _follow(self, verb: str, path: str = "", *_: str) -> None:
         """What an accepted line means for the host."""
@@ -263,20 +242,24 @@ class Engine:
 
     # what the program shows
 
-    async def _show(self, paths: Sequence[str]) -> None:
-        self._store(paths, await self._exchange([f"show {path}" for path in paths]))
-
-    def _store(self, paths: Sequence[str], replies: Sequence[str]) -> None:
-        for path, reply in zip(paths, replies):
+    async def _show(self, paths: Sequence[str], lines: Sequence[str] = ()) -> list[str]:
+        """Shows leaves, behind lines that are kept before anything is told of them. The answer has the replies to the lines."""
+        replies = await self._exchange([*lines, *(f"show {path}" for path in paths)])
+        for line, reply in zip(lines, replies):
+            self._keep(Record(line, reply))
+        if lines:
+            await self.journal.settle()
+        for path, reply in zip(paths, replies[len(lines):]):
             if not reply.startswith("refused"):
                 text, _, forced = reply.partition(" = ")[2].partition(" ")
-                self.values[path] = Value(text, forced)
+                self.values[path] = text, forced
+        return replies[:len(lines)]
 
     def _wanted(self) -> list[str]:
         """What is to be shown next: what clients look at, and a few of the other leaves in turn, so that all come in time."""
-        wanted = [path for paths in list(self.watched.values()) for path in paths] + [*self.plant.trend, *self.inputs.points]
-        wanted += list(self.types)[self._sweep:self._sweep + CHUNK]
-        self._sweep = self._sweep + CHUNK if self._sweep + CHUNK < len(self.types) else 0
+        some = list(self.types)[self._sweep:self._sweep + CHUNK]
+        self._sweep = self._sweep + CHUNK if len(some) == CHUNK else 0
+        wanted = [*chain(*list(self.watched.values())), *self.plant.trend, *self.inputs.points, *some]
         return [path for path in dict.fromkeys(wanted) if path in self.types]
 
     async def _look(self) -> None:
@@ -290,7 +273,7 @@ class Engine:
                         await self._show(paths[first:first + CHUNK])
                 async with self.gap():
                     await self._read_status()
-                self.trend.append((self.cycle.moment, [self.values.get(path, Value()).text for path in self.plant.trend]))
+                self.trend.append((self.cycle.moment, [self.values.get(path, NONE)[0] for path in self.plant.trend]))
                 self.status = self.told()
 
     async def _read_status(self) -> None:
@@ -315,14 +298,13 @@ class Engine:
 
     async def _push(self) -> None:
         """Gives the outputs what the program has, or their values for a fault where it doesn't run."""
-        known = {path: self.values[path].text for path in self.safe if path in self.values}
-        self.driven = self.safe if self.fault or self.trouble else {**self.safe, **known}
-        numbers = self._numbers(self.driven)
-        await asyncio.gather(*(device.push(numbers) for device in self.devices))
+        known = {path: self.values.get(path, (text,))[0] for path, text in self.safe.items()}
+        self.driven = self.safe if self.fault or self.trouble else known
+        await asyncio.gather(*(device.push(self._numbers(self.driven)) for device in self.devices))
 
     def forced(self) -> list[str]:
         """What is forced, in words P:=V."""
-        return [f"{path}:={value.text}" for path, value in list(self.values.items()) if value.forced]
+        return [f"{path}:={text}" for path, (text, forced) in list(self.values.items()) if forced]
 
     def _numbers(self, texts: dict[str, str]) -> dict[str, int]:
         return {path: to_number(self.types[path], text) for path, text in texts.items() if path in self.types}
@@ -332,10 +314,9 @@ class Engine:
     def _take_program(self, types: Types) -> None:
         self.types, self.spelled = types, {path.upper(): path for path in types}
         self.values = {path: value for path, value in self.values.items() if path in types}
-        mapped = [item.path for item in self.plant.server.map if item.path in types] if self.plant.server else []
-        self._always = list(dict.fromkeys([*self.safe, *mapped]))  # the leaves that are shown behind each scan
-        self.version += 1
-        self._sweep = 0
+        served = [item.path for item in self.plant.server.map if item.path in types] if self.plant.server else []
+        self._always = list(dict.fromkeys([*self.safe, *served]))  # the leaves that are shown behind each scan
+        self.version, self._sweep = self.version + 1, 0
 
     async def _recover(self) -> None:
         """Starts where the journal ends; or loads the program where there is no journal."""
@@ -353,26 +334,21 @@ class Engine:
         await self._read_status()
         self.devices = self.devices or self._connect(types)
         self.inputs = Inputs(self.plant.input, self.types)
-        self.trouble = ""
+        self.trouble, self._pause = "", 0.0
         await self._show(self._always)
         self.status = self.told()
 
-    async def _restart(self, why: str) -> None:
-        """`stc` has ended: the outputs get their values for a fault, and it is started again from the journal."""
-        self.trouble, self.session, pause = why, None, 0.0
+    async def _fail(self, why: str) -> None:
+        """`stc` has ended: the outputs get their values for a fault, and who waits is told. It is started again in a while."""
+        old, self.session, self.trouble = self.session, None, why
         await self._push()
-        while self.trouble and not self._stopping:
-            self.status = self.told()
-            while self._queue:
-                turn, _ = self._queue.popleft()
-                if not turn.done():
-                    turn.set_exception(Trouble(f"the program doesn't run: {self.trouble}"))
-            self._event.clear()
-            await self.clock.wait(self._event, self.clock.now() + pause)
-            try:
-                await self._recover()
-            except (OSError, Trouble) as error:
-                pause = min(30.0, pause * 2 + 0.5)
-                if self.session is not None:
-                    await self.session.close()
-                self.trouble, self.session = str(error), None
+        self.status = self.told()
+        while self._queue:
+            turn, _ = self._queue.popleft()
+            if not turn.done():
+                turn.set_exception(Trouble(f"the program doesn't run: {why}"))
+        if old is not None:
+            await old.close()
+        self._event.clear()
+        await self.clock.wait(self._event, self.clock.now() + self._pause)
+        self._pause = min(30.0, self._pause * 2 + 0.5)

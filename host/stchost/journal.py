@@ -20,7 +20,7 @@ from subprocess import PIPE, Popen
 from typing import Any, BinaryIO
 
 from . import Trouble
-from .plant import Table
+from .plant import JournalTable
 
 PIPE_SIZE = 1 << 20  # bytes that may wait for the disk before a scan does
 WRITER = ["dd", "bs=64K", "conv=fsync", "status=none"]  # copies what comes by its pipe, and sees it on the disk at the end
@@ -82,7 +82,8 @@ def read(folder: Path, first: int = 0) -> Iterator[Record]:
                     if line[:9] != b"%08x " % crc or line[-1:] != b"\n":
                         raise ValueError("its checksum doesn't fit")
                     fields = [field.decode("unicode_escape") for field in line[9:-1].split(b"\t")]
-                    yield Record(*fields[:2], *map(int, fields[2:4]), *fields[4:])
+                    text, reply, index, wall, who = [*fields, "0", "0", ""][:5]
+                    yield Record(text, reply, int(index), int(wall), who)
                     count, place = count + 1, place + len(line)
         except ValueError as error:
             raise Trouble(f"the journal is damaged: {path.name}: record {count}, from byte {place} on: {error}") from error
@@ -92,32 +93,27 @@ class Journal:
     """Appends to the journal in a folder. The bytes go through a pipe to a process that outlives this one: so a record counts
     once it was given away, and nobody waits for the disk."""
 
-    def __init__(self, folder: Path, file: Table) -> None:
+    def __init__(self, folder: Path, file: JournalTable) -> None:
         folder.mkdir(mode=0o700, parents=True, exist_ok=True)
         self.folder, self.file = folder, file
         self.trouble = ""  # why nothing more can be kept
         self.base: int | None = None  # the piece where a replay begins; None where no load and no reset is left
         self.records = 0  # from there on
         self._sizes: dict[int, int] = {}  # of the pieces, in order
-        self._crc = 0
         self._file: BinaryIO | None = None  # it is closed once nobody flushes it any more
         self._writers: list[Popen[bytes]] = []  # the last one is that of the newest piece; those before come to their end
-        self._synced = time.monotonic()
+        self._crc, self._synced = 0, time.monotonic()
 
     def resume(self, records: int) -> None:
         """Goes on behind the last whole record, and cuts off a torn one. All have been read without damage: so many from the
         newest load or reset on."""
-        found, self.records, self.base = pieces(self.folder), records, max(bases(self.folder), default=None)
-        self._sizes = {number: path.stat().st_size for number, _, path in found}
-        if found:
-            number, self._crc, path = found[-1]
-            data = path.read_bytes()
-            whole = data.rfind(b"\n") + 1
-            os.truncate(path, whole)
-            if whole:
-                last = data.rfind(b"\n", 0, whole - 1) + 1
-                self._crc = int(data[last:last + 8], 16)
-            self._open(path, number, whole)
+        self.records, self.base = records, max(bases(self.folder), default=None)
+        self._sizes = {number: path.stat().st_size for number, _, path in pieces(self.folder)}
+        for number, begun, path in pieces(self.folder)[-1:]:
+            whole, _, torn = path.read_bytes().rpartition(b"\n")
+            os.truncate(path, self._sizes[number] - len(torn))
+            self._crc = int(whole.rpartition(b"\n")[2][:8], 16) if whole else begun
+            self._open(path, number, self._sizes[number] - len(torn))
 
     def append(self, record: Record) -> None:
         """Appends a record; with a text that is loaded or was reset a piece begins, since a replay can begin there. Once one
@@ -153,15 +149,16 @@ class Journal:
 
     async def settle(self) -> None:
         """Waits until what was appended is on the disk, or sees to it, as the plant's file has it."""
-        second = self.file.sync == "second" and time.monotonic() > self._synced + 1
-        if self.trouble or not (second or self.file.sync == "always"):
-            return
-        self._synced = time.monotonic()
+        if self.file.sync == "always" and not self.trouble:
+            await self._sync()
+        elif self.file.sync == "second" and time.monotonic() > self._synced + 1:
+            self._synced = time.monotonic()
+            self._syncing = asyncio.create_task(self._sync())  # nobody waits for it
+
+    async def _sync(self) -> None:
         try:
-            if second:
-                asyncio.get_running_loop().run_in_executor(None, os.fsync, self._file)
-            else:
-                await self.written()
+            await self.written()
+            if self._file is not None:
                 await asyncio.to_thread(os.fsync, self._file)
         except OSError as error:
             self.trouble = f"nothing is kept any more: {error}"

@@ -6,16 +6,15 @@ import shutil
 import subprocess
 import sys
 
-PACKAGES = {"aiohttp": "python3-aiohttp", "pymodbus": "python3-pymodbus", "serial_asyncio": "python3-serial-asyncio",
-            "prompt_toolkit": "python3-prompt-toolkit", "pytest": "python3-pytest", "selenium": "python3-selenium",
-            "chromium": "chromium", "chromedriver": "chromium-driver", "mbpoll": "mbpoll"}
+MODULES = ("aiohttp", "pymodbus", "serial_asyncio", "prompt_toolkit", "pytest", "selenium")
+PACKAGES = {name: f"python3-{name.replace('_', '-')}" for name in MODULES} | {
+    "chromium": "chromium", "chromedriver": "chromium-driver", "mbpoll": "mbpoll"}
 
 
 def missing(*names: str) -> list[str]:
     """Which packages of these modules and commands aren't there."""
     importlib.invalidate_caches()
-    return [package for name in names if (package := PACKAGES[name])
-            and (importlib.util.find_spec(name) if package.startswith("python3-") else shutil.which(name)) is None]
+    return [PACKAGES[name] for name in names if not (importlib.util.find_spec(name) if name in MODULES else shutil.which(name))]
 
 
 def install(*names: str) -> list[str]:

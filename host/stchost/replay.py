@@ -7,6 +7,7 @@ import time
 from collections.abc import Iterable
 from dataclasses import dataclass, field, replace
 from itertools import islice, takewhile
+from math import inf
 from pathlib import Path
 
 from . import Trouble, journal
@@ -124,7 +125,7 @@ class Replay:
         self.story.take(record)
 
 
-async def restore(folder: Path, moment: int | None = None, without: int = -1) -> Replay:
+async def restore(folder: Path, moment: float = inf, without: int = -1) -> Replay:
     """The state behind the last scan up to a moment, or at the end of a journal, as it would be without a command. Where there is
     no journal the replay has no session."""
     if next(journal.read(folder), None) is None:
@@ -132,27 +133,25 @@ async def restore(folder: Path, moment: int | None = None, without: int = -1) ->
     heads = journal.bases(folder)
     if not heads:
         raise Trouble(NO_BASE)
-    reaching = [number for number, base in heads.items() if moment is None or base.moment <= moment]
+    reaching = [number for number, base in heads.items() if base.moment <= moment]
     if not reaching:
         raise Trouble(f"a replay can go back to moment {min(base.moment for base in heads.values())}, and no further")
 
     def records() -> Iterable[Record]:
-        found = journal.read(folder, reaching[-1])
-        return found if moment is None else takewhile(lambda record: record.moment <= moment, found)
+        return takewhile(lambda record: record.moment <= moment, journal.read(folder, reaching[-1]))
 
     replay = Replay([without, *(int(record.line.split()[1]) for record in records() if record.verb == "takeback")])
     await replay.feed(records())
     return replay
 
 
-async def show(folder: Path, moment: int | None, words: list[str]) -> None:
+async def show(folder: Path, moment: float, words: list[str]) -> None:
     """Prints the status and the leaves whose paths have these words; how fast the replay was goes to standard error."""
     began = time.monotonic()
     replay = await restore(folder, moment)
     if replay.session is None:
         raise Trouble("there is no journal")
-    took = time.monotonic() - began
-    leaves = await layout_of(replay.story.text, replay.story.main)
+    took, leaves = time.monotonic() - began, await layout_of(replay.story.text, replay.story.main)
     wanted = [path for path in leaves if all(word.upper() in path.upper() for word in words)]
     print(*await replay.session.exchange(["status", *(f"show {path}" for path in wanted)]), sep="\n")
     await replay.close()
@@ -162,7 +161,7 @@ async def show(folder: Path, moment: int | None, words: list[str]) -> None:
 def main() -> None:
     parser = argparse.ArgumentParser(prog="host/replay", description="Shows all leaves as they were at a moment.")
     parser.add_argument("journal", type=Path, help="the folder of the journal, or the plant's state folder")
-    parser.add_argument("--at", type=int, metavar="MOMENT", help="in ms, as scans have it; the end where it isn't given")
+    parser.add_argument("--at", type=int, default=inf, metavar="MOMENT", help="in ms, as scans have it; else the end")
     parser.add_argument("words", nargs="*", help="what the paths that are shown have in them")
     words = parser.parse_intermixed_args()
     folder = words.journal / "journal" if (words.journal / "journal").is_dir() else words.journal

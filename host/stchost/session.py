@@ -4,9 +4,9 @@ import asyncio
 import os
 import re
 import tempfile
-from asyncio.subprocess import DEVNULL, PIPE, Process
-from collections.abc import Iterable, Iterator, Sequence
-from contextlib import contextmanager
+from asyncio.subprocess import DEVNULL, PIPE, Process, create_subprocess_exec
+from collections.abc import AsyncIterator, Iterable, Iterator, Sequence
+from contextlib import asynccontextmanager
 from functools import cache
 from pathlib import Path
 from typing import Self
@@ -50,13 +50,14 @@ def change_line(text: str, renames: Sequence[str]) -> str:
     return checked(" ".join(["change", *renames])) + f"\n{text}" + "\n" * (not text.endswith("\n")) + "end_change"
 
 
-@contextmanager
-def _file_of(text: str) -> Iterator[str]:
-    """The name of a file that has a text as long as it is wanted."""
+@asynccontextmanager
+async def _begun(verb: str, text: str, main: str, *words: str, stderr: int = DEVNULL) -> AsyncIterator[tuple[Process, str]]:
+    """A process of `stc` over a file that has a text, and the name of that, as long as it is wanted."""
     with tempfile.NamedTemporaryFile(prefix="stc-host-", suffix=".st") as file:
         file.write(text.encode(*CODE))
         file.flush()
-        yield file.name
+        command = (program(), verb, file.name, "--program", main, *words)  # in a session of its own no Ctrl-C ends it
+        yield await create_subprocess_exec(*command, stdin=PIPE, stdout=PIPE, stderr=stderr, start_new_session=True), file.name
 
 
 class Session:
@@ -69,10 +70,8 @@ class Session:
     @classmethod
     async def start(cls, text: str, main: str, steps: int) -> Self:
         """Loads a text. Gone where it is refused."""
-        with _file_of(text) as name:
-            words = (program(), "run", name, "--program", main, "--steps", str(steps))
-            made = asyncio.create_subprocess_exec(*words, stdin=PIPE, stdout=PIPE, stderr=DEVNULL, start_new_session=True)
-            session = cls(await made)  # in a session of its own no Ctrl-C ends it
+        async with _begun("run", text, main, "--steps", str(steps)) as (process, _):
+            session = cls(process)
             reply = (await session.exchange(["status"]))[0]
         if reply.startswith("refused"):
             await session.close()
@@ -98,11 +97,9 @@ class Session:
     async def close(self) -> None:
         """Ends the session, and the process with it."""
         self._stdin.close()
-        try:
-            await asyncio.wait_for(self.process.wait(), 2)
-        except asyncio.TimeoutError:
-            self.process.kill()
-            await self.process.wait()
+        killing = asyncio.get_running_loop().call_later(2, self.process.kill)
+        await self.process.wait()
+        killing.cancel()
 
 
 def forcing(forces: Iterable[str]) -> Iterator[str]:
@@ -115,9 +112,7 @@ def forcing(forces: Iterable[str]) -> Iterator[str]:
 
 async def ask(verb: str, text: str, main: str, lines: Iterable[str] = ()) -> tuple[str, str]:
     """What `stc` writes of a text and lines on standard output, and what it says for people."""
-    with _file_of(text) as name:
-        words = (program(), verb, name, "--program", main)
-        process = await asyncio.create_subprocess_exec(*words, stdin=PIPE, stdout=PIPE, stderr=PIPE)
+    async with _begun(verb, text, main, stderr=PIPE) as (process, name):
         data = "".join(line + "\n" for line in lines).encode(*CODE)
         answer, said = await asyncio.wait_for(process.communicate(data), PATIENCE)
     return answer.decode(*CODE), said.decode(*CODE).replace(name, "program").strip()

@@ -3,14 +3,13 @@
 import re
 import struct
 
-from .plant import BITS, FORMS, Table
+from .plant import BITS, Place
 
-BITS_OF = {
-    "BOOL": 1, "SINT": 8, "INT": 16, "DINT": 32, "LINT": 64, "USINT": 8, "UINT": 16, "UDINT": 32, "ULINT": 64,
-    "BYTE": 8, "WORD": 16, "DWORD": 32, "LWORD": 64, "TIME": 64,
-}
-SIGNED = {"SINT", "INT", "DINT", "LINT", "TIME"}
+SIGNED = {"SINT": 8, "INT": 16, "DINT": 32, "LINT": 64, "TIME": 64}
+BITS_OF = {"BOOL": 1, "USINT": 8, "UINT": 16, "UDINT": 32, "ULINT": 64, "BYTE": 8, "WORD": 16, "DWORD": 32, "LWORD": 64} | SIGNED
 NUMBER = re.compile(r"T#(?P<TIME>-?\d+)ms|16#(?P<hex>[\dA-F]+)|(?P<plain>-?\d+)", re.I)
+LETTERS = {"INT16": "h", "UINT16": "H", "INT32": "i", "UINT32": "I"}  # of forms, as `struct` has them
+ORDERS = {"big": (">", 1), "little": ("<", -1)}  # of bytes, as `struct` has it, and the step from word to word
 
 
 def range_of(bits: int, signed: bool) -> range:
@@ -38,35 +37,29 @@ def to_number(kind: str, text: str) -> int:
     return number
 
 
-def form_of(place: Table, kind: str) -> str:
-    """The form of a variable at this place: the file's, or the one that its type has."""
-    by_type = ("INT" if kind in SIGNED else "UINT") + ("16" if BITS_OF[kind] <= 16 else "32")
-    return "BIT" if place.table in BITS else place.form or by_type
+def _letter(place: Place, kind: str) -> str:
+    """The form of a variable in registers: the file's, or the one that its type has."""
+    return LETTERS[place.form or ("INT" if kind in SIGNED else "UINT") + ("16" if BITS_OF[kind] <= 16 else "32")]
 
 
-def size_of(place: Table, kind: str) -> int:
+def size_of(place: Place, kind: str) -> int:
     """How many coils or registers it takes."""
-    return FORMS[form_of(place, kind)]
+    return 1 if place.table in BITS else struct.calcsize(">" + _letter(place, kind)) // 2
 
 
-def _layout(place: Table, size: int) -> tuple[str, int]:
-    """How registers lie: the bytes of each as `struct` has it, and the step from one to the next."""
-    return f"{'<' if place.bytes == 'little' else '>'}{size}H", -1 if place.words == "little" else 1
-
-
-def pack(place: Table, kind: str, number: int) -> list[int]:
+def pack(place: Place, kind: str, number: int) -> list[int]:
     """The coil or registers of a number. One that the form doesn't have is held at the form's end."""
-    form = form_of(place, kind)
-    if form == "BIT":
+    if place.table in BITS:
         return [int(number != 0)]
-    has, (layout, step) = range_of(16 * FORMS[form], form.startswith("I")), _layout(place, FORMS[form])
-    data = min(has[-1], max(has[0], number)).to_bytes(2 * FORMS[form], "big", signed=has[0] < 0)
-    return list(struct.unpack(layout, data))[::step]
+    letter, size = _letter(place, kind), size_of(place, kind)
+    has = range_of(16 * size, letter.islower())
+    data = struct.pack(">" + letter, min(has[-1], max(has[0], number)))
+    return list(struct.unpack(f"{ORDERS[place.bytes][0]}{size}H", data))[::ORDERS[place.words][1]]
 
 
-def unpack(place: Table, kind: str, words: list[int]) -> int:
+def unpack(place: Place, kind: str, words: list[int]) -> int:
     """The number in a coil or in registers."""
-    form, (layout, step) = form_of(place, kind), _layout(place, len(words))
-    if form == "BIT":
+    if place.table in BITS:
         return int(bool(words[0]))
-    return int.from_bytes(struct.pack(layout, *words[::step]), "big", signed=form.startswith("I"))
+    data = struct.pack(f"{ORDERS[place.bytes][0]}{len(words)}H", *words[::ORDERS[place.words][1]])
+    return int(struct.unpack(">" + _letter(place, kind), data)[0])

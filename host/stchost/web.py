@@ -12,7 +12,7 @@ from aiohttp import WSMsgType, web
 from . import Trouble
 from .access import Gate, Person
 from .change import preview
-from .engine import QUIET, Engine, Value
+from .engine import NONE, QUIET, Engine
 from .session import CODE, TEXT_LIMIT, explain, words_of
 
 PAGE = Path(__file__).resolve().parents[1] / "page"
@@ -41,7 +41,7 @@ class Client:
     def __init__(self, person: Person, socket: web.WebSocketResponse) -> None:
         self.person, self.socket = person, socket
         self.paths: list[str] = []  # that it looks at
-        self.sent: dict[str, Value] = {}
+        self.sent: dict[str, tuple[str, str]] = {}
         self.changed = asyncio.Event()
         self.text = ""  # of a program, which it sent for a preview
         self.preview: tuple[str, str] | None = None  # the line that may be done behind it, and the text that it changes
@@ -67,10 +67,6 @@ class Web:
         loop, file = asyncio.get_running_loop(), self.file
         self._server = await loop.create_server(self._connection, file.host, file.port, backlog=32)
         self.port = self._server.sockets[0].getsockname()[1]
-
-    async def close(self) -> None:
-        self._server.close()
-        await self._runner.cleanup()
 
     def _connection(self) -> asyncio.BaseProtocol:
         """A connection. One too many is closed at once, and one that asks for nothing in time then."""
@@ -132,7 +128,7 @@ class Web:
     async def _tell(self, client: Client) -> None:
         """Sends what the plant is, and then what has changed, as often as the plant's file says, or as the client takes it."""
         plant, engine = self.engine.plant, self.engine
-        inputs, outputs = ([vars(point) for point in points] for points in (plant.input, plant.output))
+        inputs, outputs = ([point._asdict() for point in points] for points in (plant.input, plant.output))
         with suppress(*GONE):
             await client.send({"hello": client.person.name, "acts": client.person.acts, "plant": plant.name, "about": plant.about,
                                "inputs": inputs, "outputs": outputs, "trend": plant.trend, "past": list(engine.trend)[-2_000:]})
@@ -176,14 +172,12 @@ class Web:
 
     async def do_list(self, client: Client, *words: str) -> Answer:
         """The leaves whose path has all words; `--forced` has those that are, and `--plain` hides what blocks keep."""
-        values, types, none = dict(self.engine.values), self.engine.types, Value()
-        search = [word.upper() for word in words if not word.startswith("--")]
-        found = [path for path in types if all(word in path.upper() for word in search)
-                 and ("--plain" not in words or "$" not in path)
-                 and ("--forced" not in words or values.get(path, none).forced)]
-        rows = [[path, types[path], *values.get(path, none)] for path in found[:LIST_LIMIT]]
+        search, values = [word.upper() for word in words if not word.startswith("--")], dict(self.engine.values)
+        found = [[path, kind, *values.get(path, NONE)] for path, kind in self.engine.types.items()
+                 if all(word in path.upper() for word in search) and ("--plain" not in words or "$" not in path)
+                 and ("--forced" not in words or values.get(path, NONE)[1])]
         some = f"{LIST_LIMIT} of " if len(found) > LIST_LIMIT else ""
-        return {"rows": rows, "reply": f"{some}{len(found)} variables"}
+        return {"rows": found[:LIST_LIMIT], "reply": f"{some}{len(found)} variables"}
 
     async def do_paths(self, client: Client) -> Answer:
         """Paths for completion."""

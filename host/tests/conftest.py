@@ -22,8 +22,7 @@ from stchost.session import program  # noqa: E402
 
 ACT, LOOK = "anna-anna-anna-anna", "luca-luca-luca-luca"
 BLOCKS = """FUNCTION_BLOCK Cycler
-VAR_INPUT Go : BOOL; END_VAR
-VAR_OUTPUT Turns : INT; END_VAR
+VAR_INPUT Go : BOOL; END_VAR VAR_OUTPUT Turns : INT; END_VAR
 INITIAL_STEP Rest: END_STEP
 STEP Work: Count(P); END_STEP
 TRANSITION FROM Rest TO Work := Rest.T >= T#70ms; END_TRANSITION
@@ -35,13 +34,11 @@ VAR_INPUT Go, Raw_Ok : BOOL; Raw : INT; Count : UDINT; END_VAR
 VAR_OUTPUT Lamp, Horn : BOOL; Speed : INT; Total : UDINT; END_VAR
 VAR N : DINT; Z : INT := 1; Q : INT; Delay : TON; Ticks : CTU; Band : INT := 7; Cycle : Cycler; END_VAR
 VAR Big : DINT := -70000; Age : TIME := T#90s; Small : SINT := -5; END_VAR
-N := N + 1;
+N := N + 1; Speed := Raw + 1; Total := Count + 1;
 Delay(IN := Go, PT := T#300ms);
 Lamp := Delay.Q;
 Ticks(CU := NOT Ticks.CU, PV := 100, R := FALSE);
 Cycle(Go := Go);
-Speed := Raw + 1;
-Total := Count + 1;
 Q := 10 / Z;
 END_PROGRAM
 """
@@ -61,8 +58,7 @@ port = MODBUS_PORT
 clients = 4
 idle = 30
 allow = [{address = "127.0.0.1", functions = [1, 2, 3, 4, 5, 6, 15, 16]}]
-map = [
-  {path = "Main.Go", table = "coil", address = 0}, {path = "Main.Delay.IN", table = "discrete", address = 0},
+map = [{path = "Main.Go", table = "coil", address = 0}, {path = "Main.Delay.IN", table = "discrete", address = 0},
   {path = "$running", table = "discrete", address = 8}, {path = "Main.Big", table = "input", address = 0},
   {path = "Main.Band", table = "holding", address = 0}, {path = "Main.Big", table = "holding", address = 1},
   {path = "Main.Age", table = "holding", address = 3, form = "UINT32", words = "little"},
@@ -70,11 +66,9 @@ map = [
 """
 NOISE = """import os, select, sys, time
 os.sched_setscheduler(0, os.SCHED_RR, os.sched_param(21)) if os.geteuid() == 0 else None
-worst = 0.0
-while not select.select([sys.stdin], [], [], 0)[0]:
-    due = time.monotonic() + 0.01
-    time.sleep(0.01)
-    worst = max(worst, time.monotonic() - due)
+worst, due = 0.0, time.monotonic() + 0.01
+while not select.select([sys.stdin], [], [], 0.01)[0]:
+    worst, due = max(worst, time.monotonic() - due), time.monotonic() + 0.01
 print(worst * 1000)
 """
 
@@ -143,15 +137,15 @@ class Client:
     """What a page does, without the page."""
 
     def __init__(self, url: str, token: str) -> None:
-        self.runner = asyncio.Runner()
-        self.live = self.run(self._open(url, token))
-        self.hello = self.next(lambda news: True)
-
-    async def _open(self, url: str, token: str) -> Any:
         import aiohttp
 
-        self.http = aiohttp.ClientSession()
-        return await self.http.ws_connect(url + "/live", protocols=[token], max_msg_size=1 << 24)
+        async def connect() -> tuple[Any, Any]:
+            http = aiohttp.ClientSession()
+            return http, await http.ws_connect(url + "/live", protocols=[token], max_msg_size=1 << 24)
+
+        self.runner = asyncio.Runner()
+        self.http, self.live = self.run(connect())
+        self.hello = self.next(lambda news: True)
 
     def run(self, work: Any) -> Any:
         return self.runner.run(asyncio.wait_for(work, 60))
@@ -217,14 +211,13 @@ class Host:
         self.clients.append(Client(self.url, token))
         return self.clients[-1]
 
-    def tool(self, *words: str, script: str = "", status: int | None = None) -> str:
+    def tool(self, name: str, *words: str, script: str = "", status: int | None = None) -> str:
         """What one of the host's programs prints."""
-        done = subprocess.run([str(HOST / words[0]), *words[1:]], input=script, capture_output=True, text=True, timeout=60)
+        done = subprocess.run([HOST / name, *words], input=script, capture_output=True, text=True, timeout=60)
         assert status in (None, done.returncode), done.stdout + done.stderr
         return done.stdout + done.stderr
 
     def console(self, script: str, status: int | None = None) -> str:
-        """What the console prints for a script."""
         return self.tool("console", self.plant, script=script, status=status)
 
     def replayed(self, *words: str) -> list[str]:

@@ -6,18 +6,12 @@ from pathlib import Path
 
 import pytest
 
+from conftest import BLOCKS, FILE
 from stchost.clock import Clock, Cycle
 from stchost.engine import Engine
 from stchost.plant import load
 from stchost.session import Session
 
-TEXT = "PROGRAM Main\nVAR_INPUT In, By_Hand : INT; END_VAR\nVAR Out : INT; END_VAR\nOut := Out;\nEND_PROGRAM\n"
-FILE = """program = "p.st"
-cycle = 10
-input = [{path = "Main.In", device = "d"}, {path = "Main.By_Hand"}]
-device = [{name = "d", kind = "simulation"}]
-page = {refresh = 10000}
-"""
 Visit = tuple[float, Callable[[], Awaitable[object]]]  # what comes at a time
 
 
@@ -48,12 +42,13 @@ class Bench:
     """An engine over a fake clock, of which each line takes some time. Tests run it with visits."""
 
     def __init__(self, folder: Path, monkeypatch: pytest.MonkeyPatch) -> None:
-        (folder / "p.st").write_text(TEXT)
-        (folder / "p.toml").write_text(FILE)
+        (folder / "plant.st").write_text(BLOCKS)
+        file = FILE.replace("refresh = 50", "refresh = 10000").replace("PAGE_PORT", "0").replace("MODBUS_PORT", "0")
+        (folder / "plant.toml").write_text(file)
         self.clock, self.cost = FakeClock(), lambda line: 0.0
         self.lines: list[str] = []
         self.scans: list[tuple[float, int]] = []  # when each came, and its moment
-        self.engine = Engine(load(folder / "p.toml"), self.clock, lambda types: [])
+        self.engine = Engine(load(folder / "plant.toml"), self.clock, lambda types: [])
         real = Session.exchange
 
         async def exchange(session: Session, lines: Sequence[str]) -> list[str]:
@@ -106,20 +101,20 @@ def test_lines_wait_for_the_gap_between_two_scans(bench: Bench) -> None:
     bench.cost, replies = lambda line: 0.0001, []
 
     async def visit() -> None:
-        replies.extend(await bench.operate("force Main.Out 7", "show Main.Out", "write Main.Nope 1"))
+        replies.extend(await bench.operate("force Main.Band 5", "show Main.Band", "write Main.Nope 1"))
 
     bench.run(0.1, (0.0145, visit))
-    assert replies == ["ok", "Main.Out = 7 forced", "refused O1"]
+    assert replies == ["ok", "Main.Band = 5 forced", "refused O1"]
     first, lines = bench.scans[0][0], bench.lines
     assert [round(at - first, 6) for at, _ in bench.scans] == [round(0.01 * place, 6) for place in range(10)]
-    assert lines.index("force Main.Out 7") < next(place for place, line in enumerate(lines) if line.startswith("scan 20"))
+    assert lines.index("force Main.Band 5") < next(place for place, line in enumerate(lines) if line.startswith("scan 20"))
 
 
 def test_a_crowd_of_lines_delays_no_scan(bench: Bench) -> None:
     bench.cost, done = lambda line: 0.0003, []
 
     async def visit() -> None:
-        done.extend(await bench.operate(*(f"write Main.Out {number}" for number in range(500))))
+        done.extend(await bench.operate(*(f"write Main.Band {number}" for number in range(500))))
 
     assert bench.run(1.0, (0.012, visit)) == [10 * place for place in range(100)]
     assert done == ["ok"] * 500
@@ -129,14 +124,14 @@ def test_a_crowd_of_lines_delays_no_scan(bench: Bench) -> None:
 
 def test_a_long_line_delays_one_scan_and_no_more(bench: Bench) -> None:
     bench.cost = lambda line: 0.024 if line.startswith("force") else 0.0
-    assert bench.run(0.1, (0.012, lambda: bench.operate("force Main.Out 7")))[:6] == [0, 10, 36, 40, 50, 60]
+    assert bench.run(0.1, (0.012, lambda: bench.operate("force Main.Band 5")))[:6] == [0, 10, 36, 40, 50, 60]
 
 
 def test_inputs_are_given_once_and_those_of_devices_again_behind_a_command(bench: Bench) -> None:
     async def visit() -> None:
-        bench.engine.inputs.poll("d", {"Main.In": 41})
-        await bench.engine.set_input("Main.By_Hand", 7)
+        bench.engine.inputs.poll("sim", {"Main.Raw": 41})
+        await bench.engine.set_input("Main.Go", 1)
 
-    bench.run(0.05, (0.012, visit), (0.032, lambda: bench.operate("write Main.Out 0")))
+    bench.run(0.05, (0.012, visit), (0.032, lambda: bench.operate("write Main.Band 0")))
     assert [line for line in bench.lines if line.startswith("scan")] == [
-        "scan 0", "scan 10", "scan 20 Main.In:=41 Main.By_Hand:=7", "scan 30", "scan 40 Main.In:=41"]
+        "scan 0", "scan 10", "scan 20 Main.Raw:=41 Main.Go:=TRUE", "scan 30", "scan 40 Main.Raw:=41"]

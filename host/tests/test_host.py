@@ -13,7 +13,7 @@ import pytest
 
 from conftest import BLOCKS, FILE, HOST, LEAVES, STATE, Client, Host, lines_of, needs, state, wait_for
 from stchost import journal
-from stchost.plant import Table
+from stchost.plant import JournalTable
 from stchost.replay import restore
 
 pytestmark = needs("aiohttp")
@@ -25,15 +25,15 @@ COMMANDS = ["write Main.Band {}", "force Main.Q {}", "release Main.Q", "write Ma
 def test_a_fault_halts_and_the_host_goes_on_serving(host: Host, client: Client) -> None:
     client.until(lambda status: status["moment"] > 50 and status["driven"].get("Main.Horn") == "FALSE")
     assert client.line("write Main.Z 0") == "ok"
-    assert client.until(lambda status: status["state"] == "halted")["fault"] == "F2 Main line 22"
+    assert client.until(lambda status: status["state"] == "halted")["fault"] == "F2 Main line 19"
     status = client.until(lambda status: status["driven"] == {"Main.Lamp": "FALSE", "Main.Horn": "TRUE"})
     client.until(lambda later: later["cycles"] > status["cycles"] + 5)
-    assert client.line("status").startswith("halted F2 Main line 22")
-    assert "the program is halted F2 Main line 22" in host.console("show Main.Z")
+    assert client.line("status").startswith("halted F2 Main line 19")
+    assert "the program is halted F2 Main line 19" in host.console("show Main.Z")
     assert client.lines("show Main.Z", "reset") == ["Main.Z = 0", "ok"]
     status = client.until(lambda status: status["state"] == "running")
     client.until(lambda later: later["moment"] > status["moment"] and later["driven"]["Main.Horn"] == "FALSE")
-    assert "Test: halted F2 Main line 22\n" in host.stop()
+    assert "Test: halted F2 Main line 19\n" in host.stop()
 
 
 def test_kills_at_random_moments_lose_nothing(host: Host) -> None:
@@ -84,7 +84,7 @@ def test_a_journal_cut_after_each_byte_of_its_last_records(host: Host, client: C
         (cut / path.name).write_bytes(data[:end])
         lines, (shown, records) = lines_of(cut)[1], asyncio.run(restored())
         assert shown == state(text, lines), end
-        again = journal.Journal(cut, Table(piece=1 << 20, limit=1 << 30, sync="never"))
+        again = journal.Journal(cut, JournalTable("never", 1 << 20, 1 << 30))
         again.resume(records)
         again.append(journal.Record("scan 1000000"))
         again.close()
@@ -92,11 +92,11 @@ def test_a_journal_cut_after_each_byte_of_its_last_records(host: Host, client: C
 
 
 def test_a_replay_shows_any_moment_but_not_of_a_damaged_journal(host: Host) -> None:
-    time.sleep(0.5)
+    wait_for(lambda: len(lines_of(host.journal)[1]) > 20)
     host.stop()
     text, lines = lines_of(host.journal)
     moments = [int(line.split()[1]) for line in lines]
-    assert moments == sorted(moments) and len(moments) > 20
+    assert moments == sorted(moments)
     at = moments[len(moments) // 2]
     wanted = state(text, [line for line in lines if int(line.split()[1]) <= at])
     assert host.replayed("--at", str(at)) == wanted
@@ -174,7 +174,7 @@ def test_what_is_done_while_scans_are_held_is_undone_exactly(host: Host, client:
 
 
 @pytest.mark.parametrize("old, new, why", [
-    ("10 / Z;", "10 / Zz;", "refused C1 line 22"),
+    ("10 / Z;", "10 / Zz;", "refused C1 line 19"),
     (" Raw : INT;", " END_VAR VAR Raw : INT; END_VAR VAR_INPUT", "Main.Raw is no VAR_INPUT of the program: refused O12"),
     ("Raw : INT;", "Raw : SINT;", "Main.Raw, which the plant's file connects, would get another type"),
     ("Raw : INT;", "", "the program has no Main.Raw, written like this, which the plant's file connects")])

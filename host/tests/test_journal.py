@@ -2,7 +2,6 @@
 
 import asyncio
 import os
-import time
 from pathlib import Path
 from types import SimpleNamespace
 
@@ -10,7 +9,7 @@ import pytest
 
 from stchost import Trouble, journal
 from stchost.journal import Journal, Record, read
-from stchost.plant import Table
+from stchost.plant import JournalTable
 from stchost.values import to_number, to_text
 
 FIRST = "00000001-00000000.journal"
@@ -19,7 +18,7 @@ CHANGE = Record("change\nA\t\\0\udc80\nend_change", "ok kept 1 dropped 0 new 0",
 
 
 def write(folder: Path, piece: int = 1 << 20, count: int = 5) -> None:
-    made = Journal(folder, Table(piece=piece, limit=1 << 30, sync="never"))
+    made = Journal(folder, JournalTable("never", piece, 1 << 30))
     for record in [BASE, *([Record("scan 5"), CHANGE] * count)]:
         made.append(record)
     made.close()
@@ -59,16 +58,16 @@ def test_the_disk_is_asked_as_the_file_has_it(tmp_path: Path, monkeypatch, sync:
     monkeypatch.setattr(journal, "time", clock)
 
     async def scans() -> None:
-        made = Journal(tmp_path, Table(piece=4_096, limit=65_536, sync=sync))
+        made = Journal(tmp_path, JournalTable(sync, 4_096, 65_536))
         made.append(BASE)
         for step in (0.5, 0.4, 0.2):
             clock.now += step
             made.append(Record("scan 0"))
             await made.settle()
             assert sync != "always" or sizes[-1] == made.told()["bytes"]  # all is on the disk before anyone is told
+        await asyncio.sleep(0.2)
 
     asyncio.run(scans())
-    time.sleep(0.1)
     assert len(sizes) == synced
 
 

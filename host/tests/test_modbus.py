@@ -12,7 +12,7 @@ import time
 import pytest
 
 from conftest import BLOCKS, FILE, Host, ended, free_port, needs, wait_for
-from stchost.plant import Table
+from stchost.plant import MapTable
 from stchost.values import pack, unpack
 
 pytestmark = needs("aiohttp", "pymodbus", "serial_asyncio")
@@ -34,7 +34,7 @@ def client_of(host: Host):
     ("UINT32", "big", "big", 0x12345678, [0x1234, 0x5678]), ("UINT32", "little", "big", 0x12345678, [0x5678, 0x1234]),
     ("INT32", "big", "little", 0x12345678, [0x3412, 0x7856]), ("INT32", "little", "little", -2, [0xFEFF, 0xFFFF])])
 def test_numbers_in_registers(form, words, order, number: int, registers: list[int]) -> None:
-    register = Table(table="holding", form=form, words=words, bytes=order)
+    register = MapTable("", "holding", 0, form, words, order)
     assert pack(register, "DINT", number) == registers
     assert unpack(register, "DINT", registers) == {70_000: 0x7FFF}.get(number, number)  # held at the form's end
 
