@@ -16,10 +16,9 @@ function build(made, props = {}, ...parts) {
 const el = (tag, ...rest) => build(document.createElement(tag), ...rest);
 const svg = (tag, ...rest) => build(document.createElementNS("http://www.w3.org/2000/svg", tag), ...rest);
 const cells = parts => parts.map(part => el("td", {}, part));
-const plain = name => name.replaceAll("_", " "), short = path => plain(path.slice(path.indexOf(".") + 1));
-const whole = Math.floor, two = number => String(number).padStart(2, "0");
+const plain = name => name.replaceAll("_", " "), short = path => plain(path.slice(path.indexOf(".") + 1)), whole = Math.floor;
 const seconds = ms => ms < 60000 ? `${(ms / 1000).toFixed(1)} s` : `${whole(ms / 60000)} min ${whole(ms / 1000 % 60)} s`;
-const time = ms => `${whole(ms / 3600000)}:${two(whole(ms / 60000 % 60))}:${two(whole(ms / 1000 % 60))}`;
+const time = ms => `${whole(ms / 3600000)}:${new Date(ms).toISOString().slice(14, 19)}`;
 const human = value => /^T#-?\d+ms$/.test(value) ? seconds(Number(value.slice(2, -2))) : value;
 const numeric = value => ({TRUE: 1, FALSE: 0})[value] ?? Number(value.replace(/^T#|ms$/g, "").replace(/^16#/, "0x"));
 const valueOf = path => values.get(path) || ["", ""];
@@ -40,8 +39,7 @@ function open() {
   socket = new WebSocket(location.origin.replace("http", "ws") + "/live", [token]);
   socket.onmessage = event => heard(JSON.parse(event.data));
   socket.onclose = () => {
-    $("state").textContent = "no connection";
-    $("state").className = "trouble";
+    build($("state"), {textContent: "no connection", className: "trouble"});
     if (hello) setTimeout(open, 2000);
   };
 }
@@ -71,8 +69,8 @@ function ask(line) {
 }
 async function act(line) {
   const answer = await ask(line), others = (answer.rows || []).map(row => row.join(" "));
-  $("answer").textContent = [`${line}: ${answer.reply}`, answer.why, ...others].filter(words => words).join(". ");
-  $("answer").className = "shown" + (answer.bad || others.length ? " refused" : "");
+  const textContent = [`${line}: ${answer.reply}`, answer.why, ...others].filter(words => words).join(". ");
+  build($("answer"), {textContent, className: answer.bad || others.length ? "shown refused" : "shown"});
   clearTimeout(fading);
   fading = setTimeout(() => $("answer").classList.remove("shown"), answer.bad ? 7000 : 3000);
   if (view === "log") showLog();
@@ -91,13 +89,11 @@ function begin() {
   show(view);
 }
 function tell() {
-  $("state").textContent = STATES[status.state];
-  $("state").className = status.state;
+  build($("state"), {textContent: STATES[status.state], className: status.state});
   $("clock").textContent = time(status.moment);
   $("forces").textContent = status.forces ? `${status.forces} forced` : "";
   $("hold").textContent = status.state === "held" ? "Go on" : "Hold";
-  $("undo").disabled = !status.undos;
-  $("undo").textContent = status.undo ? `Undo: ${status.undo.slice(0, 40)}` : "Undo";
+  build($("undo"), {disabled: !status.undos, textContent: status.undo ? `Undo: ${status.undo.slice(0, 40)}` : "Undo"});
   if (past.at(-1)?.[0] !== status.moment)
     past.push([status.moment, Object.fromEntries(chosen.map(path => [path, valueOf(path)[0]]))]);
   if (past.length > 20000) past.splice(0, 5000);
@@ -109,8 +105,8 @@ function tellFigures() {
   const {journal} = status, megabytes = (journal.bytes / 1e6).toFixed(1);
   const reach = journal.reaches ? `reaches back to the load or a reset` : "doesn't reach back: no replay can begin";
   $("figures").replaceChildren(...[
-    [`cycle ${status.period} ms`], [`work ${status.work_mean} ms, at worst ${status.work_worst}`],
-    [`late ${status.lateness_mean} ms, at worst ${status.lateness_worst}`],
+    [`cycle ${status.period} ms, work ${status.work_mean} ms, at worst ${status.work_worst}`],
+    [`late ${status.lateness_mean} ms, at worst ${status.lateness_worst}, ${status.skipped} places without a scan`],
     [`${status.overruns} overruns of ${status.cycles} cycles`, status.overruns],
     [journal.trouble || `journal ${megabytes} MB, ${reach}`, journal.trouble || !journal.reaches],
     ...status.devices.filter(device => !device.good).map(device => [`${device.name}: ${device.trouble}`, true]),
@@ -184,16 +180,14 @@ function openSheet(path) {
   watch();
   $("sheet-path").textContent = path;
   $("sheet-input").value = "";
-  $("sheet-note").textContent = hello.inputs.some(point => point.path === path && point.device) ?
-    "A process input: what is written to it stands until the next scan. Force it to hold it." : "";
+  $("sheet-note").hidden = !hello.inputs.some(point => point.path === path && point.device);
   $("sheet-trend").textContent = chosen.includes(path) ? "Plot it no more" : "Plot it";
   live($("sheet-value"), [], () => fillValue($("sheet-now"), sheet, $("sheet-tags"))).refresh();
   $("sheet").showModal();
 }
 function closeSheet() {
   const verb = $("sheet").returnValue, path = sheet, now = valueOf(path)[0], given = $("sheet-input").value.trim();
-  const other = {TRUE: "FALSE", FALSE: "TRUE"}[now] || now;
-  const others = chosen.filter(item => item !== path);
+  const other = {TRUE: "FALSE", FALSE: "TRUE"}[now] || now, others = chosen.filter(item => item !== path);
   if (verb === "trend") choose(others.length < chosen.length ? others : [...chosen, path].slice(-COLOURS.length));
   else if (verb === "release") act(`release ${path}`);
   else if (verb) act(`${verb} ${path} ${given || (verb === "write" ? other : now)}`);
@@ -216,10 +210,9 @@ function lane(path, i) {
     const list = all.filter((_, k) => k % step === 0 || k === all.length - 1);
     const numbers = list.map(([, texts]) => numeric(texts[path])), bit = /^(TRUE|FALSE)$/.test(valueOf(path)[0]);
     const [low, high] = bit ? [0, 1] : [Math.min(...numbers), Math.max(...numbers)];
-    curve.setAttribute("d", list.map(([moment], k) => {
-      const x = 1000 * (1 - (end - moment) / span), y = 95 - 90 * (numbers[k] - low) / (high - low || 1);
-      return `${k ? bit ? `H${x} V` : `L${x} ` : `M${x} `}${y}`;
-    }).join(""));
+    const places = list.map(([moment], k) =>
+      [1000 * (1 - (end - moment) / span), 95 - 90 * (numbers[k] - low) / (high - low || 1)]);
+    build(curve, {d: places.map(([x, y], k) => `${k ? bit ? `H${x} V` : `L${x} ` : `M${x} `}${y}`).join("")});
     box.classList.toggle("bit", bit);
     title.textContent = `${short(path)}: ${human(valueOf(path)[0])}`;
     [top.textContent, bottom.textContent] = bit || !list.length ? ["", ""] : [high, low];
@@ -281,9 +274,9 @@ async function check() {
   $("preview").textContent = "Checking\u2026";
   socket.send(new TextEncoder().encode($("text").value).slice(0, TEXT_LIMIT + 1));
   const found = await ask(`preview ${$("renames").value}`), counts = [...found.reply.matchAll(/([a-z]+) (\d+)/g)];
+  const boxes = counts.map(([, kind, count]) => el("span", {className: "box"}, el("b", {}, count), ` ${kind}`));
   $("preview").className = found.bad ? "refused" : "";
-  $("preview").replaceChildren(...found.bad ? [found.reply] : counts.map(([, kind, count]) =>
-    el("span", {className: "box"}, el("b", {}, count), ` ${kind}`)), el("pre", {}, found.said || ""));
+  $("preview").replaceChildren(...found.bad ? [found.reply] : boxes, el("pre", {}, found.said || ""));
   $("do").disabled = found.bad;
 }
 async function change() {

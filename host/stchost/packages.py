@@ -6,6 +6,8 @@ import shutil
 import subprocess
 import sys
 
+from . import Trouble
+
 MODULES = ("aiohttp", "pymodbus", "serial_asyncio", "prompt_toolkit", "pytest", "selenium")
 PACKAGES = {name: f"python3-{name.replace('_', '-')}" for name in MODULES} | {
     "chromium": "chromium", "chromedriver": "chromium-driver", "mbpoll": "mbpoll"}
@@ -27,3 +29,13 @@ def install(*names: str) -> list[str]:
         script = f"({get} {' '.join(packages)} || {{ apt-get update; {each}; }}) > /dev/null 2>&1"
         subprocess.run(script, shell=True, check=False)
     return missing(*names)
+
+
+def start(module: str, *names: str) -> None:
+    """One of the host's programs. What it stands on is installed before it is read."""
+    if lacking := install(*names):
+        sys.exit(f"missing: apt-get install {' '.join(lacking)}")
+    try:
+        sys.exit(importlib.import_module(f"stchost.{module}").main())
+    except (Trouble, OSError, subprocess.SubprocessError) as error:
+        sys.exit(f"{sys.argv[0]}: {error}")

@@ -1,9 +1,9 @@
 """The operators' page and console: one WebSocket a client, which sends lines of commands, and texts of programs as bytes."""
 
 import asyncio
-import time
 from collections.abc import Awaitable, Callable
 from contextlib import suppress
+from datetime import datetime
 from pathlib import Path
 from typing import Any
 
@@ -64,9 +64,9 @@ class Web:
 
     async def start(self) -> None:
         await self._runner.setup()
-        loop, file = asyncio.get_running_loop(), self.file
-        self._server = await loop.create_server(self._connection, file.host, file.port, backlog=32)
-        self.port = self._server.sockets[0].getsockname()[1]
+        loop = asyncio.get_running_loop()
+        server = await loop.create_server(self._connection, self.file.host, self.file.port, backlog=32)
+        self.port = server.sockets[0].getsockname()[1]
 
     def _connection(self) -> asyncio.BaseProtocol:
         """A connection. One too many is closed at once, and one that asks for nothing in time then."""
@@ -84,10 +84,9 @@ class Web:
     @web.middleware
     async def _guard(self, request: web.Request, handler: Handler) -> web.StreamResponse:
         """Refuses requests for other hosts, and those that another origin's page makes."""
-        names = {"127.0.0.1", "localhost", "[::1]", self.file.host, *self.file.names}
-        hosts = {f"{name}:{self.port}" for name in names} | set(self.file.names)
-        if (request.host not in hosts
-                or request.headers.get("Origin") not in (None, f"http://{request.host}", f"https://{request.host}")):
+        hosts = [*(f"{name}:{self.port}" for name in ("127.0.0.1", "localhost", "[::1]", self.file.host)), *self.file.names]
+        origins = (None, f"http://{request.host}", f"https://{request.host}")
+        if request.host not in hosts or request.headers.get("Origin") not in origins:
             raise web.HTTPForbidden(text="this origin isn't served\n")
         response = await handler(request)
         if not response.prepared:
@@ -128,10 +127,11 @@ class Web:
     async def _tell(self, client: Client) -> None:
         """Sends what the plant is, and then what has changed, as often as the plant's file says, or as the client takes it."""
         plant, engine = self.engine.plant, self.engine
-        inputs, outputs = ([point._asdict() for point in points] for points in (plant.input, plant.output))
         with suppress(*GONE):
-            await client.send({"hello": client.person.name, "acts": client.person.acts, "plant": plant.name, "about": plant.about,
-                               "inputs": inputs, "outputs": outputs, "trend": plant.trend, "past": list(engine.trend)[-2_000:]})
+            await client.send({
+                "hello": client.person.name, "acts": client.person.acts, "plant": plant.name, "about": plant.about,
+                "inputs": [point._asdict() for point in plant.input], "outputs": [point._asdict() for point in plant.output],
+                "trend": plant.trend, "past": list(engine.trend)[-2_000:]})
             while not client.socket.closed:
                 paths = [*client.paths, *plant.trend, *engine.inputs.points, *engine.safe]
                 news = {path: value for path in paths if (value := engine.values.get(path)) and client.sent.get(path) != value}
@@ -200,9 +200,9 @@ class Web:
 
     async def do_change(self, client: Client) -> Answer:
         """Does the change that this client had a preview of last."""
-        found, client.preview = client.preview, None
-        if found is None:
+        if client.preview is None:
             raise Trouble("a change is done after its preview")
+        found, client.preview = client.preview, None
         return {"reply": await self.engine.asked(self.engine.operate(client.person.name, *found))}
 
     async def do_takeback(self, client: Client, number: str) -> Answer:
@@ -211,8 +211,6 @@ class Web:
 
     async def do_log(self, client: Client) -> Answer:
         """Who did what: the number of what can be taken back, when, who, line, and reply or what became of it."""
-        story = self.engine.story
-        rows = [[record.number if story.can_go(record.number) else "",
-                 time.strftime("%Y-%m-%d %H:%M:%S", time.localtime(record.wall / 1000)), record.who, record.line,
-                 record.state or record.reply] for record in list(story.commands.values())[-300:]]
-        return {"rows": rows}
+        can_go, records = self.engine.story.can_go, list(self.engine.story.commands.values())[-300:]
+        return {"rows": [[record.number if can_go(record.number) else "", str(datetime.fromtimestamp(record.wall // 1000)),
+                          record.who, record.line, record.state or record.reply] for record in records]}

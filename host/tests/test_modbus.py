@@ -18,14 +18,10 @@ from stchost.values import pack, unpack
 pytestmark = needs("aiohttp", "pymodbus", "serial_asyncio")
 
 
-@contextlib.contextmanager
 def client_of(host: Host):
     from pymodbus.client import ModbusTcpClient
 
-    client = ModbusTcpClient("127.0.0.1", port=host.modbus, timeout=20)
-    assert client.connect()
-    yield client
-    client.close()
+    return ModbusTcpClient("127.0.0.1", port=host.modbus, timeout=20)
 
 
 @pytest.mark.parametrize("form, words, order, number, registers", [
@@ -132,8 +128,7 @@ class Rack:
                 time.sleep(rack.pause)
                 return super().getValues(address, count)
 
-        self.discrete, self.inputs = Block(1, [0] * 20), Block(1, [0] * 20)
-        self.coils, self.outputs = (ModbusSequentialDataBlock(1, [0] * 20) for _ in range(2))
+        self.discrete, self.inputs, self.coils, self.outputs = (Block(1, [0] * 20) for _ in range(4))
         slave = ModbusSlaveContext(di=self.discrete, co=self.coils, ir=self.inputs, hr=self.outputs)
         server = StartAsyncTcpServer(context=ModbusServerContext(slaves=slave), address=("127.0.0.1", self.port))
         threading.Thread(target=asyncio.run, args=(server,), daemon=True).start()
