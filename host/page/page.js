@@ -222,15 +222,11 @@ function lane(path, i) {
 // the program and its charts: the text says which steps and transitions there are, and the leaves which of them are active
 
 async function loadProgram() {
-  const program = await ask("program"), owners = new Map();
+  const program = await ask("program"), charts = Object.entries(program.charts);
   text = program.text.replace(/\n$/, "").split("\n");
   $("program").replaceChildren(...text.map(row => el("li", {}, row)));
-  for (const path of program.steps) {
-    const at = path.lastIndexOf("."), owner = path.slice(0, at);
-    owners.set(owner, [...(owners.get(owner) || []), path.slice(at + 1)]);
-  }
-  $("view-charts").replaceChildren(...[...owners].flatMap(([owner, steps]) => [el("h2", {}, owner), drawChart(owner, steps)]),
-    owners.size ? "" : "This program has no charts.");
+  $("view-charts").replaceChildren(...charts.flatMap(([owner, steps]) => [el("h2", {}, owner), drawChart(owner, steps)]),
+    charts.length ? "" : "This program has no charts.");
   show(view);
 }
 function waysOf(steps) {

@@ -1,13 +1,15 @@
 """What an online change would do, found out beside the plant: by a session with the same text and forces, which is changed."""
 
 import re
-from collections.abc import Sequence
+from collections.abc import Awaitable, Callable, Sequence
+from functools import partial
 
 from . import Trouble
 from .plant import BITS, Place, PlantTable
 from .session import CODE, TEXT_LIMIT, ask, change_line, forcing, layout_of
 from .values import BITS_OF, to_number, to_text
 
+NAMES = 200  # of leaves that are dropped, and that are new, in a preview
 Types = dict[str, str]  # of the leaves of a text, by their paths, in order
 
 
@@ -21,8 +23,30 @@ async def preview(plant: PlantTable, old: str, forces: list[str], text: str, ren
     said = re.sub(r"session:\d+:1: note: the change is done", "The change does this:", said)
     reply = replies.splitlines()[-1]
     if reply.startswith("ok"):
-        await connections(plant, text, await layout_of(text, plant.main), await layout_of(old, plant.main))
+        before, after = await layout_of(old, plant.main), await layout_of(text, plant.main)
+        await connections(plant, text, after, before)
+        said = await _named(said, before, after, partial(ask, "run", old, plant.main), line)
     return line, reply, said
+
+
+async def _named(said: str, before: Types, after: Types, run: Callable[..., Awaitable[tuple[str, str]]], line: str) -> str:
+    """What `stc` says of a change, with more than its twenty names. They are told by forces in another session: what is dropped
+    loses its force, and what isn't forced then is new. What can't be forced isn't named."""
+    if not (more := re.compile(r"^  (dropped|new): (.*) and (\d+) more$", re.M)).search(said):
+        return said
+    forces = forcing(f"{path}:={to_text(kind, 0)}" for path, kind in before.items())
+    replies, lost = await run([*forces, line, *(f"show {path}" for path in after)])
+    steps = {path[:-2] + letter for path in after if path.endswith(".$M") for letter in "XT"}
+    new = [path for path, reply in zip(after, replies.splitlines()[-len(after):])
+           if not reply.endswith(" forced") and "$" not in path and path not in steps]
+    names = {"dropped": re.findall(r"  force lost: `(.+)` =", lost), "new": new}
+
+    def named(match: re.Match[str]) -> str:
+        shown = names[match[1]][:NAMES]
+        rest = match[2].count("`") // 2 + int(match[3]) - len(shown)
+        return f"  {match[1]}: " + ", ".join(f"`{name}`" for name in shown) + (f" and {rest} more" if rest else "")
+
+    return more.sub(named, said)
 
 
 async def connections(plant: PlantTable, text: str, types: Types, before: Types | None = None) -> None:

@@ -199,19 +199,17 @@ class Engine:
         polled = await asyncio.gather(*(device.poll() for device in self.devices))
         for device, numbers in zip(self.devices, polled):
             self.inputs.poll(device.file.name, numbers)
-        await (self._show(self._always) if self.fault or self.held else self._scan(moment))
+        lines, changed = ([], {}) if self.fault or self.held else self.inputs.lines(moment)
+        match (await self._show(self._always, lines))[-1:]:
+            case ["ok"]:
+                self.inputs.accepted(changed)
+                self.trouble = ""
+            case [answer]:
+                self.inputs.given.clear()
+                self.fault = answer.removeprefix("fault ") if answer.startswith("fault") else self.fault
+                self.trouble = f"a scan is answered `{answer}`" if answer.startswith("refused") else ""
         await self._push()
         self.cycle.end()
-
-    async def _scan(self, moment: int) -> None:
-        lines, changed = self.inputs.lines(moment)
-        answer = (await self._show(self._always, lines))[-1]
-        self.trouble = f"a scan is answered `{answer}`" if answer.startswith("refused") else ""
-        if answer == "ok":
-            self.inputs.accepted(changed)
-        else:
-            self.inputs.given.clear()
-            self.fault = answer.removeprefix("fault ") if answer.startswith("fault") else self.fault
 
     async def _follow(self, verb: str, path: str = "", *_: str) -> None:
         """What an accepted line means for the host."""
@@ -255,19 +253,16 @@ class Engine:
                 self.values[path] = text, forced
         return replies[:len(lines)]
 
-    def _wanted(self) -> list[str]:
-        """What is to be shown next: what clients look at, and a few of the other leaves in turn, so that all come in time."""
-        some = list(self.types)[self._sweep:self._sweep + CHUNK]
-        self._sweep = self._sweep + CHUNK if len(some) == CHUNK else 0
-        wanted = [*chain(*list(self.watched.values())), *self.plant.trend, *self.inputs.points, *some]
-        return [path for path in dict.fromkeys(wanted) if path in self.types]
-
     async def _look(self) -> None:
-        """Shows what is looked at, a few leaves in each gap. Once all have been shown clients are told."""
+        """Shows what clients look at, and a few of the other leaves in turn, so that all come in time: some in each gap. Once all
+        have been shown clients are told."""
         while True:
             await asyncio.sleep(self.plant.page.refresh / 1000)
+            some = list(self.types)[self._sweep:self._sweep + CHUNK]
+            self._sweep = self._sweep + CHUNK if len(some) == CHUNK else 0
+            wanted = dict.fromkeys([*chain(*list(self.watched.values())), *self.plant.trend, *self.inputs.points, *some])
+            paths = [path for path in wanted if path in self.types]
             with suppress(Trouble):
-                paths = self._wanted()
                 for first in range(0, len(paths), CHUNK):
                     async with self.gap():
                         await self._show(paths[first:first + CHUNK])

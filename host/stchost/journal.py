@@ -1,9 +1,4 @@
-"""The journal: each line that may change something, with its reply, in pieces with checksums.
-
-A piece is a text file of records, each on a line of its own: eight hexadecimal digits, a blank, and fields with tabs between
-them, as Python's `unicode_escape` has them. The digits are the CRC-32 of the fields, begun with that of the record before; the
-name of a piece has the one that its first record goes on from. So no record can be changed, lost or moved unseen.
-"""
+"""The journal: each line that may change something, with its reply, in pieces with checksums, as `docs/HOST.md` has them."""
 
 import asyncio
 import fcntl

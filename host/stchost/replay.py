@@ -79,12 +79,15 @@ class Replay:
         self._open: set[int] = set()  # the commands that are skipped, but weren't yet taken back when the record was written
 
     async def feed(self, records: Iterable[Record]) -> None:
-        """Replays records behind those before. Where this fails the session is closed."""
+        """Replays records behind those before, the first of which is a load. Where this fails the session is closed."""
         records = iter(records)
         try:
             while some := list(islice(records, BATCH)):
                 if self.session is None:
-                    self.session = await self._begun(some[0])
+                    _, moment, main, steps, *forces = words_of(some[0].line)
+                    self.session = await Session.start(some[0].line.partition("\n")[2], main, int(steps))
+                    scans = [f"scan {moment}"] if moment != "0" else []
+                    await self.session.exchange([*forcing(forces), *scans, "reset"])
                 elif any(record.verb == "load" for record in some):
                     raise Trouble("a reset came meanwhile")
                 sent = [record for record in some if record.verb not in OWN and record.number not in self.skipped]
@@ -100,15 +103,6 @@ class Replay:
     async def close(self) -> None:
         if self.session is not None:
             await self.session.close()
-
-    async def _begun(self, record: Record) -> Session:
-        """A session that begins with a load: its forces, and its moment."""
-        if record.verb != "load":
-            raise Trouble(NO_BASE)
-        _, moment, main, steps, *forces = words_of(record.line)
-        session = await Session.start(record.line.partition("\n")[2], main, int(steps))
-        await session.exchange([*forcing(forces), *([f"scan {moment}"] if moment != "0" else []), "reset"])
-        return session
 
     def _take(self, record: Record, reply: str) -> None:
         """Takes over what a line did, and looks whether it is answered as the journal has it."""

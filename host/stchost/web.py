@@ -185,9 +185,10 @@ class Web:
 
     async def do_program(self, client: Client) -> Answer:
         """The text, and the steps of its charts."""
-        types = self.engine.types
-        steps = [path[:-3] for path in types if path.endswith(".$M") and path[:-2] + "X" in types]
-        return {"text": self.engine.story.text.encode("utf-8", "replace").decode(), "steps": steps}
+        charts, types = dict[str, list[str]](), self.engine.types
+        for owner, step in (path[:-3].rsplit(".", 1) for path in types if path.endswith(".$M") and path[:-2] + "X" in types):
+            charts.setdefault(owner, []).append(step)
+        return {"text": self.engine.story.text.encode("utf-8", "replace").decode(), "charts": charts}
 
     async def do_preview(self, client: Client, *renames: str) -> Answer:
         """What the text that was sent before would do as a change. Who asked may then do just this."""

@@ -139,15 +139,15 @@ def test_beyond_its_limit_the_journal_says_that_it_does_not_reach_back(make_host
 
 def test_a_change_does_what_its_preview_says_and_is_taken_back_exactly(make_host) -> None:
     host = make_host(file=FILE.replace("piece = 100000", "piece = 4096"))
-    client, new = host.client(), BLOCKS.replace("N : DINT;", "Number : DINT; Extra : BOOL;").replace("N := N + 1;", "")
-    new = new.replace("Delay : TON;", "Delay : TOF;").replace("Band : INT := 7; ", "")
+    client, new = host.client(), BLOCKS.replace("N := N + 1;", "").replace("Delay : TON;", "Delay : TOF;")
+    new = new.replace("N : DINT;", "Number : DINT; Extra : ARRAY[1..40] OF BOOL;").replace("Band : INT := 7; ", "")
     assert client.lines("force Main.Band 5", "force Main.Q 9", "force Main.N 1000") == ["ok"] * 3
     client.until(lambda status: status["forces"] == 3)
     time.sleep(0.3)
     found = client.ask("preview Main.N=Main.Number", new)
-    for said in ("renamed: `Main.N` is `Main.Number`", "dropped: `Main.Delay.IN`", "new: `Main.Extra`", "lost: `Main.Band` = 5"):
+    for said in ("renamed: `Main.N` is `Main.Number`", "dropped: `Main.Delay.IN`", "`Main.Extra[40]`", "lost: `Main.Band` = 5"):
         assert said in found["said"], found
-    assert found["reply"].endswith(" dropped 7 new 8") and client.line("change") == found["reply"]
+    assert found["reply"].endswith(" dropped 7 new 47") and client.line("change") == found["reply"]
     assert client.lines("show Main.Number", "show Main.Band") == ["Main.Number = 1000 forced", "refused O1"]
     client.until(lambda status: status["journal"]["pieces"] > 3)
     number = next(row[0] for row in client.ask("log")["rows"] if row[3].startswith("change"))

@@ -16,9 +16,7 @@ class Page:
     """A page of a host in a browser."""
 
     def __init__(self, host: Host) -> None:
-        from selenium import webdriver
-        from selenium.common.exceptions import WebDriverException
-        from selenium.webdriver.chrome.service import Service
+        from selenium import common, webdriver
 
         options = webdriver.ChromeOptions()
         options.binary_location = "/usr/bin/chromium"
@@ -26,8 +24,8 @@ class Page:
             options.add_argument(word)
 
         def start() -> Any:
-            with contextlib.suppress(WebDriverException):  # on a busy machine it may end as it begins
-                return webdriver.Chrome(service=Service("/usr/bin/chromedriver"), options=options)
+            with contextlib.suppress(common.exceptions.WebDriverException):  # on a busy machine it may end as it begins
+                return webdriver.Chrome(service=webdriver.chrome.service.Service("/usr/bin/chromedriver"), options=options)
 
         self.host, self.browser = host, wait_for(start)
         self.run, self.actions = self.browser.execute_script, webdriver.ActionChains(self.browser)
