@@ -33,7 +33,6 @@ function live(box, paths, refresh) { // shows values that come and go
 }
 
 // the connection
-
 function open() {
   asked = [];
   socket = new WebSocket(location.origin.replace("http", "ws") + "/live", [token]);
@@ -78,7 +77,6 @@ async function act(line) {
 }
 
 // what stands on every view
-
 function begin() {
   document.title = $("plant").textContent = hello.plant;
   $("about").textContent = hello.about;
@@ -131,9 +129,7 @@ function show(name) {
     $(`view-${tab.name}`).hidden = tab.name !== name;
     tab.setAttribute("aria-selected", tab.name === name);
   }
-  if (name === "values") search();
-  else if (name === "log") showLog();
-  else watch();
+  ({values: search, log: showLog}[name] ?? watch)();
 }
 function watch() {
   const shown = [...document.querySelectorAll(`#view-${view} .live`)].flatMap(item => item.paths);
@@ -141,7 +137,6 @@ function watch() {
 }
 
 // a variable: its value and what is to be said of it, in a card, in a row of a table, and on its sheet
-
 function fillValue(box, path, tags, unit = "") {
   const [now, forced] = valueOf(path), driven = status.driven[path], shown = driven ?? now, on = shown === "TRUE";
   const input = hello.inputs.find(point => point.path === path), lamp = on || shown === "FALSE";
@@ -169,8 +164,8 @@ async function search() {
   $("rows").replaceChildren(...found.rows.map(([path, type, ...now]) => {
     const value = el("span"), tags = el("span");
     values.set(path, now);
-    const row = el("tr", {tabIndex: 0, onclick: () => openSheet(path)}, ...cells([path, type, value]));
-    row.lastChild.append(" ", tags);
+    const shown = el("td", {}, value, " ", tags);
+    const row = el("tr", {tabIndex: 0, onclick: () => openSheet(path)}, ...cells([path, type]), shown);
     return live(row, [path], () => fillValue(value, path, tags));
   }));
   watch();
@@ -194,7 +189,6 @@ function closeSheet() {
 }
 
 // trends: one lane for each variable
-
 function choose(paths) {
   chosen = paths;
   $("plot").replaceChildren(...chosen.map(lane));
@@ -220,7 +214,6 @@ function lane(path, i) {
 }
 
 // the program and its charts: the text says which steps and transitions there are, and the leaves which of them are active
-
 async function loadProgram() {
   const program = await ask("program"), charts = Object.entries(program.charts);
   text = program.text.replace(/\n$/, "").split("\n");
@@ -264,7 +257,6 @@ function drawChart(owner, steps) {
 }
 
 // a change, and who did what
-
 async function check() {
   $("do").disabled = true;
   $("preview").textContent = "Checking\u2026";

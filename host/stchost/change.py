@@ -14,8 +14,7 @@ Types = dict[str, str]  # of the leaves of a text, by their paths, in order
 
 
 async def preview(plant: PlantTable, old: str, forces: list[str], text: str, renames: Sequence[str]) -> tuple[str, str, str]:
-    """A change from the text `old` by words OLD=NEW as a line, its reply, and what `stc` says of it: the leaves that are dropped,
-    new and renamed, and the forces that are lost. Trouble where what is connected isn't in the new text."""
+    """A change as a line, its reply, and what `stc` says that it does. Trouble where what is connected isn't in the new text."""
     if len(text.encode(*CODE)) > TEXT_LIMIT:
         return "", "refused S4 line 1", ""
     line = change_line(text.replace("\r\n", "\n"), renames)
@@ -30,8 +29,7 @@ async def preview(plant: PlantTable, old: str, forces: list[str], text: str, ren
 
 
 async def _named(said: str, before: Types, after: Types, run: Callable[..., Awaitable[tuple[str, str]]], line: str) -> str:
-    """What `stc` says of a change, with more than its twenty names. They are told by forces in another session: what is dropped
-    loses its force, and what isn't forced then is new. What can't be forced isn't named."""
+    """What `stc` says of a change, with more names. Forces tell them: what is dropped loses its own, and what has none is new."""
     if not (more := re.compile(r"^  (dropped|new): (.*) and (\d+) more$", re.M)).search(said):
         return said
     forces = forcing(f"{path}:={to_text(kind, 0)}" for path, kind in before.items())
@@ -50,8 +48,7 @@ async def _named(said: str, before: Types, after: Types, run: Callable[..., Awai
 
 
 async def connections(plant: PlantTable, text: str, types: Types, before: Types | None = None) -> None:
-    """Trouble where the text hasn't what the plant's file connects: inputs under VAR_INPUT, outputs, types that fit, and those
-    that they had before."""
+    """Trouble where a text hasn't what the plant's file connects: inputs under VAR_INPUT, fitting types, those from before."""
     qualities = [point.quality for point in plant.input if point.quality]
     inputs, outputs = [*(point.path for point in plant.input), *qualities], [point.path for point in plant.output]
     for path in [*inputs, *outputs]:

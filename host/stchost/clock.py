@@ -38,8 +38,7 @@ class Cycle:
         return self._start + self._number * self.period
 
     def begin(self) -> int:
-        """Begins the cycle that is due, or the newest one where several are. Its moment is the time since the start in ms, and
-        never before the last one."""
+        """Begins the newest cycle that is due. Its moment is the time since the start in ms, and never before the last one."""
         self._began = self.clock.now()
         passed = max(0, int((self._began - self.place()) / self.period))
         self._number += passed

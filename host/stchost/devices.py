@@ -17,12 +17,11 @@ from .values import fits, to_text
 
 
 class Inputs:
-    """The newest number of each input, whether it is good, and what a scan gives the program of it. Inputs with a device follow
-    it. Those without one are given what a Modbus client sets, once."""
+    """What a scan gives of inputs. Those with a device follow it; the others are given what a Modbus client sets, once."""
 
     def __init__(self, points: Sequence[PointTable], types: dict[str, str]) -> None:
         self.points, self.types = {point.path: point for point in points}, types
-        self.numbers: dict[str, int] = {}
+        self.numbers: dict[str, int] = {}  # the newest of each
         self.by_hand: dict[str, int] = {}  # that weren't given yet
         self.good = {point.path: point.device is None for point in points}
         self.given: dict[str, str] = {}  # what the program has; cleared where something else than a scan may have changed it

@@ -61,8 +61,6 @@ class Engine:
         self._news: list[Record] = []  # what is kept while a command is taken back
         self._pause, self._stopping = 0.0, False  # the pause is that before `stc` is started again
 
-    # what others ask for, between two scans
-
     async def asked(self, work: Coroutine[Any, Any, Result]) -> Result:
         """Does something of the engine for another thread's loop, in the engine's own, whatever becomes of who asked."""
         assert self.loop is not None
@@ -119,8 +117,7 @@ class Engine:
         self.inputs.by_hand[path] = number
 
     async def take_back(self, who: str, number: int) -> list[Record]:
-        """Makes the state what it would be if a command had never been given: the journal without it is replayed beside the
-        plant, and takes over between two scans. The answer has the later commands that are now answered otherwise."""
+        """Lets the journal without a command take over, replayed beside the plant. The answer has what is answered otherwise."""
         async with self._taking_back:
             if not self.story.can_go(number):
                 raise Trouble("what can be taken back is a write, force, release or change since the newest load, reset and undo")
@@ -145,8 +142,6 @@ class Engine:
             finally:
                 await replay.close()  # whichever session isn't the plant's
             return replay.others
-
-    # the writer
 
     async def run(self) -> None:
         """Scans until it is stopped."""
@@ -238,8 +233,6 @@ class Engine:
             raise Gone("stc doesn't run")
         return await self.session.exchange(lines)
 
-    # what the program shows
-
     async def _show(self, paths: Sequence[str], lines: Sequence[str] = ()) -> list[str]:
         """Shows leaves, behind lines that are kept before anything is told of them. The answer has the replies to the lines."""
         replies = await self._exchange([*lines, *(f"show {path}" for path in paths)])
@@ -254,8 +247,7 @@ class Engine:
         return replies[:len(lines)]
 
     async def _look(self) -> None:
-        """Shows what clients look at, and a few of the other leaves in turn, so that all come in time: some in each gap. Once all
-        have been shown clients are told."""
+        """Shows what clients look at, and a few other leaves in turn, some in each gap. Behind all of them clients are told."""
         while True:
             await asyncio.sleep(self.plant.page.refresh / 1000)
             some = list(self.types)[self._sweep:self._sweep + CHUNK]
@@ -281,15 +273,13 @@ class Engine:
         """What every client is told."""
         stopped = "trouble" if self.trouble or self.session is None else "halted" if self.fault else ""
         state, journal = stopped or ("held" if self.held else "running"), self.journal.told()
-        lost = "" if journal["reaches"] else NO_BASE
+        notice = filter(None, [state, self.fault, self.trouble, self.journal.trouble, "" if journal["reaches"] else NO_BASE])
         return {
-            "state": state, "notice": " ".join(filter(None, [state, self.fault, self.trouble, self.journal.trouble, lost])),
-            "fault": self.fault, "why": explain(f"fault {self.fault}"), "trouble": self.trouble, "moment": self.story.moment,
-            "version": self.version, "forces": self.forces, "undos": self.undos,
-            "undo": self.story.undoable[-1][0].line if self.story.undoable else "", "period": self.plant.cycle,
-            **self.cycle.told(), "journal": journal,
-            "devices": [device.told() for device in self.devices], "good": dict(self.inputs.good), "driven": dict(self.driven),
-        }
+            "state": state, "notice": " ".join(notice), "fault": self.fault, "why": explain(f"fault {self.fault}"),
+            "trouble": self.trouble, "moment": self.story.moment, "version": self.version, "forces": self.forces,
+            "undos": self.undos, "undo": self.story.undoable[-1][0].line if self.story.undoable else "",
+            "period": self.plant.cycle, **self.cycle.told(), "journal": journal,
+            "devices": [item.told() for item in self.devices], "good": dict(self.inputs.good), "driven": dict(self.driven)}
 
     async def _push(self) -> None:
         """Gives the outputs what the program has, or their values for a fault where it doesn't run."""
@@ -303,8 +293,6 @@ class Engine:
 
     def _numbers(self, texts: dict[str, str]) -> dict[str, int]:
         return {path: to_number(self.types[path], text) for path, text in texts.items() if path in self.types}
-
-    # how it begins, and begins again
 
     def _take_program(self, types: Types) -> None:
         self.types, self.spelled = types, {path.upper(): path for path in types}

@@ -60,8 +60,7 @@ def bases(folder: Path) -> dict[int, Record]:
 
 
 def read(folder: Path, first: int = 0) -> Iterator[Record]:
-    """The records that are written by now, from the first piece that is there on, or from piece `first`. What lacks its end in
-    the last piece is torn, and no record. Trouble where one isn't as it was written."""
+    """The records from piece `first` on. What lacks its end in the last piece is none. Trouble where one is damaged."""
     found = [piece for piece in pieces(folder) if piece[0] >= first]
     crc = found[0][1] if found else 0
     for number, begun, path in found:
@@ -85,8 +84,7 @@ def read(folder: Path, first: int = 0) -> Iterator[Record]:
 
 
 class Journal:
-    """Appends to the journal in a folder. The bytes go through a pipe to a process that outlives this one: so a record counts
-    once it was given away, and nobody waits for the disk."""
+    """Appends to the journal in a folder, through a pipe to a process that outlives this one: so nobody waits for the disk."""
 
     def __init__(self, folder: Path, file: JournalTable) -> None:
         folder.mkdir(mode=0o700, parents=True, exist_ok=True)
@@ -100,8 +98,7 @@ class Journal:
         self._crc, self._synced = 0, time.monotonic()
 
     def resume(self, records: int) -> None:
-        """Goes on behind the last whole record, and cuts off a torn one. All have been read without damage: so many from the
-        newest load or reset on."""
+        """Goes on behind the last whole record, and cuts off a torn one. So many were read from the newest load or reset on."""
         self.records, self.base = records, max(bases(self.folder), default=None)
         self._sizes = {number: path.stat().st_size for number, _, path in pieces(self.folder)}
         for number, begun, path in pieces(self.folder)[-1:]:
@@ -111,8 +108,7 @@ class Journal:
             self._open(path, number, self._sizes[number] - len(torn))
 
     def append(self, record: Record) -> None:
-        """Appends a record; with a text that is loaded or was reset a piece begins, since a replay can begin there. Once one
-        couldn't be written nothing more is kept, and `trouble` says so."""
+        """Appends a record; with a load a piece begins. Once one couldn't be written no more is kept, and `trouble` says so."""
         if self.trouble:
             return
         number, load = next(reversed(self._sizes), 0), record.verb == "load"
@@ -160,8 +156,8 @@ class Journal:
 
     def told(self) -> dict[str, Any]:
         """How large the journal is, and whether a replay can begin in it."""
-        reaches = self.base is not None
-        return {"bytes": sum(self._sizes.values()), "pieces": len(self._sizes), "reaches": reaches, "trouble": self.trouble}
+        return {"bytes": sum(self._sizes.values()), "pieces": len(self._sizes),
+                "reaches": self.base is not None, "trouble": self.trouble}
 
     def close(self) -> None:
         """Ends the last piece, and waits until all are on the disk."""

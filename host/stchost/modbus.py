@@ -121,8 +121,7 @@ class Tables:
         self.written = values
 
     async def write(self, who: str) -> int:
-        """An input that people set has its number with the next scan; all else is written by a line of the session. The answer is
-        the number of the exception for the first that is refused, or 0."""
+        """Sets inputs, and writes all else by lines of the session. The answer is the exception of the first refusal, or 0."""
         words, engine = iter(self.written), self.engine
         for item, kind in self.items:
             number = unpack(item, kind, list(islice(words, size_of(item, kind))))

@@ -36,8 +36,8 @@ ServerTable = NamedTuple("ServerTable", [
     ("allow", list[AllowTable]), ("map", list[MapTable])])
 JournalTable = NamedTuple("JournalTable", [
     ("sync", Annotated[Literal["never", "second", "always"], "second"]),
-    ("piece", Annotated[int, range(4_096, (1 << 30) + 1), 16_000_000]),
-    ("limit", Annotated[int, range(65_536, (1 << 50) + 1), 4_000_000_000])])
+    ("piece", Annotated[int, range(4_096, 2**30 + 1), 16_000_000]),
+    ("limit", Annotated[int, range(65_536, 2**50 + 1), 4_000_000_000])])
 PageTable = NamedTuple("PageTable", [
     ("host", Here), ("port", Annotated[int, range(65_536), 8080]), ("names", list[str]),
     ("clients", Annotated[int, range(1, 101), 16]), ("refresh", Annotated[int, range(50, 10_001), 250])])

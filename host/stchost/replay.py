@@ -120,8 +120,7 @@ class Replay:
 
 
 async def restore(folder: Path, moment: float = inf, without: int = -1) -> Replay:
-    """The state behind the last scan up to a moment, or at the end of a journal, as it would be without a command. Where there is
-    no journal the replay has no session."""
+    """The state of a journal up to a moment, as it would be without a command. It has no session where there is no journal."""
     if next(journal.read(folder), None) is None:
         return Replay()
     heads = journal.bases(folder)

@@ -15,8 +15,7 @@ from . import Trouble
 
 ROOT = Path(__file__).resolve().parents[2]
 PATIENCE = 120.0  # seconds in which a reply has to come
-TEXT_LIMIT = 1_048_576
-LINE_LIMIT = 4_096  # bytes
+TEXT_LIMIT, LINE_LIMIT = 1_048_576, 4_096  # bytes
 BATCH = 250  # lines that are sent at one go
 CODE = ("utf-8", "surrogateescape")  # how bytes that are no text are kept
 
@@ -129,8 +128,7 @@ async def layout_of(text: str, main: str) -> dict[str, str]:
 @cache
 def _sentences() -> dict[str, str]:
     """What the numbers of refusals and faults mean, as `docs/REFUSALS.md` has it."""
-    page = ROOT / "docs" / "REFUSALS.md"
-    text = page.read_text("utf-8") if page.exists() else ""
+    text = (ROOT / "docs" / "REFUSALS.md").read_text("utf-8")
     found = re.findall(r"^### ([A-Z]\d+)\n\n(.+?)(?=\n\nExample|\n\n#|\Z)", text, re.S | re.M)
     return {"M": "There was no memory for it."} | {number: " ".join(sentence.split()) for number, sentence in found}
 

@@ -18,10 +18,8 @@ from .session import CODE, TEXT_LIMIT, explain, words_of
 PAGE = Path(__file__).resolve().parents[1] / "page"
 FILES = {"/": "index.html", "/page.css": "page.css", "/page.js": "page.js"}
 MESSAGE_LIMIT = 32_768  # characters of a line
-WATCH_LIMIT = 500  # leaves that a client looks at
-LIST_LIMIT = 200  # leaves that one search gives
-FIRST_TIME = 15.0  # seconds in which a connection has to ask for something
-SEND_TIME = 10.0  # seconds in which a client has to take what it is sent
+WATCH_LIMIT, LIST_LIMIT = 500, 200  # leaves that a client looks at, and that one search gives
+FIRST_TIME, SEND_TIME = 15.0, 10.0  # seconds until a connection asks for something, and a client takes what it is sent
 PREVIEWS = 2  # that are worked out side by side
 SPARE = 100  # connections beside two for each client
 HEADERS = {
@@ -158,8 +156,6 @@ class Web:
             return {"reply": f"`help` says what belongs behind `{verb}`", "bad": True}
         except (Trouble, OSError) as error:
             return {"reply": str(error), "bad": True}
-
-    # the host's commands, each with its words
 
     async def do_watch(self, client: Client, *paths: str) -> Answer:
         """Looks at leaves, so that each new value of them is told."""

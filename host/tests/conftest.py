@@ -23,8 +23,7 @@ from stchost.session import program  # noqa: E402
 ACT, LOOK = "anna-anna-anna-anna", "luca-luca-luca-luca"
 BLOCKS = """FUNCTION_BLOCK Cycler
 VAR_INPUT Go : BOOL; END_VAR VAR_OUTPUT Turns : INT; END_VAR
-INITIAL_STEP Rest: END_STEP
-STEP Work: Count(P); END_STEP
+INITIAL_STEP Rest: END_STEP STEP Work: Count(P); END_STEP
 TRANSITION FROM Rest TO Work := Rest.T >= T#70ms; END_TRANSITION
 TRANSITION FROM Work TO Rest := Work.T >= T#40ms; END_TRANSITION
 ACTION Count: Turns := Turns + 1; END_ACTION
@@ -35,10 +34,8 @@ VAR_OUTPUT Lamp, Horn : BOOL; Speed : INT; Total : UDINT; END_VAR
 VAR N : DINT; Z : INT := 1; Q : INT; Delay : TON; Ticks : CTU; Band : INT := 7; Cycle : Cycler; END_VAR
 VAR Big : DINT := -70000; Age : TIME := T#90s; Small : SINT := -5; END_VAR
 N := N + 1; Speed := Raw + 1; Total := Count + 1;
-Delay(IN := Go, PT := T#300ms);
-Lamp := Delay.Q;
-Ticks(CU := NOT Ticks.CU, PV := 100, R := FALSE);
-Cycle(Go := Go);
+Delay(IN := Go, PT := T#300ms); Lamp := Delay.Q;
+Ticks(CU := NOT Ticks.CU, PV := 100, R := FALSE); Cycle(Go := Go);
 Q := 10 / Z;
 END_PROGRAM
 """

@@ -27,15 +27,15 @@ COMMANDS = ["write Main.Band {}", "force Main.Q {}", "release Main.Q", "write Ma
 def test_a_fault_halts_and_the_host_goes_on_serving(host: Host, client: Client) -> None:
     client.until(lambda status: status["moment"] > 50 and status["driven"].get("Main.Horn") == "FALSE")
     assert client.line("write Main.Z 0") == "ok"
-    assert client.until(lambda status: status["state"] == "halted")["fault"] == "F2 Main line 19"
+    assert client.until(lambda status: status["state"] == "halted")["fault"] == "F2 Main line 16"
     status = client.until(lambda status: status["driven"] == {"Main.Lamp": "FALSE", "Main.Horn": "TRUE"})
     client.until(lambda later: later["cycles"] > status["cycles"] + 5)
-    assert client.line("status").startswith("halted F2 Main line 19")
-    assert "the program is halted F2 Main line 19" in host.console("show Main.Z")
+    assert client.line("status").startswith("halted F2 Main line 16")
+    assert "the program is halted F2 Main line 16" in host.console("show Main.Z")
     assert client.lines("show Main.Z", "reset") == ["Main.Z = 0", "ok"]
     status = client.until(lambda status: status["state"] == "running")
     client.until(lambda later: later["moment"] > status["moment"] and later["driven"]["Main.Horn"] == "FALSE")
-    assert "Test: halted F2 Main line 19\n" in host.stop()
+    assert "Test: halted F2 Main line 16\n" in host.stop()
 
 
 def test_kills_at_random_moments_lose_nothing(host: Host) -> None:
@@ -176,7 +176,7 @@ def test_what_is_done_while_scans_are_held_is_undone_exactly(host: Host, client:
 
 
 @pytest.mark.parametrize("old, new, why", [
-    ("10 / Z;", "10 / Zz;", "refused C1 line 19"),
+    ("10 / Z;", "10 / Zz;", "refused C1 line 16"),
     (" Raw : INT;", " END_VAR VAR Raw : INT; END_VAR VAR_INPUT", "Main.Raw is no VAR_INPUT of the program: refused O12"),
     ("Raw : INT;", "Raw : SINT;", "Main.Raw, which the plant's file connects, would get another type"),
     ("Raw : INT;", "", "the program has no Main.Raw, written like this, which the plant's file connects")])

@@ -38,8 +38,7 @@ class Page:
         return self.run("return document.querySelector(arguments[0])?.innerText || ''", css)
 
     def sees(self, css: str, words: str) -> str:
-        wait_for(lambda: words in self.text(css))
-        return self.text(css)
+        return wait_for(lambda: text if words in (text := self.text(css)) else "")
 
     def keys(self, *keys: str) -> None:
         self.run("document.activeElement.blur()")
@@ -93,7 +92,7 @@ def test_a_refused_text_and_a_fault_say_where(page: Page) -> None:
     assert "C1" in page.sees("#preview", "Q := 10 / Zz;") and page.run("return $('do').disabled")
     page.host.console("write Main.Z 0")
     seen = page.sees("#banner", "Q := 10 / Z;")
-    assert "divided by zero" in seen and "line 19" in seen
+    assert "divided by zero" in seen and "line 16" in seen
     assert page.text("#state") == "Halted by a fault"
     page.press("#banner button")
     assert page.text("#program li.fault") == "Q := 10 / Z;"
