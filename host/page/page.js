@@ -3,10 +3,8 @@ const $ = id => document.getElementById(id);
 const COLOURS = ["#2f7fd1", "#d1662f", "#2c8a4b", "#9a4fc4", "#b8901a", "#c23b6b", "#3aa6a6", "#7a7f86"];
 const VIEWS = {plant: "Plant", values: "Variables", charts: "Charts", program: "Program", log: "Log"};
 const STATES = {running: "Running", held: "Held", halted: "Halted by a fault", trouble: "Doesn't run"};
-const TEXT_LIMIT = 1048576; // bytes
 let socket, token = "", hello = null, status = {}, values = new Map(), asked = [], view = "plant";
 let chosen = [], past = [], text = [], sheet = null, typing = 0, fading = 0;
-
 function build(made, props = {}, ...parts) {
   for (const [key, value] of Object.entries(props))
     made instanceof HTMLElement && key in made ? made[key] = value : made.setAttribute(key, value);
@@ -217,6 +215,7 @@ function lane(path, i) {
 async function loadProgram() {
   const program = await ask("program"), charts = Object.entries(program.charts);
   text = program.text.replace(/\n$/, "").split("\n");
+  if (!$("text").value) edit();
   $("program").replaceChildren(...text.map(row => el("li", {}, row)));
   $("view-charts").replaceChildren(...charts.flatMap(([owner, steps]) => [el("h2", {}, owner), drawChart(owner, steps)]),
     charts.length ? "" : "This program has no charts.");
@@ -260,7 +259,7 @@ function drawChart(owner, steps) {
 async function check() {
   $("do").disabled = true;
   $("preview").textContent = "Checking\u2026";
-  socket.send(new TextEncoder().encode($("text").value).slice(0, TEXT_LIMIT + 1));
+  socket.send(new TextEncoder().encode($("text").value).slice(0, 2 ** 20 + 1)); // more is refused
   const found = await ask(`preview ${$("renames").value}`), counts = [...found.reply.matchAll(/([a-z]+) (\d+)/g)];
   const boxes = counts.map(([, kind, count]) => el("span", {className: "box"}, el("b", {}, count), ` ${kind}`));
   $("preview").className = found.bad ? "refused" : "";
@@ -286,7 +285,6 @@ async function showLog() {
     return el("tr", {className: kind}, ...cells([...words, number ? button : ""]));
   }));
 }
-
 function key(event) {
   const busy = event.target.closest("input, textarea, select, dialog");
   if (busy || event.ctrlKey || event.altKey || event.metaKey || !hello) return;

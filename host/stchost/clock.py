@@ -25,8 +25,7 @@ class Cycle:
         self.clock, self.period = clock, period / 1000
         self.moment = self._first = first  # the newest one that was given, and the one of the start
         self._start = self._began = clock.now()
-        self._number = 0
-        self.cycles = self.late = self.overruns = self.skipped = 0  # `late` by a millisecond and by a tenth of the cycle
+        self._number = self.cycles = self.late = self.overruns = self.skipped = 0  # `late` by 1 ms and by a tenth
         self.lateness_mean = self.lateness_worst = self.work_mean = self.work_worst = 0.0  # ms
 
     def told(self) -> dict[str, float]:

@@ -18,8 +18,7 @@ from .replay import NO_BASE, UNDOABLE, Story, restore
 from .session import CODE, Gone, Session, checked, explain, layout_of, words_of
 from .values import to_number
 
-QUEUE_LIMIT = 1_000
-CHUNK = 200  # leaves that are shown at one go
+QUEUE_LIMIT, CHUNK = 1_000, 200  # lines that may wait, and leaves that are shown at one go
 QUIET = ("show", "status")  # these change nothing, and aren't kept
 VERBS = (*QUIET, *UNDOABLE[:-1], "reset", "undo", "hold", "go")  # a change is done after its preview
 NONE = ("", "")  # the value of a leaf that wasn't shown yet, and `forced` where it is
@@ -49,14 +48,13 @@ class Engine:
         self.trend: deque[tuple[int, list[str]]] = deque(maxlen=max(1, plant.trend_keep * 1000 // plant.page.refresh))
         self.held = False
         self.fault = self.trouble = ""  # why the program is halted, and why nothing runs at all
-        self.forces = self.undos = self.version = 0  # the last one is that of the program's text
+        self.forces = self.undos = self.version = self._sweep = 0  # the version is that of the program's text
         self.status: dict[str, Any] = {}
         self.cycle = Cycle(clock, plant.cycle)
         self.guard = min(0.002, self.cycle.period / 5)  # nothing is begun so shortly before a scan
         self.loop: asyncio.AbstractEventLoop | None = None
         self._queue: deque[tuple[asyncio.Future[None], asyncio.Future[None]]] = deque()  # who waits for a gap, and its end
         self._event = asyncio.Event()
-        self._sweep = 0
         self._taking_back = asyncio.Lock()
         self._news: list[Record] = []  # what is kept while a command is taken back
         self._pause, self._stopping = 0.0, False  # the pause is that before `stc` is started again

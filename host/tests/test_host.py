@@ -19,7 +19,6 @@ from stchost.plant import JournalTable
 from stchost.replay import restore
 
 pytestmark = needs("aiohttp")
-EXAMPLES = HOST.parent / "examples"
 COMMANDS = ["write Main.Band {}", "force Main.Q {}", "release Main.Q", "write Main.Go TRUE", "write Main.Go FALSE",
             "force Main.Raw {}", "release Main.Raw", "undo", "write Main.Total {}", "reset"]
 
@@ -192,10 +191,10 @@ def test_a_text_that_is_refused_says_why_and_changes_nothing(host: Host, client:
                                               ("conveyor", "write Main.Start TRUE", "Main.Barrier"),
                                               ("lights", "write Main.Button TRUE", "Main.Green")])
 def test_the_examples_run(make_host, name: str, line: str, path: str) -> None:
-    file = (EXAMPLES / f"{name}.toml").read_text().replace(f'"{name}.st"', '"plant.st"')
+    file = (HOST.parent / "examples" / f"{name}.toml").read_text().replace(f'"{name}.st"', '"plant.st"')
     for table, port in (("page", "PAGE_PORT"), ("server", "MODBUS_PORT")):
         file = re.sub(rf"(\[{table}\]\nport = )\d+", rf"\1{port}", file)
-    client = make_host((EXAMPLES / f"{name}.st").read_text(), file).client()
+    client = make_host((HOST.parent / "examples" / f"{name}.st").read_text(), file).client()
     assert client.line(line) == "ok"
     client.ask(f"watch {path}")
     for value in ("TRUE", "FALSE"):

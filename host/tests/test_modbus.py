@@ -60,17 +60,16 @@ def test_pymodbus_reads_and_writes_what_is_mapped(host: Host) -> None:
 @needs("mbpoll")
 def test_mbpoll_reads_and_writes_what_is_mapped(host: Host) -> None:
     def mbpoll(*words: str) -> str:
-        command = ["mbpoll", "-m", "tcp", "-p", str(host.modbus), "-0", "-1", "-o", "10", *words]
+        command = ["mbpoll", "-m", "tcp", "-p", str(host.modbus), "-0", "-1", "-o", "10", "127.0.0.1", *words]
         return subprocess.run(command, stdout=subprocess.PIPE, stderr=subprocess.STDOUT, text=True, timeout=60).stdout
 
-    here = "127.0.0.1"
-    assert re.search(r"\[0\]:\s+-70000", mbpoll("-t", "3:int", "-B", "-r", "0", here))
-    assert re.search(r"\[3\]:\s+90000", mbpoll("-t", "4:int", "-r", "3", here))
-    assert "Written 1 references" in mbpoll("-t", "4", "-r", "0", here, "75")
-    assert "Written 1 references" in mbpoll("-t", "0", "-r", "0", here, "1")
-    wait_for(lambda: re.search(r"\[0\]:\s+1\s", mbpoll("-t", "1", "-r", "0", here)))
-    wait_for(lambda: re.search(r"\[0\]:\s+75", mbpoll("-t", "4", "-r", "0", here)))
-    assert "Illegal data address" in mbpoll("-t", "4", "-r", "50", here)
+    assert re.search(r"\[0\]:\s+-70000", mbpoll("-t", "3:int", "-B", "-r", "0"))
+    assert re.search(r"\[3\]:\s+90000", mbpoll("-t", "4:int", "-r", "3"))
+    assert "Written 1 references" in mbpoll("-t", "4", "-r", "0", "75")
+    assert "Written 1 references" in mbpoll("-t", "0", "-r", "0", "1")
+    wait_for(lambda: re.search(r"\[0\]:\s+1\s", mbpoll("-t", "1", "-r", "0")))
+    wait_for(lambda: re.search(r"\[0\]:\s+75", mbpoll("-t", "4", "-r", "0")))
+    assert "Illegal data address" in mbpoll("-t", "4", "-r", "50")
 
 
 def test_who_may_by_address_and_function(make_host) -> None:
