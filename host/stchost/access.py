@@ -1,5 +1,4 @@
 """Who may look and who may act: tokens from a file that only its owner reads, and how wrong ones are slowed down."""
-
 import asyncio
 import hmac
 import os
@@ -9,17 +8,14 @@ import time
 import tomllib
 from pathlib import Path
 from typing import NamedTuple
-
 from . import Trouble
 
 LONGEST, FORGOTTEN = 20.0, 60.0  # seconds that a wrong token waits at most, and after which it doesn't count any more
 TOKEN = re.compile(r"[\w-]{16,200}", re.ASCII)
 
-
 class Person(NamedTuple):
     name: str
     acts: bool
-
 
 def make(path: Path) -> None:
     """Writes a file with one token to look and one to act, where there is none."""
@@ -27,7 +23,6 @@ def make(path: Path) -> None:
         path.parent.mkdir(mode=0o700, parents=True, exist_ok=True)
         with os.fdopen(os.open(path, os.O_WRONLY | os.O_CREAT | os.O_EXCL, 0o600), "w") as file:
             file.write(f'[look]\nvisitor = "{secrets.token_urlsafe(24)}"\n\n[act]\noperator = "{secrets.token_urlsafe(24)}"\n')
-
 
 def load(path: Path) -> dict[str, Person]:
     """The persons by their tokens, who may act first. Trouble where the file isn't its owner's alone, or is wrong."""
@@ -42,10 +37,8 @@ def load(path: Path) -> dict[str, Person]:
     except (OSError, ValueError) as error:
         raise Trouble(f"{path}: {error}") from error
 
-
 class Gate:
     """Tells who has a token. An address that gave wrong ones waits longer each time."""
-
     def __init__(self, persons: dict[str, Person], pause: float = 0.5) -> None:
         self._persons, self._pause = persons, pause
         self._wrong: dict[str, tuple[int, float]] = {}

@@ -1,5 +1,4 @@
 """Starts a plant: its engine in one thread, and in another what serves people and other machines."""
-
 import argparse
 import asyncio
 import gc
@@ -9,7 +8,6 @@ import signal
 import subprocess
 import sys
 import time
-
 from . import Trouble, access
 from .clock import Clock
 from .devices import Device, Simulation
@@ -21,14 +19,12 @@ from .web import Web
 
 KINDS: dict[str, type[Device]] = {"simulation": Simulation, "modbus": Remote}
 
-
 def prefer(priority: int) -> None:
     """Lets this thread, and what it starts, run before the machine's other work. Where that isn't permitted it is told."""
     try:
         os.sched_setscheduler(0, os.SCHED_RR, os.sched_param(priority))
     except OSError as error:
         print(f"priority {priority}: {error}", file=sys.stderr)
-
 
 async def serve(engine: Engine, scans: asyncio.Task[None]) -> None:
     """Serves the page and Modbus until the engine has ended, and tells on the terminal what becomes of the program."""
@@ -44,7 +40,6 @@ async def serve(engine: Engine, scans: asyncio.Task[None]) -> None:
             notice = engine.status["notice"]
             print(f"{plant.name}: {notice}", file=sys.stderr, flush=True)
         await asyncio.sleep(0.2)
-
 
 async def main_loop(plant: PlantTable) -> None:
     """Runs until a signal comes, or the engine can't go on."""
@@ -65,7 +60,6 @@ async def main_loop(plant: PlantTable) -> None:
         there.call_soon_threadsafe(engine.stop)
         await scans
 
-
 def run(plant: PlantTable, fresh: bool) -> None:
     """Runs a plant as its only host, from its journal or anew."""
     plant.state.mkdir(mode=0o700, parents=True, exist_ok=True)
@@ -84,7 +78,6 @@ def run(plant: PlantTable, fresh: bool) -> None:
         explain("fault M")  # its page is read now, not at a fault
         gc.freeze()
         asyncio.run(main_loop(plant))
-
 
 def main() -> None:
     parser = argparse.ArgumentParser("host/run", description="Runs a plant: its program, its page, its connections.")

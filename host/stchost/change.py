@@ -1,9 +1,7 @@
 """What an online change would do, found out beside the plant: by a session with the same text and forces, which is changed."""
-
 import re
 from collections.abc import Awaitable, Callable, Sequence
 from functools import partial
-
 from . import Trouble
 from .plant import BITS, Place, PlantTable
 from .session import CODE, TEXT_LIMIT, ask, change_line, forcing, layout_of
@@ -11,7 +9,6 @@ from .values import BITS_OF, to_number, to_text
 
 NAMES = 200  # of leaves that are dropped, and that are new, in a preview
 Types = dict[str, str]  # of the leaves of a text, by their paths, in order
-
 
 async def preview(plant: PlantTable, old: str, forces: list[str], text: str, renames: Sequence[str]) -> tuple[str, str, str]:
     """A change as a line, its reply, and what `stc` says that it does. Trouble where what is connected isn't in the new text."""
@@ -26,7 +23,6 @@ async def preview(plant: PlantTable, old: str, forces: list[str], text: str, ren
         await connections(plant, text, after, before)
         said = await _named(said, before, after, partial(ask, "run", old, plant.main), line)
     return line, reply, said
-
 
 async def _named(said: str, before: Types, after: Types, run: Callable[..., Awaitable[tuple[str, str]]], line: str) -> str:
     """What `stc` says of a change, with more names. Forces tell them: what is dropped loses its own, and what has none is new."""
@@ -45,7 +41,6 @@ async def _named(said: str, before: Types, after: Types, run: Callable[..., Awai
         return f"  {match[1]}: " + ", ".join(f"`{name}`" for name in shown) + (f" and {rest} more" if rest else "")
 
     return more.sub(named, said)
-
 
 async def connections(plant: PlantTable, text: str, types: Types, before: Types | None = None) -> None:
     """Trouble where a text hasn't what the plant's file connects: inputs under VAR_INPUT, fitting types, those from before."""

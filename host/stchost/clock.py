@@ -1,5 +1,4 @@
 """The clock of scans: places of equal distance on the monotonic clock, and what is told of how late they were."""
-
 import asyncio
 import time
 
@@ -7,7 +6,6 @@ FIGURES = ("cycles", "late", "overruns", "skipped", "lateness_mean", "lateness_w
 
 class Clock:
     """The machine's monotonic clock, in seconds."""
-
     def now(self) -> float:
         return time.monotonic()
 
@@ -17,10 +15,8 @@ class Clock:
         await event.wait()
         alarm.cancel()
 
-
 class Cycle:
     """Cycles of `period` ms. The n-th has its place n periods behind the start, however late the ones before it came."""
-
     def __init__(self, clock: Clock, period: int, first: int = 0) -> None:
         self.clock, self.period = clock, period / 1000
         self.moment = self._first = first  # the newest one that was given, and the one of the start

@@ -1,5 +1,4 @@
 """A terminal for those who live there: the session's commands and those of the host, with history and completion."""
-
 import argparse
 import asyncio
 import json
@@ -7,13 +6,11 @@ import re
 import sys
 from pathlib import Path
 from typing import Any
-
 import aiohttp
 from prompt_toolkit import PromptSession
 from prompt_toolkit.completion import WordCompleter
 from prompt_toolkit.history import FileHistory
 from prompt_toolkit.patch_stdout import patch_stdout
-
 from . import Trouble, access
 from .plant import PlantTable, load
 from .session import TEXT_LIMIT
@@ -29,10 +26,8 @@ help | quit                 # begins a comment"""
 VERBS = re.findall(r"(?:^|\| )(\w+)", HELP, re.M)
 Answer = dict[str, Any]
 
-
 class Console:
     """One connection to a plant's host. Each command is answered before the next one is taken."""
-
     def __init__(self, socket: aiohttp.ClientWebSocketResponse) -> None:
         self.socket = socket
         self.answers: asyncio.Queue[Answer] = asyncio.Queue()
@@ -84,7 +79,6 @@ class Console:
             if any(row):
                 print(*filter(None, row), flush=True)
 
-
 async def talk(console: Console, plant: PlantTable) -> None:
     """Takes commands: from a terminal with history and completion, or from a script on standard input."""
     if not sys.stdin.isatty():
@@ -106,7 +100,6 @@ async def talk(console: Console, plant: PlantTable) -> None:
             except EOFError:
                 return
 
-
 async def connect(plant: PlantTable, name: str | None) -> int:
     """Talks to the host of a plant, with the token of a name, or else the first one to act."""
     tokens = [token for token, person in access.load(plant.tokens).items() if name in (None, person.name)]
@@ -121,7 +114,6 @@ async def connect(plant: PlantTable, name: str | None) -> int:
         await talk(console, plant)
         listener.cancel()
     return 3 if console.failed else 0
-
 
 def main() -> int:
     parser = argparse.ArgumentParser("host/console", description="A terminal for a plant that runs; scripts by standard input.")

@@ -1,5 +1,4 @@
 """Process inputs, and what stands at the other end of them and of outputs, simulated plants among it."""
-
 import asyncio
 import math
 import time
@@ -9,16 +8,13 @@ from contextlib import suppress
 from functools import partial
 from itertools import accumulate
 from typing import Any
-
 from . import Trouble
 from .plant import DeviceTable, PlantTable, PointTable
 from .session import CODE, LINE_LIMIT
 from .values import fits, to_text
 
-
 class Inputs:
     """What a scan gives of inputs. Those with a device follow it; the others are given what a Modbus client sets, once."""
-
     def __init__(self, points: Sequence[PointTable], types: dict[str, str]) -> None:
         self.points, self.types = {point.path: point for point in points}, types
         self.numbers: dict[str, int] = {}  # the newest of each
@@ -50,10 +46,8 @@ class Inputs:
         self.by_hand = {path: number for path, number in self.by_hand.items()
                         if changed.get(path) != to_text(self.types[path], number)}
 
-
 class Device:
     """Gives numbers of inputs and takes those of outputs, by paths. It is waited for no longer than its share of a cycle."""
-
     def __init__(self, file: DeviceTable, plant: PlantTable, types: dict[str, str]) -> None:
         self.file, self.types, self.share = file, types, file.share / 100 * plant.cycle / 1000
         self.inputs, self.outputs = ([point for point in points if point.device == file.name]
@@ -110,10 +104,8 @@ class Device:
         self.troubles[what] = f"{type(error).__name__}: {error}" if error else ""
         return None if error else task.result()
 
-
 class Tank:
     """A tank of 1,000 mm with a pump and a drain whose flow rises and falls."""
-
     inputs, outputs = ("level",), ("pump", "alarm")
     level, age = 500.0, 0.0
 
@@ -123,10 +115,8 @@ class Tank:
         self.level = min(1000.0, max(0.0, self.level + seconds * ((60.0 if outputs.get("pump") else 0.0) - flow)))
         return {"level": round(self.level)}
 
-
 class Conveyor:
     """A belt with a part each 1.5 s before a light barrier."""
-
     inputs, outputs = ("barrier",), ("belt", "pusher", "fan", "alarm")
     way = 0.0
 
@@ -134,13 +124,10 @@ class Conveyor:
         self.way += seconds if outputs.get("belt") else 0.0
         return {"barrier": int(self.way % 1.5 > 1.2)}
 
-
 MODELS: dict[str, type[Tank] | type[Conveyor]] = {"tank": Tank, "conveyor": Conveyor}
-
 
 class Simulation(Device):
     """A simulated plant: it goes on by the clock, and sees the outputs that it was given last."""
-
     def __init__(self, file: DeviceTable, plant: PlantTable, types: dict[str, str]) -> None:
         super().__init__(file, plant, types)
         self.model, self.then, self.given = MODELS[file.model](), time.monotonic(), dict[str, int]()

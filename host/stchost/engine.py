@@ -1,5 +1,4 @@
 """The engine: the one writer to `stc`. It scans by the clock and serves operators between two scans."""
-
 import asyncio
 import time
 from collections import deque
@@ -7,7 +6,6 @@ from collections.abc import AsyncIterator, Callable, Coroutine, Sequence
 from contextlib import asynccontextmanager, suppress
 from itertools import chain
 from typing import Any, TypeVar
-
 from . import Trouble
 from .change import Types, connections
 from .clock import Clock, Cycle
@@ -24,11 +22,8 @@ VERBS = (*QUIET, *UNDOABLE[:-1], "reset", "undo", "hold", "go")  # a change is d
 NONE = ("", "")  # the value of a leaf that wasn't shown yet, and `forced` where it is
 Result = TypeVar("Result")
 
-
 class Busy(Trouble):
     """Too many lines wait already."""
-
-
 class Engine:
     """Runs a plant: one session with `stc`, its devices, its journal, and a queue of what others want of it."""
 

@@ -1,5 +1,4 @@
 """The journal: each line that may change something, with its reply, in pieces with checksums, as `docs/HOST.md` has them."""
-
 import asyncio
 import fcntl
 import os
@@ -13,7 +12,6 @@ from functools import partial
 from pathlib import Path
 from subprocess import PIPE, Popen
 from typing import Any, BinaryIO
-
 from . import Trouble
 from .plant import JournalTable
 
@@ -24,11 +22,9 @@ NAME = re.compile(r"(\d{8})-([\da-f]{8})\.journal")
 # reset, and what is forced in it; and three that operators give
 OWN = ("load", "takeback", "hold", "go")
 
-
 @dataclass
 class Record:
     """A line and its reply. An operator's has a number, when it was given and by whom; a load has the number that comes next."""
-
     line: str
     reply: str = "ok"
     number: int = 0
@@ -44,7 +40,6 @@ class Record:
         """The moment of a load or a scan, and 0 for others."""
         return int(self.line.split(None, 2)[1]) if self.verb in ("load", "scan") else 0
 
-
 def pieces(folder: Path) -> list[tuple[int, int, Path]]:
     """The pieces of a journal in order, each with its number and the checksum that it goes on from."""
     found = sorted(folder.iterdir()) if folder.is_dir() else []
@@ -52,12 +47,10 @@ def pieces(folder: Path) -> list[tuple[int, int, Path]]:
         raise Trouble(f"the journal has {other[0]}, which is no piece of it: --fresh sets the journal aside")
     return [(int(match[1]), int(match[2], 16), path) for path in found if (match := NAME.fullmatch(path.name))]
 
-
 def bases(folder: Path) -> dict[int, Record]:
     """The loads and resets with which pieces begin, so that a replay can begin there, by the numbers of these pieces."""
     heads = ((number, next(read(folder, number), None)) for number, _, _ in pieces(folder))
     return {number: record for number, record in heads if record and record.verb == "load"}
-
 
 def read(folder: Path, first: int = 0) -> Iterator[Record]:
     """The records from piece `first` on. What lacks its end in the last piece is none. Trouble where one is damaged."""
@@ -82,10 +75,8 @@ def read(folder: Path, first: int = 0) -> Iterator[Record]:
         except ValueError as error:
             raise Trouble(f"the journal is damaged: {path.name}: record {count}, from byte {place} on: {error}") from error
 
-
 class Journal:
     """Appends to the journal in a folder, through a pipe to a process that outlives this one: so nobody waits for the disk."""
-
     def __init__(self, folder: Path, file: JournalTable) -> None:
         folder.mkdir(mode=0o700, parents=True, exist_ok=True)
         self.folder, self.file = folder, file

@@ -1,5 +1,4 @@
 """Modbus TCP both ways, by the messages of `pymodbus`: remote devices, and a server that HMIs and SCADA read and write."""
-
 import asyncio
 import logging
 import struct
@@ -9,12 +8,10 @@ from functools import partial
 from ipaddress import ip_address
 from itertools import chain, islice
 from typing import Any
-
 from pymodbus.client.base import ModbusClientProtocol
 from pymodbus.factory import ServerDecoder
 from pymodbus.framer.socket_framer import ModbusSocketFramer
 from pymodbus.pdu import ExceptionResponse, ModbusExceptions as Code
-
 from . import Trouble
 from .devices import Device
 from .engine import Busy, Engine
@@ -29,10 +26,8 @@ TABLE = {1: "coil", 2: "discrete", 3: "holding", 4: "input", 5: "coil", 6: "hold
 CODES = {"refused O1": Code.IllegalAddress, "refused O2": Code.IllegalAddress, "refused O3": Code.IllegalValue}
 RUNNING = "$running"  # in place of a path: whether the program runs
 
-
 class Remote(Device):
     """A device behind a connection that is made when it is wanted, and anew a second after it was lost."""
-
     _protocol: Any = None
 
     async def read(self) -> dict[str, int]:
@@ -89,10 +84,8 @@ class Remote(Device):
             raise ValueError(f"the device answers {answer}")
         return answer
 
-
 class Tables:
     """What the plant's file maps, as one request of pymodbus sees it: what it writes is kept for later."""
-
     def __init__(self, places: dict[tuple[str, int], MapTable], engine: Engine) -> None:
         self.places, self.engine = places, engine
         self.items: list[tuple[MapTable, str]] = []  # each with its type
@@ -135,10 +128,8 @@ class Tables:
                 return int(CODES.get(reply, Code.SlaveFailure))
         return 0
 
-
 class ModbusServer:
     """Serves the mapped variables to the clients that are allowed, each with one request at a time."""
-
     def __init__(self, file: ServerTable, engine: Engine) -> None:
         self.file, self.engine, self.decoder, self.clients = file, engine, ServerDecoder(), 0
         self.places = {(str(item.table), item.address): item for item in file.map}

@@ -1,10 +1,8 @@
 """The file of a plant: what its program is, and what it is connected to. `docs/HOST.md` has every key."""
-
 import tomllib
 from ipaddress import IPv4Network, IPv6Network, ip_network
 from pathlib import Path
 from typing import Annotated, Any, Literal, NamedTuple, get_args, get_origin, get_type_hints
-
 from . import Trouble
 
 READING, WRITING = [1, 2, 3, 4], [5, 6, 15, 16]  # functions of Modbus
@@ -49,7 +47,6 @@ PlantTable = NamedTuple("PlantTable", [
     ("output", list[PointTable]), ("server", ServerTable | None)])
 Place = MapTable | PointTable
 
-
 def load(name: str | Path) -> PlantTable:
     """Reads a plant's file, as it is named or with `.toml` behind that. Trouble where it can't be used."""
     path = Path(name if str(name).endswith(".toml") else f"{name}.toml").resolve()
@@ -60,7 +57,6 @@ def load(name: str | Path) -> PlantTable:
     except (OSError, ValueError) as error:
         raise Trouble(f"{path}: {error}") from error
     return plant._replace(**{key: path.parent / getattr(plant, key) for key in ("program", "state", "tokens")})
-
 
 def _check(plant: PlantTable) -> None:
     """ValueError where the tables of a file don't fit each other."""
@@ -82,7 +78,6 @@ def _check(plant: PlantTable) -> None:
             raise ValueError(f"{item.path}: `table` is one of {', '.join(tables)}")
         if item.form is not None and (item.table in BITS) is not (item.form == "BIT"):
             raise ValueError(f"{item.path}: `form` doesn't fit the table {item.table}")
-
 
 def _value(value: Any, hint: Any, where: str) -> Any:
     """A value of the file, or None where it isn't given, as it is of a type; ValueError where it isn't."""
@@ -108,7 +103,6 @@ def _value(value: Any, hint: Any, where: str) -> Any:
     if origin is list:
         return [_value(item, args[0], f"{where} {place}") for place, item in enumerate(value, 1)]
     return Path(value) if hint is Path else ip_network(value) if hint == Network else value
-
 
 def _table(found: Any, kind: Any, where: str) -> Any:
     """A table of the file. Keys that aren't known are refused."""

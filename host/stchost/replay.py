@@ -1,5 +1,4 @@
 """Replaying a journal: the controller is a function of its lines, so the same lines give back the very state."""
-
 import argparse
 import asyncio
 import sys
@@ -9,7 +8,6 @@ from dataclasses import dataclass, field, replace
 from itertools import islice, takewhile
 from math import inf
 from pathlib import Path
-
 from . import Trouble, journal
 from .journal import OWN, Record
 from .session import BATCH, Session, forcing, layout_of, words_of
@@ -18,11 +16,9 @@ KEPT = 2_000  # commands that are remembered
 UNDOABLE = ("write", "force", "release", "change")  # what `undo` and a take back undo
 NO_BASE = "the journal doesn't reach back to a load or a reset"
 
-
 @dataclass
 class Story:
     """What a journal tells beside the state: the text that runs, the moment, and who did what."""
-
     text: str = ""
     main: str = ""
     steps: int = 0
@@ -66,10 +62,8 @@ class Story:
         """A load from which a replay can begin: of the text as it is behind a reset, with what is forced in it."""
         return Record(" ".join([f"load {self.moment} {self.main} {self.steps}", *forces]) + f"\n{self.text}", number=self.number)
 
-
 class Replay:
     """Sends the records of a journal to a session, but for the commands that were taken back."""
-
     def __init__(self, skipped: Iterable[int] = ()) -> None:
         self.skipped = frozenset(skipped)
         self.session: Session | None = None
@@ -118,7 +112,6 @@ class Replay:
             self._open.discard(int(record.line.split()[1]))
         self.story.take(record)
 
-
 async def restore(folder: Path, moment: float = inf, without: int = -1) -> Replay:
     """The state of a journal up to a moment, as it would be without a command. It has no session where there is no journal."""
     if next(journal.read(folder), None) is None:
@@ -137,7 +130,6 @@ async def restore(folder: Path, moment: float = inf, without: int = -1) -> Repla
     await replay.feed(records())
     return replay
 
-
 async def show(folder: Path, moment: float, words: list[str]) -> None:
     """Prints the status and the leaves whose paths have these words; how fast the replay was goes to standard error."""
     began = time.monotonic()
@@ -149,7 +141,6 @@ async def show(folder: Path, moment: float, words: list[str]) -> None:
     print(*await replay.session.exchange(["status", *(f"show {path}" for path in wanted)]), sep="\n")
     await replay.close()
     print(f"{replay.lines} lines in {took:.2f} s: {replay.lines / took:.0f} lines a second", file=sys.stderr)
-
 
 def main() -> None:
     parser = argparse.ArgumentParser(prog="host/replay", description="Shows all leaves as they were at a moment.")

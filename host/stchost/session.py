@@ -1,5 +1,4 @@
 """The program `stc`: how it is found, one session with it, and what it says of a text."""
-
 import asyncio
 import os
 import re
@@ -10,7 +9,6 @@ from contextlib import asynccontextmanager
 from functools import cache
 from pathlib import Path
 from typing import Self
-
 from . import Trouble
 
 ROOT = Path(__file__).resolve().parents[2]
@@ -19,20 +17,15 @@ TEXT_LIMIT, LINE_LIMIT = 1_048_576, 4_096  # bytes
 BATCH = 250  # lines that are sent at one go
 CODE = ("utf-8", "surrogateescape")  # how bytes that are no text are kept
 
-
 def program() -> str:
     """The program's file: what STC names, or the repository's own `stc`."""
     return os.environ.get("STC") or str(ROOT / "stc")
 
-
 class Gone(Trouble):
     """The program ended, or gave no reply in time, or refused a text that is to be loaded."""
-
-
 def words_of(line: str) -> list[str]:
     """The words of a line's first row, as `stc` cuts it."""
     return [word for word in line.partition("\n")[0].replace("\t", " ").split(" ") if word]
-
 
 def checked(line: str) -> str:
     """A line that gets exactly one reply. Trouble for any other."""
@@ -40,14 +33,12 @@ def checked(line: str) -> str:
         raise Trouble("a line has words, no control characters, and at most 4,096 bytes")
     return line
 
-
 def change_line(text: str, renames: Sequence[str]) -> str:
     """The line of a change, which has its text and `end_change` behind line feeds."""
     ends = any(words_of(row.rstrip("\r")) == ["end_change"] for row in text.split("\n"))
     if ends or "\0" in text or not all("=" in word for word in renames):
         raise Trouble("a change has words OLD=NEW, a text, and no line `end_change` in it")
     return checked(" ".join(["change", *renames])) + f"\n{text}" + "\n" * (not text.endswith("\n")) + "end_change"
-
 
 @asynccontextmanager
 async def _begun(verb: str, text: str, main: str, *words: str, stderr: int = DEVNULL) -> AsyncIterator[tuple[Process, str]]:
@@ -58,10 +49,8 @@ async def _begun(verb: str, text: str, main: str, *words: str, stderr: int = DEV
         command = (program(), verb, file.name, "--program", main, *words)  # in a session of its own no Ctrl-C ends it
         yield await create_subprocess_exec(*command, stdin=PIPE, stdout=PIPE, stderr=stderr, start_new_session=True), file.name
 
-
 class Session:
     """One process `stc run`, which a single writer speaks to."""
-
     def __init__(self, process: Process) -> None:
         assert process.stdin is not None and process.stdout is not None
         self.process, self._stdin, self._stdout = process, process.stdin, process.stdout
@@ -100,14 +89,12 @@ class Session:
         await self.process.wait()
         killing.cancel()
 
-
 def forcing(forces: Iterable[str]) -> Iterator[str]:
     """Lines that force what words P:=V say. No more than 256 commands can be undone, but a reset lets more be given."""
     for count, word in enumerate(forces, 1):
         yield "force " + word.replace(":=", " ")
         if count % BATCH == 0:
             yield "reset"
-
 
 async def ask(verb: str, text: str, main: str, lines: Iterable[str] = ()) -> tuple[str, str]:
     """What `stc` writes of a text and lines on standard output, and what it says for people."""
@@ -116,7 +103,6 @@ async def ask(verb: str, text: str, main: str, lines: Iterable[str] = ()) -> tup
         answer, said = await asyncio.wait_for(process.communicate(data), PATIENCE)
     return answer.decode(*CODE), said.decode(*CODE).replace(name, "program").strip()
 
-
 async def layout_of(text: str, main: str) -> dict[str, str]:
     """The types of a text's leaves by their paths, in order. Gone where it is refused."""
     answer, said = await ask("layout", text, main)
@@ -124,14 +110,12 @@ async def layout_of(text: str, main: str) -> dict[str, str]:
         raise Gone(answer + said)
     return {path: kind for _, _, kind, path in (line.split(" ", 3) for line in answer.splitlines())}
 
-
 @cache
 def _sentences() -> dict[str, str]:
     """What the numbers of refusals and faults mean, as `docs/REFUSALS.md` has it."""
     text = (ROOT / "docs" / "REFUSALS.md").read_text("utf-8")
     found = re.findall(r"^### ([A-Z]\d+)\n\n(.+?)(?=\n\nExample|\n\n#|\Z)", text, re.S | re.M)
     return {"M": "There was no memory for it."} | {number: " ".join(sentence.split()) for number, sentence in found}
-
 
 def explain(reply: str) -> str:
     """A sentence for a reply that refuses or tells a fault; empty for any other."""

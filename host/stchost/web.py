@@ -1,14 +1,11 @@
 """The operators' page and console: one WebSocket a client, which sends lines of commands, and texts of programs as bytes."""
-
 import asyncio
 from collections.abc import Awaitable, Callable
 from contextlib import suppress
 from datetime import datetime
 from pathlib import Path
 from typing import Any
-
 from aiohttp import WSMsgType, web
-
 from . import Trouble
 from .access import Gate, Person
 from .change import preview
@@ -32,10 +29,8 @@ GONE = (asyncio.TimeoutError, ConnectionError)  # a client that is slow, or has 
 Handler = Callable[[web.Request], Awaitable[web.StreamResponse]]
 Answer = dict[str, Any]
 
-
 class Client:
     """One page or console, and what it was told last."""
-
     def __init__(self, person: Person, socket: web.WebSocketResponse) -> None:
         self.person, self.socket = person, socket
         self.paths: list[str] = []  # that it looks at
@@ -47,10 +42,8 @@ class Client:
     async def send(self, news: Answer) -> None:
         await asyncio.wait_for(self.socket.send_json(news), SEND_TIME)
 
-
 class Web:
     """Serves the page. Each client has one line at a time, and who is slow is waited for by nobody else."""
-
     def __init__(self, engine: Engine, gate: Gate) -> None:
         self.engine, self.file, self.gate = engine, engine.plant.page, gate
         self.clients: set[Client] = set()

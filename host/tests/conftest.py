@@ -1,5 +1,4 @@
 """What the tests share: hosts in folders of their own, clients of them, sessions with `stc` that share nothing with the host."""
-
 import asyncio
 import contextlib
 import fcntl
@@ -12,7 +11,6 @@ import time
 from collections.abc import Callable, Collection, Iterator, Sequence
 from pathlib import Path
 from typing import Any
-
 import pytest
 
 HOST = Path(__file__).resolve().parents[1]
@@ -69,18 +67,15 @@ while not select.select([sys.stdin], [], [], 0.01)[0]:
 print(worst * 1000)
 """
 
-
 def needs(*names: str) -> pytest.MarkDecorator:
     """Skips a test where a package isn't there, and names it."""
     missing = packages.missing(*names)
     return pytest.mark.skipif(bool(missing), reason=f"missing: {', '.join(missing)}")
 
-
 def free_port() -> int:
     with socket.socket() as made:
         made.bind(("127.0.0.1", 0))
         return made.getsockname()[1]
-
 
 def ended(made: socket.socket) -> bool:
     """Whether the other end has closed a connection."""
@@ -90,7 +85,6 @@ def ended(made: socket.socket) -> bool:
     except OSError as error:
         return not isinstance(error, BlockingIOError)
 
-
 def wait_for(what: Callable[[], Any], pause: float = 0.02) -> Any:
     """What it gives once that is true."""
     end = time.monotonic() + 60
@@ -98,7 +92,6 @@ def wait_for(what: Callable[[], Any], pause: float = 0.02) -> Any:
         assert time.monotonic() < end, "it didn't become true in time"
         time.sleep(pause)
     return found
-
 
 def lines_of(journal: Path, without: Collection[int] = ()) -> tuple[str, list[str]]:
     """The text that was loaded and the lines of a journal, read by nobody else's code."""
@@ -111,7 +104,6 @@ def lines_of(journal: Path, without: Collection[int] = ()) -> tuple[str, list[st
             lines.append(line)
     return text, lines
 
-
 def stc(verb: str, text: str, lines: Sequence[str] = ()) -> list[str]:
     """What `stc` writes of a text, and answers to lines."""
     with tempfile.NamedTemporaryFile("w", suffix=".st") as file:
@@ -120,19 +112,15 @@ def stc(verb: str, text: str, lines: Sequence[str] = ()) -> list[str]:
         command, script = [program(), verb, file.name, "--program", "Main"], "".join(line + "\n" for line in lines)
         return subprocess.run(command, input=script, capture_output=True, text=True).stdout.splitlines()
 
-
 LEAVES = [line.split(" ", 3)[3] for line in stc("layout", BLOCKS)]
 STATE = ["status", *(f"show {path}" for path in LEAVES)]  # lines whose answers are all that the program holds
-
 
 def state(text: str, lines: Sequence[str]) -> list[str]:
     """The answers to STATE behind these lines."""
     return stc("run", text, [*lines, *STATE])[-len(STATE):]
 
-
 class Client:
     """What a page does, without the page."""
-
     def __init__(self, url: str, token: str) -> None:
         import aiohttp
 
@@ -170,10 +158,8 @@ class Client:
     def next(self, what: Callable[[dict[str, Any]], bool]) -> dict[str, Any]:
         return wait_for(lambda: news if what(news := self.run(self.live.receive_json())) else None, pause=0)
 
-
 class Host:
     """A plant in a folder of its own, the process that runs it, and its clients."""
-
     def __init__(self, folder: Path, text: str, file: str) -> None:
         self.folder, self.port, self.modbus, self.plant = folder, free_port(), free_port(), str(folder / "plant")
         self.url, self.journal = f"http://127.0.0.1:{self.port}", folder / "plant.state" / "journal"
@@ -233,7 +219,6 @@ class Host:
         assert cycles > 50 and after["lateness_worst"] < most, (late, before, after)
         assert after["skipped"] - before["skipped"] <= 1 + cycles * late / 300, (late, before, after)
 
-
 @pytest.fixture
 def make_host(tmp_path: Path) -> Iterator[Callable[..., Host]]:
     """Makes hosts, and stops them behind the test."""
@@ -249,11 +234,9 @@ def make_host(tmp_path: Path) -> Iterator[Callable[..., Host]]:
     for host in made:
         host.stop(signal.SIGKILL)
 
-
 @pytest.fixture
 def host(make_host: Callable[..., Host]) -> Host:
     return make_host()
-
 
 @pytest.fixture
 def client(host: Host) -> Client:

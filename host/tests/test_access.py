@@ -1,5 +1,4 @@
 """Who may look and act, and that floods and slow readers delay no scan."""
-
 import asyncio
 import contextlib
 import http.client
@@ -9,21 +8,17 @@ import socket
 import time
 from concurrent.futures import ThreadPoolExecutor
 from functools import partial
-
 import pytest
-
 from conftest import ACT, FILE, HOST, LOOK, Host, ended, needs, wait_for
 from stchost import Trouble, access, plant as plants
 
 pytestmark = needs("aiohttp")
-
 
 def get(host: Host, path: str, **headers: str) -> tuple[int, str]:
     with contextlib.closing(http.client.HTTPConnection("127.0.0.1", host.port, timeout=20)) as connection:
         connection.request("GET", path, headers=headers)
         response = connection.getresponse()
         return response.status, response.read().decode()
-
 
 def test_without_a_token_nothing_is_shown_and_one_to_look_does_not_act(host: Host) -> None:
     for path in ("/", "/page.js", "/page.css"):
@@ -40,7 +35,6 @@ def test_without_a_token_nothing_is_shown_and_one_to_look_does_not_act(host: Hos
                                   ("/", 403, {"Host": f"evil.example:{host.port}"}), ("/", 200, {"Origin": host.url})]:
         assert get(host, path, **headers)[0] == status
 
-
 def test_wrong_tokens_wait_longer_each_time(monkeypatch: pytest.MonkeyPatch) -> None:
     gate, waits = access.Gate({ACT: access.Person("anna", True)}), []
 
@@ -52,7 +46,6 @@ def test_wrong_tokens_wait_longer_each_time(monkeypatch: pytest.MonkeyPatch) -> 
         assert (asyncio.run(gate.who(token, address)) is None) is (token == "wrong")
     assert waits == [0.5, 1, 2, 4, 8, 16, 20, 0.5]
 
-
 def test_the_file_of_tokens_is_its_owners_alone(tmp_path) -> None:
     path = tmp_path / "tokens.toml"
     access.make(path)
@@ -62,7 +55,6 @@ def test_the_file_of_tokens_is_its_owners_alone(tmp_path) -> None:
         path.chmod(mode)
         with pytest.raises(Trouble, match=error):
             access.load(path)
-
 
 @pytest.mark.parametrize("line, error", [
     ("cycle = 0", "`cycle` is from 1 to 60000"), ("cycle = 10\nspeed = 3", "there is no key `speed`"),
@@ -78,11 +70,9 @@ def test_a_plants_file_that_is_wrong_is_refused_with_its_place(tmp_path, line: s
     with pytest.raises(Trouble, match=error):
         plants.load(tmp_path / "p.toml")
 
-
 def test_a_program_without_what_is_connected_is_refused(make_host) -> None:
     host = make_host(file=FILE.replace('{path = "Main.Go"}', '{path = "Main.Band"}'), start=False)
     assert "Main.Band is no VAR_INPUT of the program: refused O12" in host.tool("run", host.plant, status=1)
-
 
 def test_floods_slow_readers_and_half_open_connections_delay_no_scan(make_host) -> None:
     host = make_host(file=FILE.replace("refresh = 50", "refresh = 50, clients = 4"))
@@ -110,7 +100,6 @@ def test_floods_slow_readers_and_half_open_connections_delay_no_scan(make_host) 
         for made in idle + pages:
             made.close()
 
-
 def test_connections_are_bounded_and_idle_ones_closed(make_host) -> None:
     host = make_host(file=FILE.replace("refresh = 50", "refresh = 50, clients = 1"))
     made = [socket.create_connection(("127.0.0.1", host.port)) for _ in range(150)]
@@ -118,7 +107,6 @@ def test_connections_are_bounded_and_idle_ones_closed(make_host) -> None:
     assert sum(map(ended, made)) < 150
     wait_for(lambda: sum(map(ended, made)) == 150)  # the others asked for nothing in time
     assert get(host, "/")[0] == 200
-
 
 def test_sizes_and_numbers_are_bounded(make_host) -> None:
     host = make_host(file=FILE.replace("refresh = 50", "refresh = 50, clients = 2"))
@@ -130,7 +118,6 @@ def test_sizes_and_numbers_are_bounded(make_host) -> None:
     with contextlib.suppress(OSError):  # it is cut off
         other.run(other.live.send_str("x" * 100_000))
     assert client.line("show Main.Z") == "Main.Z = 1"
-
 
 def test_the_manual_has_every_key() -> None:
     page = (HOST.parent / "docs" / "HOST.md").read_text()

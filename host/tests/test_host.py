@@ -1,5 +1,4 @@
 """Hosts over the real `stc`: faults, deaths and replays, changes, what is taken back, the examples, and the console."""
-
 import asyncio
 import os
 import pty
@@ -10,9 +9,7 @@ import shutil
 import signal
 import subprocess
 import time
-
 import pytest
-
 from conftest import BLOCKS, FILE, HOST, LEAVES, STATE, Client, Host, lines_of, needs, state, wait_for
 from stchost import journal
 from stchost.plant import JournalTable
@@ -21,7 +18,6 @@ from stchost.replay import restore
 pytestmark = needs("aiohttp")
 COMMANDS = ["write Main.Band {}", "force Main.Q {}", "release Main.Q", "write Main.Go TRUE", "write Main.Go FALSE",
             "force Main.Raw {}", "release Main.Raw", "undo", "write Main.Total {}", "reset"]
-
 
 def test_a_fault_halts_and_the_host_goes_on_serving(host: Host, client: Client) -> None:
     client.until(lambda status: status["moment"] > 50 and status["driven"].get("Main.Horn") == "FALSE")
@@ -35,7 +31,6 @@ def test_a_fault_halts_and_the_host_goes_on_serving(host: Host, client: Client) 
     status = client.until(lambda status: status["state"] == "running")
     client.until(lambda later: later["moment"] > status["moment"] and later["driven"]["Main.Horn"] == "FALSE")
     assert "Test: halted F2 Main line 16\n" in host.stop()
-
 
 def test_kills_at_random_moments_lose_nothing(host: Host) -> None:
     chance = random.Random(7)
@@ -65,7 +60,6 @@ def test_kills_at_random_moments_lose_nothing(host: Host) -> None:
     assert client.lines(*STATE) == state(*lines_of(host.journal))
     assert len(lines_of(host.journal)[1]) > 100
 
-
 def test_a_journal_cut_after_each_byte_of_its_last_records(host: Host, client: Client, tmp_path) -> None:
     client.lines("force Main.Q 5", "write Main.Band 3", "write Main.Nope 1")
     host.stop()
@@ -91,7 +85,6 @@ def test_a_journal_cut_after_each_byte_of_its_last_records(host: Host, client: C
         again.close()
         assert lines_of(cut)[1] == [*lines, "scan 1000000"] and len(list(journal.read(cut))) == records + 1
 
-
 def test_a_replay_shows_any_moment_but_not_of_a_damaged_journal(host: Host) -> None:
     wait_for(lambda: len(lines_of(host.journal)[1]) > 20)
     host.stop()
@@ -109,7 +102,6 @@ def test_a_replay_shows_any_moment_but_not_of_a_damaged_journal(host: Host) -> N
     path.write_bytes(data)
     assert f"from byte {data.rfind(10, 0, place) + 1} on: its checksum doesn't fit" in host.tool("run", host.plant, status=1)
 
-
 def test_a_reset_lets_a_replay_begin_there(host: Host, client: Client) -> None:
     client.line("force Main.Band 44")
     time.sleep(0.3)
@@ -124,7 +116,6 @@ def test_a_reset_lets_a_replay_begin_there(host: Host, client: Client) -> None:
     said = host.tool("replay", str(host.journal), "--at", "1", status=1)
     assert first[1].moment == 0 and f"can go back to moment {second[1].moment}, and no further" in said
 
-
 def test_beyond_its_limit_the_journal_says_that_it_does_not_reach_back(make_host) -> None:
     host = make_host(file=FILE.replace("piece = 100000", "piece = 4096, limit = 65536"))
     client = host.client()
@@ -134,7 +125,6 @@ def test_beyond_its_limit_the_journal_says_that_it_does_not_reach_back(make_host
     assert sum(path.stat().st_size for path in host.journal.iterdir()) <= 65_536
     assert "doesn't reach back" in host.tool("run", host.plant, status=1)
     host.start("--fresh")
-
 
 def test_a_change_does_what_its_preview_says_and_is_taken_back_exactly(make_host) -> None:
     host = make_host(file=FILE.replace("piece = 100000", "piece = 4096"))
@@ -159,7 +149,6 @@ def test_a_change_does_what_its_preview_says_and_is_taken_back_exactly(make_host
     host.start()
     assert host.client().line("show Main.Band") == "Main.Band = 5 forced"
 
-
 def test_what_is_done_while_scans_are_held_is_undone_exactly(host: Host, client: Client) -> None:
     client.line("hold")
     before = client.lines(*STATE)
@@ -173,7 +162,6 @@ def test_what_is_done_while_scans_are_held_is_undone_exactly(host: Host, client:
     assert client.lines("undo", "go") == ["refused O7", "going on"]
     client.until(lambda status: status["state"] == "running")
 
-
 @pytest.mark.parametrize("old, new, why", [
     ("10 / Z;", "10 / Zz;", "refused C1 line 16"),
     (" Raw : INT;", " END_VAR VAR Raw : INT; END_VAR VAR_INPUT", "Main.Raw is no VAR_INPUT of the program: refused O12"),
@@ -185,7 +173,6 @@ def test_a_text_that_is_refused_says_why_and_changes_nothing(host: Host, client:
     for line in ("change", "scan 99999999", "show", " ", "write Main.Q 1\nreset"):
         assert client.ask(line)["bad"], line
     assert lines_of(host.journal)[0] == BLOCKS and len(LEAVES) > 20
-
 
 @pytest.mark.parametrize("name, line, path", [("tank", "write Main.Acknowledge FALSE", "Main.Pump"),
                                               ("conveyor", "write Main.Start TRUE", "Main.Barrier"),
@@ -199,7 +186,6 @@ def test_the_examples_run(make_host, name: str, line: str, path: str) -> None:
     client.ask(f"watch {path}")
     for value in ("TRUE", "FALSE"):
         client.next(lambda news: news.get("values", {}).get(path, [""])[0] == value)
-
 
 @needs("prompt_toolkit")
 def test_a_script(host: Host) -> None:
@@ -215,7 +201,6 @@ def test_a_script(host: Host) -> None:
                    "refused O3", "refused O1", "going on\n", "none.st", "what belongs behind `takeback`"):
         assert wanted in out, out
     assert "Never" not in out
-
 
 @needs("prompt_toolkit")
 def test_the_prompt_has_history_completion_and_what_is_watched(host: Host) -> None:

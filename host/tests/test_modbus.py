@@ -1,5 +1,4 @@
 """Modbus TCP both ways: pymodbus and mbpoll as clients of the host, and a server of pymodbus as its remote device."""
-
 import asyncio
 import contextlib
 import re
@@ -8,21 +7,17 @@ import struct
 import subprocess
 import threading
 import time
-
 import pytest
-
 from conftest import BLOCKS, FILE, Host, ended, free_port, needs, wait_for
 from stchost.plant import MapTable
 from stchost.values import pack, unpack
 
 pytestmark = needs("aiohttp", "pymodbus", "serial_asyncio")
 
-
 def client_of(host: Host):
     from pymodbus.client import ModbusTcpClient
 
     return ModbusTcpClient("127.0.0.1", port=host.modbus, timeout=20)
-
 
 @pytest.mark.parametrize("form, words, order, number, registers", [
     ("INT16", "big", "big", -2, [0xFFFE]), ("INT16", "big", "big", 70_000, [0x7FFF]),
@@ -33,7 +28,6 @@ def test_numbers_in_registers(form, words, order, number: int, registers: list[i
     register = MapTable("", "holding", 0, form, words, order)
     assert pack(register, "DINT", number) == registers
     assert unpack(register, "DINT", registers) == {70_000: 0x7FFF}.get(number, number)  # held at the form's end
-
 
 def test_pymodbus_reads_and_writes_what_is_mapped(host: Host) -> None:
     with client_of(host) as client:
@@ -56,7 +50,6 @@ def test_pymodbus_reads_and_writes_what_is_mapped(host: Host) -> None:
         host.console("hold")
         wait_for(lambda: not client.read_discrete_inputs(8, 1).bits[0])
 
-
 @needs("mbpoll")
 def test_mbpoll_reads_and_writes_what_is_mapped(host: Host) -> None:
     def mbpoll(*words: str) -> str:
@@ -71,7 +64,6 @@ def test_mbpoll_reads_and_writes_what_is_mapped(host: Host) -> None:
     wait_for(lambda: re.search(r"\[0\]:\s+75", mbpoll("-t", "4", "-r", "0")))
     assert "Illegal data address" in mbpoll("-t", "4", "-r", "50")
 
-
 def test_who_may_by_address_and_function(make_host) -> None:
     none = make_host(file=FILE.replace('"127.0.0.1", functions', '"10.0.0.0/8", functions'))
     with socket.create_connection(("127.0.0.1", none.modbus)) as made:
@@ -79,7 +71,6 @@ def test_who_may_by_address_and_function(make_host) -> None:
     with client_of(make_host(file=FILE.replace(", functions = [1, 2, 3, 4, 5, 6, 15, 16]", ""))) as client:
         assert not client.read_holding_registers(0, 1).isError()
         assert client.write_register(0, 1).exception_code == 1
-
 
 def test_bad_frames_half_open_and_slow_clients_delay_no_scan(make_host) -> None:
     host = make_host(file=FILE.replace("idle = 30", "idle = 2").replace("cycle = 10", "cycle = 20"))
@@ -112,10 +103,8 @@ def test_bad_frames_half_open_and_slow_clients_delay_no_scan(make_host) -> None:
                 slow.send(request)
             time.sleep(0.001)
 
-
 class Rack:
     """A remote device: a server of pymodbus in a thread, which can be made slow."""
-
     def __init__(self) -> None:
         from pymodbus.datastore import ModbusSequentialDataBlock, ModbusServerContext, ModbusSlaveContext
         from pymodbus.server import StartAsyncTcpServer
@@ -132,7 +121,6 @@ class Rack:
         server = StartAsyncTcpServer(context=ModbusServerContext(slaves=slave), address=("127.0.0.1", self.port))
         threading.Thread(target=asyncio.run, args=(server,), daemon=True).start()
 
-
 RACK = FILE.partition("device =")[0].replace("cycle = 10", "cycle = 50") + """
 device = [{name = "rack", kind = "modbus", port = RACK_PORT, share = 50}]
 input = [{path = "Main.Go", device = "rack", table = "discrete"},
@@ -142,7 +130,6 @@ output = [{path = "Main.Delay.IN", device = "rack", table = "coil", address = 3,
           {path = "Main.Speed", device = "rack", table = "holding", fault = "-1"},
           {path = "Main.Total", device = "rack", table = "holding", address = 1, fault = "0"}]
 """
-
 
 def test_a_remote_device_is_polled_and_written_and_waited_for_no_longer_than_its_share(make_host) -> None:
     rack = Rack()

@@ -1,20 +1,15 @@
 """The operators' page in headless Chromium: force, change with preview, take back, a fault, keys and phone sizes."""
-
 import contextlib
 import os
 from collections.abc import Iterator
 from typing import Any
-
 import pytest
-
 from conftest import ACT, LOOK, Host, needs, wait_for
 
 pytestmark = needs("aiohttp", "selenium", "chromium", "chromedriver")
 
-
 class Page:
     """A page of a host in a browser."""
-
     def __init__(self, host: Host) -> None:
         from selenium import common, webdriver
 
@@ -55,13 +50,11 @@ class Page:
         self.run("$('text').value = $('text').value.replace(...arguments)", old, new)
         self.press("#check")
 
-
 @pytest.fixture
 def page(host: Host) -> Iterator[Page]:
     made = Page(host)
     yield made
     made.browser.quit()
-
 
 def test_a_force_a_change_and_what_is_taken_back(page: Page) -> None:
     page.open()
@@ -85,7 +78,6 @@ def test_a_force_a_change_and_what_is_taken_back(page: Page) -> None:
     page.sees("#rows", "forced")
     assert page.host.console("show Main.Band").startswith("Main.Band = 55 forced")
 
-
 def test_a_refused_text_and_a_fault_say_where(page: Page) -> None:
     page.open()
     page.check("10 / Z", "10 / Zz")
@@ -99,7 +91,6 @@ def test_a_refused_text_and_a_fault_say_where(page: Page) -> None:
     page.keys("1")
     page.sees("#outputs", "for the fault")
 
-
 def test_undo_while_scans_are_held(page: Page) -> None:
     page.open()
     page.press("#hold")
@@ -109,7 +100,6 @@ def test_undo_while_scans_are_held(page: Page) -> None:
     page.press("#undo")
     page.sees("#answer", "undo: ok")
     assert page.host.console("show Main.Band").startswith("Main.Band = 7")
-
 
 def test_sizes_fit_and_charts_and_trends_are_drawn(page: Page) -> None:
     for width, height in ((1366, 800), (820, 1100), (360, 740)):

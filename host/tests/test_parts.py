@@ -1,13 +1,10 @@
 """Parts without a host: the clock and the queue over a clock that the test moves, the journal as a file, and values."""
-
 import asyncio
 import os
 from collections.abc import Awaitable, Callable, Sequence
 from pathlib import Path
 from types import SimpleNamespace
-
 import pytest
-
 from conftest import BLOCKS, FILE
 from stchost import Trouble, journal
 from stchost.clock import Clock, Cycle
@@ -22,10 +19,8 @@ BASE = Record("load 0 Main 1000 Main.A:=5\nPROGRAM Main\nEND_PROGRAM\n", number=
 CHANGE = Record("change\nA\t\\0\udc80\nend_change", "ok kept 1 dropped 0 new 0", 1, 5, "anna")
 Visit = tuple[float, Callable[[], Awaitable[object]]]  # what comes at a time
 
-
 class FakeClock(Clock):
     """A clock that stands still but where the test moves it, or the engine waits."""
-
     def __init__(self) -> None:
         self.time = 0.0
         self.visits: list[Visit] = []
@@ -45,10 +40,8 @@ class FakeClock(Clock):
             self.time = max(self.time, until)
         await asyncio.sleep(0)
 
-
 class Bench:
     """An engine over a fake clock, of which each line takes some time. Tests run it with visits."""
-
     def __init__(self, folder: Path, monkeypatch: pytest.MonkeyPatch) -> None:
         (folder / "plant.st").write_text(BLOCKS)
         file = FILE.replace("refresh = 50", "refresh = 10000").replace("PAGE_PORT", "0").replace("MODBUS_PORT", "0")
@@ -81,11 +74,9 @@ class Bench:
     async def operate(self, *lines: str) -> list[str]:
         return list(await asyncio.gather(*(self.engine.operate("anna", line) for line in lines)))
 
-
 @pytest.fixture
 def bench(tmp_path: Path, monkeypatch: pytest.MonkeyPatch) -> Bench:
     return Bench(tmp_path, monkeypatch)
-
 
 @pytest.mark.parametrize("lateness, work, moments, places, figures", [
     ([0] * 1000, [0.001] * 1000, [*range(0, 10_000, 10)], [*range(0, 10_000, 10)], (1000, 0, 0, 0, 0.0, 1.0)),  # no drift
@@ -104,7 +95,6 @@ def test_cycles_have_their_places(lateness, work, moments: list[int], places: li
     assert (begun, due) == (moments, places)
     assert tuple(told[key] for key in ("cycles", "late", "overruns", "skipped", "lateness_worst", "work_worst")) == figures
 
-
 def test_lines_wait_for_the_gap_between_two_scans(bench: Bench) -> None:
     bench.cost, replies = lambda line: 0.0001, []
 
@@ -117,7 +107,6 @@ def test_lines_wait_for_the_gap_between_two_scans(bench: Bench) -> None:
     assert [round(at - first, 6) for at, _ in bench.scans] == [round(0.01 * place, 6) for place in range(10)]
     assert lines.index("force Main.Band 5") < next(place for place, line in enumerate(lines) if line.startswith("scan 20"))
 
-
 def test_a_crowd_of_lines_delays_no_scan(bench: Bench) -> None:
     bench.cost, done = lambda line: 0.0003, []
 
@@ -129,11 +118,9 @@ def test_a_crowd_of_lines_delays_no_scan(bench: Bench) -> None:
     told = bench.engine.cycle.told()
     assert told["lateness_worst"] < 1.0 and told["overruns"] == 0
 
-
 def test_a_long_line_delays_one_scan_and_no_more(bench: Bench) -> None:
     bench.cost = lambda line: 0.024 if line.startswith("force") else 0.0
     assert bench.run(0.1, (0.012, lambda: bench.operate("force Main.Band 5")))[:6] == [0, 10, 36, 40, 50, 60]
-
 
 def test_inputs_are_given_once_and_those_of_devices_again_behind_a_command(bench: Bench) -> None:
     async def visit() -> None:
@@ -144,13 +131,11 @@ def test_inputs_are_given_once_and_those_of_devices_again_behind_a_command(bench
     assert [line for line in bench.lines if line.startswith("scan")] == [
         "scan 0", "scan 10", "scan 20 Main.Raw:=41 Main.Go:=TRUE", "scan 30", "scan 40 Main.Raw:=41"]
 
-
 def write(folder: Path, piece: int = 1 << 20, count: int = 5) -> None:
     made = Journal(folder, JournalTable("never", piece, 1 << 30))
     for record in [BASE, *([Record("scan 5"), CHANGE] * count)]:
         made.append(record)
     made.close()
-
 
 def test_records_come_back_as_they_were_written_and_each_damaged_byte_is_found(tmp_path: Path) -> None:
     write(tmp_path, count=2)
@@ -164,7 +149,6 @@ def test_records_come_back_as_they_were_written_and_each_damaged_byte_is_found(t
             with pytest.raises(Trouble, match=f"{FIRST}: record {number}, from byte {data.rfind(10, 0, place) + 1} on"):
                 list(read(tmp_path))
 
-
 @pytest.mark.parametrize("loss", ["a record", "a piece", "the end of a piece"])
 def test_what_is_missing_is_found(tmp_path: Path, loss: str) -> None:
     write(tmp_path, piece=200, count=20)
@@ -177,7 +161,6 @@ def test_what_is_missing_is_found(tmp_path: Path, loss: str) -> None:
         paths[2].write_bytes(b"".join(lines[:1] + lines[2:] if loss == "a record" else lines[:-1]))
     with pytest.raises(Trouble):
         list(read(tmp_path))
-
 
 @pytest.mark.parametrize("sync, synced", [("never", 0), ("second", 1), ("always", 3)])
 def test_the_disk_is_asked_as_the_file_has_it(tmp_path: Path, monkeypatch, sync: str, synced: int) -> None:
@@ -197,7 +180,6 @@ def test_the_disk_is_asked_as_the_file_has_it(tmp_path: Path, monkeypatch, sync:
 
     asyncio.run(scans())
     assert len(sizes) == synced
-
 
 def test_values_as_lines_have_them() -> None:
     for kind, text, number in [("BOOL", "TRUE", 1), ("INT", "-32768", -32768), ("WORD", "16#FF", 255),
