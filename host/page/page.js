@@ -103,7 +103,7 @@ function tellFigures() {
   $("figures").replaceChildren(...[
     [`cycle ${status.period} ms, work ${status.work_mean} ms, at worst ${status.work_worst}`],
     [`late ${status.lateness_mean} ms, at worst ${status.lateness_worst}, ${status.skipped} places without a scan`],
-    [`${status.overruns} overruns of ${status.cycles} cycles`, status.overruns],
+    [`overruns ${status.overruns} of ${status.cycles} cycles`, status.overruns],
     [journal.trouble || `journal ${megabytes} MB, ${reach}`, journal.trouble || !journal.reaches],
     ...status.devices.filter(device => !device.good).map(device => [`${device.name}: ${device.trouble}`, true]),
   ].map(([words, bad]) => el("span", {className: bad ? "bad" : ""}, words)));

@@ -9,6 +9,7 @@ from collections.abc import Iterator
 from contextlib import suppress
 from dataclasses import dataclass
 from functools import partial
+from math import inf
 from pathlib import Path
 from subprocess import PIPE, Popen
 from typing import Any, BinaryIO
@@ -134,14 +135,15 @@ class Journal:
         if self.file.sync == "always" and not self.trouble:
             await self._sync()
         elif self.file.sync == "second" and time.monotonic() > self._synced + 1:
-            self._synced = time.monotonic()
-            self._syncing = asyncio.create_task(self._sync())  # nobody waits for it
+            self._synced = inf  # until it is done; nobody waits for it
+            self._syncing = asyncio.create_task(self._sync())
 
     async def _sync(self) -> None:
         try:
             await self.written()
             if self._file is not None:
                 await asyncio.to_thread(os.fsync, self._file)
+            self._synced = time.monotonic()
         except OSError as error:
             self.trouble = f"nothing is kept any more: {error}"
 

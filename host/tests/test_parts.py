@@ -21,9 +21,8 @@ Visit = tuple[float, Callable[[], Awaitable[object]]]  # what comes at a time
 
 class FakeClock(Clock):
     """A clock that stands still but where the test moves it, or the engine waits."""
-    def __init__(self) -> None:
-        self.time = 0.0
-        self.visits: list[Visit] = []
+    time = 0.0
+    visits: list[Visit] = []
 
     def now(self) -> float:
         return self.time
