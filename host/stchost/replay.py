@@ -124,7 +124,8 @@ async def restore(folder: Path, moment: float = inf, without: int = -1) -> Repla
         raise Trouble(f"a replay can go back to moment {min(base.moment for base in heads.values())}, and no further")
 
     def records() -> Iterable[Record]:
-        return takewhile(lambda record: record.moment <= moment, journal.read(folder, reaching[-1]))
+        found = journal.read(folder, reaching[-1])
+        return found if moment == inf else takewhile(lambda record: record.moment <= moment, found)
 
     replay = Replay([without, *(int(record.line.split()[1]) for record in records() if record.verb == "takeback")])
     await replay.feed(records())

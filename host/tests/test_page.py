@@ -23,6 +23,7 @@ class Page:
                 return webdriver.Chrome(service=webdriver.chrome.service.Service("/usr/bin/chromedriver"), options=options)
 
         self.host, self.browser = host, wait_for(start)
+        self.browser.set_script_timeout(60)  # as long as `wait_for` waits
         self.run, self.actions = self.browser.execute_script, webdriver.ActionChains(self.browser)
 
     def open(self, token: str = ACT) -> None:
