@@ -24,6 +24,7 @@ Result = TypeVar("Result")
 
 class Busy(Trouble):
     """Too many lines wait already."""
+
 class Engine:
     """Runs a plant: one session with `stc`, its devices, its journal, and a queue of what others want of it."""
 

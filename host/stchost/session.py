@@ -23,6 +23,7 @@ def program() -> str:
 
 class Gone(Trouble):
     """The program ended, or gave no reply in time, or refused a text that is to be loaded."""
+
 def words_of(line: str) -> list[str]:
     """The words of a line's first row, as `stc` cuts it."""
     return [word for word in line.partition("\n")[0].replace("\t", " ").split(" ") if word]
