@@ -60,7 +60,7 @@ fn fault_behind(
     let Finding::Fault(mut found) = first_finding(alloc, &tables, main)? else {
         return Ok(None);
     };
-    found.position.number = turn.number_before(found.position.number);
+    found.position = turn.position_before(found.position);
     if found.position.number < start {
         return Ok(None);
     }

@@ -1,4 +1,7 @@
 //! Declarations whose tokens get other numbers.
+ghost use Rattle.std.specs.Prelude.{◌≡◌, IfOk, map, option_map};
+ghost use Rattle.st_renumbered.specs.Turns.{turned_constant};
+ghost use Rattle.st_renumbered.specs.Units.{turned_block, turned_declaration, turned_initial, turned_item, turned_name, turned_range, turned_specification, turned_type};
 
 use crate::turn::Turn;
 use st_tree::tree::{
@@ -9,7 +12,9 @@ use st_tree::{Boxed, List};
 use std::alloc::AllocError;
 
 /// Copies of blocks of declarations, with the numbers that their tokens get.
-pub fn turned_blocks(turn: Turn, blocks: &[VarBlock]) -> Result<List<VarBlock>, AllocError> {
+pub fn turned_blocks(turn: Turn, blocks: &[VarBlock]) -> Result<List<VarBlock>, AllocError>
+    ensures { IfOk result (λ turned. turned ≡ map (turned_block turn.start) blocks.now) }
+{
     let mut turned = List::new(turn.alloc);
     for block in blocks {
         turned.push(VarBlock {
@@ -25,7 +30,9 @@ pub fn turned_blocks(turn: Turn, blocks: &[VarBlock]) -> Result<List<VarBlock>, 
 fn turned_declarations(
     turn: Turn,
     declarations: &[Declaration],
-) -> Result<List<Declaration>, AllocError> {
+) -> Result<List<Declaration>, AllocError>
+    ensures { IfOk result (λ turned. turned ≡ map (turned_declaration turn.start) declarations.now) }
+{
     let mut turned = List::new(turn.alloc);
     for declaration in declarations {
         turned.push(Declaration {
@@ -38,7 +45,9 @@ fn turned_declarations(
 }
 
 /// A copy of what a type is declared as, with the numbers that its tokens get.
-pub fn turned_type(turn: Turn, declared: &DeclaredType) -> Result<DeclaredType, AllocError> {
+pub fn turned_type(turn: Turn, declared: &DeclaredType) -> Result<DeclaredType, AllocError>
+    ensures { IfOk result (λ turned. turned ≡ turned_type turn.start declared.now) }
+{
     match declared {
         DeclaredType::Derived(specification, initial) => {
             let specification = turned_specification(turn, specification)?;
@@ -56,7 +65,9 @@ pub fn turned_type(turn: Turn, declared: &DeclaredType) -> Result<DeclaredType, 
 fn turned_specification(
     turn: Turn,
     specification: &Specification,
-) -> Result<Specification, AllocError> {
+) -> Result<Specification, AllocError>
+    ensures { IfOk result (λ turned. turned ≡ turned_specification turn.start specification.now) }
+{
     match specification {
         Specification::Simple(name) => Ok(Specification::Simple(turned_name(turn, name)?)),
         Specification::Array(position, ranges, element) => {
@@ -68,7 +79,9 @@ fn turned_specification(
 }
 
 /// A copy of the name of a type.
-fn turned_name(turn: Turn, name: &TypeName) -> Result<TypeName, AllocError> {
+fn turned_name(turn: Turn, name: &TypeName) -> Result<TypeName, AllocError>
+    ensures { IfOk result (λ turned. turned ≡ turned_name turn.start name.now) }
+{
     match name {
         TypeName::Elementary(position, elem) => {
             Ok(TypeName::Elementary(turn.position(*position), *elem))
@@ -78,7 +91,9 @@ fn turned_name(turn: Turn, name: &TypeName) -> Result<TypeName, AllocError> {
 }
 
 /// Copies of subscripts.
-fn turned_ranges(turn: Turn, ranges: &[Subrange]) -> Result<List<Subrange>, AllocError> {
+fn turned_ranges(turn: Turn, ranges: &[Subrange]) -> Result<List<Subrange>, AllocError>
+    ensures { IfOk result (λ turned. turned ≡ map (turned_range turn.start) ranges.now) }
+{
     let mut turned = List::new(turn.alloc);
     for range in ranges {
         turned.push(Subrange {
@@ -93,7 +108,9 @@ fn turned_ranges(turn: Turn, ranges: &[Subrange]) -> Result<List<Subrange>, Allo
 fn turned_initial(
     turn: Turn,
     initial: &Option<Boxed<Initial>>,
-) -> Result<Option<Boxed<Initial>>, AllocError> {
+) -> Result<Option<Boxed<Initial>>, AllocError>
+    ensures { IfOk result (λ turned. turned ≡ turned_initial turn.start initial.now) }
+{
     let Some(initial) = initial else {
         return Ok(None);
     };
@@ -108,7 +125,9 @@ fn turned_initial(
 }
 
 /// Copies of items of a list of initial values.
-fn turned_items(turn: Turn, items: &[ArrayElement]) -> Result<List<ArrayElement>, AllocError> {
+fn turned_items(turn: Turn, items: &[ArrayElement]) -> Result<List<ArrayElement>, AllocError>
+    ensures { IfOk result (λ turned. turned ≡ map (turned_item turn.start) items.now) }
+{
     let mut turned = List::new(turn.alloc);
     for item in items {
         turned.push(turned_item(turn, item)?)?;
@@ -117,7 +136,9 @@ fn turned_items(turn: Turn, items: &[ArrayElement]) -> Result<List<ArrayElement>
 }
 
 /// A copy of an item of a list of initial values.
-fn turned_item(turn: Turn, item: &ArrayElement) -> Result<ArrayElement, AllocError> {
+fn turned_item(turn: Turn, item: &ArrayElement) -> Result<ArrayElement, AllocError>
+    ensures { IfOk result (λ turned. turned ≡ turned_item turn.start item.now) }
+{
     match item {
         ArrayElement::Single(value) => Ok(ArrayElement::Single(turn.constant(*value))),
         ArrayElement::Repeated(position, count, value) => {
@@ -131,7 +152,9 @@ fn turned_item(turn: Turn, item: &ArrayElement) -> Result<ArrayElement, AllocErr
 fn turned_value(
     turn: Turn,
     value: &Option<Boxed<Constant>>,
-) -> Result<Option<Boxed<Constant>>, AllocError> {
+) -> Result<Option<Boxed<Constant>>, AllocError>
+    ensures { IfOk result (λ turned. turned ≡ option_map (turned_constant turn.start) value.now) }
+{
     match value {
         Some(value) => {
             let value = turn.constant(*value.get());

@@ -1,4 +1,6 @@
 //! Expressions whose tokens get other numbers.
+ghost use Rattle.std.specs.Prelude.{◌≡◌, IfOk, map};
+ghost use Rattle.st_renumbered.specs.Expressions.{turned_argument, turned_call, turned_expression, turned_operation, turned_part, turned_variable};
 
 use crate::turn::Turn;
 use st_tree::tree::{Argument, Call, Expression, Operation, Part, Variable};
@@ -7,7 +9,9 @@ use std::alloc::AllocError;
 
 /// A copy of an expression, with the numbers that its tokens get.
 #[cycle(turned)]
-pub fn turned_expression(turn: Turn, expression: &Expression) -> Result<Expression, AllocError> {
+pub fn turned_expression(turn: Turn, expression: &Expression) -> Result<Expression, AllocError>
+    ensures { IfOk result (λ turned. turned ≡ turned_expression turn.start expression.now) }
+{
     match expression {
         Expression::Constant(constant) => Ok(Expression::Constant(turn.constant(*constant))),
         Expression::Variable(variable) => {
@@ -36,13 +40,17 @@ pub fn turned_expression(turn: Turn, expression: &Expression) -> Result<Expressi
 
 /// A copy of an expression in a box.
 #[cycle(turned)]
-fn turned_inner(turn: Turn, inner: &Expression) -> Result<Boxed<Expression>, AllocError> {
+fn turned_inner(turn: Turn, inner: &Expression) -> Result<Boxed<Expression>, AllocError>
+    ensures { IfOk result (λ turned. turned ≡ turned_expression turn.start inner.now) }
+{
     Boxed::new(turn.alloc, turned_expression(turn, inner)?)
 }
 
 /// Copies of operators with their operands.
 #[cycle(turned)]
-fn turned_operations(turn: Turn, operations: &[Operation]) -> Result<List<Operation>, AllocError> {
+fn turned_operations(turn: Turn, operations: &[Operation]) -> Result<List<Operation>, AllocError>
+    ensures { IfOk result (λ turned. turned ≡ map (turned_operation turn.start) operations.now) }
+{
     let mut turned = List::new(turn.alloc);
     'operations: for operation in operations {
         turned.push(turned_operation(turn, operation)?)?;
@@ -52,7 +60,9 @@ fn turned_operations(turn: Turn, operations: &[Operation]) -> Result<List<Operat
 
 /// A copy of an operator with its operand.
 #[cycle(turned)]
-fn turned_operation(turn: Turn, operation: &Operation) -> Result<Operation, AllocError> {
+fn turned_operation(turn: Turn, operation: &Operation) -> Result<Operation, AllocError>
+    ensures { IfOk result (λ turned. turned ≡ turned_operation turn.start operation.now) }
+{
     Ok(Operation {
         position: turn.position(operation.position),
         operator: operation.operator,
@@ -62,7 +72,9 @@ fn turned_operation(turn: Turn, operation: &Operation) -> Result<Operation, Allo
 
 /// A copy of a variable.
 #[cycle(turned)]
-pub fn turned_variable(turn: Turn, variable: &Variable) -> Result<Variable, AllocError> {
+pub fn turned_variable(turn: Turn, variable: &Variable) -> Result<Variable, AllocError>
+    ensures { IfOk result (λ turned. turned ≡ turned_variable turn.start variable.now) }
+{
     Ok(Variable {
         name: turn.identifier(&variable.name)?,
         parts: turned_parts(turn, variable.parts.as_slice())?,
@@ -71,7 +83,9 @@ pub fn turned_variable(turn: Turn, variable: &Variable) -> Result<Variable, Allo
 
 /// Copies of what selects a part.
 #[cycle(turned)]
-fn turned_parts(turn: Turn, parts: &[Part]) -> Result<List<Part>, AllocError> {
+fn turned_parts(turn: Turn, parts: &[Part]) -> Result<List<Part>, AllocError>
+    ensures { IfOk result (λ turned. turned ≡ map (turned_part turn.start) parts.now) }
+{
     let mut turned = List::new(turn.alloc);
     'parts: for part in parts {
         turned.push(turned_part(turn, part)?)?;
@@ -81,7 +95,9 @@ fn turned_parts(turn: Turn, parts: &[Part]) -> Result<List<Part>, AllocError> {
 
 /// A copy of what selects a part.
 #[cycle(turned)]
-fn turned_part(turn: Turn, part: &Part) -> Result<Part, AllocError> {
+fn turned_part(turn: Turn, part: &Part) -> Result<Part, AllocError>
+    ensures { IfOk result (λ turned. turned ≡ turned_part turn.start part.now) }
+{
     match part {
         Part::Field(name) => Ok(Part::Field(turn.identifier(name)?)),
         Part::Subscripts(position, subscripts) => {
@@ -93,10 +109,9 @@ fn turned_part(turn: Turn, part: &Part) -> Result<Part, AllocError> {
 
 /// Copies of subscripts.
 #[cycle(turned)]
-fn turned_subscripts(
-    turn: Turn,
-    subscripts: &[Expression],
-) -> Result<List<Expression>, AllocError> {
+fn turned_subscripts(turn: Turn, subscripts: &[Expression]) -> Result<List<Expression>, AllocError>
+    ensures { IfOk result (λ turned. turned ≡ map (turned_expression turn.start) subscripts.now) }
+{
     let mut turned = List::new(turn.alloc);
     'subscripts: for subscript in subscripts {
         turned.push(turned_expression(turn, subscript)?)?;
@@ -106,7 +121,9 @@ fn turned_subscripts(
 
 /// A copy of a call.
 #[cycle(turned)]
-pub fn turned_call(turn: Turn, call: &Call) -> Result<Call, AllocError> {
+pub fn turned_call(turn: Turn, call: &Call) -> Result<Call, AllocError>
+    ensures { IfOk result (λ turned. turned ≡ turned_call turn.start call.now) }
+{
     Ok(Call {
         name: turn.identifier(&call.name)?,
         arguments: turned_arguments(turn, call.arguments.as_slice())?,
@@ -115,7 +132,9 @@ pub fn turned_call(turn: Turn, call: &Call) -> Result<Call, AllocError> {
 
 /// Copies of arguments.
 #[cycle(turned)]
-fn turned_arguments(turn: Turn, arguments: &[Argument]) -> Result<List<Argument>, AllocError> {
+fn turned_arguments(turn: Turn, arguments: &[Argument]) -> Result<List<Argument>, AllocError>
+    ensures { IfOk result (λ turned. turned ≡ map (turned_argument turn.start) arguments.now) }
+{
     let mut turned = List::new(turn.alloc);
     'arguments: for argument in arguments {
         turned.push(turned_argument(turn, argument)?)?;
@@ -125,7 +144,9 @@ fn turned_arguments(turn: Turn, arguments: &[Argument]) -> Result<List<Argument>
 
 /// A copy of an argument.
 #[cycle(turned)]
-fn turned_argument(turn: Turn, argument: &Argument) -> Result<Argument, AllocError> {
+fn turned_argument(turn: Turn, argument: &Argument) -> Result<Argument, AllocError>
+    ensures { IfOk result (λ turned. turned ≡ turned_argument turn.start argument.now) }
+{
     match argument {
         Argument::Positional(value) => Ok(Argument::Positional(turned_expression(turn, value)?)),
         Argument::Input(name, value) => {

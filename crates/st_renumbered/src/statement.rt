@@ -1,4 +1,8 @@
 //! Statements whose tokens get other numbers.
+ghost use Rattle.std.specs.Prelude.{◌≡◌, IfOk, map};
+ghost use Rattle.st_renumbered.specs.Expressions.{turned_expression};
+ghost use Rattle.st_renumbered.specs.Statements.{turned_case, turned_element, turned_for, turned_if, turned_label, turned_part, turned_repeat, turned_statement, turned_while};
+ghost use Rattle.st_renumbered.specs.Turns.{turned_constant};
 
 use crate::expression::{turned_call, turned_expression, turned_variable};
 use crate::turn::Turn;
@@ -14,7 +18,9 @@ use std::alloc::AllocError;
 pub fn turned_statements(
     turn: Turn,
     statements: &[Statement],
-) -> Result<List<Statement>, AllocError> {
+) -> Result<List<Statement>, AllocError>
+    ensures { IfOk result (λ turned. turned ≡ map (turned_statement turn.start) statements.now) }
+{
     let mut turned = List::new(turn.alloc);
     'statements: for statement in statements {
         turned.push(turned_statement(turn, statement)?)?;
@@ -24,7 +30,9 @@ pub fn turned_statements(
 
 /// A copy of a statement.
 #[cycle(turned)]
-fn turned_statement(turn: Turn, statement: &Statement) -> Result<Statement, AllocError> {
+fn turned_statement(turn: Turn, statement: &Statement) -> Result<Statement, AllocError>
+    ensures { IfOk result (λ turned. turned ≡ turned_statement turn.start statement.now) }
+{
     let alloc = turn.alloc;
     match statement {
         Statement::Empty(position) => Ok(Statement::Empty(turn.position(*position))),
@@ -62,13 +70,17 @@ fn turned_statement(turn: Turn, statement: &Statement) -> Result<Statement, Allo
 }
 
 /// A copy of an expression in a box.
-fn boxed(turn: Turn, expression: &Expression) -> Result<Boxed<Expression>, AllocError> {
+fn boxed(turn: Turn, expression: &Expression) -> Result<Boxed<Expression>, AllocError>
+    ensures { IfOk result (λ turned. turned ≡ turned_expression turn.start expression.now) }
+{
     Boxed::new(turn.alloc, turned_expression(turn, expression)?)
 }
 
 /// A copy of IF.
 #[cycle(turned)]
-fn turned_if(turn: Turn, statement: &IfStatement) -> Result<IfStatement, AllocError> {
+fn turned_if(turn: Turn, statement: &IfStatement) -> Result<IfStatement, AllocError>
+    ensures { IfOk result (λ turned. turned ≡ turned_if turn.start statement.now) }
+{
     Ok(IfStatement {
         position: turn.position(statement.position),
         parts: turned_parts(turn, statement.parts.as_slice())?,
@@ -78,10 +90,9 @@ fn turned_if(turn: Turn, statement: &IfStatement) -> Result<IfStatement, AllocEr
 
 /// Copies of the parts of IF.
 #[cycle(turned)]
-fn turned_parts(
-    turn: Turn,
-    parts: &[ConditionalPart],
-) -> Result<List<ConditionalPart>, AllocError> {
+fn turned_parts(turn: Turn, parts: &[ConditionalPart]) -> Result<List<ConditionalPart>, AllocError>
+    ensures { IfOk result (λ turned. turned ≡ map (turned_part turn.start) parts.now) }
+{
     let mut turned = List::new(turn.alloc);
     'parts: for part in parts {
         turned.push(turned_part(turn, part)?)?;
@@ -91,7 +102,9 @@ fn turned_parts(
 
 /// A copy of a part of IF.
 #[cycle(turned)]
-fn turned_part(turn: Turn, part: &ConditionalPart) -> Result<ConditionalPart, AllocError> {
+fn turned_part(turn: Turn, part: &ConditionalPart) -> Result<ConditionalPart, AllocError>
+    ensures { IfOk result (λ turned. turned ≡ turned_part turn.start part.now) }
+{
     Ok(ConditionalPart {
         condition: turned_expression(turn, &part.condition)?,
         statements: turned_statements(turn, part.statements.as_slice())?,
@@ -100,7 +113,9 @@ fn turned_part(turn: Turn, part: &ConditionalPart) -> Result<ConditionalPart, Al
 
 /// A copy of CASE.
 #[cycle(turned)]
-fn turned_case(turn: Turn, statement: &CaseStatement) -> Result<CaseStatement, AllocError> {
+fn turned_case(turn: Turn, statement: &CaseStatement) -> Result<CaseStatement, AllocError>
+    ensures { IfOk result (λ turned. turned ≡ turned_case turn.start statement.now) }
+{
     Ok(CaseStatement {
         position: turn.position(statement.position),
         selector: boxed(turn, statement.selector.get())?,
@@ -111,7 +126,9 @@ fn turned_case(turn: Turn, statement: &CaseStatement) -> Result<CaseStatement, A
 
 /// Copies of cases.
 #[cycle(turned)]
-fn turned_cases(turn: Turn, cases: &[CaseElement]) -> Result<List<CaseElement>, AllocError> {
+fn turned_cases(turn: Turn, cases: &[CaseElement]) -> Result<List<CaseElement>, AllocError>
+    ensures { IfOk result (λ turned. turned ≡ map (turned_element turn.start) cases.now) }
+{
     let mut turned = List::new(turn.alloc);
     'cases: for case in cases {
         turned.push(turned_element(turn, case)?)?;
@@ -121,7 +138,9 @@ fn turned_cases(turn: Turn, cases: &[CaseElement]) -> Result<List<CaseElement>, 
 
 /// A copy of a case.
 #[cycle(turned)]
-fn turned_element(turn: Turn, case: &CaseElement) -> Result<CaseElement, AllocError> {
+fn turned_element(turn: Turn, case: &CaseElement) -> Result<CaseElement, AllocError>
+    ensures { IfOk result (λ turned. turned ≡ turned_element turn.start case.now) }
+{
     Ok(CaseElement {
         labels: turned_labels(turn, case.labels.as_slice())?,
         statements: turned_statements(turn, case.statements.as_slice())?,
@@ -129,7 +148,9 @@ fn turned_element(turn: Turn, case: &CaseElement) -> Result<CaseElement, AllocEr
 }
 
 /// Copies of labels.
-fn turned_labels(turn: Turn, labels: &[Label]) -> Result<List<Label>, AllocError> {
+fn turned_labels(turn: Turn, labels: &[Label]) -> Result<List<Label>, AllocError>
+    ensures { IfOk result (λ turned. turned ≡ map (turned_label turn.start) labels.now) }
+{
     let mut turned = List::new(turn.alloc);
     for label in labels {
         turned.push(turned_label(turn, label)?)?;
@@ -138,7 +159,9 @@ fn turned_labels(turn: Turn, labels: &[Label]) -> Result<List<Label>, AllocError
 }
 
 /// A copy of a label.
-fn turned_label(turn: Turn, label: &Label) -> Result<Label, AllocError> {
+fn turned_label(turn: Turn, label: &Label) -> Result<Label, AllocError>
+    ensures { IfOk result (λ turned. turned ≡ turned_label turn.start label.now) }
+{
     match label {
         Label::Value(value) => Ok(Label::Value(turn.constant(*value))),
         Label::Range(first, last) => {
@@ -149,13 +172,17 @@ fn turned_label(turn: Turn, label: &Label) -> Result<Label, AllocError> {
 }
 
 /// A copy of a literal in a box.
-fn boxed_constant(turn: Turn, constant: Constant) -> Result<Boxed<Constant>, AllocError> {
+fn boxed_constant(turn: Turn, constant: Constant) -> Result<Boxed<Constant>, AllocError>
+    ensures { IfOk result (λ turned. turned ≡ turned_constant turn.start constant) }
+{
     Boxed::new(turn.alloc, turn.constant(constant))
 }
 
 /// A copy of FOR.
 #[cycle(turned)]
-fn turned_for(turn: Turn, statement: &ForStatement) -> Result<ForStatement, AllocError> {
+fn turned_for(turn: Turn, statement: &ForStatement) -> Result<ForStatement, AllocError>
+    ensures { IfOk result (λ turned. turned ≡ turned_for turn.start statement.now) }
+{
     Ok(ForStatement {
         position: turn.position(statement.position),
         variable: turn.identifier(&statement.variable)?,
@@ -171,7 +198,9 @@ fn turned_for(turn: Turn, statement: &ForStatement) -> Result<ForStatement, Allo
 
 /// A copy of WHILE.
 #[cycle(turned)]
-fn turned_while(turn: Turn, statement: &WhileStatement) -> Result<WhileStatement, AllocError> {
+fn turned_while(turn: Turn, statement: &WhileStatement) -> Result<WhileStatement, AllocError>
+    ensures { IfOk result (λ turned. turned ≡ turned_while turn.start statement.now) }
+{
     Ok(WhileStatement {
         position: turn.position(statement.position),
         condition: boxed(turn, statement.condition.get())?,
@@ -181,7 +210,9 @@ fn turned_while(turn: Turn, statement: &WhileStatement) -> Result<WhileStatement
 
 /// A copy of REPEAT.
 #[cycle(turned)]
-fn turned_repeat(turn: Turn, statement: &RepeatStatement) -> Result<RepeatStatement, AllocError> {
+fn turned_repeat(turn: Turn, statement: &RepeatStatement) -> Result<RepeatStatement, AllocError>
+    ensures { IfOk result (λ turned. turned ≡ turned_repeat turn.start statement.now) }
+{
     Ok(RepeatStatement {
         position: turn.position(statement.position),
         statements: turned_statements(turn, statement.statements.as_slice())?,

@@ -1,5 +1,6 @@
 //! Which numbers tokens get.
-ghost use Rattle.std.specs.Prelude.{◌≡◌, ◌+◌, ◌<◌, ◌%◌, ◌^◌};
+ghost use Rattle.std.specs.Prelude.{◌≡◌, IfOk, map};
+ghost use Rattle.st_renumbered.specs.Turns.{position_before, turned_constant, turned_duration, turned_identifier, turned_integer, turned_number, turned_position};
 
 use st_tree::tree::{Constant, Duration, Identifier, Position, SignedInteger};
 use st_tree::{List, Word};
@@ -15,25 +16,36 @@ pub struct Turn {
 
 impl Turn {
     /// The number that the token of this number gets.
-    pub fn number(self, number: u32) -> u32 {
+    fn number(self, number: u32) -> u32
+        ensures { result ≡ turned_number self.start number }
+    {
         number.wrapping_sub(self.start)
     }
 
-    /// The number that the token had which has got this one.
-    pub fn number_before(self, number: u32) -> u32 {
-        number.wrapping_add(self.start)
-    }
-
     /// A place, with the number that its token gets.
-    pub fn position(self, position: Position) -> Position {
+    pub fn position(self, position: Position) -> Position
+        ensures { result ≡ turned_position self.start position }
+    {
         Position {
             number: self.number(position.number),
             line: position.line,
         }
     }
 
+    /// The place, with the number that its token had before it got this one.
+    pub fn position_before(self, position: Position) -> Position
+        ensures { result ≡ position_before self.start position }
+    {
+        Position {
+            number: position.number.wrapping_add(self.start),
+            line: position.line,
+        }
+    }
+
     /// A copy of a name, with the number that its token gets.
-    pub fn identifier(self, name: &Identifier) -> Result<Identifier, AllocError> {
+    pub fn identifier(self, name: &Identifier) -> Result<Identifier, AllocError>
+        ensures { IfOk result (λ turned. turned ≡ turned_identifier self.start name.now) }
+    {
         Ok(Identifier {
             position: self.position(name.position),
             spelling: Word::from_slice(self.alloc, name.spelling.letters())?,
@@ -41,7 +53,9 @@ impl Turn {
     }
 
     /// Copies of names, with the numbers that their tokens get.
-    pub fn identifiers(self, names: &[Identifier]) -> Result<List<Identifier>, AllocError> {
+    pub fn identifiers(self, names: &[Identifier]) -> Result<List<Identifier>, AllocError>
+        ensures { IfOk result (λ turned. turned ≡ map (turned_identifier self.start) names.now) }
+    {
         let mut turned = List::new(self.alloc);
         for name in names {
             turned.push(self.identifier(name)?)?;
@@ -50,7 +64,9 @@ impl Turn {
     }
 
     /// A number of the text, with the number that its token gets.
-    pub fn signed_integer(self, number: SignedInteger) -> SignedInteger {
+    pub fn signed_integer(self, number: SignedInteger) -> SignedInteger
+        ensures { result ≡ turned_integer self.start number }
+    {
         SignedInteger {
             position: self.position(number.position),
             is_negative: number.is_negative,
@@ -59,7 +75,9 @@ impl Turn {
     }
 
     /// A duration, with the number that its token gets.
-    pub fn duration(self, duration: Duration) -> Duration {
+    pub fn duration(self, duration: Duration) -> Duration
+        ensures { result ≡ turned_duration self.start duration }
+    {
         Duration {
             position: self.position(duration.position),
             milliseconds: duration.milliseconds,
@@ -67,7 +85,9 @@ impl Turn {
     }
 
     /// A literal, with the number that its token gets.
-    pub fn constant(self, constant: Constant) -> Constant {
+    pub fn constant(self, constant: Constant) -> Constant
+        ensures { result ≡ turned_constant self.start constant }
+    {
         match constant {
             Constant::Integer(number) => Constant::Integer(self.signed_integer(number)),
             Constant::Typed(position, value) => Constant::Typed(self.position(position), value),

@@ -1,4 +1,6 @@
 //! Units whose tokens get other numbers.
+ghost use Rattle.std.specs.Prelude.{◌≡◌, IfOk, map, option_map};
+ghost use Rattle.st_renumbered.specs.Units.{turned_association, turned_body, turned_element, turned_pou, turned_qualifier, turned_transition, turned_type_declaration, turned_unit, turned_units};
 
 use crate::declaration::{turned_blocks, turned_type};
 use crate::expression::turned_expression;
@@ -12,7 +14,9 @@ use st_tree::tree::{
 use std::alloc::AllocError;
 
 /// Copies of units, with the numbers that their tokens get. Nothing else differs.
-pub fn turned_units(turn: Turn, units: &[Unit]) -> Result<Vec<Unit>, AllocError> {
+pub fn turned_units(turn: Turn, units: &[Unit]) -> Result<Vec<Unit>, AllocError>
+    ensures { IfOk result (λ turned. turned.items ≡ turned_units turn.start units.now) }
+{
     let mut turned = Vec::new(turn.alloc);
     for unit in units {
         turned.push(turned_unit(turn, unit)?)?;
@@ -21,7 +25,9 @@ pub fn turned_units(turn: Turn, units: &[Unit]) -> Result<Vec<Unit>, AllocError>
 }
 
 /// A copy of a unit.
-fn turned_unit(turn: Turn, unit: &Unit) -> Result<Unit, AllocError> {
+fn turned_unit(turn: Turn, unit: &Unit) -> Result<Unit, AllocError>
+    ensures { IfOk result (λ turned. turned ≡ turned_unit turn.start unit.now) }
+{
     match unit {
         Unit::Types(position, types) => {
             let types = turned_types(turn, types.as_slice())?;
@@ -40,10 +46,9 @@ fn turned_unit(turn: Turn, unit: &Unit) -> Result<Unit, AllocError> {
 }
 
 /// Copies of the types that a unit declares.
-fn turned_types(
-    turn: Turn,
-    types: &[TypeDeclaration],
-) -> Result<List<TypeDeclaration>, AllocError> {
+fn turned_types(turn: Turn, types: &[TypeDeclaration]) -> Result<List<TypeDeclaration>, AllocError>
+    ensures { IfOk result (λ turned. turned ≡ map (turned_type_declaration turn.start) types.now) }
+{
     let mut turned = List::new(turn.alloc);
     for declaration in types {
         turned.push(TypeDeclaration {
@@ -55,7 +60,9 @@ fn turned_types(
 }
 
 /// A copy of a function block or a program.
-fn turned_pou(turn: Turn, pou: &Pou) -> Result<Pou, AllocError> {
+fn turned_pou(turn: Turn, pou: &Pou) -> Result<Pou, AllocError>
+    ensures { IfOk result (λ turned. turned ≡ turned_pou turn.start pou.now) }
+{
     Ok(Pou {
         position: turn.position(pou.position),
         name: turn.identifier(&pou.name)?,
@@ -65,7 +72,9 @@ fn turned_pou(turn: Turn, pou: &Pou) -> Result<Pou, AllocError> {
 }
 
 /// A copy of what a function block or a program does.
-fn turned_body(turn: Turn, body: &Body) -> Result<Body, AllocError> {
+fn turned_body(turn: Turn, body: &Body) -> Result<Body, AllocError>
+    ensures { IfOk result (λ turned. turned ≡ turned_body turn.start body.now) }
+{
     match body {
         Body::Statements(statements) => {
             Ok(Body::Statements(turned_statements(turn, statements.as_slice())?))
@@ -75,10 +84,9 @@ fn turned_body(turn: Turn, body: &Body) -> Result<Body, AllocError> {
 }
 
 /// Copies of the elements of a chart.
-fn turned_elements(
-    turn: Turn,
-    elements: &[ChartElement],
-) -> Result<List<ChartElement>, AllocError> {
+fn turned_elements(turn: Turn, elements: &[ChartElement]) -> Result<List<ChartElement>, AllocError>
+    ensures { IfOk result (λ turned. turned ≡ map (turned_element turn.start) elements.now) }
+{
     let mut turned = List::new(turn.alloc);
     for element in elements {
         turned.push(turned_element(turn, element)?)?;
@@ -87,7 +95,9 @@ fn turned_elements(
 }
 
 /// A copy of an element of a chart.
-fn turned_element(turn: Turn, element: &ChartElement) -> Result<ChartElement, AllocError> {
+fn turned_element(turn: Turn, element: &ChartElement) -> Result<ChartElement, AllocError>
+    ensures { IfOk result (λ turned. turned ≡ turned_element turn.start element.now) }
+{
     match element {
         ChartElement::Step(step) => Ok(ChartElement::Step(Step {
             position: turn.position(step.position),
@@ -110,7 +120,9 @@ fn turned_element(turn: Turn, element: &ChartElement) -> Result<ChartElement, Al
 fn turned_associations(
     turn: Turn,
     associations: &[Association],
-) -> Result<List<Association>, AllocError> {
+) -> Result<List<Association>, AllocError>
+    ensures { IfOk result (λ turned. turned ≡ map (turned_association turn.start) associations.now) }
+{
     let mut turned = List::new(turn.alloc);
     for association in associations {
         turned.push(Association {
@@ -125,7 +137,9 @@ fn turned_associations(
 fn turned_qualifier(
     turn: Turn,
     qualifier: &Option<ActionQualifier>,
-) -> Result<Option<ActionQualifier>, AllocError> {
+) -> Result<Option<ActionQualifier>, AllocError>
+    ensures { IfOk result (λ turned. turned ≡ option_map (turned_qualifier turn.start) qualifier.now) }
+{
     let Some(qualifier) = qualifier else {
         return Ok(None);
     };
@@ -138,7 +152,9 @@ fn turned_qualifier(
 }
 
 /// A copy of a transition.
-fn turned_transition(turn: Turn, transition: &Transition) -> Result<Transition, AllocError> {
+fn turned_transition(turn: Turn, transition: &Transition) -> Result<Transition, AllocError>
+    ensures { IfOk result (λ turned. turned ≡ turned_transition turn.start transition.now) }
+{
     Ok(Transition {
         position: turn.position(transition.position),
         name: match &transition.name {
