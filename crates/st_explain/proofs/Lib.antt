@@ -1,3 +1,5 @@
+mod Behind
 mod Ordered
 mod Passing
 mod Telling
+mod Told

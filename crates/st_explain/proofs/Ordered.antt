@@ -1,50 +1,60 @@
--- Faults in the order of their tokens, and what is told of them.
-use Rattle.std.proofs.Common.{◌≡◌, ℕ, ◌+◌, ◌<◌, ◌≤◌, List, [], ◌∷◌, ◌++◌, length, get_or, take, refl, sym, ap, subst, arith}
+-- Faults one behind the other.
+use Rattle.std.proofs.Common.{◌≡◌, ℕ, ◌+◌, ◌<◌, ◌≤◌, List, [], ◌∷◌, ◌++◌, length, refl, sym, ap, ◌∙◌, subst, inl, arith}
 use Rattle.std.specs.List.{All}
-use Rattle.std.proofs.lemmas.List.Elements.{All-cons, All-head, All-nil, All-push, All-tail, All-weaker}
-use Rattle.std.proofs.lemmas.List.{take_more}
+use Rattle.std.proofs.lemmas.List.Elements.{All-cons, All-nil, All-weaker}
+use Rattle.st_tree.specs.declared.tree.unit.Unit.{Unit as Section}
 use Rattle.st_faults.specs.declared.fault.Fault.{Fault}
-use Rattle.st_positions.specs.declared.lexeme.Lexeme.{Lexeme}
-use Rattle.st_explain.specs.Messages.{AreInOrder, AreTold, IsToldAt, more, none}
+use Rattle.st_explain.specs.Collections.{AreInOrder, AreLater, AreNext, HasNoNext, IsNext, last_number}
 
--- one more, behind the last
-pub order_push : (fs : List Fault) (g : Fault) → AreInOrder fs → All (λ f. f.position.number < g.position.number) fs → AreInOrder (fs ++ g ∷ [])
-order_push [] g o below = (All-nil (λ h. g.position.number < h.position.number), tt)
-order_push (f ∷ fs) g o below = (
-  All-push (λ h. f.position.number < h.position.number) fs g o.0 (All-head (λ h. h.position.number < g.position.number) f fs below),
-  order_push fs g o.1 (All-tail (λ h. h.position.number < g.position.number) f fs below),
-)
+module _ (us : List Section) (main : List ℕ) where
+  -- those behind a token stand behind it, in order
+  pub next_in_order : (number : ℕ) (gs : List Fault) → AreNext us main number gs → All (λ g. number < g.position.number) gs × AreInOrder gs
+  next_in_order number [] next = (All-nil (λ g. number < g.position.number), tt)
+  next_in_order number (g ∷ gs) next =
+      let rest = next_in_order g.position.number gs next.1 in
+      let below : number < g.position.number = omega (arith, next.0.behind) in (
+        All-cons (λ h. number < h.position.number) g gs below
+            (All-weaker (λ h. g.position.number < h.position.number) (λ h. number < h.position.number) (λ h k. omega (arith, below, k)) gs rest.0),
+        (rest.0, rest.1),
+      )
 
--- these faults begin with the first one, and stand before the last one or are it
-pub record AreFrom (first : Fault) (fs : List Fault) (last : Fault) : Type 0 where
-  pub begin : (later : List Fault) × (fs ≡ first ∷ later)
-  pub order : AreInOrder fs
-  pub upto : All (λ f. f.position.number ≤ last.position.number) fs
+  -- one more, behind the last
+  next_push : (number : ℕ) (gs : List Fault) (h : Fault) → AreNext us main number gs → IsNext us main (last_number number gs + 1) h → AreNext us main number (gs ++ h ∷ [])
+  next_push number [] h next one = (one, tt)
+  next_push number (g ∷ gs) h next one = (next.0, next_push g.position.number gs h next.1 one)
 
-pub from_first : (first : Fault) (fs : List Fault) → fs ≡ first ∷ [] → AreFrom first fs first
-from_first first fs e = subst (λ xs. AreFrom first xs first) (sym e) (record {
-  begin = ([], refl);
-  order = (All-nil (λ g. first.position.number < g.position.number), tt);
-  upto = All-cons (λ f. f.position.number ≤ first.position.number) first [] (omega arith) (All-nil (λ f. f.position.number ≤ first.position.number));
-})
+  last_push : (number : ℕ) (gs : List Fault) (h : Fault) → last_number number (gs ++ h ∷ []) ≡ h.position.number
+  last_push number [] h = refl
+  last_push number (g ∷ gs) h = last_push g.position.number gs h
 
-pub from_push : (first : Fault) (fs gs : List Fault) (last g : Fault) → gs ≡ fs ++ g ∷ [] → AreFrom first fs last → last.position.number < g.position.number → AreFrom first gs g
-from_push first fs gs last g e w below = subst (λ xs. AreFrom first xs g) (sym e) (record {
-  begin = (w.begin.0 ++ g ∷ [], ap (λ xs. xs ++ g ∷ []) w.begin.1);
-  order = order_push fs g w.order (All-weaker (λ f. f.position.number ≤ last.position.number) (λ f. f.position.number < g.position.number) (λ f h. omega arith) fs w.upto);
-  upto = All-push (λ f. f.position.number ≤ g.position.number) fs g
-      (All-weaker (λ f. f.position.number ≤ last.position.number) (λ f. f.position.number ≤ g.position.number) (λ f h. omega arith) fs w.upto) (omega arith);
-})
+  -- these faults are the first one, and those behind it up to the last one
+  pub record AreFrom (first : Fault) (fs : List Fault) (last : Fault) : Type 0 where
+    pub later : List Fault
+    pub begin : fs ≡ first ∷ later
+    pub next : AreNext us main first.position.number later
+    pub ends : last_number first.position.number later ≡ last.position.number
 
--- ---- what is told
+  pub from_first : (first : Fault) (fs : List Fault) → fs ≡ first ∷ [] → AreFrom first fs first
+  from_first first fs e = record { later = []; begin = e; next = tt; ends = refl }
 
-module _ (file text : List ℕ) (lexemes : List Lexeme) where
-  pub told_push : (fs : List Fault) (f : Fault) (old mid new : List ℕ) → AreTold file text lexemes fs old mid → IsToldAt file text lexemes f mid new
-      → AreTold file text lexemes (fs ++ f ∷ []) old new
-  told_push [] f old mid new none h = more h none
-  told_push (g ∷ fs) f old mid new (more {mid = between} k w) h = more k (told_push fs f between mid new w h)
+  pub from_push : (first : Fault) (fs gs : List Fault) (last g : Fault) → gs ≡ fs ++ g ∷ [] → AreFrom first fs last → IsNext us main (last.position.number + 1) g
+      → AreFrom first gs g
+  from_push first fs gs last g e w one = record {
+    later = w.later ++ g ∷ [];
+    begin = e ∙ ap (λ xs. xs ++ g ∷ []) w.begin;
+    next = next_push first.position.number w.later g w.next (subst (λ n. IsNext us main (n + 1) g) (sym w.ends) one);
+    ends = last_push first.position.number w.later g;
+  }
 
-  pub told_more : (fs : List Fault) (i : ℕ) (d : Fault) (old mid new : List ℕ) → i < length fs → AreTold file text lexemes (take i fs) old mid
-      → IsToldAt file text lexemes (get_or fs i d) mid new → AreTold file text lexemes (take (i + 1) fs) old new
-  told_more fs i d old mid new below w h =
-      subst (λ xs. AreTold file text lexemes xs old new) (sym (take_more fs i d below)) (told_push (take i fs) (get_or fs i d) old mid new w h)
+  -- they are the later ones, where there are so many, or none is behind the last
+  pub later_of : (most : ℕ) (first : Fault) (fs : List Fault) (last : Fault) → AreFrom first fs last → length fs ≤ most
+      → (length fs < most → HasNoNext us main (last.position.number + 1)) → (later : List Fault) × (fs ≡ first ∷ later) × AreLater us main most first later
+  later_of most first fs last w few all = (
+    w.later,
+    w.begin,
+    record {
+      next = w.next;
+      few = subst (λ xs. length xs ≤ most) w.begin few;
+      all = λ below. inl (subst (λ n. HasNoNext us main (n + 1)) (sym w.ends) (all (subst (λ xs. length xs < most) (sym w.begin) below)));
+    },
+  )

@@ -1,12 +1,13 @@
 -- What is found of the program of a text whose units have no fault.
-use Rattle.std.proofs.Common.{◌≡◌, ℕ, List, [], length, ◌∷◌, ◌<◌, true, false, Option, Some, None, arith}
+use Rattle.std.proofs.Common.{◌≡◌, ℕ, List, [], length, ◌∷◌, ◌<◌, true, false, Some, None, ap, sym, ◌∙◌}
 use Rattle.std.proofs.lemmas.List.Quantifiers.{position-Some}
 use Rattle.st_faults.specs.Faults.{fault}
+use Rattle.st_faults.specs.declared.fault.Fault.{Fault}
 use Rattle.st_faults.specs.declared.fault.Rule.TheVariants as rules
 use Rattle.st_tree.specs.declared.tree.unit.Unit.{Unit as Section}
 use Rattle.st_types.specs.Names.{Named, unit_at, units_of}
 use Rattle.st_types.proofs.Units.{there}
-use Rattle.st_check.specs.Faults.{HasNoProgram, IsAccepted, IsFirst, is_main, program_named}
+use Rattle.st_check.specs.Faults.{HasNoProgram, IsAccepted, IsFault, IsFirst, is_main, program_named, size, unit}
 use Rattle.st_check.specs.Programs.{IsOrdered}
 use Rattle.st_check.proofs.Passing.{accepted, is_large, missing, ordered_has_none, too_large}
 
@@ -26,3 +27,13 @@ module _ (text : List Section) (main order : List ℕ) (w : IsOrdered text order
 
   pub finds_size : (u : Named) → unit_at (units_of text) number ≡ Some u → is_large text u ≡ true → IsFirst text main (fault u.name.position rules.LimitPassed)
   finds_size u there large = too_large text main (ordered_has_none text order w) number u is there large
+
+  -- each fault stands at its name
+  pub finds_only : (u : Named) → unit_at (units_of text) number ≡ Some u → (f : Fault) → IsFault text main f → f.position.number ≡ u.name.position.number
+  finds_only u there f (unit h) = absurd (ordered_has_none text order w f h)
+  finds_only u there f (size {i = i} {u = v} none same is_there large) =
+      let numbers : Some i ≡ Some number = sym same ∙ is in
+      let e : i ≡ number = cc in
+      let units : Some v ≡ Some u = sym is_there ∙ ap (unit_at (units_of text)) e ∙ there in
+      let same_unit : v ≡ u = cc in
+      ap (λ (x : Named). x.name.position.number) same_unit

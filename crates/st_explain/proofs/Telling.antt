@@ -1,5 +1,5 @@
 -- The message on a text, where it is known what was found in it.
-use Rattle.std.proofs.Common.{◌≡◌, ℕ, ◌<◌, ◌≤◌, ◌^◌, List, [], ◌∷◌, ◌++◌, append_assoc, length, Some, None, refl, sym, ap, ◌∙◌, subst, arith}
+use Rattle.std.proofs.Common.{◌≡◌, ℕ, ◌<◌, ◌≤◌, ◌^◌, List, [], ◌∷◌, ◌++◌, append_assoc, length, Some, None, refl, sym, ap, ◌∙◌, subst, inr, arith}
 use Rattle.std.specs.Prelude.{IfOk, Ok, OnOk, Err, Result}
 use Rattle.std.specs.List.{All}
 use Rattle.std.proofs.lemmas.List.Elements.{All-nil}
@@ -14,11 +14,14 @@ use Rattle.st_positions.specs.declared.lexeme.Lexeme.{Lexeme}
 use Rattle.st_messages.specs.Places.{IsTold}
 use Rattle.st_check.specs.Faults.{HasNoProgram, IsAccepted, IsFirst}
 use Rattle.st_check.specs.Laws.{FirstIsOne}
+use Rattle.st_explain.specs.Collections.{AreAllAt, AreLater, AreNext, HasNoneBehind, last_number}
 use Rattle.st_explain.specs.Findings.{Finds}
 use Rattle.st_explain.specs.declared.finding.Finding.{Finding}
-use Rattle.st_explain.specs.Messages.{AreInOrder, AreTold, IsRead, IsToldAt, IsUnread, TellsEach, TellsFault, TellsFaults, TellsFrom, TellsNoProgram, TellsUnits, more, none, syntax_number}
+use Rattle.st_explain.specs.Messages.{AreTold, ExplainsFirst, IsMessage, IsRead, IsToldAt, TellsFault, TellsFaults, TellsFrom, TellsNoProgram, TellsSyntax, TellsUnits, more, none, syntax_number}
 use Rattle.st_explain.specs.Messages as says
 use Rattle.st_explain.specs.Places.{code_of, start_at}
+use Rattle.st_explain.proofs.Ordered.{next_in_order}
+use Rattle.st_explain.proofs.Told.{told_alone}
 
 -- ---- at a token
 
@@ -49,45 +52,54 @@ told_same file text lexemes f g old new same t = (
       (subst (λ n. IsTold old new file text (start_at lexemes n) (code_of g.rule) t.0) same.0 t.1),
 )
 
-fault_same : (file text : List ℕ) (f g : Fault) (message : List ℕ) → (g.position.number ≡ f.position.number) × (g.rule ≡ f.rule)
-    → TellsFault file text g message → TellsFault file text f message
-fault_same file text f g message same t = record { tokens = t.tokens; lexemes = t.lexemes; are = t.are; told = told_same file text t.lexemes f g [] message same t.told }
-
--- one fault alone
-pub from_fault : (file text : List ℕ) (f : Fault) (message : List ℕ) → TellsFault file text f message → TellsFrom file text f message
-from_fault file text f message t = record {
-  later = [];
-  told = record { tokens = t.tokens; lexemes = t.lexemes; are = t.are; told = more t.told none };
-  order = (All-nil (λ g. f.position.number < g.position.number), tt);
-  few = omega arith;
-}
-
 head_same : (file text : List ℕ) (lexemes : List Lexeme) (f g : Fault) (fs : List Fault) (old new : List ℕ) → (g.position.number ≡ f.position.number) × (g.rule ≡ f.rule)
     → AreTold file text lexemes (g ∷ fs) old new → AreTold file text lexemes (f ∷ fs) old new
 head_same file text lexemes f g fs old new same (more {mid = mid} t w) = more (told_same file text lexemes f g old mid same t) w
 
-from_same : (file text : List ℕ) (f g : Fault) (message : List ℕ) → (g.position.number ≡ f.position.number) × (g.rule ≡ f.rule)
-    → TellsFrom file text g message → TellsFrom file text f message
-from_same file text f g message same t = record {
-  later = t.later;
-  told = record {
-    tokens = t.told.tokens;
-    lexemes = t.told.lexemes;
-    are = t.told.are;
-    told = head_same file text t.told.lexemes f g t.later [] message same t.told.told;
-  };
-  order = (subst (λ n. All (λ h. n < h.position.number) t.later) same.0 t.order.0, t.order.1);
-  few = t.few;
-}
+module _ (most : ℕ) (file text main : List ℕ) (us : List Section) where
+  -- two faults at one token that break one rule are told alike, with those behind them
+  pub from_same : (f g : Fault) (message : List ℕ) → (g.position.number ≡ f.position.number) × (g.rule ≡ f.rule)
+      → TellsFrom most file text main us g message → TellsFrom most file text main us f message
+  from_same f g message same t = record {
+    later = t.later;
+    told = record {
+      tokens = t.told.tokens;
+      lexemes = t.told.lexemes;
+      are = t.told.are;
+      told = head_same file text t.told.lexemes f g t.later [] message same t.told.told;
+    };
+    order = (subst (λ n. All (λ h. n < h.position.number) t.later) same.0 t.order.0, t.order.1);
+    are = record {
+      next = subst (λ n. AreNext us main n t.later) same.0 t.are.next;
+      few = t.are.few;
+      all = λ below. subst (λ n. HasNoneBehind us main (last_number n t.later)) same.0 (t.are.all below);
+    };
+  }
 
-pub tells_from : (file text : List ℕ) (f : Fault) (fs : List Fault) (message : List ℕ) → (later : List Fault) × (fs ≡ f ∷ later) → AreInOrder fs → length fs ≤ 100
-    → TellsFaults file text fs message → TellsFrom file text f message
-tells_from file text f fs message w order few t = record {
-  later = w.0;
-  told = subst (λ xs. TellsFaults file text xs message) w.1 t;
-  order = subst AreInOrder w.1 order;
-  few = subst (λ xs. length xs ≤ 100) w.1 few;
-}
+  -- one fault, where no token has another
+  pub from_alone : (f : Fault) (message : List ℕ) → 1 ≤ most → AreAllAt us main f.position.number → TellsFault file text f message → TellsFrom most file text main us f message
+  from_alone f message one only t = record {
+    later = [];
+    told = record { tokens = t.tokens; lexemes = t.lexemes; are = t.are; told = more t.told none };
+    order = (All-nil (λ g. f.position.number < g.position.number), tt);
+    are = record { next = tt; few = omega (arith, one); all = λ below. inr only };
+  }
+
+  pub from_faults : (f : Fault) (fs : List Fault) (message : List ℕ) → (later : List Fault) × (fs ≡ f ∷ later) × AreLater us main most f later
+      → TellsFaults file text fs message → TellsFrom most file text main us f message
+  from_faults f fs message w t = record {
+    later = w.0;
+    told = subst (λ xs. TellsFaults file text xs message) w.1 t;
+    order = next_in_order us main f.position.number w.0 w.2.next;
+    are = w.2;
+  }
+
+-- of one fault at most the first one is told
+pub first_alone : (file text main : List ℕ) (us : List Section) (f : Fault) (message : List ℕ) → TellsFrom 1 file text main us f message → TellsFault file text f message
+first_alone file text main us f message t = alone t.later t.are.few t.told where
+  alone : (later : List Fault) → length (f ∷ later) ≤ 1 → TellsFaults file text (f ∷ later) message → TellsFault file text f message
+  alone [] few w = record { tokens = w.tokens; lexemes = w.lexemes; are = w.are; told = told_alone file text w.lexemes f [] message w.told }
+  alone (g ∷ gs) few w = absurd (omega (arith, few))
 
 -- a heading in an empty message, and what follows it
 pub headed : (head title line rest a b c d e : List ℕ) → a ≡ [] → b ≡ a ++ head → c ≡ b ++ title → d ≡ c ++ line → e ≡ d ++ rest → (all : List ℕ) × (e ≡ head ++ all)
@@ -104,47 +116,65 @@ headed head title line rest a b c d e e1 e2 e3 e4 e5 = (
 pub finds_in : (tables us : List Section) (main : List ℕ) (x y : Finding) → tables ≡ us → x ≡ y → Finds tables main x → Finds us main y
 finds_in tables us main x y same is w = subst (λ f. Finds us main f) is (subst (λ t. Finds t main x) same w)
 
-module _ (file text : List ℕ) (us : List Section) (main : List ℕ) where
-  pub units_accepted : (message : List ℕ) → (number : ℕ) → IsAccepted us main number → TellsUnits file text us main message → message ≡ []
+-- ---- the message on a text
+
+module _ (Tells : Fault → List ℕ → Type 0) (file : List ℕ) (us : List Section) (main : List ℕ) where
+  units_accepted : (message : List ℕ) → (number : ℕ) → IsAccepted us main number → TellsUnits Tells file us main message → message ≡ []
   units_accepted message number v (says.nothing w) = refl
   units_accepted message number v (says.fault {f = g} w t) = absurd (v.none g w.there)
   units_accepted message number v (says.no_program w t) = (let e : Some number ≡ None = sym v.program ∙ w.missing in absurd (cc))
 
-  pub units_fault : (message : List ℕ) → FirstIsOne → (f : Fault) → IsFirst us main f → TellsUnits file text us main message → TellsFault file text f message
-  units_fault message one f v (says.nothing w) = absurd (w.none f v.there)
-  units_fault message one f v (says.fault {f = g} w t) = fault_same file text f g message (one us main g f w v) t
-  units_fault message one f v (says.no_program w t) = absurd (w.none f v.there)
+  units_fault : (message : List ℕ) → FirstIsOne → ((f g : Fault) → (g.position.number ≡ f.position.number) × (g.rule ≡ f.rule) → Tells g message → Tells f message)
+      → (f : Fault) → IsFirst us main f → TellsUnits Tells file us main message → Tells f message
+  units_fault message one alike f v (says.nothing w) = absurd (w.none f v.there)
+  units_fault message one alike f v (says.fault {f = g} w t) = alike f g (one us main g f w v) t
+  units_fault message one alike f v (says.no_program w t) = absurd (w.none f v.there)
 
-  pub units_no_program : (message : List ℕ) → HasNoProgram us main → TellsUnits file text us main message → TellsNoProgram file message
+  units_no_program : (message : List ℕ) → HasNoProgram us main → TellsUnits Tells file us main message → TellsNoProgram file message
   units_no_program message v (says.nothing {number = number} w) = (let e : Some number ≡ None = sym w.program ∙ v.missing in absurd (cc))
   units_no_program message v (says.fault {f = g} w t) = absurd (v.none g w.there)
   units_no_program message v (says.no_program w t) = t
 
-  pub each_accepted : (message : List ℕ) → (number : ℕ) → IsAccepted us main number → TellsEach file text us main message → message ≡ []
-  each_accepted message number v (says.nothing_each w) = refl
-  each_accepted message number v (says.faults {f = g} w t) = absurd (v.none g w.there)
-  each_accepted message number v (says.no_program_each w t) = (let e : Some number ≡ None = sym v.program ∙ w.missing in absurd (cc))
+-- the text is these units and no others
+pub message_of_units : (most : ℕ) (file text main : List ℕ) (us : List Section) (message : List ℕ) → FirstIsOne → IsRead text us → ((vs : List Section) → IsRead text vs → us ≡ vs)
+    → TellsUnits (TellsFrom most file text main us) file us main message → IsMessage (TellsFrom most file text main) file text main message
+message_of_units most file text main us message one read only t = record {
+  accepted = λ vs number r v. units_accepted (TellsFrom most file text main vs) file vs main message number v (told vs r);
+  fault = λ vs f r v. units_fault (TellsFrom most file text main vs) file vs main message one (λ f g. from_same most file text main vs f g message) f v (told vs r);
+  no_program = λ vs r v. units_no_program (TellsFrom most file text main vs) file vs main message v (told vs r);
+  unread = λ never. absurd (never us read);
+} where
+  told : (vs : List Section) → IsRead text vs → TellsUnits (TellsFrom most file text main vs) file vs main message
+  told vs r = subst (λ xs. TellsUnits (TellsFrom most file text main xs) file xs main message) (only vs r) t
 
-  pub each_fault : (message : List ℕ) → FirstIsOne → (f : Fault) → IsFirst us main f → TellsEach file text us main message → TellsFrom file text f message
-  each_fault message one f v (says.nothing_each w) = absurd (w.none f v.there)
-  each_fault message one f v (says.faults {f = g} w t) = from_same file text f g message (one us main g f w v) t
-  each_fault message one f v (says.no_program_each w t) = absurd (w.none f v.there)
+-- the text is no units, or memory ran out while it was read, and then there is no message
+pub message_unread : {A E : Type 0} (bytes : A → List ℕ) (result : Result A E) (Tells : List Section → Fault → List ℕ → Type 0) (file text main : List ℕ) (fault : SyntaxFault)
+    → IfOk result (λ m. TellsSyntax file text (bytes m)) → OnOk result (1 ≤ syntax_number fault) → ((us : List Section) → IsRead text us → fault ≡ syntax_faults.Memory)
+    → IfOk result (λ m. IsMessage Tells file text main (bytes m))
+message_unread bytes (Ok m) Tells file text main fault told read only = record {
+  accepted = λ us number r v. absurd (never us r);
+  fault = λ us f r v. absurd (never us r);
+  no_program = λ us r v. absurd (never us r);
+  unread = λ none. told;
+} where
+  never : (us : List Section) → IsRead text us → ⊥
+  never us r = let k : 1 ≤ syntax_number syntax_faults.Memory = subst (λ x. 1 ≤ syntax_number x) (only us r) read in omega (arith, k)
+message_unread bytes (Err e) Tells file text main fault told read only = tt
 
-  pub each_no_program : (message : List ℕ) → HasNoProgram us main → TellsEach file text us main message → TellsNoProgram file message
-  each_no_program message v (says.nothing_each {number = number} w) = (let e : Some number ≡ None = sym w.program ∙ v.missing in absurd (cc))
-  each_no_program message v (says.faults {f = g} w t) = absurd (v.none g w.there)
-  each_no_program message v (says.no_program_each w t) = t
+-- on the first fault alone
+pub message_on_first : (file text main message : List ℕ) → IsMessage (TellsFrom 1 file text main) file text main message → ExplainsFirst file text main message
+message_on_first file text main message w = record {
+  accepted = w.accepted;
+  fault = λ us f r v. first_alone file text main us f message (w.fault us f r v);
+  no_program = w.no_program;
+  unread = w.unread;
+}
 
 -- ---- results
 
 pub in_ok : {A E : Type 0} (r : Result A E) (P Q : A → Type 0) → IfOk r P → ((a : A) → P a → Q a) → IfOk r Q
 in_ok (Ok a) P Q h f = f a h
 in_ok (Err e) P Q h f = tt
-
--- where memory ran out while the text was read, there is no message
-pub never_read : {A E : Type 0} (r : Result A E) (Q : A → Type 0) (fault : SyntaxFault) → fault ≡ syntax_faults.Memory → OnOk r (1 ≤ syntax_number fault) → IfOk r Q
-never_read (Ok a) Q fault e h = (let k : 1 ≤ syntax_number syntax_faults.Memory = subst (λ x. 1 ≤ syntax_number x) e h in absurd (omega (arith, k)))
-never_read (Err x) Q fault e h = tt
 
 not_longer : (n most : ℕ) → (most < n → ⊥) → n ≤ most
 not_longer n most h = grind (arith, h)

@@ -1,3 +1,4 @@
+pub mod Collections
 pub mod Findings
 pub mod Messages
 pub mod Places

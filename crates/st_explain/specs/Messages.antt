@@ -1,18 +1,18 @@
 -- What the message on a text says, and where.
-use Rattle.std.specs.Prelude.{◌≡◌, ℕ, ◌^◌, ◌<◌, ◌≤◌, List, [], ◌∷◌, ◌++◌, length}
-use Rattle.std.specs.List.{All}
+use Rattle.std.specs.Prelude.{◌≡◌, ℕ, ◌^◌, ◌≤◌, Bool, true, false, List, [], ◌∷◌, ◌++◌, length}
 use Rattle.st_tree.specs.declared.tree.unit.Unit.{Unit as Section}
 use Rattle.st_faults.specs.declared.fault.Fault.{Fault}
 use Rattle.st_faults.specs.declared.fault.Rule.TheVariants as rules
 use Rattle.st_tokens.specs.Text.{Tokens}
 use Rattle.st_tokens.specs.declared.fault.SyntaxFault.{SyntaxFault}
 use Rattle.st_tokens.specs.declared.fault.SyntaxFault.TheVariants as syntax_faults
-use Rattle.st_syntax.specs.Grammar.Texts.{Explains, IsTextOf}
+use Rattle.st_syntax.specs.Grammar.Texts.{Explains as ExplainsSyntax, IsTextOf}
 use Rattle.st_positions.specs.Lexemes.{AreLexemes}
 use Rattle.st_positions.specs.declared.lexeme.Lexeme.{Lexeme}
 use Rattle.st_messages.specs.Places.{IsTold, heading}
 use Rattle.st_messages.specs.declared.form.Code.{Code}
 use Rattle.st_check.specs.Faults.{HasNoProgram, IsAccepted, IsFirst}
+use Rattle.st_explain.specs.Collections.{AreInOrder, AreLater}
 use Rattle.st_explain.specs.Places.{code_of, start_at}
 
 -- the text is these units, and isn't too long
@@ -61,24 +61,12 @@ syntax_code fault = record { letter = 83; number = syntax_number fault }
 pub record TellsSyntax (file text message : List ℕ) : Type 0 where
   pub fault : SyntaxFault
   pub read : 1 ≤ syntax_number fault
-  pub is : Explains fault text
+  pub is : ExplainsSyntax fault text
   pub start : ℕ
   pub title : List ℕ
   pub told : IsTold [] message file text start (syntax_code fault) title
 
--- ---- a text that is units
-
-pub data TellsUnits (file text : List ℕ) (us : List Section) (main : List ℕ) : List ℕ → Type 0 where
-  nothing : {number : ℕ} → IsAccepted us main number → TellsUnits file text us main []
-  fault : {f : Fault} {message : List ℕ} → IsFirst us main f → TellsFault file text f message → TellsUnits file text us main message
-  no_program : {message : List ℕ} → HasNoProgram us main → TellsNoProgram file message → TellsUnits file text us main message
-
 -- ---- all faults
-
--- these faults are in the order of their tokens
-abbrev pub AreInOrder : List Fault → Type 0
-AreInOrder [] = Unit {0}
-AreInOrder (f ∷ fs) = All (λ g. f.position.number < g.position.number) fs × AreInOrder fs
 
 -- a message got what is told of each of these faults, one behind the other
 pub data AreTold (file text : List ℕ) (lexemes : List Lexeme) : List Fault → List ℕ → List ℕ → Type 0 where
@@ -93,14 +81,40 @@ pub record TellsFaults (file text : List ℕ) (fs : List Fault) (message : List 
   pub are : AreLexemes text tokens lexemes
   pub told : AreTold file text lexemes fs [] message
 
--- it is that on a fault, and those on faults at later tokens, a hundred at most
-pub record TellsFrom (file text : List ℕ) (f : Fault) (message : List ℕ) : Type 0 where
+-- it is that on a fault, and those on the faults behind it, each at a later token than the one before: on all of them, or on so many with the first
+pub record TellsFrom (most : ℕ) (file text main : List ℕ) (us : List Section) (f : Fault) (message : List ℕ) : Type 0 where
   pub later : List Fault
   pub told : TellsFaults file text (f ∷ later) message
   pub order : AreInOrder (f ∷ later)
-  pub few : length (f ∷ later) ≤ 100
+  pub are : AreLater us main most f later
 
-pub data TellsEach (file text : List ℕ) (us : List Section) (main : List ℕ) : List ℕ → Type 0 where
-  nothing_each : {number : ℕ} → IsAccepted us main number → TellsEach file text us main []
-  faults : {f : Fault} {message : List ℕ} → IsFirst us main f → TellsFrom file text f message → TellsEach file text us main message
-  no_program_each : {message : List ℕ} → HasNoProgram us main → TellsNoProgram file message → TellsEach file text us main message
+-- ---- a text that is units
+
+-- the message on a text that is these units, by what is told from a fault on
+pub data TellsUnits (Tells : Fault → List ℕ → Type 0) (file : List ℕ) (us : List Section) (main : List ℕ) : List ℕ → Type 0 where
+  nothing : {number : ℕ} → IsAccepted us main number → TellsUnits Tells file us main []
+  fault : {f : Fault} {message : List ℕ} → IsFirst us main f → Tells f message → TellsUnits Tells file us main message
+  no_program : {message : List ℕ} → HasNoProgram us main → TellsNoProgram file message → TellsUnits Tells file us main message
+
+-- ---- a text
+
+-- the message on a text, by what is told from the first fault of its units on
+pub record IsMessage (Tells : List Section → Fault → List ℕ → Type 0) (file text main message : List ℕ) : Type 0 where
+  pub accepted : (us : List Section) (number : ℕ) → IsRead text us → IsAccepted us main number → message ≡ []
+  -- at the token of the first fault: its line, its column and the number of the rule
+  pub fault : (us : List Section) (f : Fault) → IsRead text us → IsFirst us main f → Tells us f message
+  pub no_program : (us : List Section) → IsRead text us → HasNoProgram us main → TellsNoProgram file message
+  pub unread : IsUnread text → TellsSyntax file text message
+
+-- on the first fault alone
+abbrev pub ExplainsFirst : (file text main message : List ℕ) → Type 0
+ExplainsFirst file text main message = IsMessage (λ us f m. TellsFault file text f m) file text main message
+
+-- on all faults, a hundred at most
+abbrev pub ExplainsAll : (file text main message : List ℕ) → Type 0
+ExplainsAll file text main message = IsMessage (TellsFrom 100 file text main) file text main message
+
+-- on all, or on the first
+abbrev pub Explains : Bool → (file text main message : List ℕ) → Type 0
+Explains true file text main message = ExplainsAll file text main message
+Explains false file text main message = ExplainsFirst file text main message

@@ -1,34 +1,36 @@
 //! The faults of a text that is in the grammar, one behind the other.
-ghost use Rattle.std.specs.Prelude.{◌≡◌, ◌∷◌, ◌<◌, ◌≤◌, IfOk, IfSome, List, length};
-ghost use Rattle.st_explain.specs.Messages.{AreInOrder};
+ghost use Rattle.std.specs.Prelude.{◌≡◌, ◌∷◌, ◌+◌, ◌≤◌, IfOk, List, MatchOption};
+ghost use Rattle.st_explain.specs.Collections.{AreLater, HasNoNext, IsNext};
 ghost use Rattle.st_faults.specs.declared.fault.Fault.{Fault as Found};
 
-use crate::finding::{Finding, first_finding};
+use crate::finding::first_finding;
+use st_check::text_has_one_answer;
 use st_faults::Fault;
 use st_renumbered::{Turn, turned_units};
 use st_scopes::Tables;
 use st_tree::tree::Unit;
 use std::alloc::{AllocError, Global};
 
-/// The most faults that are found.
+/// The most faults of a text that are told.
 pub const MAX_FAULTS: usize = 100;
 
 /// The faults of a text that is these units, from the first one on: of each token at which a rule is broken the first rule, in the order
-/// of the text, at most a hundred.
+/// of the text, and no more than `most`.
 pub fn faults_from(
     alloc: Global,
     units: &[Unit],
     main: &[u8],
     first: Fault,
+    most: usize,
 ) -> Result<Vec<Fault>, AllocError>
-    ensures first { IfOk result (λ faults. (later : List Found) × (faults.items ≡ first ∷ later)) }
-    ensures order { IfOk result (λ faults. AreInOrder faults.items) }
-    ensures few { IfOk result (λ faults. length faults.items ≤ 100) }
+    requires { 1 ≤ most }
+    ensures { IfOk result (λ faults. (later : List Found) × (faults.items ≡ first ∷ later)
+        × AreLater units.now main.now most first later) }
 {
     let mut faults = Vec::new(alloc);
     faults.push(first)?;
     let mut last = first;
-    'later: while faults.len() < MAX_FAULTS {
+    'later: while faults.len() < most {
         let Some(fault) = fault_behind(alloc, units, main, last)? else {
             return Ok(faults);
         };
@@ -48,21 +50,24 @@ fn fault_behind(
     main: &[u8],
     fault: Fault,
 ) -> Result<Option<Fault>, AllocError>
-    ensures { IfOk result (λ found. IfSome found (λ behind.
-        fault.position.number < behind.position.number)) }
+    ensures { let start = fault.position.number + 1 in IfOk result (λ behind.
+        MatchOption behind (HasNoNext units.now main.now start) (IsNext units.now main.now start)) }
 {
+    text_has_one_answer();
     let Some(start) = fault.position.number.checked_add(1) else {
         return Ok(None);
     };
     let turn = Turn { alloc, start };
     let turned = turned_units(turn, units)?;
     let tables = Tables::new(alloc, &turned)?;
-    let Finding::Fault(mut found) = first_finding(alloc, &tables, main)? else {
+    let finding = first_finding(alloc, &tables, main)?;
+    let Some(found) = finding.fault() else {
         return Ok(None);
     };
-    found.position = turn.position_before(found.position);
-    if found.position.number < start {
+    let position = turn.position_before(found.position);
+    if position.number < start {
         return Ok(None);
     }
-    Ok(Some(found))
+    let rule = found.rule;
+    Ok(Some(Fault { position, rule }))
 }

@@ -1,16 +1,13 @@
 //! The message on a text.
-ghost use Rattle.std.specs.Prelude.{◌≡◌, ◌≤◌, ℕ, [], IfOk, List, OnOk};
+ghost use Rattle.std.specs.Prelude.{◌≡◌, ◌≤◌, [], IfOk, OnOk};
 ghost use Rattle.std.specs.String.{string_bytes};
-ghost use Rattle.st_check.specs.Faults.{HasNoProgram, IsAccepted, IsFirst};
-ghost use Rattle.st_explain.specs.Messages.{IsRead, IsToldAt, IsUnread, TellsEach, TellsFault, TellsFaults, TellsFrom, TellsNoProgram, TellsSyntax, TellsUnits, syntax_number};
+ghost use Rattle.st_explain.specs.Messages.{Explains, ExplainsAll, ExplainsFirst, IsMessage, IsToldAt, TellsFault, TellsFaults, TellsFrom, TellsNoProgram, TellsSyntax, TellsUnits, syntax_number};
 ghost use Rattle.st_explain.specs.Places.{code_of, start_at};
-ghost use Rattle.st_faults.specs.declared.fault.Fault.{Fault as Found};
 ghost use Rattle.st_messages.specs.Places.{IsTold};
-ghost use Rattle.st_parser.specs.Names as names;
-ghost use Rattle.st_syntax.specs.Grammar.Texts.{Explains, IsTextOf};
+ghost use Rattle.st_syntax.specs.Grammar.Texts.{Explains as ExplainsSyntax, IsTextOf};
 ghost use Rattle.st_tokens.specs.Text.{HasTokens, Tokens};
 
-use crate::all::faults_from;
+use crate::all::{MAX_FAULTS, faults_from};
 use crate::finding::{Finding, first_finding};
 use st_check::text_has_one_answer;
 use st_faults::Fault;
@@ -26,52 +23,66 @@ use st_tree::tree::Unit;
 use std::alloc::{AllocError, Global};
 
 /// The whole message on a text of this file that is refused as a program of the name `main`, ignoring case. It is empty where the text is
-/// accepted.
+/// accepted, and on the first fault alone where there are more.
 pub fn explain_text(
     alloc: Global,
     file: &str,
     text: &[u8],
     main: &[u8],
 ) -> Result<String, AllocError>
-    ensures accepted { (us : List names.Unit) (number : ℕ) → IsRead text.now us
-        → IsAccepted us main.now number → IfOk result (λ m. string_bytes m ≡ []) }
-    // At the token of the first fault: its line, its column and the number of the rule.
-    ensures fault { (us : List names.Unit) (f : Found) → IsRead text.now us → IsFirst us main.now f
-        → IfOk result (λ m. TellsFault file.now text.now f (string_bytes m)) }
-    ensures no_program { (us : List names.Unit) → IsRead text.now us
-        → HasNoProgram us main.now → IfOk result (λ m. TellsNoProgram file.now (string_bytes m)) }
-    ensures unread { IsUnread text.now
-        → IfOk result (λ m. TellsSyntax file.now text.now (string_bytes m)) }
+    ensures { IfOk result (λ m. ExplainsFirst file.now text.now main.now (string_bytes m)) }
 {
-    text_has_one_answer();
-    match parse(alloc, text) {
-        Ok(units) => explain_units(alloc, file, text, &units, main),
-        Err(fault) => explain_grammar(alloc, file, text, fault),
-    }
+    explain_most(alloc, file, text, main, 1)
 }
 
 /// The messages on all faults of a text of this file, in the order of the text, at most a hundred. The first one is that of
 /// `explain_text`. Where the text isn't in the grammar, or is no such program, or one that is too large, it is the only one.
 ///
-/// That the later ones are all faults that there are, and no others, is only tested.
+/// Each later fault is the first one that the rules find where the tokens are numbered from behind the fault before it. That numbers of
+/// tokens change nothing else of a fault is only tested.
 pub fn explain_all(
     alloc: Global,
     file: &str,
     text: &[u8],
     main: &[u8],
 ) -> Result<String, AllocError>
-    ensures accepted { (us : List names.Unit) (number : ℕ) → IsRead text.now us
-        → IsAccepted us main.now number → IfOk result (λ m. string_bytes m ≡ []) }
-    ensures fault { (us : List names.Unit) (f : Found) → IsRead text.now us → IsFirst us main.now f
-        → IfOk result (λ m. TellsFrom file.now text.now f (string_bytes m)) }
-    ensures no_program { (us : List names.Unit) → IsRead text.now us
-        → HasNoProgram us main.now → IfOk result (λ m. TellsNoProgram file.now (string_bytes m)) }
-    ensures unread { IsUnread text.now
-        → IfOk result (λ m. TellsSyntax file.now text.now (string_bytes m)) }
+    ensures { IfOk result (λ m. ExplainsAll file.now text.now main.now (string_bytes m)) }
+{
+    explain_most(alloc, file, text, main, MAX_FAULTS)
+}
+
+/// What a person is told of a text of this file: of its first fault, or, where all are asked for, of all.
+pub fn explain_faults(
+    alloc: Global,
+    file: &str,
+    text: &[u8],
+    main: &[u8],
+    all: bool,
+) -> Result<String, AllocError>
+    ensures { IfOk result (λ m. Explains all file.now text.now main.now (string_bytes m)) }
+{
+    if all {
+        explain_all(alloc, file, text, main)
+    } else {
+        explain_text(alloc, file, text, main)
+    }
+}
+
+/// The messages on the first faults of a text of this file, no more than `most`.
+fn explain_most(
+    alloc: Global,
+    file: &str,
+    text: &[u8],
+    main: &[u8],
+    most: usize,
+) -> Result<String, AllocError>
+    requires { 1 ≤ most }
+    ensures { IfOk result (λ m. IsMessage
+        (TellsFrom most file.now text.now main.now) file.now text.now main.now (string_bytes m)) }
 {
     text_has_one_answer();
     match parse(alloc, text) {
-        Ok(units) => explain_each(alloc, file, text, &units, main),
+        Ok(units) => explain_units(alloc, file, text, &units, main, most),
         Err(fault) => explain_grammar(alloc, file, text, fault),
     }
 }
@@ -83,7 +94,7 @@ fn explain_grammar(
     text: &[u8],
     fault: SyntaxFault,
 ) -> Result<String, AllocError>
-    ensures told { Explains fault text.now
+    ensures told { ExplainsSyntax fault text.now
         → IfOk result (λ m. TellsSyntax file.now text.now (string_bytes m)) }
     ensures read { OnOk result (1 ≤ syntax_number fault) }
 {
@@ -120,36 +131,19 @@ fn number_and_line(fault: SyntaxFault) -> Result<(u8, u32), AllocError>
     }
 }
 
-/// The message on a text that is these units.
+/// The messages on the first faults of a text that is these units, no more than `most`.
 fn explain_units(
     alloc: Global,
     file: &str,
     text: &[u8],
     units: &[Unit],
     main: &[u8],
+    most: usize,
 ) -> Result<String, AllocError>
-    requires { IsTextOf text.now units.now }
-    ensures { IfOk result (λ m. TellsUnits file.now text.now units.now main.now (string_bytes m)) }
-{
-    let tables = Tables::new(alloc, units)?;
-    match first_finding(alloc, &tables, main)? {
-        Finding::Nothing => Ok(String::new(alloc)),
-        Finding::NoProgram => no_program_message(alloc, file, &tables, main),
-        Finding::TooLarge(fault, size) => size_message(alloc, file, text, fault, size),
-        Finding::Fault(fault) => fault_message(alloc, file, text, &tables, fault),
-    }
-}
-
-/// The messages on all faults of a text that is these units.
-fn explain_each(
-    alloc: Global,
-    file: &str,
-    text: &[u8],
-    units: &[Unit],
-    main: &[u8],
-) -> Result<String, AllocError>
-    requires { IsTextOf text.now units.now }
-    ensures { IfOk result (λ m. TellsEach file.now text.now units.now main.now (string_bytes m)) }
+    requires text { IsTextOf text.now units.now }
+    requires most { 1 ≤ most }
+    ensures { IfOk result (λ m. TellsUnits
+        (TellsFrom most file.now text.now main.now units.now) file.now units.now main.now (string_bytes m)) }
 {
     let tables = Tables::new(alloc, units)?;
     match first_finding(alloc, &tables, main)? {
@@ -157,7 +151,7 @@ fn explain_each(
         Finding::NoProgram => no_program_message(alloc, file, &tables, main),
         Finding::TooLarge(fault, size) => size_message(alloc, file, text, fault, size),
         Finding::Fault(first) => {
-            let faults = faults_from(alloc, units, main, first)?;
+            let faults = faults_from(alloc, units, main, first, most)?;
             faults_message(alloc, file, text, &tables, &faults)
         }
     }
@@ -205,27 +199,6 @@ fn size_message(
     let words = explain_size(alloc, lexed.spelling(fault.position.number), size)?;
     let mut message = String::new(alloc);
     push_words(alloc, &mut message, file, lexed, fault, &words)?;
-    Ok(message)
-}
-
-/// The message on a rule that is broken at a token.
-fn fault_message(
-    alloc: Global,
-    file: &str,
-    text: &[u8],
-    tables: &Tables<'_>,
-    fault: Fault,
-) -> Result<String, AllocError>
-    ensures { (ts : Tokens) → HasTokens 1 text.now ts
-        → IfOk result (λ m. TellsFault file.now text.now fault (string_bytes m)) }
-{
-    let lexemes = lexemes(alloc, text)?;
-    let lexed = Lexed {
-        text,
-        lexemes: &lexemes,
-    };
-    let mut message = String::new(alloc);
-    push_fault(alloc, &mut message, file, lexed, tables, fault)?;
     Ok(message)
 }
 

@@ -3,7 +3,7 @@ ghost use Rattle.std.specs.Prelude.{◌≡◌, ◌<◌, All, IfErr, IfOk, length
 ghost use Rattle.st_check.specs.Faults.{is_main, program_named};
 ghost use Rattle.st_check.specs.Programs.{IsOrdered};
 ghost use Rattle.st_check.specs.Recursions.{recursions};
-ghost use Rattle.st_explain.specs.Findings.{Finds, IsOfUnits};
+ghost use Rattle.st_explain.specs.Findings.{Finds, IsOfUnits, fault_found};
 ghost use Rattle.st_explain.specs.declared.finding.Unordered.TheVariants.{Memory};
 ghost use Rattle.st_faults.specs.Faults.{offer_all};
 ghost use Rattle.st_types.specs.Inside.{named_by};
@@ -31,6 +31,18 @@ pub enum Finding {
     TooLarge(Fault, Size),
     /// There is no program of the name.
     NoProgram,
+}
+
+impl Finding {
+    /// The fault that was found, where one was.
+    pub fn fault(self) -> Option<Fault>
+        ensures { result ≡ fault_found self }
+    {
+        match self {
+            Finding::Fault(fault) | Finding::TooLarge(fault, _) => Some(fault),
+            Finding::Nothing | Finding::NoProgram => None,
+        }
+    }
 }
 
 /// Why units have no order.

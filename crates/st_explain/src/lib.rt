@@ -6,4 +6,4 @@ mod all;
 mod explain;
 mod finding;
 
-pub use explain::{explain_all, explain_text};
+pub use explain::{explain_all, explain_faults, explain_text};

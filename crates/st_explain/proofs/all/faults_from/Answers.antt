@@ -1,36 +1,33 @@
-use Rattle.std.proofs.Common.{◌≡◌, ◌<◌, subst, [], ◌∷◌, ◌++◌, ap, ◌∙◌, arith, length, length-append}
-use Rattle.std.specs.Prelude.{IfSome}
-use Rattle.st_explain.proofs.Ordered.{from_first, from_push}
+use Rattle.std.proofs.Common.{◌≡◌, ◌+◌, [], ◌∷◌, ◌++◌, ap, subst, ◌∙◌, rules, arith, length, length-append}
+use Rattle.std.specs.Prelude.{MatchOption}
+use Rattle.st_explain.specs.Collections.{HasNoNext, IsNext}
+use Rattle.st_explain.proofs.Behind.{of_none}
+use Rattle.st_explain.proofs.Ordered.{from_first, from_push, later_of}
 use Rattle.st_explain.proofs.all.faults_from.Goals as goal
 
 pub later-init : goal.later-init
 later-init c =
     let e : c.push.new.self.items ≡ c.args.first ∷ [] = c.in_ok-push.ensures.items ∙ ap (λ xs. xs ++ c.args.first ∷ []) c.new-faults.ensures.items in record {
-      from = from_first c.args.first c.push.new.self.items e;
-      few = omega (arith, ap length e);
+      from = from_first c.args.units.now c.args.main.now c.args.first c.push.new.self.items e;
+      few = omega (arith, ap length e, c.requires);
     }
 
 pub later-preserved : goal.later-preserved
-later-preserved c = record {
-  from = from_push c.args.first c.later.faults.items c.push-in-later.new.self.items c.later.last c.in-Some.fault c.in_ok-push-2.ensures.items c.later.invariant.from
-      (subst (λ o. IfSome o (λ g. c.later.last.position.number < g.position.number)) c.in-Some.is c.in_ok-fault.ensures);
-  few = omega (arith, ap length c.in_ok-push-2.ensures.items ∙ length-append c.later.faults.items (c.in-Some.fault ∷ []), c.later-test.true);
-}
+later-preserved c =
+    let start = c.later.last.position.number + 1 in
+    record {
+      from = from_push c.args.units.now c.args.main.now c.args.first c.later.faults.items c.push-in-later.new.self.items c.later.last c.in-Some.fault c.in_ok-push-2.ensures.items c.later.invariant.from
+          (subst (λ o. MatchOption o (HasNoNext c.args.units.now c.args.main.now start) (IsNext c.args.units.now c.args.main.now start)) c.in-Some.is c.in_ok-fault.ensures);
+      few = omega (arith, ap length c.in_ok-push-2.ensures.items ∙ length-append c.later.faults.items (c.in-Some.fault ∷ []), c.later-test.true);
+    }
 
-pub returns-in_default-clause-first : goal.returns-in_default-clause-first
-returns-in_default-clause-first c = c.later.invariant.from.begin
+pub returns-in_default : goal.returns-in_default
+returns-in_default c =
+    let start = c.later.last.position.number + 1 in
+    later_of c.args.units.now c.args.main.now c.args.most c.args.first c.later.faults.items c.later.last c.later.invariant.from c.later.invariant.few
+    (λ below. of_none (HasNoNext c.args.units.now c.args.main.now start) (IsNext c.args.units.now c.args.main.now start) c.in_ok-fault.field-0 c.in_ok-fault.ensures (search rules))
 
-pub returns-in_default-clause-order : goal.returns-in_default-clause-order
-returns-in_default-clause-order c = c.later.invariant.from.order
-
-pub returns-in_default-clause-few : goal.returns-in_default-clause-few
-returns-in_default-clause-few c = c.later.invariant.few
-
-pub returns-clause-first : goal.returns-clause-first
-returns-clause-first c = c.later.invariant.from.begin
-
-pub returns-clause-order : goal.returns-clause-order
-returns-clause-order c = c.later.invariant.from.order
-
-pub returns-clause-few : goal.returns-clause-few
-returns-clause-few c = c.later.invariant.few
+pub returns : goal.returns
+returns c =
+    later_of c.args.units.now c.args.main.now c.args.most c.args.first c.later.faults.items c.later.last c.later.invariant.from c.later.invariant.few
+    (λ below. absurd (omega (arith, below, c.later-test.false)))

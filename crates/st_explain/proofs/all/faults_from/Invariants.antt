@@ -4,9 +4,9 @@ use Rattle.st_explain.proofs.all.faults_from.Given as goal
 
 abbrev pub invariant-later : goal.invariant-later
 invariant-later l = record {
-  from : AreFrom l.fn.first l.faults.items l.last;
-  few : length l.faults.items ≤ 100;
+  from : AreFrom l.units l.main l.fn.first l.faults.items l.last;
+  few : length l.faults.items ≤ l.most;
 }
 
 abbrev pub decreases-later : goal.decreases-later
-decreases-later l = 100 - length l.faults.items
+decreases-later l = l.most - length l.faults.items

@@ -3,7 +3,7 @@ use Rattle.std.specs.String.{string_bytes}
 use Rattle.std.proofs.lemmas.List.{take_all}
 use Rattle.st_faults.specs.declared.fault.Rule.TheVariants.{UnknownName}
 use Rattle.st_explain.specs.Messages.{AreTold, none}
-use Rattle.st_explain.proofs.Ordered.{told_more}
+use Rattle.st_explain.proofs.Told.{told_more}
 use Rattle.st_explain.proofs.Telling.{tells_faults}
 use Rattle.st_explain.proofs.explain.faults_message.Goals as goal
 
