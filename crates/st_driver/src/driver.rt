@@ -1,7 +1,8 @@
 //! From the words of the command line, over the source file and standard input and output, to the status of the process.
-ghost use Rattle.std.specs.Prelude.{◌≡◌, ◌≢◌, ◌⊎◌, ◌↔◌, ◌||◌, ◌+◌, ◌<◌, ◌^◌, List, Ok, false, true, IfOk, IfSome, IsTrue, codes, length, map, take};
+ghost use Rattle.std.specs.Prelude.{◌≡◌, ◌≢◌, ◌⊎◌, ◌↔◌, ◌||◌, ◌+◌, ◌<◌, ◌^◌, [], List, Ok, false, true, IfOk, IfSome, IsTrue, codes, length, map, take};
 ghost use Rattle.std.specs.Io.KnownBytes.{Appends};
 ghost use Rattle.std.specs.IoError.{error_kind};
+ghost use Rattle.std.specs.String.{string_bytes};
 ghost use Rattle.clap.specs.Words.{Text, kind_of};
 ghost use Rattle.st_session.specs.Loads.{OfLoad};
 ghost use Rattle.st_session.specs.Texts.{OfCheck};
@@ -11,11 +12,13 @@ ghost use Rattle.st_session.specs.Layouts.{ListsAll, ListsPart, OfLayout};
 ghost use Rattle.st_session.specs.Replies.{ended};
 ghost use Rattle.st_session.specs.Runs.{OfProgram, WritesAll, WritesPart, WritesRead};
 ghost use Rattle.st_session.specs.Statuses.{device_failed, no_memory, no_program};
+ghost use Rattle.st_explain.specs.Messages.{Explains};
 ghost use Rattle.st_driver.specs.Statuses.{EndsAsCheck, EndsAsChecked, EndsAsLaidOut, EndsAsLayout, EndsAsLoaded, EndsAsRun, EndsBy, EndsByWords, error_status, usage};
 
-use crate::refused::{TextExplainer, told_of};
+use crate::refused::TextExplainer;
 use clap::error::ErrorKind;
 use st_devices::{FromReader, Sink, Source, ToWriter};
+use st_explain::explain_faults;
 use st_remarks::Remarks;
 use st_session::{
     ACCEPTED, DEVICE_FAILED, NO_MEMORY, NO_PROGRAM, Observer, Silent, check_text, layout_text,
@@ -149,19 +152,31 @@ fn answer<R: Input + Print + Eprint + AllocGlobal>(
         → EndsAsLoaded text.now order.entry.main.now order.entry.steps result }
 {
     let status = serve(rt, order, manner, text);
-    if status == NO_PROGRAM
-        && !manner.quiet
-        && let Ok(told) = told_of(
-            rt.alloc(),
-            order.file,
-            text,
-            order.main.as_bytes(),
-            manner.all,
-        )
+    if let Ok(told) = told_of(rt.alloc(), order, manner, text, status)
+        && !told.is_empty()
     {
         let _ = eprint!(rt; "{told}");
     }
     status
+}
+
+/// What a person is told of a source text that ended with this status: where it is refused, why that is, unless it is to be quiet.
+fn told_of(
+    alloc: Global,
+    order: Order<'_>,
+    manner: Manner,
+    text: &[u8],
+    status: u8,
+) -> Result<String, AllocError>
+    ensures refused { status ≡ no_program → manner.quiet ≡ false → IfOk result (λ told.
+        Explains manner.all order.entry.file.now text.now order.entry.main.now (string_bytes told)) }
+    ensures quiet { manner.quiet ≡ true → IfOk result (λ told. string_bytes told ≡ []) }
+    ensures other { status ≢ no_program → IfOk result (λ told. string_bytes told ≡ []) }
+{
+    if manner.quiet || status != NO_PROGRAM {
+        return Ok(String::new(alloc));
+    }
+    explain_faults(alloc, order.file, text, order.main.as_bytes(), manner.all)
 }
 
 /// Says that the file can't be read, where there is memory, and answers the status.
@@ -242,75 +257,15 @@ fn serve_observed<R: Input + Print + AllocGlobal, O: Observer>(
 {
     let mut source = FromReader::new(rt.reader());
     let mut sink = ToWriter::new(io::writer(rt));
-    obey_text_observed(rt.alloc(), order, text, &mut source, &mut sink, observer)
+    obey_text(rt.alloc(), order, text, &mut source, &mut sink, observer)
 }
 
-/// Does with a source text what is ordered, on devices that haven't failed, and answers the status.
+/// Does with a source text what is ordered, on devices that haven't failed, tells the observer of each line of a session, and answers the
+/// status. What is promised is the same, whoever observes.
 ///
 /// Where the verb is `check`, that is what `check_text` does with the main program of the order; where it is `layout`, what
 /// `layout_text` does with it; and where it is `run`, what `run_text` does with it under the step limit of the order.
-pub fn obey_text<R: Source, W: Sink>(
-    alloc: Global,
-    order: Order<'_>,
-    text: &[u8],
-    source: &mut R,
-    sink: &mut W,
-) -> u8
-    requires source { R.has_failed source.old ≡ false }
-    requires sink { W.has_failed sink.old ≡ false }
-
-    // What the check answers is written, or a beginning of it where the device failed. Nothing is read.
-    ensures check_all { order.entry.verb ≡ Verb.Check → result ≢ device_failed → result ≢ no_memory
-        → OfCheck text.now order.entry.main.now (TellsAll result (W.taken sink.old) (W.taken sink.new)) }
-    ensures check_memory { order.entry.verb ≡ Verb.Check → result ≡ no_memory
-        → Appends (W.taken sink.old) (W.taken sink.new) (ended (codes "refused M")) }
-    ensures check_part { order.entry.verb ≡ Verb.Check → result ≡ device_failed
-        → OfCheck text.now order.entry.main.now (TellsPart (W.taken sink.old) (W.taken sink.new)) }
-    ensures check_source { order.entry.verb ≡ Verb.Check → source.new ≡ source.old }
-
-    // The lines of all leaves are written, or the refusal, or a beginning of that where the device failed. Nothing is read.
-    ensures layout_all { order.entry.verb ≡ Verb.Layout → result ≢ device_failed → result ≢ no_memory
-        → OfLayout text.now order.entry.main.now (ListsAll result (W.taken sink.old) (W.taken sink.new)) }
-    ensures layout_memory { order.entry.verb ≡ Verb.Layout → result ≡ no_memory
-        → Appends (W.taken sink.old) (W.taken sink.new) (ended (codes "refused M")) }
-    ensures layout_part { order.entry.verb ≡ Verb.Layout → result ≡ device_failed
-        → OfLayout text.now order.entry.main.now (ListsPart (W.taken sink.old) (W.taken sink.new)) }
-    ensures layout_source { order.entry.verb ≡ Verb.Layout → source.new ≡ source.old }
-
-    // The replies to all commands are written, or the refusal of the load, and then nothing is read.
-    ensures run_all { order.entry.verb ≡ Verb.Run → result ≢ device_failed → result ≢ no_memory
-        → OnBytes (R.rest source.old) (λ bytes. OfLoad text.now order.entry.main.now order.entry.steps
-        (WritesAll bytes result (W.taken sink.old) (W.taken sink.new))) }
-    ensures run_refused { order.entry.verb ≡ Verb.Run → result ≡ no_program → source.new ≡ source.old }
-
-    // There was no memory for some command, and the replies to all are written; or there was none before the first command was
-    // read, and then nothing is read, and either that is written or nothing.
-    ensures run_memory { order.entry.verb ≡ Verb.Run → result ≡ no_memory
-        → OnBytes (R.rest source.old) (λ bytes. OfProgram text.now order.entry.main.now order.entry.steps
-        (λ c. WritesAll bytes no_memory (W.taken sink.old) (W.taken sink.new) (Ok c)))
-        ⊎ ((source.new ≡ source.old) × ((sink.new ≡ sink.old)
-        ⊎ Appends (W.taken sink.old) (W.taken sink.new) (ended (codes "refused M")))) }
-
-    // A device has failed, and the run ended there. Where it is the source, the text was loaded, and of the commands that were
-    // read whole none is lost.
-    ensures run_part { order.entry.verb ≡ Verb.Run → result ≡ device_failed
-        → OnBytes (R.rest source.old) (λ bytes. OfLoad text.now order.entry.main.now order.entry.steps
-        (WritesPart bytes (W.taken sink.old) (W.taken sink.new))) }
-    ensures run_read { order.entry.verb ≡ Verb.Run → R.has_failed source.new ≡ true
-        → OnReading (R.rest source.old) (R.rest source.new) (λ bytes rest. OfProgram text.now order.entry.main.now
-        order.entry.steps (WritesRead bytes rest (W.taken sink.old) (W.taken sink.new))) }
-
-    // A text that is too long is refused for that alone, also where there is no memory.
-    ensures long { 2 ^ 20 < length text.now → result ≢ device_failed → (result ≡ no_program)
-        × Appends (W.taken sink.old) (W.taken sink.new) (ended (codes "refused S4 line 1")) }
-    ensures failed { IsTrue (R.has_failed source.new || W.has_failed sink.new) ↔ (result ≡ device_failed) }
-{
-    obey_text_observed(alloc, order, text, source, sink, &mut Silent)
-}
-
-/// Does with a source text what is ordered, as [`obey_text`] does it, and tells the observer of each line of a session. What is promised
-/// is the same, whoever observes.
-pub fn obey_text_observed<R: Source, W: Sink, O: Observer>(
+pub fn obey_text<R: Source, W: Sink, O: Observer>(
     alloc: Global,
     order: Order<'_>,
     text: &[u8],

@@ -4,4 +4,4 @@
 mod driver;
 mod refused;
 
-pub use driver::{obey_text, obey_text_observed, run};
+pub use driver::{obey_text, run};

@@ -1,34 +1,11 @@
-//! What a person is told of a text that is refused.
+//! What a person is told of the text of a change that is refused.
+ghost use Rattle.std.specs.Prelude.{IfOk};
+ghost use Rattle.std.specs.String.{string_bytes};
+ghost use Rattle.st_explain.specs.Messages.{ExplainsFirst};
 
-use st_explain::{explain_all, explain_text};
+use st_explain::explain_text;
 use st_remarks::Explainer;
 use std::alloc::{AllocError, Global};
-
-/// What a person is told of a text of this file with a program of the name `main`, ignoring case, where it is refused. It is empty where
-/// the text is accepted.
-pub fn diagnosis(
-    alloc: Global,
-    file: &str,
-    text: &[u8],
-    main: &[u8],
-) -> Result<String, AllocError> {
-    explain_text(alloc, file, text, main)
-}
-
-/// What a person is told of such a text: of its first fault, or, where all are asked for, of all.
-pub fn told_of(
-    alloc: Global,
-    file: &str,
-    text: &[u8],
-    main: &[u8],
-    all: bool,
-) -> Result<String, AllocError> {
-    if all {
-        explain_all(alloc, file, text, main)
-    } else {
-        diagnosis(alloc, file, text, main)
-    }
-}
 
 /// Explains the text of a change as that of a file.
 #[derive(Debug, Drop)]
@@ -41,7 +18,9 @@ impl Explainer for TextExplainer {
         file: &str,
         text: &[u8],
         main: &[u8],
-    ) -> Result<String, AllocError> {
-        diagnosis(alloc, file, text, main)
+    ) -> Result<String, AllocError>
+        ensures { IfOk result (λ told. ExplainsFirst file.now text.now main.now (string_bytes told)) }
+    {
+        explain_text(alloc, file, text, main)
     }
 }

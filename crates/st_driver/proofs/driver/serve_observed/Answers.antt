@@ -4,5 +4,5 @@ use Rattle.st_driver.proofs.driver.serve_observed.Goals as goal
 
 pub returns-clause-run_status : goal.returns-clause-run_status
 returns-clause-run_status g c = λ run works memory.
-    let all = c.obey_text_observed.ensures.run_all run works memory in
-    (all.2.0, all.2.1, (all.0, writes_status all.0 c.obey_text_observed.result None None all.2.0 all.2.2))
+    let all = c.obey_text.ensures.run_all run works memory in
+    (all.2.0, all.2.1, (all.0, writes_status all.0 c.obey_text.result None None all.2.0 all.2.2))

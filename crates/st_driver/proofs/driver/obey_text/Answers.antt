@@ -1,5 +1,5 @@
 use Rattle.std.proofs.Common.{sym}
-use Rattle.st_driver.proofs.driver.obey_text_observed.Goals as goal
+use Rattle.st_driver.proofs.driver.obey_text.Goals as goal
 
 pub returns-in-Check-clause-check_all : goal.returns-in-Check-clause-check_all
 returns-in-Check-clause-check_all g c = λ verb works memory. rw (sym c.as_bytes-main.ensures.value) (c.check_text.ensures.all works memory)
