@@ -1,13 +1,12 @@
 -- The values of a block's leaves are those of its record.
 use Rattle.std.specs.Ordering.{int_eq}
 use Rattle.std.proofs.Common.{◌≡◌, ℤ, pos, negsuc, suc, zero, not, List, [], ◌∷◌, refl, sym, ap, ◌∙◌, subst, arith, ltb-true}
-use Rattle.st_values.specs.Values.{IsValue}
+use Rattle.st_values.specs.Values.{IsValue, truth, IsOfType}
 use Rattle.st_values.specs.declared.elem.Elem.{Elem}
 use Rattle.st_values.specs.declared.elem.Elem.TheVariants as elems
 use Rattle.st_values.specs.declared.value.Value.{Value}
 use Rattle.st_types.specs.declared.standard.StandardBlock.TheVariants as blocks
-use Rattle.st_leaves.specs.LeavesIn.{truth}
-use Rattle.st_blocks.specs.Cells.{AreLeavesOf, IsOfType, bistable_cells, bistable_in, counter_cells, counter_in, of_type, timer_cells, timer_in, ton_cells, ton_in, trigger_cells, trigger_in}
+use Rattle.st_blocks.specs.Cells.{AreLeavesOf, bistable_cells, bistable_in, counter_cells, counter_in, of_type, timer_cells, timer_in, ton_cells, ton_in, trigger_cells, trigger_in}
 use Rattle.st_blocks.specs.Laws.{CellsAreRead}
 
 -- a BOOL is 0 or 1

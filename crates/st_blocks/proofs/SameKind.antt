@@ -3,7 +3,8 @@ use Rattle.std.proofs.Common.{◌≡◌, ℤ, List, length, sym, ap, ◌∙◌}
 use Rattle.std.proofs.lemmas.Slice.Zip.{AllZip-long}
 use Rattle.st_values.specs.declared.value.Value.{Value}
 use Rattle.st_types.specs.declared.standard.StandardBlock.{StandardBlock}
-use Rattle.st_blocks.specs.Cells.{AreLeavesOf, IsOfType, types_of}
+use Rattle.st_values.specs.Values.{IsOfType}
+use Rattle.st_blocks.specs.Cells.{AreLeavesOf, types_of}
 use Rattle.st_blocks.specs.Steps.{stepped}
 
 pub same_length : (kind other : StandardBlock) (cells made : List Value) → kind ≡ other → AreLeavesOf kind cells → AreLeavesOf other made → length cells ≡ length made

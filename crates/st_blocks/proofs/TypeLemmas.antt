@@ -2,15 +2,14 @@
 use Rattle.std.proofs.Common.{◌≡◌, ℕ, zero, suc, ◌<◌, ℤ, pos, negsuc, ◌+ℤ◌, ◌-ℤ◌, ◌≤ℤ◌, int_lt, Bool, true, false, ◌&&◌, List, [], ◌∷◌, length, get_or, if◌then◌else◌, IsTrue, refl, subst, arith}
 use Rattle.std.specs.List.{AllZip}
 use Rattle.std.proofs.lemmas.Int.{clamps, ints}
-use Rattle.st_values.specs.Values.{in_range}
+use Rattle.st_values.specs.Values.{in_range, truth, IsOfType}
 use Rattle.st_values.specs.declared.elem.Elem.{Elem}
 use Rattle.st_values.specs.declared.elem.Elem.TheVariants as elems
 use Rattle.st_values.specs.declared.value.Value.{Value}
 use Rattle.st_types.specs.declared.standard.StandardBlock.{StandardBlock}
 use Rattle.st_types.specs.declared.standard.StandardBlock.TheVariants as blocks
-use Rattle.st_leaves.specs.LeavesIn.{truth}
 use Rattle.st_blocks.specs.Blocks.{counted_down, counted_up, fallen, is_edge, is_over, off_delay, on_delay, preset, reset_dominant, risen, set_dominant, shown}
-use Rattle.st_blocks.specs.Cells.{AreLeavesOf, IsOfType, bistable_cells, bistable_in, counter_cells, counter_in, number_at, timer_cells, timer_in, ton_cells, ton_in, trigger_cells, trigger_in, types_of}
+use Rattle.st_blocks.specs.Cells.{AreLeavesOf, bistable_cells, bistable_in, counter_cells, counter_in, number_at, timer_cells, timer_in, ton_cells, ton_in, trigger_cells, trigger_in, types_of}
 use Rattle.st_blocks.specs.Laws.{BlocksKeepTheirTypes, IsWithin}
 use Rattle.st_blocks.specs.declared.bistable.Bistable.{Bistable}
 use Rattle.st_blocks.specs.declared.counter.Counter.{Counter}

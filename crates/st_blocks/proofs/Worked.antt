@@ -4,7 +4,7 @@ use Rattle.st_values.specs.declared.value.Value.{Value}
 use Rattle.st_values.specs.declared.elem.Elem.TheVariants as elems
 use Rattle.st_types.specs.declared.standard.StandardBlock.{StandardBlock}
 use Rattle.st_types.specs.declared.standard.StandardBlock.TheVariants as blocks
-use Rattle.st_leaves.specs.LeavesIn.{truth}
+use Rattle.st_values.specs.Values.{truth}
 use Rattle.st_types.specs.Initials.{zero_of}
 use Rattle.st_blocks.specs.Cells.{of_type, types_of}
 use Rattle.st_blocks.specs.Laws.{Call, new_timer, tof_after, ton_after, tp_after}

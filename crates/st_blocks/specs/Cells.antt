@@ -2,22 +2,17 @@
 use Rattle.std.specs.Ordering.{int_eq}
 use Rattle.std.specs.Prelude.{◌≡◌, ℕ, ℤ, pos, Bool, false, not, List, [], ◌∷◌, get_or, map}
 use Rattle.std.specs.List.{AllZip}
-use Rattle.st_values.specs.Values.{IsValue}
+use Rattle.st_values.specs.Values.{IsOfType, truth}
 use Rattle.st_values.specs.declared.elem.Elem.{Elem}
 use Rattle.st_values.specs.declared.elem.Elem.TheVariants as elems
 use Rattle.st_values.specs.declared.value.Value.{Value}
 use Rattle.st_types.specs.declared.standard.StandardBlock.{StandardBlock}
 use Rattle.st_leaves.specs.Leaves.{standard_leaves}
-use Rattle.st_leaves.specs.LeavesIn.{truth}
 use Rattle.st_blocks.specs.declared.bistable.Bistable.{Bistable}
 use Rattle.st_blocks.specs.declared.counter.Counter.{Counter}
 use Rattle.st_blocks.specs.declared.timer.Timer.{Timer}
 use Rattle.st_blocks.specs.declared.ton.Ton.{Ton}
 use Rattle.st_blocks.specs.declared.trigger.Trigger.{Trigger}
-
--- a value of this type
-abbrev pub IsOfType : Elem → Value → Type 0
-IsOfType elem value = (value.elem ≡ elem) × IsValue value
 
 -- the types of a block's leaves, in order
 abbrev pub types_of : StandardBlock → List Elem

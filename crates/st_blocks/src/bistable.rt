@@ -4,8 +4,8 @@ ghost use Rattle.st_types.specs.declared.standard.StandardBlock.TheVariants as b
 ghost use Rattle.st_blocks.specs.Blocks.{reset_dominant, set_dominant};
 ghost use Rattle.st_blocks.specs.Cells.{AreLeavesOf, bistable_cells, bistable_in};
 
-use crate::cells::{flag, truth};
-use st_values::Value;
+use crate::cells::flag;
+use st_values::{Value, truth};
 
 /// The leaves of SR and RS.
 #[derive(Clone, Copy, Debug, PartialEq, Eq)]

@@ -1,8 +1,7 @@
 //! Reading and writing the leaves of a block.
 ghost use Rattle.std.specs.Prelude.{◌≡◌, ◌<◌, IsTrue, length};
-ghost use Rattle.st_blocks.specs.Cells.{IsOfType, flag_at, number_at, of_type};
-ghost use Rattle.st_leaves.specs.LeavesIn.{truth};
-ghost use Rattle.st_values.specs.Values.{in_range};
+ghost use Rattle.st_blocks.specs.Cells.{flag_at, number_at, of_type};
+ghost use Rattle.st_values.specs.Values.{in_range, IsOfType};
 
 use st_values::{Elem, Value};
 
@@ -12,17 +11,6 @@ pub fn flag(cells: &[Value], place: usize) -> bool
     ensures { result ≡ flag_at cells.now place }
 {
     cells[place].bits != 0
-}
-
-/// The value of type BOOL.
-pub fn truth(is_true: bool) -> Value
-    ensures value { result ≡ truth is_true }
-    ensures typed { IsOfType Elem.Bool result }
-{
-    Value {
-        elem: Elem::Bool,
-        bits: if is_true { 1 } else { 0 },
-    }
 }
 
 /// The INT at this place.

@@ -4,8 +4,8 @@ ghost use Rattle.st_types.specs.declared.standard.StandardBlock.TheVariants as b
 ghost use Rattle.st_blocks.specs.Blocks.{count_down, count_up, counted_down, counted_up, is_edge};
 ghost use Rattle.st_blocks.specs.Cells.{AreLeavesOf, counter_cells, counter_in};
 
-use crate::cells::{flag, integer, of_integer, truth};
-use st_values::Value;
+use crate::cells::{flag, integer, of_integer};
+use st_values::{Value, truth};
 
 /// The leaves of CTU and CTD.
 #[derive(Clone, Copy, Debug, PartialEq, Eq)]

@@ -4,9 +4,9 @@ ghost use Rattle.st_types.specs.declared.standard.StandardBlock.TheVariants as b
 ghost use Rattle.st_blocks.specs.Blocks.{off_delay, off_start, pulse};
 ghost use Rattle.st_blocks.specs.Cells.{AreLeavesOf, timer_cells, timer_in};
 
-use crate::cells::{duration, flag, of_duration, truth};
+use crate::cells::{duration, flag, of_duration};
 use crate::time::{is_over, preset, shown};
-use st_values::Value;
+use st_values::{Value, truth};
 
 /// The leaves of TOF and TP.
 #[derive(Clone, Copy, Debug, PartialEq, Eq)]

@@ -4,9 +4,9 @@ ghost use Rattle.st_types.specs.declared.standard.StandardBlock.TheVariants as b
 ghost use Rattle.st_blocks.specs.Blocks.{on_delay};
 ghost use Rattle.st_blocks.specs.Cells.{AreLeavesOf, ton_cells, ton_in};
 
-use crate::cells::{duration, flag, of_duration, truth};
+use crate::cells::{duration, flag, of_duration};
 use crate::time::{is_over, shown};
-use st_values::Value;
+use st_values::{Value, truth};
 
 /// The leaves of TON.
 #[derive(Clone, Copy, Debug, PartialEq, Eq)]

@@ -4,8 +4,8 @@ ghost use Rattle.st_types.specs.declared.standard.StandardBlock.TheVariants as b
 ghost use Rattle.st_blocks.specs.Blocks.{fallen, risen};
 ghost use Rattle.st_blocks.specs.Cells.{AreLeavesOf, trigger_cells, trigger_in};
 
-use crate::cells::{flag, truth};
-use st_values::Value;
+use crate::cells::flag;
+use st_values::{Value, truth};
 
 /// The leaves of R_TRIG and F_TRIG.
 #[derive(Clone, Copy, Debug, PartialEq, Eq)]

@@ -22,13 +22,13 @@ use Rattle.st_tree.specs.declared.tree.unit.ChartElement.TheVariants as chart_el
 use Rattle.st_tree.specs.declared.tree.unit.Association.{Association}
 use Rattle.st_tree.specs.declared.tree.unit.Unit.{Unit as Section}
 use Rattle.st_tree.specs.declared.tree.unit.Unit.TheVariants as sections
-use Rattle.st_lengths.specs.Lengths.{IsShort, argument_length, argument_tokens, block_length, body_length, call_length, chart_length, declaration_length, expression_length, operation_length, part_length, text_length, total, unit_length, variable_length, variables_length}
-use Rattle.st_lengths.proofs.Folds.{call_is}
+use Rattle.st_syntax.specs.Lengths.{IsShort, argument_length, argument_tokens, block_length, body_length, call_length, chart_length, declaration_length, expression_length, operation_length, part_length, text_length, total, unit_length, variable_length, variables_length}
+use Rattle.st_syntax.proofs.Folds.{call_is}
 use Rattle.st_types.specs.Names.{Declared, Named, chart_of, declared_in, named, steps_in, units_in, units_of, variables_of}
 use Rattle.st_types.specs.Names as names
 use Rattle.st_leaves.specs.Charts.{associations_of, each_once}
 use Rattle.st_meaning.specs.Sketched.{transitions_in}
-use Rattle.st_sketches.specs.Views.{names_of}
+use Rattle.st_meaning.specs.Views.{names_of}
 use Rattle.st_bounds.specs.Laws.{AllFitCode, ArgumentsTakeTokens, FitsCode, ShortTextsFitCode}
 
 -- ---- variables: each name stands for two tokens

@@ -4,8 +4,9 @@ use Rattle.std.specs.List.{All, list_all}
 use Rattle.std.proofs.lemmas.Bool.{le-leb}
 use Rattle.std.proofs.lemmas.List.Elements.{All-head, All-tail}
 use Rattle.st_tree.specs.declared.tree.position.Identifier.{Identifier}
-use Rattle.st_lengths.specs.Lengths.{IsShort}
-use Rattle.st_types.specs.Compositions.{Composition, composition_within, declared_composition, elementary, is_constant, member, members_by}
+use Rattle.st_syntax.specs.Lengths.{IsShort}
+use Rattle.st_tree.specs.Kinds.{is_constant}
+use Rattle.st_types.specs.Compositions.{Composition, composition_within, declared_composition, elementary, member, members_by}
 use Rattle.st_types.specs.Names.{Declared, Declares, Named, named, unit_at, units_of, variables_in, variables_of}
 use Rattle.st_types.specs.Names as names
 use Rattle.st_leaves.specs.Places.{count, counts}

@@ -3,11 +3,11 @@ use Rattle.std.specs.Prelude.{◌≡◌, ℕ, ◌≤◌, ◌^◌, true, List, le
 use Rattle.std.specs.List.{All, flat_map}
 use Rattle.st_tree.specs.declared.tree.expression.Call.{Call}
 use Rattle.st_tree.specs.declared.tree.unit.Unit.{Unit as Section}
-use Rattle.st_lengths.specs.Lengths.{IsShort, call_length}
+use Rattle.st_syntax.specs.Lengths.{IsShort, call_length}
 use Rattle.st_types.specs.Names.{Named, chart_in, steps_of, units_of, variables_in}
 use Rattle.st_meaning.specs.Sketched.{transitions_in}
 use Rattle.st_check.specs.Programs.{IsChecked, ProgramView, text_of}
-use Rattle.st_sketches.specs.Views.{names_of}
+use Rattle.st_meaning.specs.Views.{names_of}
 use Rattle.st_compile.specs.Small.{functions_are_small}
 
 -- a unit with so few parts that their numbers fit into code

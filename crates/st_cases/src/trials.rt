@@ -114,7 +114,8 @@ fn first_failure(
 
 /// How what is told differs from what is wanted.
 fn difference(alloc: Global, told: &Told, wanted: Wanted<'_>) -> Result<Option<String>, AllocError>
-    ensures status { IfOk result (λ failure. IsNone failure → told.now.status ≡ wanted.entry.status) }
+    ensures status { IfOk result
+        (λ failure. IsNone failure → told.now.status ≡ wanted.entry.status) }
     ensures written { IfOk result (λ failure. IsNone failure
         → told.now.written.items ≡ wanted.entry.written.now) }
 {

@@ -63,7 +63,8 @@ pub fn chart_parts<'a>(
     alloc: Global,
     tables: &Tables<'a>,
 ) -> Result<Vec<ChartParts<'a>>, AllocError>
-    ensures { IfOk result (λ charts. charts.items ≡ map (λ u. parts_of u.declares) (units_of tables.now)) }
+    ensures { IfOk result (λ charts. charts.items
+        ≡ map (λ u. parts_of u.declares) (units_of tables.now)) }
 {
     let mut charts = Vec::with_capacity(alloc, tables.len())?;
     'units: for unit in 0..tables.len() {
@@ -79,7 +80,8 @@ fn unit_parts<'a>(
     unit: usize,
 ) -> Result<ChartParts<'a>, AllocError>
     requires { unit < length (units_of tables.now) }
-    ensures { IfOk result (λ parts. (u : Named) → unit_at (units_of tables.now) unit ≡ Some u → parts ≡ parts_of u.declares) }
+    ensures { IfOk result (λ parts. (u : Named) → unit_at (units_of tables.now) unit ≡ Some u
+        → parts ≡ parts_of u.declares) }
 {
     let elements = chart_of(tables.unit(unit).kind);
     Ok(ChartParts {

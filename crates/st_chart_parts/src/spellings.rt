@@ -2,13 +2,12 @@
 ghost use Rattle.std.specs.Prelude.{◌≡◌, ◌++◌, ◌∷◌, [], IfOk, OnOk, map};
 ghost use Rattle.st_leaves.specs.Charts.{action_names, as_declared, storable, variable_names};
 ghost use Rattle.st_scopes.specs.Declarations.{seen};
-ghost use Rattle.st_types.specs.Compositions.{is_constant};
 ghost use Rattle.st_types.specs.Names.{actions_in};
 
-use st_names::NameTable;
 use st_scopes::Declared;
 use st_tree::Word;
 use st_tree::tree::{ChartElement, VarKind};
+use st_types::NameTable;
 use std::alloc::{AllocError, Global};
 use std::marker::Model;
 
@@ -37,7 +36,8 @@ impl<'a> Spellings<'a> {
         variables: &[Declared<'a>],
         elements: &'a [ChartElement],
     ) -> Result<Spellings<'a>, AllocError>
-        ensures { IfOk result (λ all. all ≡ variable_names (map seen variables.now) ++ action_names elements.now) }
+        ensures { IfOk result (λ all. all ≡ variable_names (map seen variables.now)
+            ++ action_names elements.now) }
     {
         let mut all = Spellings::none(alloc);
         all.add_variables(variables)?;
@@ -69,7 +69,7 @@ impl<'a> Spellings<'a> {
     fn add_variable(&mut self, variable: &Declared<'a>) -> Result<(), AllocError>
         ensures { OnOk result (self.new ≡ self.old ++ storable (seen variable.now)) }
     {
-        if is_constant(variable.kind) {
+        if variable.kind.is_constant() {
             return Ok(());
         }
         self.push(&variable.name.spelling)
@@ -87,7 +87,8 @@ impl<'a> Spellings<'a> {
 
     /// Adds that of an element, if it is an action.
     fn add_action(&mut self, element: &'a ChartElement) -> Result<(), AllocError>
-        ensures { OnOk result (self.new ≡ self.old ++ map (λ a. a.name.spelling) (actions_in element.now)) }
+        ensures { OnOk result (self.new ≡ self.old ++ map (λ a. a.name.spelling)
+            (actions_in element.now)) }
     {
         match element {
             ChartElement::Action(action) => self.push(&action.name.spelling),
@@ -114,11 +115,4 @@ impl<'a> Spellings<'a> {
             None => name,
         }
     }
-}
-
-/// Whether a declared name is a constant.
-fn is_constant(kind: VarKind) -> bool
-    ensures { result ≡ is_constant kind }
-{
-    matches!(kind, VarKind::Constant)
 }

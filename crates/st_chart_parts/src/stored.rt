@@ -16,7 +16,8 @@ pub(crate) fn names_stored<'a>(
     variables: &[Declared<'a>],
     elements: &'a [ChartElement],
 ) -> Result<Vec<&'a Word>, AllocError>
-    ensures { IfOk result (λ names. spelled names.items ≡ stored_by (variable_names (map seen variables.now)) elements.now) }
+    ensures { IfOk result (λ names. spelled names.items
+        ≡ stored_by (variable_names (map seen variables.now)) elements.now) }
 {
     let stored = stored_names(alloc, elements)?;
     if stored.is_empty() {
@@ -32,7 +33,8 @@ fn respelled<'a>(
     declared: &Spellings<'a>,
     names: &[&'a Word],
 ) -> Result<Vec<&'a Word>, AllocError>
-    ensures { IfOk result (λ words. spelled words.items ≡ map (as_declared declared.now) (spelled names.now)) }
+    ensures { IfOk result (λ words. spelled words.items
+        ≡ map (as_declared declared.now) (spelled names.now)) }
 {
     let mut words = Vec::with_capacity(alloc, names.len())?;
     'names: for name in names {

@@ -3,14 +3,15 @@ use Rattle.std.proofs.Common.{◌≡◌, ℕ, zero, suc, ◌+◌, ◌<◌, Bool,
 use Rattle.std.specs.Ordering.{int_eq}
 use Rattle.std.proofs.lemmas.List.{get_or-drop, get_or-take, length-append}
 use Rattle.st_values.specs.declared.value.Value.{Value}
-use Rattle.st_leaves.specs.LeavesIn.{truth}
+use Rattle.st_values.specs.Values.{truth}
 use Rattle.st_blocks.specs.Cells.{flag_at}
 use Rattle.st_charts.specs.Charts.{active_in}
 use Rattle.st_meaning.specs.Charts.{cells_in, state_in}
 use Rattle.st_meaning.specs.Meaning.{Values}
-use Rattle.st_meaning.specs.Sketches.{Sketch, chart_size, flags_types, step_types, steps_types}
+use Rattle.st_leaves.specs.Charts.{step_types}
+use Rattle.st_meaning.specs.Sketches.{Sketch, chart_size, flags_types, steps_types}
 use Rattle.st_meaning.specs.Statements.{stretch}
-use Rattle.st_sketches.specs.Views.{IsOf, SketchView, step_place}
+use Rattle.st_meaning.specs.Views.{IsOf, SketchView, step_place}
 use Rattle.st_chart_runs.specs.Views.{StandsAt, types_of}
 use Rattle.st_chart_runs.proofs.Stretched.{types_are}
 

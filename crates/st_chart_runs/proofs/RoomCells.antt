@@ -4,7 +4,7 @@ use Rattle.std.specs.Prelude.{IfSome}
 use Rattle.std.proofs.lemmas.Bool.{ltb-true}
 use Rattle.std.proofs.lemmas.Grind.{common_steps}
 use Rattle.std.proofs.lemmas.List.{get_or-take, get_or_default, get_or_past}
-use Rattle.st_sketches.specs.Views.{SketchView}
+use Rattle.st_meaning.specs.Views.{SketchView}
 use Rattle.st_chart_runs.specs.Charts.{ChartsFit, IsRoomFor, IsWithin}
 use Rattle.st_chart_runs.specs.Views.{HasRoom}
 use Rattle.st_chart_runs.specs.declared.workspace.ChartRoom.{ChartRoom}

@@ -8,15 +8,16 @@ use borrow.Rule.Slice.PartMut.{post_of, put_mid}
 use Rattle.std.specs.Option.{is_some}
 use Rattle.st_values.specs.declared.elem.Elem.{Elem}
 use Rattle.st_values.specs.declared.value.Value.{Value}
-use Rattle.st_leaves.specs.LeavesIn.{truth}
-use Rattle.st_blocks.specs.Cells.{IsOfType, flag_at}
+use Rattle.st_values.specs.Values.{truth, IsOfType}
+use Rattle.st_blocks.specs.Cells.{flag_at}
 use Rattle.st_charts.specs.Charts.{no_step, timed}
 use Rattle.st_charts.specs.Outcomes.{Outcome, invoked}
 use Rattle.st_charts.specs.declared.step.StepCell.{StepCell}
 use Rattle.st_meaning.specs.Charts.{ChartState, cells_in, flags_from, flags_values, moved_on, names_on, outcome_of, state_in, state_values, step_values, steps_values, times_set}
 use Rattle.st_meaning.specs.Meaning.{Values}
-use Rattle.st_meaning.specs.Sketches.{Sketch, flags_types, step_types, steps_types}
-use Rattle.st_sketches.specs.Views.{IsOf, SketchView, flags_place}
+use Rattle.st_leaves.specs.Charts.{step_types}
+use Rattle.st_meaning.specs.Sketches.{Sketch, flags_types, steps_types}
+use Rattle.st_meaning.specs.Views.{IsOf, SketchView, flags_place}
 use Rattle.st_chart_runs.specs.Parts.{AreFirst}
 use Rattle.st_chart_runs.specs.Views.{types_of}
 

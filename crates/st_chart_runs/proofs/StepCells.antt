@@ -4,12 +4,13 @@ use Rattle.std.proofs.Math.Seq.{take-append_seam}
 use Rattle.std.proofs.lemmas.List.{length-append, length-take-le}
 use Rattle.std.specs.List.{AllZip}
 use Rattle.st_values.specs.declared.elem.Elem.{Elem}
-use Rattle.st_blocks.specs.Cells.{IsOfType}
+use Rattle.st_values.specs.Values.{IsOfType}
 use Rattle.st_chart_runs.specs.Parts.{AreFirst}
 use Rattle.st_charts.specs.declared.step.StepCell.{StepCell}
 use Rattle.st_meaning.specs.Charts.{cell_in, cells_in, step_values, steps_values}
 use Rattle.st_meaning.specs.Meaning.{Values}
-use Rattle.st_meaning.specs.Sketches.{step_types, steps_types}
+use Rattle.st_leaves.specs.Charts.{step_types}
+use Rattle.st_meaning.specs.Sketches.{steps_types}
 
 -- what stands in a list from a place on
 pub first_of : {A : Type 0} (xs : List A) (i : ℕ) (d : A) → i < length xs → drop i xs ≡ get_or xs i d ∷ drop (i + 1) xs

@@ -6,7 +6,7 @@ use Rattle.std.proofs.lemmas.Slice.Zip.{AllZip-long}
 use Rattle.st_values.specs.declared.elem.Elem.TheVariants as elems
 use Rattle.st_values.specs.declared.value.Value.{Value}
 use Rattle.st_tree.specs.declared.leaf.Leaf.{Leaf}
-use Rattle.st_blocks.specs.Cells.{IsOfType}
+use Rattle.st_values.specs.Values.{IsOfType}
 use Rattle.st_blocks.proofs.TypeLemmas.{cell_typed}
 use Rattle.st_blocks.proofs.RangeLemmas.{is_time}
 use Rattle.st_memory.specs.Memory.{Content, Fits}
@@ -17,7 +17,7 @@ use Rattle.st_meaning.specs.Sketches.{Sketch, chart_types, flags_types, steps_ty
 use Rattle.st_meaning.specs.Statements.{part_made, stretch, unless_forced, with_stretch}
 use Rattle.st_meaning.proofs.ChartStates.{moved_typed, times_typed}
 use Rattle.st_meaning.proofs.Stretches.{stretch_at}
-use Rattle.st_sketches.specs.Views.{IsOf, SketchView}
+use Rattle.st_meaning.specs.Views.{IsOf, SketchView}
 use Rattle.st_chart_runs.specs.Leaves.{FitFrom}
 use Rattle.st_chart_runs.specs.Views.{StandsAt, types_of}
 

@@ -1,6 +1,6 @@
 -- Charts by the numbers of units.
 use Rattle.std.specs.Prelude.{◌≡◌, ◌≤◌, ℕ, List, get_or, Option, Some, None}
-use Rattle.st_sketches.specs.Views.{SketchView}
+use Rattle.st_meaning.specs.Views.{SketchView}
 use Rattle.st_chart_runs.specs.Views.{HasRoom}
 use Rattle.st_chart_runs.specs.declared.workspace.ChartRoom.{ChartRoom}
 

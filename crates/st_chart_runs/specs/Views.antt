@@ -3,11 +3,11 @@ use Rattle.std.specs.Prelude.{ℕ, ◌-◌, ◌^◌, ◌≤◌, min, ℤ, Bool, 
 use Rattle.std.specs.List.{AllZip}
 use Rattle.st_values.specs.declared.elem.Elem.{Elem}
 use Rattle.st_values.specs.declared.elem.Elem.TheVariants as elems
-use Rattle.st_blocks.specs.Cells.{IsOfType}
+use Rattle.st_values.specs.Values.{IsOfType}
 use Rattle.st_meaning.specs.Meaning.{Values}
 use Rattle.st_meaning.specs.Sketches.{flags_types, steps_types}
 use Rattle.st_meaning.specs.Statements.{Setting, stretch}
-use Rattle.st_sketches.specs.Views.{SketchView}
+use Rattle.st_meaning.specs.Views.{SketchView}
 use Rattle.st_chart_runs.specs.declared.workspace.ChartRoom.{ChartRoom}
 
 -- ---- workspaces

@@ -3,8 +3,8 @@ ghost use Rattle.std.specs.Prelude.{◌≡◌, ◌≤◌, ◌<◌, false, length
 ghost use Rattle.std.specs.List.{All};
 ghost use Rattle.st_meaning.specs.Charts.{flags_from, flags_values};
 
-use crate::values::{is_true, truth};
-use st_values::Value;
+use crate::values::is_true;
+use st_values::{Value, truth};
 
 /// Reads the flags of the names that are stored; those of others are FALSE.
 pub(crate) fn read_flags(cells: &[Value], stored: &[u32], flags: &mut [bool])

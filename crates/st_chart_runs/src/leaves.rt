@@ -16,8 +16,11 @@ pub fn store_value<M: Memory>(memory: &mut M, layout: &Layout, leaf: u32, value:
     requires below { leaf < length layout.now }
     requires value { IsValueAt layout.now leaf value }
     ensures over { M.IsOver layout.now memory.new }
-    ensures values { (M.content layout.now memory.new).values ≡ stored_to (M.content layout.now memory.old).forced (M.content layout.now memory.old).values value (Some leaf) }
-    ensures forced { (M.content layout.now memory.new).forced ≡ (M.content layout.now memory.old).forced }
+    ensures values { (M.content layout.now memory.new).values
+        ≡ stored_to (M.content layout.now memory.old).forced
+        (M.content layout.now memory.old).values value (Some leaf) }
+    ensures forced { (M.content layout.now memory.new).forced
+        ≡ (M.content layout.now memory.old).forced }
 {
     if !memory.forced(layout, leaf) {
         memory.set(layout, leaf, value);
@@ -43,8 +46,12 @@ pub fn store_values<M: Memory>(memory: &mut M, layout: &Layout, leaf: u32, cells
     requires there { leaf + length cells.now ≤ length (M.content layout.now memory.old).values }
     requires fit { FitFrom layout.now leaf cells.now }
     ensures over { M.IsOver layout.now memory.new }
-    ensures values { (M.content layout.now memory.new).values ≡ with_stretch (M.content layout.now memory.old).values leaf (unless_forced (drop leaf (M.content layout.now memory.old).forced) (stretch (M.content layout.now memory.old).values leaf (length cells.now)) cells.now) }
-    ensures forced { (M.content layout.now memory.new).forced ≡ (M.content layout.now memory.old).forced }
+    ensures values { (M.content layout.now memory.new).values
+        ≡ with_stretch (M.content layout.now memory.old).values leaf
+        (unless_forced (drop leaf (M.content layout.now memory.old).forced)
+        (stretch (M.content layout.now memory.old).values leaf (length cells.now)) cells.now) }
+    ensures forced { (M.content layout.now memory.new).forced
+        ≡ (M.content layout.now memory.old).forced }
 {
     for (i, cell) in cells.iter().enumerate() {
         store_value(memory, layout, leaf + i as u32, *cell);

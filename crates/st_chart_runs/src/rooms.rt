@@ -4,7 +4,7 @@ ghost use Rattle.st_chart_runs.specs.Views.{HasRoom, types_of};
 ghost use Rattle.std.specs.Prelude.{◌≡◌, ◌≤◌, ◌-◌, ◌^◌, length, min, IfSome};
 
 use crate::workspace::ChartRoom;
-use st_sketches::Sketch;
+use st_meaning::Sketch;
 
 /// How many leaves a chart has, as far as their number fits its type.
 pub(crate) fn leaves_of(sketch: &Sketch) -> usize
@@ -20,7 +20,8 @@ fn with_chart(room: ChartRoom, chart: &Option<Sketch>) -> ChartRoom
     ensures names { room.names ≤ result.names }
     ensures transitions { room.transitions ≤ result.transitions }
     ensures leaves { room.leaves ≤ result.leaves }
-    ensures least { (other : ChartRoom) → IsWithin room other → IfSome chart.now (λ view. HasRoom other view) → IsWithin result other }
+    ensures least { (other : ChartRoom) → IsWithin room other
+        → IfSome chart.now (λ view. HasRoom other view) → IsWithin result other }
 {
     match chart {
         Some(sketch) => ChartRoom {

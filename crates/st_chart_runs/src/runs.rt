@@ -5,7 +5,7 @@ ghost use Rattle.st_meaning.specs.Charts.{names_on};
 ghost use Rattle.st_meaning.specs.Sketches.{chart_size};
 ghost use Rattle.st_meaning.specs.Sketches as sketches;
 ghost use Rattle.st_meaning.specs.Statements.{chart_done, is_nonzero, stretch, times_done};
-ghost use Rattle.st_sketches.specs.Views.{IsOf};
+ghost use Rattle.st_meaning.specs.Views.{IsOf};
 
 use crate::cells::{move_cells_on, set_cell_times};
 use crate::leaves::{load_values, store_values};
@@ -13,8 +13,8 @@ use crate::rooms::leaves_of;
 use crate::workspace::Workspace;
 use st_charts::StepCell;
 use st_layout::Layout;
+use st_meaning::Sketch;
 use st_memory::Memory;
-use st_sketches::Sketch;
 use st_values::Value;
 
 /// Sets the times of the active steps of a chart at a moment, in milliseconds. Its leaves stand from this one on.
@@ -31,8 +31,12 @@ pub fn set_times<M: Memory>(
     requires stands { StandsAt sketch.now leaf (M.content layout.now memory.old).values }
     requires room { HasRoom (room_of workspace.old) sketch.now }
     ensures over { M.IsOver layout.now memory.new }
-    ensures forced { (M.content layout.now memory.new).forced ≡ (M.content layout.now memory.old).forced }
-    ensures values { (s : sketches.Sketch) → IsOf sketch.now s → (M.content layout.now memory.new).values ≡ times_done (setting_at now (M.content layout.now memory.old).forced) s leaf (M.content layout.now memory.old).values }
+    ensures forced { (M.content layout.now memory.new).forced
+        ≡ (M.content layout.now memory.old).forced }
+    ensures values { (s : sketches.Sketch) → IsOf sketch.now s
+        → (M.content layout.now memory.new).values
+        ≡ times_done (setting_at now (M.content layout.now memory.old).forced)
+        s leaf (M.content layout.now memory.old).values }
     ensures room { room_of workspace.new ≡ room_of workspace.old }
 {
     let cells = workspace.cells.as_mut_slice();
@@ -58,9 +62,16 @@ pub fn invoke_chart<M: Memory>(
     requires conditions { length conditions.now ≡ length sketch.now.passages }
     requires room { HasRoom (room_of workspace.old) sketch.now }
     ensures over { M.IsOver layout.now memory.new }
-    ensures forced { (M.content layout.now memory.new).forced ≡ (M.content layout.now memory.old).forced }
-    ensures values { (s : sketches.Sketch) → IsOf sketch.now s → (M.content layout.now memory.new).values ≡ chart_done (setting_at now (M.content layout.now memory.old).forced) s leaf (map is_nonzero conditions.now) (M.content layout.now memory.old).values }
-    ensures on { (s : sketches.Sketch) → IsOf sketch.now s → take (length sketch.now.variables) workspace.new.on ≡ names_on s (map is_nonzero conditions.now) now (stretch (M.content layout.now memory.old).values leaf (chart_size s)) }
+    ensures forced { (M.content layout.now memory.new).forced
+        ≡ (M.content layout.now memory.old).forced }
+    ensures values { (s : sketches.Sketch) → IsOf sketch.now s
+        → (M.content layout.now memory.new).values
+        ≡ chart_done (setting_at now (M.content layout.now memory.old).forced)
+        s leaf (map is_nonzero conditions.now) (M.content layout.now memory.old).values }
+    ensures on { (s : sketches.Sketch) → IsOf sketch.now s
+        → take (length sketch.now.variables) workspace.new.on
+        ≡ names_on s (map is_nonzero conditions.now)
+        now (stretch (M.content layout.now memory.old).values leaf (chart_size s)) }
     ensures room { room_of workspace.new ≡ room_of workspace.old }
 {
     let cells = workspace.cells.as_mut_slice();
@@ -91,8 +102,12 @@ fn set_times_in<M: Memory>(
     requires steps { length sketch.now.pulses ≤ length steps.old }
     requires names { length sketch.now.variables ≤ length flags.old }
     ensures over { M.IsOver layout.now memory.new }
-    ensures forced { (M.content layout.now memory.new).forced ≡ (M.content layout.now memory.old).forced }
-    ensures values { (s : sketches.Sketch) → IsOf sketch.now s → (M.content layout.now memory.new).values ≡ times_done (setting_at now (M.content layout.now memory.old).forced) s leaf (M.content layout.now memory.old).values }
+    ensures forced { (M.content layout.now memory.new).forced
+        ≡ (M.content layout.now memory.old).forced }
+    ensures values { (s : sketches.Sketch) → IsOf sketch.now s
+        → (M.content layout.now memory.new).values
+        ≡ times_done (setting_at now (M.content layout.now memory.old).forced)
+        s leaf (M.content layout.now memory.old).values }
 {
     let cells = &mut cells[..leaves_of(sketch)];
     let steps = &mut steps[..sketch.steps()];
@@ -118,8 +133,12 @@ fn set_times_over<M: Memory>(
     requires steps { length steps.old ≡ length sketch.now.pulses }
     requires names { length flags.old ≡ length sketch.now.variables }
     ensures over { M.IsOver layout.now memory.new }
-    ensures forced { (M.content layout.now memory.new).forced ≡ (M.content layout.now memory.old).forced }
-    ensures values { (s : sketches.Sketch) → IsOf sketch.now s → (M.content layout.now memory.new).values ≡ times_done (setting_at now (M.content layout.now memory.old).forced) s leaf (M.content layout.now memory.old).values }
+    ensures forced { (M.content layout.now memory.new).forced
+        ≡ (M.content layout.now memory.old).forced }
+    ensures values { (s : sketches.Sketch) → IsOf sketch.now s
+        → (M.content layout.now memory.new).values
+        ≡ times_done (setting_at now (M.content layout.now memory.old).forced)
+        s leaf (M.content layout.now memory.old).values }
 {
     load_values(memory, layout, leaf, cells);
     set_cell_times(sketch, cells, now, steps, flags);
@@ -150,9 +169,16 @@ fn invoke_in<M: Memory>(
     requires conditions { length sketch.now.passages ≤ length conditions.old }
     requires on { length sketch.now.variables ≤ length on.old }
     ensures over { M.IsOver layout.now memory.new }
-    ensures forced { (M.content layout.now memory.new).forced ≡ (M.content layout.now memory.old).forced }
-    ensures values { (s : sketches.Sketch) → IsOf sketch.now s → (M.content layout.now memory.new).values ≡ chart_done (setting_at now (M.content layout.now memory.old).forced) s leaf (map is_nonzero numbers.now) (M.content layout.now memory.old).values }
-    ensures on { (s : sketches.Sketch) → IsOf sketch.now s → take (length sketch.now.variables) on.new ≡ names_on s (map is_nonzero numbers.now) now (stretch (M.content layout.now memory.old).values leaf (chart_size s)) }
+    ensures forced { (M.content layout.now memory.new).forced
+        ≡ (M.content layout.now memory.old).forced }
+    ensures values { (s : sketches.Sketch) → IsOf sketch.now s
+        → (M.content layout.now memory.new).values
+        ≡ chart_done (setting_at now (M.content layout.now memory.old).forced)
+        s leaf (map is_nonzero numbers.now) (M.content layout.now memory.old).values }
+    ensures on { (s : sketches.Sketch) → IsOf sketch.now s
+        → take (length sketch.now.variables) on.new
+        ≡ names_on s (map is_nonzero numbers.now)
+        now (stretch (M.content layout.now memory.old).values leaf (chart_size s)) }
 {
     let cells = &mut cells[..leaves_of(sketch)];
     let steps = &mut steps[..sketch.steps()];
@@ -188,9 +214,15 @@ fn invoke_over<M: Memory>(
     requires conditions { length conditions.old ≡ length sketch.now.passages }
     requires on { length on.old ≡ length sketch.now.variables }
     ensures over { M.IsOver layout.now memory.new }
-    ensures forced { (M.content layout.now memory.new).forced ≡ (M.content layout.now memory.old).forced }
-    ensures values { (s : sketches.Sketch) → IsOf sketch.now s → (M.content layout.now memory.new).values ≡ chart_done (setting_at now (M.content layout.now memory.old).forced) s leaf conditions.old (M.content layout.now memory.old).values }
-    ensures on { (s : sketches.Sketch) → IsOf sketch.now s → on.new ≡ names_on s conditions.old now (stretch (M.content layout.now memory.old).values leaf (chart_size s)) }
+    ensures forced { (M.content layout.now memory.new).forced
+        ≡ (M.content layout.now memory.old).forced }
+    ensures values { (s : sketches.Sketch) → IsOf sketch.now s
+        → (M.content layout.now memory.new).values
+        ≡ chart_done (setting_at now (M.content layout.now memory.old).forced)
+        s leaf conditions.old (M.content layout.now memory.old).values }
+    ensures on { (s : sketches.Sketch) → IsOf sketch.now s
+        → on.new ≡ names_on s conditions.old now
+        (stretch (M.content layout.now memory.old).values leaf (chart_size s)) }
 {
     load_values(memory, layout, leaf, cells);
     move_cells_on(sketch, cells, now, steps, flags, conditions, on);

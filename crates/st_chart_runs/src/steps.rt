@@ -1,21 +1,16 @@
 //! The steps of a chart, from the values of their leaves and back.
 ghost use Rattle.std.specs.Prelude.{◌≡◌, ◌≤◌, ◌+◌, ◌++◌, drop, length, take};
 ghost use Rattle.std.specs.List.{AllZip};
-ghost use Rattle.st_blocks.specs.Cells.{IsOfType};
+ghost use Rattle.st_values.specs.Values.{IsOfType};
 ghost use Rattle.st_chart_runs.specs.Parts.{AreFirst};
 ghost use Rattle.st_meaning.specs.Charts.{cell_in, cells_in, step_values, steps_values};
-ghost use Rattle.st_meaning.specs.Sketches.{step_types, steps_types};
+ghost use Rattle.st_leaves.specs.Charts.{step_types};
+ghost use Rattle.st_meaning.specs.Sketches.{steps_types};
 
-use crate::values::{duration, is_true, of_duration, truth};
+use crate::values::{duration, is_true, of_duration};
 use st_charts::StepCell;
-use st_values::Value;
-
-/// How many leaves a step has.
-fn leaves_of_step(has_pulses: bool) -> usize
-    ensures { result ≡ length (step_types has_pulses) }
-{
-    if has_pulses { 4 } else { 3 }
-}
+use st_leaves::leaves_of_step;
+use st_values::{Value, truth};
 
 /// The step whose leaves have these values.
 fn step_in(cells: &[Value], has_pulses: bool) -> StepCell
@@ -38,7 +33,7 @@ pub(crate) fn read_steps(cells: &[Value], pulses: &[bool], steps: &mut [StepCell
 {
     let mut rest = cells;
     for (i, has_pulses) in pulses.iter().enumerate() {
-        let (own, others) = rest.split_at(leaves_of_step(*has_pulses));
+        let (own, others) = rest.split_at(leaves_of_step(*has_pulses) as usize);
         steps[i] = step_in(own, *has_pulses);
         rest = others;
     }
@@ -48,7 +43,9 @@ pub(crate) fn read_steps(cells: &[Value], pulses: &[bool], steps: &mut [StepCell
 fn write_step(step: StepCell, has_pulses: bool, cells: &mut [Value], place: usize) -> usize
     requires { place + length (step_types has_pulses) ≤ length cells.old }
     ensures place { result ≡ place + length (step_types has_pulses) }
-    ensures cells { cells.new ≡ take place cells.old ++ (step_values has_pulses step ++ drop (place + length (step_types has_pulses)) cells.old) }
+    ensures cells { cells.new ≡ take place cells.old
+        ++ (step_values has_pulses step
+        ++ drop (place + length (step_types has_pulses)) cells.old) }
 {
     if has_pulses {
         cells[place..place + 4].copy_from_slice(&[

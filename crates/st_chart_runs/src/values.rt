@@ -2,7 +2,6 @@
 ghost use Rattle.std.specs.Ordering.{int_eq};
 ghost use Rattle.std.specs.Prelude.{◌≡◌, IsTrue, not, pos};
 ghost use Rattle.st_blocks.specs.Cells.{of_type};
-ghost use Rattle.st_leaves.specs.LeavesIn.{truth};
 ghost use Rattle.st_values.specs.Values.{in_range};
 
 use st_values::{Elem, Value};
@@ -12,16 +11,6 @@ pub(crate) fn is_true(value: Value) -> bool
     ensures { result ≡ not (int_eq value.bits (pos 0)) }
 {
     value.bits != 0
-}
-
-/// The value of type BOOL.
-pub(crate) fn truth(is_true: bool) -> Value
-    ensures { result ≡ truth is_true }
-{
-    Value {
-        elem: Elem::Bool,
-        bits: if is_true { 1 } else { 0 },
-    }
 }
 
 /// The milliseconds of a TIME.

@@ -25,7 +25,8 @@ pub fn chart_step(
     requires flags { length flags.old ≡ table.now.names }
     requires conditions { length conditions.old ≡ length table.now.transitions.items }
     requires on { length on.old ≡ table.now.names }
-    ensures cleared { AreCleared (passages_of table.now.transitions.items) (active_in steps.old) (asked begun (marked conditions.old)) (marked conditions.new) }
+    ensures cleared { AreCleared (passages_of table.now.transitions.items) (active_in steps.old)
+        (asked begun (marked conditions.old)) (marked conditions.new) }
     ensures steps { let between = step_between (passages_of table.now.transitions.items) (marked conditions.new) begun now (step_in steps.old) in
         (s : ℕ) → s < length steps.old → step_in steps.new s ≡ remembered (between s) }
     ensures flags { let between = step_between (passages_of table.now.transitions.items) (marked conditions.new) begun now (step_in steps.old) in

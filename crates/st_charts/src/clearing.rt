@@ -13,8 +13,11 @@ use crate::table::ChartTable;
 pub fn clear(table: &ChartTable, steps: &mut [StepCell], conditions: &mut [bool])
     requires steps { length steps.old ≡ table.now.steps }
     requires conditions { length conditions.old ≡ length table.now.transitions.items }
-    ensures cleared { AreCleared (passages_of table.now.transitions.items) (active_in steps.old) (marked conditions.old) (marked conditions.new) }
-    ensures left { Changes left (is_left (passages_of table.now.transitions.items) (marked conditions.new)) steps.old steps.new }
+    ensures cleared { AreCleared (passages_of table.now.transitions.items) (active_in steps.old)
+        (marked conditions.old) (marked conditions.new) }
+    ensures left { Changes left
+        (is_left (passages_of table.now.transitions.items) (marked conditions.new))
+        steps.old steps.new }
 {
     'transitions: for number in table.order.iter() {
         let before = table.transitions[*number].before.as_slice();
@@ -30,7 +33,9 @@ pub fn clear(table: &ChartTable, steps: &mut [StepCell], conditions: &mut [bool]
 pub fn enter_cleared(table: &ChartTable, steps: &mut [StepCell], cleared: &[bool], now: i64)
     requires steps { length steps.old ≡ table.now.steps }
     requires cleared { length cleared.now ≡ length table.now.transitions.items }
-    ensures { Changes (entered now) (is_entered (passages_of table.now.transitions.items) (marked cleared.now)) steps.old steps.new }
+    ensures { Changes (entered now)
+        (is_entered (passages_of table.now.transitions.items) (marked cleared.now))
+        steps.old steps.new }
 {
     'transitions: for (place, transition) in table.transitions.iter().enumerate() {
         if cleared[place] {

@@ -39,7 +39,8 @@ fn has_effect(effect: Effect, link: Link, step: StepCell) -> bool
 fn mark(links: &[Link], steps: &[StepCell], effect: Effect, value: bool, marks: &mut [bool])
     requires linked { All (λ link. link.step < length steps.now) links.now }
     requires named { All (λ link. link.name < length marks.old) links.now }
-    ensures { Changes (λ _. value) (is_named links.now (step_in steps.now) (has_effect effect)) marks.old marks.new }
+    ensures { Changes (λ _. value) (is_named links.now (step_in steps.now) (has_effect effect))
+        marks.old marks.new }
 {
     'links: for link in links {
         let step = steps[link.step as usize];
@@ -54,8 +55,10 @@ pub fn control(links: &[Link], steps: &[StepCell], flags: &mut [bool], on: &mut 
     requires linked { All (λ link. link.step < length steps.now) links.now }
     requires named { All (λ link. link.name < length flags.old) links.now }
     requires on { length on.old ≡ length flags.old }
-    ensures flags { (n : ℕ) → n < length flags.old → marked flags.new n ≡ stored_after links.now (step_in steps.now) (marked flags.old) n }
-    ensures on { (n : ℕ) → n < length flags.old → marked on.new n ≡ is_on links.now (step_in steps.now) (marked flags.old) n }
+    ensures flags { (n : ℕ) → n < length flags.old
+        → marked flags.new n ≡ stored_after links.now (step_in steps.now) (marked flags.old) n }
+    ensures on { (n : ℕ) → n < length flags.old
+        → marked on.new n ≡ is_on links.now (step_in steps.now) (marked flags.old) n }
 {
     mark(links, steps, Effect::Store, true, flags);
     mark(links, steps, Effect::Reset, false, flags);

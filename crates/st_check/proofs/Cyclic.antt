@@ -10,9 +10,9 @@ use Rattle.st_faults.proofs.Least.{first_kept, none_kept, offer_append}
 use Rattle.st_tree.specs.declared.tree.unit.Unit.{Unit as Section}
 use Rattle.st_types.specs.Names.{Named, unit_at, units_of}
 use Rattle.st_types.proofs.Units.{there}
-use Rattle.st_order.specs.Graphs.{AreCyclic, Reaches}
-use Rattle.st_order.proofs.GraphLemmas.{reaches_row}
-use Rattle.st_order.proofs.Lists.{Contains-cons_cases, Contains-head}
+use Rattle.st_references.specs.Graphs.{AreCyclic, Reaches}
+use Rattle.st_references.proofs.GraphLemmas.{reaches_row}
+use Rattle.st_references.proofs.Listed.{Contains-cons_cases, Contains-head}
 use Rattle.st_references.specs.References.{graph_of, references}
 use Rattle.st_check_units.specs.Units.{node_faults}
 use Rattle.st_check.specs.Faults.{IsUnitFault, listed, recursion}

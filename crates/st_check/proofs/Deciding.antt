@@ -7,9 +7,9 @@ use Rattle.st_faults.specs.declared.fault.Rule.TheVariants as rules
 use Rattle.st_tree.specs.declared.tree.unit.Unit.{Unit as Section}
 use Rattle.st_types.specs.Names.{Named, unit_at, units_of}
 use Rattle.st_types.proofs.Units.{there}
-use Rattle.st_order.specs.Graphs.{Graph, Refers, Reaches, direct, onward, references}
-use Rattle.st_order.proofs.GraphLemmas.{reaches_row}
-use Rattle.st_order.proofs.Lists.{Contains-cons_cases, Contains-head, Contains-nil, Contains-tail, same_or_not}
+use Rattle.st_references.specs.Graphs.{Graph, Refers, Reaches, direct, onward, references}
+use Rattle.st_references.proofs.GraphLemmas.{reaches_row}
+use Rattle.st_references.proofs.Listed.{Contains-cons_cases, Contains-head, Contains-nil, Contains-tail, same_or_not}
 use Rattle.st_references.specs.References.{graph_of}
 use Rattle.st_check.specs.Faults.{HasNoProgram, IsAccepted, IsFirst, IsUnitFault, program_named}
 use Rattle.st_check.specs.Laws.{IsDecided}

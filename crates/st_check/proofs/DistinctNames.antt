@@ -15,7 +15,8 @@ use Rattle.st_tree.specs.declared.tree.declaration.VarKind.TheVariants as var_ki
 use Rattle.st_tree.specs.declared.tree.position.Identifier.{Identifier}
 use Rattle.st_tree.specs.declared.tree.unit.ChartElement.{ChartElement}
 use Rattle.st_tree.specs.declared.tree.unit.ChartElement.TheVariants as chart_elements
-use Rattle.st_types.specs.Compositions.{Composition, unknown, elementary, array, composed, standard, Members, member, composition_of, composition_within, declared_composition, elements_composition, is_constant, members_by, optional_composition, specified_composition, started, subscripted, unit_composition}
+use Rattle.st_tree.specs.Kinds.{is_constant}
+use Rattle.st_types.specs.Compositions.{Composition, unknown, elementary, array, composed, standard, Members, member, composition_of, composition_within, declared_composition, elements_composition, members_by, optional_composition, specified_composition, started, subscripted, unit_composition}
 use Rattle.st_types.specs.Initials.{element_initial, initial_of, unit_element_initial}
 use Rattle.st_types.specs.Names.{Declared, Declares, Named, chart_of, declared_in, members_of, steps_in, unit_at, variables_of}
 use Rattle.st_types.specs.Names as names

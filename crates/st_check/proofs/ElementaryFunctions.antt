@@ -33,7 +33,8 @@ use Rattle.st_references.proofs.Lists.{all_left, all_right}
 use Rattle.st_leaves.proofs.Pairs.{each_append}
 use Rattle.st_leaves.proofs.Wrapped.{wrapped_is_value}
 use Rattle.st_leaves.proofs.Begins.{zero_is_value}
-use Rattle.st_check_units.specs.Declarations.{block_faults, declaration_faults, initial_faults, is_misdeclared, is_output, is_permitted, misdeclared_faults, permitted, specification_faults, specification_fits, specified_faults, type_faults}
+use Rattle.st_tree.specs.Kinds.{is_output}
+use Rattle.st_check_units.specs.Declarations.{block_faults, declaration_faults, initial_faults, is_misdeclared, is_permitted, misdeclared_faults, permitted, specification_faults, specification_fits, specified_faults, type_faults}
 use Rattle.st_check_units.specs.Repeats.{repeated}
 use Rattle.st_check_units.specs.Subscripts.{subrange_faults}
 use Rattle.st_check_units.specs.Units.{function_faults, variable_names}

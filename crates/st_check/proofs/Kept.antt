@@ -5,7 +5,7 @@ use Rattle.st_faults.specs.declared.fault.Fault.{Fault}
 use Rattle.st_faults.proofs.Least.{none_kept}
 use Rattle.st_tree.specs.declared.tree.unit.Unit.{Unit as Section}
 use Rattle.st_types.specs.Names.{units_of}
-use Rattle.st_order.specs.Graphs.{AreCyclic, Graph, IsOrder, Reaches}
+use Rattle.st_references.specs.Graphs.{AreCyclic, Graph, IsOrder, Reaches}
 use Rattle.st_references.specs.References.{graph_of}
 use Rattle.st_check_units.specs.Units.{node_faults}
 use Rattle.st_check.specs.Answers.{answer_to}

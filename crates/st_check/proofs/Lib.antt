@@ -1,3 +1,11 @@
+pub mod Insides
+pub mod Lists
+pub mod Names
+pub mod Parts
+pub mod Settled
+pub mod Tables
+pub mod Unfolding
+pub mod Whole
 pub mod Apart
 mod Checked
 pub mod Cyclic

@@ -17,7 +17,7 @@ use Rattle.st_tree.specs.declared.tree.unit.Step.{Step}
 use Rattle.st_faults.specs.Faults.{fault, when}
 use Rattle.st_faults.specs.declared.fault.Rule.TheVariants as rules
 use Rattle.st_types.proofs.Cases.{by_test}
-use Rattle.st_types.specs.Compositions.{is_constant}
+use Rattle.st_tree.specs.Kinds.{is_constant}
 use Rattle.st_types.specs.Names.{Declared, Declares, Named, actions_in, chart_in, chart_of, declared_named, is_action, steps_in, unit_at, variables_in, variables_of}
 use Rattle.st_types.specs.Names as names
 use Rattle.st_types.specs.Scopes.{purpose_of, scope_of, symbol, symbol_of, variable_named, variable_shape}

@@ -7,7 +7,7 @@ use Rattle.st_faults.specs.declared.fault.Fault.{Fault}
 use Rattle.st_faults.specs.declared.fault.Rule.TheVariants as rules
 use Rattle.st_tree.specs.declared.tree.unit.Unit.{Unit as Section}
 use Rattle.st_types.specs.Names.{Named, unit_at, units_of}
-use Rattle.st_order.proofs.Orders.{none_reaches_itself}
+use Rattle.st_references.proofs.Orders.{none_reaches_itself}
 use Rattle.st_references.specs.References.{graph_of}
 use Rattle.st_leaves.specs.Leaves.{leaves_of}
 use Rattle.st_leaves.specs.Limits.{is_too_large}

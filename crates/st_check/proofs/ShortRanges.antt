@@ -10,8 +10,8 @@ use Rattle.st_tree.specs.declared.tree.declaration.Subrange.{Subrange}
 use Rattle.st_tree.specs.declared.tree.position.Position.{Position}
 use Rattle.st_faults.specs.Faults.{fault, when}
 use Rattle.st_faults.specs.declared.fault.Rule.TheVariants as rules
-use Rattle.st_sizes.specs.Subscripts.{next, numbers, values_from}
-use Rattle.st_leaves.specs.Leaves.{number_of}
+use Rattle.st_leaves.specs.Subscripts.{next, numbers, values_from}
+use Rattle.st_tree.specs.Literals.{number_of}
 use Rattle.st_check_units.specs.Subscripts.{bound_by, bound_of, is_upper, subrange_faults}
 use Rattle.st_check.proofs.Apart.{kept_when, nothing_parts}
 use Rattle.st_check.proofs.ShortSubscripts.{IsShortRange}

@@ -9,11 +9,12 @@ use Rattle.st_tree.specs.declared.tree.unit.ChartElement.{ChartElement}
 use Rattle.st_tree.specs.declared.tree.unit.Step.{Step}
 use Rattle.st_types.specs.Compositions.{Composition, unknown, elementary, array, composed, standard, Members, none, member}
 use Rattle.st_types.specs.Names.{steps_in}
-use Rattle.st_types.specs.Standard.{Pin, pins_of}
+use Rattle.st_types.specs.Standard.{Pin, pins_of, Kept, block_name, kept_by}
 use Rattle.st_leaves.specs.Bounds.{IsBounded}
 use Rattle.st_leaves.specs.Charts.{is_pulse, stored_by}
 use Rattle.st_leaves.specs.Leaves.{numbers_in}
-use Rattle.st_leaves.specs.LeavesIn.{Kept, LeafIn, all_steps_in, block_name, chart_in, elements_in, first_written, kept_by, kept_leaf, leaves_in, leaves_of_whole, member_names, members_in, one, pin_leaf, starting, state_in, step_in, stored_in, subscript_lists, truth, begun, used_as, variables_in, within}
+use Rattle.st_values.specs.Values.{truth}
+use Rattle.st_leaves.specs.LeavesIn.{LeafIn, all_steps_in, chart_in, elements_in, first_written, kept_leaf, leaves_in, leaves_of_whole, member_names, members_in, one, pin_leaf, starting, state_in, step_in, stored_in, subscript_lists, begun, used_as, variables_in, within}
 use Rattle.st_leaves.specs.Paths.{field, index, kept}
 use Rattle.st_leaves.specs.Distinct.{AreShort, HasShortSubscripts}
 use Rattle.st_leaves.proofs.Pairs.{each_append}

@@ -13,7 +13,8 @@ use Rattle.st_tree.specs.declared.tree.declaration.VarBlock.{VarBlock}
 use Rattle.st_tree.specs.declared.tree.declaration.VarKind.{VarKind}
 use Rattle.st_tree.specs.declared.tree.declaration.VarKind.TheVariants as var_kinds
 use Rattle.st_tree.specs.declared.tree.position.Identifier.{Identifier}
-use Rattle.st_types.specs.Compositions.{Composition, unknown, elementary, array, composed, standard, Members, member, composition_of, composition_within, declared_composition, elements_composition, is_constant, members_by, optional_composition, specified_composition, started, subscripted, unit_composition}
+use Rattle.st_tree.specs.Kinds.{is_constant}
+use Rattle.st_types.specs.Compositions.{Composition, unknown, elementary, array, composed, standard, Members, member, composition_of, composition_within, declared_composition, elements_composition, members_by, optional_composition, specified_composition, started, subscripted, unit_composition}
 use Rattle.st_types.specs.Initials.{element_initial, initial_of, unit_element_initial}
 use Rattle.st_types.specs.Names.{Declared, Declares, Named, declared_in, members_of, unit_at, variables_of}
 use Rattle.st_types.specs.Names as names

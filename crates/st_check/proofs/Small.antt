@@ -9,7 +9,7 @@ use Rattle.st_types.specs.Compositions.{Composition, unknown, elementary, array,
 use Rattle.st_types.specs.Names.{Named, unit_at}
 use Rattle.st_faults.specs.Faults.{fault, when}
 use Rattle.st_faults.specs.declared.fault.Rule.TheVariants as rules
-use Rattle.st_sizes.specs.Sizes.{total_bytes}
+use Rattle.st_leaves.specs.Sizes.{total_bytes}
 use Rattle.st_leaves.specs.Bounds.{HasBounds, HaveBounds, IsBounded}
 use Rattle.st_leaves.specs.Compositions.{counted}
 use Rattle.st_leaves.specs.Leaves.{leaves_of}

@@ -9,7 +9,7 @@ use Rattle.std.proofs.lemmas.List.Elements.{All-from_recursion, recursion_from_A
 use Rattle.st_values.specs.Values.{IsValue}
 use Rattle.st_values.specs.Words.{raised}
 use Rattle.st_tree.specs.declared.leaf.Leaf.{Leaf}
-use Rattle.st_sizes.specs.Sizes.{longest_path, total_bytes}
+use Rattle.st_leaves.specs.Sizes.{longest_path, total_bytes}
 use Rattle.st_types.specs.Compositions.{composition_of}
 use Rattle.st_types.specs.Names.{Named}
 use Rattle.st_leaves.specs.Compositions.{counted}

@@ -8,7 +8,7 @@ use Rattle.st_faults.specs.declared.fault.Fault.{Fault}
 use Rattle.st_faults.specs.declared.fault.Rule.TheVariants as rules
 use Rattle.st_types.specs.Names.{Named, Declares, unit_at, units_of}
 use Rattle.st_types.specs.Names as names
-use Rattle.st_order.specs.Graphs.{Reaches}
+use Rattle.st_references.specs.Graphs.{Reaches}
 use Rattle.st_references.specs.References.{graph_of}
 use Rattle.st_leaves.specs.Leaves.{leaves_of}
 use Rattle.st_leaves.specs.Limits.{is_too_large}

@@ -9,7 +9,7 @@ use Rattle.st_faults.specs.declared.fault.Fault.{Fault}
 use Rattle.st_types.specs.Compositions.{Composition, elementary, composition_of, composition_within, declared_composition}
 use Rattle.st_types.specs.Names.{Named, chart_in, unit_at, units_of, variables_in, variables_of}
 use Rattle.st_types.specs.Names as names
-use Rattle.st_order.specs.Graphs.{Reaches}
+use Rattle.st_references.specs.Graphs.{Reaches}
 use Rattle.st_references.specs.References.{graph_of}
 use Rattle.st_leaves.specs.Bounds.{HasBounds}
 use Rattle.st_leaves.specs.Charts.{action_names, stored_of, variable_names}

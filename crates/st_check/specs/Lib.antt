@@ -1,3 +1,4 @@
+pub mod Sized
 pub mod Answers
 pub mod Faults
 pub mod Laws

@@ -3,7 +3,7 @@ use Rattle.std.specs.Prelude.{◌≡◌, ℕ, suc, nat_eq, true, false, if◌the
 use Rattle.st_tree.specs.declared.leaf.Leaf.{Leaf}
 use Rattle.st_tree.specs.declared.tree.unit.Unit.{Unit as Section}
 use Rattle.st_types.specs.Names.{Named, unit_at, units_of}
-use Rattle.st_order.specs.Graphs.{IsOrder}
+use Rattle.st_references.specs.Graphs.{IsOrder}
 use Rattle.st_references.specs.References.{graph_of}
 use Rattle.st_leaves.specs.Leaves.{leaves_of}
 use Rattle.st_leaves.specs.Limits.{is_too_large}

@@ -9,16 +9,14 @@ ghost use Rattle.st_types.specs.Inside.{named_by};
 ghost use Rattle.st_types.specs.Names.{units_of};
 
 use crate::fault::CheckFault;
+use crate::is_too_large;
 use crate::program::Program;
 use st_check_units::check_units;
 use st_faults::{Fault, FirstFault, Rule};
-use st_names::is_same_name;
-use st_order::{OrderFault, order};
-use st_program_sizes::is_too_large;
-use st_references::references;
+use st_references::{OrderFault, order, references};
 use st_scopes::Tables;
 use st_tree::tree::Unit;
-use st_types::{NamedUnit, UnitKind};
+use st_types::{NamedUnit, UnitKind, is_same_name};
 use std::alloc::Global;
 
 /// The text as its first program of this name, ignoring case, or its first fault, in time linear in the text.

@@ -9,12 +9,12 @@ use Rattle.st_tree.specs.declared.tree.expression.Expression.{Expression}
 use Rattle.st_tree.specs.declared.tree.expression.Expression.TheVariants as expressions
 use Rattle.st_tree.specs.declared.tree.expression.Operation.{Operation}
 use Rattle.st_tree.specs.declared.tree.position.Position.{Position}
-use Rattle.st_types.specs.OwnTypes.{call_own, chain_own, compares, first_own, only_first, standard_own, without_first}
+use Rattle.st_types.specs.OwnTypes.{call_own, chain_own, compares, first_own, only_first, standard_own, types_call, without_first}
 use Rattle.st_types.specs.Scopes.{Scope}
 use Rattle.st_types.specs.declared.standard.StandardFunction.{StandardFunction}
 use Rattle.st_types.specs.declared.standard.StandardFunction.TheVariants as functions
 use Rattle.st_check_expressions.specs.Calls.{ArgumentKnown, input, is_faulty, output, owns_in, positional, positional_in}
-use Rattle.st_check_expressions.specs.Inside.{argument_own, types_call}
+use Rattle.st_check_expressions.specs.Inside.{argument_own}
 use Rattle.st_check_expressions.specs.Known.{Known, is_empty, operators_of, owns_of}
 use Rattle.st_check_expressions.specs.Nodes.{operators_in, rule_of}
 use Rattle.st_check_expressions.specs.Walk.{known, known_arguments, known_operations}

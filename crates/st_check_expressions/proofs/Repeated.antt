@@ -3,8 +3,8 @@ use Rattle.std.proofs.Common.{◌≡◌, ℕ, List, [], ◌∷◌, ◌++◌, Boo
 use Rattle.std.specs.List.{list_any}
 use Rattle.std.specs.Option.{is_some}
 use Rattle.std.proofs.lemmas.List.Folds.{list_any-append}
-use Rattle.st_names.specs.Tables.{first_of}
-use Rattle.st_names.proofs.Passing.{some_position}
+use Rattle.st_types.specs.Tables.{first_of}
+use Rattle.st_types.proofs.Passing.{some_position}
 use Rattle.st_values.specs.Words.{is_word}
 use Rattle.st_values.proofs.SameWords.{is_word_comm}
 use Rattle.st_tree.specs.declared.tree.position.Identifier.{Identifier}

@@ -21,7 +21,8 @@ use Rattle.st_faults.specs.Faults.{fault, offer_all, when}
 use Rattle.st_faults.specs.declared.fault.Fault.{Fault}
 use Rattle.st_faults.specs.declared.fault.Rule.{Rule}
 use Rattle.st_faults.specs.declared.fault.Rule.TheVariants as broken_rules
-use Rattle.st_types.specs.OwnTypes.{compared_type, compares, is_boolean}
+use Rattle.st_operators.specs.Operators.{is_boolean}
+use Rattle.st_types.specs.OwnTypes.{compared_type, compares}
 use Rattle.st_types.specs.Scopes.{Scope, elem_due}
 use Rattle.st_types.specs.Types.{Shape}
 use Rattle.st_types.specs.declared.symbol.Callee.{Callee}

@@ -1,5 +1,5 @@
 -- What the rules say of calls in expressions (2.5.1.4).
-use Rattle.std.specs.Prelude.{ℕ, suc, ◌+◌, ◌==◌, nat_lt, Bool, true, false, ◌&&◌, ◌||◌, not, List, [], ◌∷◌, ◌++◌, map, length, Option, Some, None, if◌then◌else◌}
+use Rattle.std.specs.Prelude.{ℕ, ◌+◌, ◌==◌, Bool, true, false, ◌&&◌, ◌||◌, not, List, [], ◌∷◌, ◌++◌, map, length, Option, Some, None, if◌then◌else◌}
 use Rattle.std.specs.List.{flat_map, list_all}
 use Rattle.std.specs.Option.{is_some}
 use Rattle.st_values.specs.declared.elem.Elem.{Elem}
@@ -10,7 +10,7 @@ use Rattle.st_faults.specs.declared.fault.Fault.{Fault}
 use Rattle.st_faults.specs.declared.fault.Rule.{Rule}
 use Rattle.st_faults.specs.declared.fault.Rule.TheVariants as rules
 use Rattle.st_types.specs.Names.{is_among}
-use Rattle.st_types.specs.OwnTypes.{call_own, gives, least_arguments, most_arguments, nth_due, position_due}
+use Rattle.st_types.specs.OwnTypes.{call_own, gives, nth_due, position_due, takes_count}
 use Rattle.st_types.specs.Scopes.{Scope, elem_due}
 use Rattle.st_types.specs.Signatures.{Input, Signature, input_number}
 use Rattle.st_types.specs.declared.symbol.Callee.{Callee}
@@ -64,10 +64,6 @@ is_repeated (n ∷ ns) = is_among n.spelling ns || is_repeated ns
 
 -- ---- which arguments a function takes
 
-abbrev pub is_at_most : ℕ → Option ℕ → Bool
-is_at_most n None = true
-is_at_most n (Some most) = nat_lt n (suc most)
-
 abbrev pub is_input_of : Signature → Identifier → Bool
 is_input_of f name = is_some (input_number f.inputs name.spelling)
 
@@ -79,7 +75,7 @@ are_own_arguments f count names =
 
 -- the callee takes so many arguments by position, and those by the names of inputs
 abbrev pub takes_arguments : Callee → ℕ → List Identifier → Bool
-takes_arguments (callees.Standard f) count names = is_empty names && is_at_most (least_arguments f) (Some count) && is_at_most count (most_arguments f)
+takes_arguments (callees.Standard f) count names = is_empty names && takes_count f count
 takes_arguments (callees.Conversion x y) count names = is_empty names && (count == 1)
 takes_arguments (callees.Own f) count names = are_own_arguments f count names
 takes_arguments _ count names = false

@@ -10,11 +10,11 @@ use Rattle.st_tree.specs.declared.tree.position.Position.{Position}
 use Rattle.st_faults.specs.Faults.{fault, when}
 use Rattle.st_faults.specs.declared.fault.Fault.{Fault}
 use Rattle.st_faults.specs.declared.fault.Rule.TheVariants as rules
-use Rattle.st_types.specs.OwnTypes.{compared_type, compares, complements, is_boolean, is_integer, is_shift, negates}
+use Rattle.st_operators.specs.Operators.{complements, is_boolean, is_integer, negates}
+use Rattle.st_types.specs.OwnTypes.{compared_type, compares, types_call}
 use Rattle.st_types.specs.Scopes.{Scope}
 use Rattle.st_types.specs.Types.{Shape, elem_of, is_unknown, is_value}
 use Rattle.st_types.specs.declared.standard.StandardFunction.{StandardFunction}
-use Rattle.st_types.specs.declared.standard.StandardFunction.TheVariants as functions
 use Rattle.st_types.specs.declared.symbol.Due.{Due}
 use Rattle.st_types.specs.declared.symbol.Due.TheVariants as dues
 use Rattle.st_check_expressions.specs.Calls.{ArgumentKnown, positional}
@@ -25,11 +25,6 @@ use Rattle.st_check_expressions.specs.declared.route.Route.{Route}
 use Rattle.st_check_expressions.specs.declared.route.Start.{Start}
 
 -- ---- calls
-
--- the own type of an argument, the first or not, is that of the call
-abbrev pub types_call : StandardFunction → Bool → Bool
-types_call functions.Sel is_first = not is_first
-types_call f is_first = is_first || not (is_shift f)
 
 -- the own type of an argument by position, the first or not, where that is the type of the call
 abbrev pub argument_own : StandardFunction → Bool → ArgumentKnown → Option Elem

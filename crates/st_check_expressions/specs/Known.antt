@@ -11,10 +11,12 @@ use Rattle.st_tree.specs.declared.tree.constant.Constant.{Constant}
 use Rattle.st_tree.specs.declared.tree.constant.Constant.TheVariants as constants
 use Rattle.st_tree.specs.declared.tree.constant.SignedInteger.{SignedInteger}
 use Rattle.st_tree.specs.declared.tree.position.Position.{Position}
+use Rattle.st_tree.specs.Literals.{number_of}
 use Rattle.st_faults.specs.Faults.{fault, when}
 use Rattle.st_faults.specs.declared.fault.Fault.{Fault}
 use Rattle.st_faults.specs.declared.fault.Rule.TheVariants as rules
-use Rattle.st_types.specs.OwnTypes.{chain_own, compared_type, compares, complements, is_boolean, is_comparison, is_integer, literal_own, negates, or_lint, takes}
+use Rattle.st_operators.specs.Operators.{complements, is_boolean, is_comparison, is_integer, negates, takes}
+use Rattle.st_types.specs.OwnTypes.{chain_own, compared_type, compares, literal_own, or_lint}
 use Rattle.st_types.specs.declared.symbol.Due.{Due}
 use Rattle.st_types.specs.declared.symbol.Due.TheVariants as dues
 
@@ -54,13 +56,6 @@ faults_as x dues.Integer = faults_alone x ++ when (not (is_integer (alone x) || 
 faults_as x dues.NoValue = faults_alone x ++ when (not x.fits_all) (fault x.position rules.TypeMismatch)
 
 -- ---- literals (2.2)
-
-abbrev pub below_zero : ℕ → ℤ
-below_zero zero = pos 0
-below_zero (suc n) = negsuc n
-
-abbrev pub number_of : SignedInteger → ℤ
-number_of n = if n.is_negative then below_zero n.magnitude else pos n.magnitude
 
 abbrev pub literal_position : Constant → Position
 literal_position (constants.Integer n) = n.position

@@ -3,79 +3,26 @@ ghost use Rattle.std.specs.Prelude.{◌≡◌, ◌&&◌, ◌||◌, IfOk, Some, m
 ghost use Rattle.std.specs.List.{list_all};
 ghost use Rattle.std.specs.Option.{is_some};
 ghost use Rattle.st_faults.specs.Faults.{offer_all};
-ghost use Rattle.st_types.specs.OwnTypes.{gives, is_shift, least_arguments, most_arguments, position_due, standard_due};
+ghost use Rattle.st_types.specs.OwnTypes.{gives, position_due};
 ghost use Rattle.st_types.specs.Scopes.{elem_due};
 ghost use Rattle.st_types.specs.Signatures.{input_number};
-ghost use Rattle.st_check_expressions.specs.Calls.{are_own_arguments, broken, gives_due, is_at_most, is_faulty, is_input_of, is_repeated, mismatch, name_due, rule_by, takes_arguments};
+ghost use Rattle.st_check_expressions.specs.Calls.{are_own_arguments, broken, gives_due, is_faulty, is_input_of, is_repeated, mismatch, name_due, rule_by, takes_arguments};
 ghost use Rattle.st_check_expressions.specs.Nodes.{rule_of};
 
 use crate::arguments::{count_positionals, input_names, output_names};
 use crate::names::has_repeated;
-use crate::operators::{is_bits, is_integer};
 use st_faults::{FirstFault, Rule};
 use st_tree::tree::{Argument, Identifier, Position};
-use st_types::{Callee, Due, Signature, StandardFunction};
+use st_types::{Callee, Due, Signature, function_gives, standard_due, takes_count};
 use st_values::Elem;
 use std::alloc::{AllocError, Global};
 
 // ---- which arguments a function takes
 
-/// Whether a function is a shift or a rotation.
-pub fn is_shift(function: StandardFunction) -> bool
-    ensures { result ≡ is_shift function }
-{
-    matches!(
-        function,
-        StandardFunction::Shl
-            | StandardFunction::Shr
-            | StandardFunction::Rol
-            | StandardFunction::Ror
-    )
-}
-
-/// How many arguments a standard function takes at least.
-fn least_arguments(function: StandardFunction) -> usize
-    ensures { result ≡ least_arguments function }
-{
-    match function {
-        StandardFunction::Abs => 1,
-        StandardFunction::Limit | StandardFunction::Sel => 3,
-        _ => 2,
-    }
-}
-
-/// How many arguments a standard function takes at most, where there is a most.
-fn most_arguments(function: StandardFunction) -> Option<usize>
-    ensures { result ≡ most_arguments function }
-{
-    match function {
-        StandardFunction::Abs => Some(1),
-        StandardFunction::Min | StandardFunction::Max => None,
-        StandardFunction::Limit | StandardFunction::Sel => Some(3),
-        _ => Some(2),
-    }
-}
-
-/// Whether a number is no more than another, where there is one.
-fn is_at_most(number: usize, most: Option<usize>) -> bool
-    ensures { result ≡ is_at_most number most }
-{
-    match most {
-        Some(most) => number <= most,
-        None => true,
-    }
-}
-
-/// Whether a standard function takes so many arguments.
-fn takes_count(function: StandardFunction, count: usize) -> bool
-    ensures { result ≡ (is_at_most (least_arguments function) (Some count) && is_at_most count (most_arguments function)) }
-{
-    least_arguments(function) <= count && is_at_most(count, most_arguments(function))
-}
-
 /// Whether all names are those of inputs of a function.
 fn are_inputs(signature: &Signature<'_>, names: &[&Identifier]) -> bool
-    ensures { result ≡ list_all (λ n. is_some (input_number signature.now.inputs n.now.spelling)) names.now }
+    ensures { result ≡ list_all (λ n. is_some (input_number signature.now.inputs n.now.spelling))
+        names.now }
 {
     names.iter().all(|name| signature.number_of(name.spelling.as_slice()).is_some())
 }
@@ -87,7 +34,8 @@ fn takes_names(
     signature: &Signature<'_>,
     names: &[&Identifier],
 ) -> Result<bool, AllocError>
-    ensures { IfOk result (λ takes. takes ≡ (not (is_repeated (map (λ n. n.now) names.now)) && list_all (is_input_of signature.now) (map (λ n. n.now) names.now))) }
+    ensures { IfOk result (λ takes. takes ≡ (not (is_repeated (map (λ n. n.now) names.now))
+        && list_all (is_input_of signature.now) (map (λ n. n.now) names.now))) }
 {
     if has_repeated(alloc, names)? {
         return Ok(false);
@@ -103,7 +51,8 @@ fn takes_own(
     count: usize,
     names: &[&Identifier],
 ) -> Result<bool, AllocError>
-    ensures { IfOk result (λ takes. takes ≡ are_own_arguments signature.now count (map (λ n. n.now) names.now)) }
+    ensures { IfOk result (λ takes. takes ≡ are_own_arguments signature.now count
+        (map (λ n. n.now) names.now)) }
 {
     if names.is_empty() {
         return Ok(count == 0 || count == signature.len());
@@ -121,7 +70,8 @@ fn takes_arguments(
     count: usize,
     names: &[&Identifier],
 ) -> Result<bool, AllocError>
-    ensures { IfOk result (λ takes. takes ≡ takes_arguments callee.now count (map (λ n. n.now) names.now)) }
+    ensures { IfOk result (λ takes. takes ≡ takes_arguments callee.now count
+        (map (λ n. n.now) names.now)) }
 {
     match callee {
         Callee::Standard(function) => Ok(names.is_empty() && takes_count(*function, count)),
@@ -140,7 +90,8 @@ fn rule_by(
     inputs: &[&Identifier],
     outputs: &[&Identifier],
 ) -> Result<Option<Rule>, AllocError>
-    ensures { IfOk result (λ rule. rule ≡ rule_by callee.now count (map (λ n. n.now) inputs.now) (map (λ n. n.now) outputs.now)) }
+    ensures { IfOk result (λ rule. rule ≡ rule_by callee.now count (map (λ n. n.now) inputs.now)
+        (map (λ n. n.now) outputs.now)) }
 {
     match callee {
         Callee::Missing => Ok(Some(Rule::UnknownName)),
@@ -187,7 +138,8 @@ pub fn is_unknown_call(
     callee: &Callee<'_>,
     arguments: &[Argument],
 ) -> Result<bool, AllocError>
-    ensures { IfOk result (λ unknown. unknown ≡ (is_some (rule_of callee.now arguments.now) || is_faulty callee.now)) }
+    ensures { IfOk result (λ unknown. unknown ≡ (is_some (rule_of callee.now arguments.now)
+        || is_faulty callee.now)) }
 {
     let rule = call_rule(alloc, callee, arguments)?;
     Ok(rule.is_some() || is_faulty(callee))
@@ -202,28 +154,6 @@ pub fn elem_due(elem: Option<Elem>) -> Due
     match elem {
         Some(elem) => Due::Type(elem),
         None => Due::Any,
-    }
-}
-
-/// What is asked of the argument of a standard function of this number, from 0, where `whole` is asked of the call.
-fn standard_due(function: StandardFunction, whole: Due, number: usize) -> Due
-    ensures { result ≡ standard_due function whole number }
-{
-    match function {
-        StandardFunction::Sel => {
-            if number == 0 {
-                Due::Type(Elem::Bool)
-            } else {
-                whole
-            }
-        }
-        _ => {
-            if is_shift(function) && number != 0 {
-                Due::Integer
-            } else {
-                whole
-            }
-        }
     }
 }
 
@@ -266,8 +196,7 @@ fn gives(callee: &Callee<'_>, elem: Elem) -> bool
     ensures { result ≡ gives callee.now elem }
 {
     match callee {
-        Callee::Standard(StandardFunction::Abs) => is_integer(elem),
-        Callee::Standard(function) => !is_shift(*function) || is_bits(elem),
+        Callee::Standard(function) => function_gives(*function, elem),
         Callee::Conversion(_, to) => to.is(elem),
         Callee::Own(signature) => signature.result().is(elem),
         _ => true,

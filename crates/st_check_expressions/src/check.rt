@@ -34,7 +34,8 @@ pub fn check_expression(
     due: Due,
     first: &mut FirstFault,
 ) -> Result<(), AllocError>
-    ensures { OnOk result (first.new ≡ offer_all first.old (faults_as (known (scope_at scope.now) expression.now) due)) }
+    ensures { OnOk result (first.new ≡ offer_all first.old
+        (faults_as (known (scope_at scope.now) expression.now) due)) }
 {
     let elem = due_type(scope, expression, due);
     let position = position(expression);
@@ -55,7 +56,8 @@ fn check_at(
     due: Option<Elem>,
     first: &mut FirstFault,
 ) -> Result<(), AllocError>
-    ensures { OnOk result (first.new ≡ offer_all first.old (faults_due (known (scope_at scope.now) expression.now) at due)) }
+    ensures { OnOk result (first.new ≡ offer_all first.old
+        (faults_due (known (scope_at scope.now) expression.now) at due)) }
 {
     match expression {
         Expression::Constant(literal) => check_literal(literal, at, due, first),
@@ -97,7 +99,8 @@ fn check_operand(
     due: Option<Elem>,
     first: &mut FirstFault,
 ) -> Result<(), AllocError>
-    ensures { OnOk result (first.new ≡ offer_all first.old (faults_here (known (scope_at scope.now) operand.now) due)) }
+    ensures { OnOk result (first.new ≡ offer_all first.old
+        (faults_here (known (scope_at scope.now) operand.now) due)) }
 {
     let position = position(operand);
     check_at(alloc, scope, operand, position, due, first)?;
@@ -113,7 +116,8 @@ fn check_operation(
     due: Option<Elem>,
     first: &mut FirstFault,
 ) -> Result<(), AllocError>
-    ensures { OnOk result (first.new ≡ offer_all first.old (faults_here (known_operation (scope_at scope.now) operation.now).operand due)) }
+    ensures { OnOk result (first.new ≡ offer_all first.old
+        (faults_here (known_operation (scope_at scope.now) operation.now).operand due)) }
 {
     check_operand(alloc, scope, &operation.operand, due, first)?;
     Ok(())
@@ -129,7 +133,8 @@ fn check_operations(
     further_due: Option<Elem>,
     first: &mut FirstFault,
 ) -> Result<(), AllocError>
-    ensures { OnOk result (first.new ≡ offer_all first.old (operands_from (known_operations (scope_at scope.now) operations.now) due further_due)) }
+    ensures { OnOk result (first.new ≡ offer_all first.old
+        (operands_from (known_operations (scope_at scope.now) operations.now) due further_due)) }
 {
     let mut due = due;
     'operations: for operation in operations {
@@ -147,7 +152,8 @@ fn check_subscripts(
     subscripts: &[Expression],
     first: &mut FirstFault,
 ) -> Result<(), AllocError>
-    ensures { OnOk result (first.new ≡ offer_all first.old (subscripts_faults (known_expressions (scope_at scope.now) subscripts.now))) }
+    ensures { OnOk result (first.new ≡ offer_all first.old
+        (subscripts_faults (known_expressions (scope_at scope.now) subscripts.now))) }
 {
     'subscripts: for subscript in subscripts {
         check_expression(alloc, scope, subscript, Due::Integer, first)?;
@@ -164,7 +170,8 @@ fn check_part(
     part: &Part,
     first: &mut FirstFault,
 ) -> Result<(), AllocError>
-    ensures { OnOk result (first.new ≡ offer_all first.old (part_faults (scope_at scope.now) route.now (known_part (scope_at scope.now) part.now))) }
+    ensures { OnOk result (first.new ≡ offer_all first.old
+        (part_faults (scope_at scope.now) route.now (known_part (scope_at scope.now) part.now))) }
 {
     match part {
         Part::Field(name) => check_field(scope, route, name, first),
@@ -185,8 +192,12 @@ fn check_parts<'a>(
     parts: &[Part],
     first: &mut FirstFault,
 ) -> Result<Route<'a>, AllocError>
-    ensures route { IfOk result (λ reached. reached ≡ select_all (scope_at scope.now) route.entry (known_parts (scope_at scope.now) parts.now)) }
-    ensures first { OnOk result (first.new ≡ offer_all first.old (parts_faults (scope_at scope.now) route.entry (known_parts (scope_at scope.now) parts.now))) }
+    ensures route { IfOk result
+        (λ reached. reached ≡ select_all (scope_at scope.now)
+        route.entry (known_parts (scope_at scope.now) parts.now)) }
+    ensures first { OnOk result
+        (first.new ≡ offer_all first.old (parts_faults (scope_at scope.now)
+        route.entry (known_parts (scope_at scope.now) parts.now))) }
 {
     let mut route = route;
     'parts: for part in parts {
@@ -204,8 +215,11 @@ fn check_variable<'a>(
     variable: &Variable,
     first: &mut FirstFault,
 ) -> Result<Route<'a>, AllocError>
-    ensures route { IfOk result (λ route. route ≡ (known_variable (scope_at scope.now) variable.now).reached) }
-    ensures first { OnOk result (first.new ≡ offer_all first.old (known_variable (scope_at scope.now) variable.now).faults) }
+    ensures route { IfOk result
+        (λ route. route ≡ (known_variable (scope_at scope.now) variable.now).reached) }
+    ensures first { OnOk result
+        (first.new ≡ offer_all first.old (known_variable (scope_at scope.now)
+        variable.now).faults) }
 {
     let Start {
         route,
@@ -227,8 +241,11 @@ pub fn check_target<'a>(
     variable: &Variable,
     first: &mut FirstFault,
 ) -> Result<Shape<'a>, AllocError>
-    ensures shape { IfOk result (λ shape. shape ≡ (known_variable (scope_at scope.now) variable.now).reached.shape) }
-    ensures first { OnOk result (first.new ≡ offer_all first.old (target_faults (map (λ n. n.now) counters.now) (known_variable (scope_at scope.now) variable.now))) }
+    ensures shape { IfOk result
+        (λ shape. shape ≡ (known_variable (scope_at scope.now) variable.now).reached.shape) }
+    ensures first { OnOk result
+        (first.new ≡ offer_all first.old (target_faults (map (λ n. n.now) counters.now)
+        (known_variable (scope_at scope.now) variable.now))) }
 {
     let route = check_variable(alloc, scope, variable, first)?;
     let at = variable.name.position;
@@ -250,7 +267,9 @@ fn check_call(
     due: Option<Elem>,
     first: &mut FirstFault,
 ) -> Result<(), AllocError>
-    ensures { OnOk result (first.new ≡ offer_all first.old (faults_due (value_of_call (scope_at scope.now) (known_call (scope_at scope.now) call.now)) at due)) }
+    ensures { OnOk result (first.new ≡ offer_all first.old
+        (faults_due (value_of_call (scope_at scope.now) (known_call (scope_at scope.now) call.now))
+        at due)) }
 {
     let callee = scope.callee(call.name.spelling.as_slice());
     let arguments = call.arguments.as_slice();
@@ -273,7 +292,9 @@ pub fn check_arguments(
     arguments: &[Argument],
     first: &mut FirstFault,
 ) -> Result<(), AllocError>
-    ensures { OnOk result (first.new ≡ offer_all first.old (arguments_faults callee.now whole 0 (known_arguments (scope_at scope.now) arguments.now))) }
+    ensures { OnOk result (first.new ≡ offer_all first.old
+        (arguments_faults callee.now whole 0
+        (known_arguments (scope_at scope.now) arguments.now))) }
 {
     'arguments: for (number, argument) in arguments.iter().enumerate() {
         check_argument(alloc, scope, callee, whole, number, argument, first)?;
@@ -292,7 +313,9 @@ fn check_argument(
     argument: &Argument,
     first: &mut FirstFault,
 ) -> Result<(), AllocError>
-    ensures { OnOk result (first.new ≡ offer_all first.old (argument_faults callee.now whole number (known_argument (scope_at scope.now) argument.now))) }
+    ensures { OnOk result (first.new ≡ offer_all first.old
+        (argument_faults callee.now whole number
+        (known_argument (scope_at scope.now) argument.now))) }
 {
     match argument {
         Argument::Positional(expression) => {

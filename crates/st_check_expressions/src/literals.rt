@@ -4,8 +4,8 @@
 ghost use Rattle.std.specs.Prelude.{◌≡◌, Some};
 ghost use Rattle.st_values.specs.Values.{in_range};
 ghost use Rattle.st_faults.specs.Faults.{offer_all};
-ghost use Rattle.st_types.specs.OwnTypes.{literal_own};
-ghost use Rattle.st_check_expressions.specs.Known.{due_literal_faults, is_held, is_misstated, literal_faults, literal_position, number_of, stated_faults};
+ghost use Rattle.st_tree.specs.Literals.{number_of};
+ghost use Rattle.st_check_expressions.specs.Known.{due_literal_faults, is_held, is_misstated, literal_faults, literal_position, stated_faults};
 
 use st_faults::{FirstFault, Rule};
 use st_tree::tree::{Constant, Duration, Position, SignedInteger};
@@ -20,18 +20,6 @@ pub fn literal_position(literal: &Constant) -> Position
         Constant::Typed(position, _) => *position,
         Constant::Duration(duration) => duration.position,
         Constant::Bool(position, _) => *position,
-    }
-}
-
-/// The type that a literal has by itself. A number has none.
-pub fn literal_own(literal: &Constant) -> Option<Elem>
-    ensures { result ≡ literal_own literal.now }
-{
-    match literal {
-        Constant::Integer(_) => None,
-        Constant::Typed(_, value) => Some(value.get().elem),
-        Constant::Duration(_) => Some(Elem::Time),
-        Constant::Bool(_, _) => Some(Elem::Bool),
     }
 }
 
@@ -94,7 +82,8 @@ fn check_typed(literal: &Constant, at: Position, due: Elem, first: &mut FirstFau
 
 /// Offers the faults of a number.
 fn check_number(number: &SignedInteger, at: Position, due: Elem, first: &mut FirstFault)
-    ensures { first.new ≡ offer_all first.old (literal_faults (Constant.Integer number.now) at due) }
+    ensures { first.new ≡ offer_all first.old (literal_faults (Constant.Integer number.now)
+        at due) }
 {
     if due.is(Elem::Time) {
         // Typing rests on this rule in its case `integer`.

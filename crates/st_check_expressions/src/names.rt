@@ -2,8 +2,8 @@
 ghost use Rattle.std.specs.Prelude.{◌≡◌, IfOk, map};
 ghost use Rattle.st_check_expressions.specs.Calls.{is_repeated};
 
-use st_names::NameTable;
 use st_tree::tree::Identifier;
+use st_types::NameTable;
 use std::alloc::{AllocError, Global};
 
 /// Whether one of these names stands twice, ignoring case.

@@ -1,41 +1,15 @@
 //! Operators, and the types that they take (3.3.1, table 55).
 ghost use Rattle.std.specs.Prelude.{◌≡◌, Some};
-ghost use Rattle.st_types.specs.OwnTypes.{compares, complements, is_bits, is_comparison, is_integer, negates};
+ghost use Rattle.st_operators.specs.Operators.{is_comparison};
+ghost use Rattle.st_types.specs.OwnTypes.{compares};
 ghost use Rattle.st_check_expressions.specs.Inside.{complements_due, fits_chain, further_type, negates_due};
 ghost use Rattle.st_check_expressions.specs.Known.{all_combine, all_compare, combines};
 ghost use Rattle.st_check_expressions.specs.Nodes.{operators_in};
 
+use st_operators::{complements, is_comparison, negates, takes};
 use st_tree::BinOp;
 use st_tree::tree::Operation;
-use st_values::{Class, Elem};
-
-/// Whether the type is one of SINT to ULINT.
-pub fn is_integer(elem: Elem) -> bool
-    ensures { result ≡ is_integer elem }
-{
-    matches!(elem.class(), Class::Integer)
-}
-
-/// Whether the type is one of BYTE to LWORD.
-pub fn is_bits(elem: Elem) -> bool
-    ensures { result ≡ is_bits elem }
-{
-    matches!(elem.class(), Class::BitString)
-}
-
-/// Whether `-` takes an operand of the type.
-fn negates(elem: Elem) -> bool
-    ensures { result ≡ negates elem }
-{
-    is_integer(elem) || elem.is(Elem::Time)
-}
-
-/// Whether NOT takes an operand of the type.
-fn complements(elem: Elem) -> bool
-    ensures { result ≡ complements elem }
-{
-    elem.is(Elem::Bool) || is_bits(elem)
-}
+use st_values::Elem;
 
 /// Whether `-` takes an operand of the type that is due, or that can't be known.
 pub fn negates_due(due: Option<Elem>) -> bool
@@ -61,12 +35,7 @@ pub fn complements_due(due: Option<Elem>) -> bool
 fn combines(operator: BinOp, elem: Elem) -> bool
     ensures { result ≡ combines operator elem }
 {
-    match operator {
-        BinOp::Add | BinOp::Sub => negates(elem),
-        BinOp::Mul | BinOp::Div | BinOp::Mod => is_integer(elem),
-        BinOp::And | BinOp::Or | BinOp::Xor => complements(elem),
-        _ => false,
-    }
+    !is_comparison(operator) && takes(operator, elem)
 }
 
 /// Whether all operators take operands of the type and give a value of it.
@@ -77,16 +46,6 @@ fn all_combine(operations: &[Operation], elem: Elem) -> bool
         .iter()
         .map(|operation| operation.operator)
         .all(|operator| combines(operator, elem))
-}
-
-/// Whether the operator compares.
-fn is_comparison(operator: BinOp) -> bool
-    ensures { result ≡ is_comparison operator }
-{
-    matches!(
-        operator,
-        BinOp::Eq | BinOp::Ne | BinOp::Lt | BinOp::Gt | BinOp::Le | BinOp::Ge
-    )
 }
 
 /// Whether all operators compare.

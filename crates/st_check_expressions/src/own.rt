@@ -3,19 +3,20 @@ ghost use Rattle.std.specs.Prelude.{◌≡◌, IfOk, None};
 ghost use Rattle.st_types.specs.OwnTypes.{call_own, compared_type, first_own, standard_own};
 ghost use Rattle.st_types.specs.Scopes.{scope_at};
 ghost use Rattle.st_check_expressions.specs.Calls.{owns_in};
-ghost use Rattle.st_check_expressions.specs.Inside.{argument_own, chain_type, due_elem, meets, types_call};
+ghost use Rattle.st_check_expressions.specs.Inside.{argument_own, chain_type, due_elem, meets};
 ghost use Rattle.st_check_expressions.specs.Known.{alone, owns_of, selected};
 ghost use Rattle.st_check_expressions.specs.Nodes.{position_of};
 ghost use Rattle.st_check_expressions.specs.Walk.{known, known_argument, known_arguments, known_operation, known_operations};
 
 use crate::arguments::is_positional;
-use crate::calls::{is_shift, is_unknown_call};
-use crate::literals::{is_misstated, literal_own, literal_position};
-use crate::operators::{compares, is_integer};
+use crate::calls::is_unknown_call;
+use crate::literals::{is_misstated, literal_position};
+use crate::operators::compares;
 use crate::route::{elem_of, is_unknown, reach};
+use st_operators::is_integer;
 use st_scopes::Scope;
 use st_tree::tree::{Argument, Call, Expression, Operation, Position};
-use st_types::{Callee, Due, StandardFunction};
+use st_types::{Callee, Due, StandardFunction, literal_own, or_lint, types_call};
 use st_values::Elem;
 use std::alloc::{AllocError, Global};
 
@@ -31,17 +32,6 @@ pub fn position(expression: &Expression) -> Position
         | Expression::Negate(position, _)
         | Expression::Not(position, _)
         | Expression::Chain(position, _, _) => *position,
-    }
-}
-
-/// Whether an argument's own type is that of the call: of SEL all but the first, of a shift the first. `is_first` says
-/// whether it is the first.
-fn types_call(function: StandardFunction, is_first: bool) -> bool
-    ensures { result ≡ types_call function is_first }
-{
-    match function {
-        StandardFunction::Sel => !is_first,
-        _ => is_first || !is_shift(function),
     }
 }
 
@@ -96,7 +86,8 @@ fn own_of_operations(scope: &Scope<'_>, operations: &[Operation]) -> Option<Elem
 /// The own type of a call.
 #[cycle(own)]
 fn own_of_call(scope: &Scope<'_>, call: &Call) -> Option<Elem>
-    ensures { result ≡ call_own ((scope_at scope.now).callee call.now.name.spelling) (owns_in (known_arguments (scope_at scope.now) call.now.arguments)) }
+    ensures { result ≡ call_own ((scope_at scope.now).callee call.now.name.spelling)
+        (owns_in (known_arguments (scope_at scope.now) call.now.arguments)) }
 {
     match scope.callee(call.name.spelling.as_slice()) {
         Callee::Standard(function) => {
@@ -115,7 +106,8 @@ fn own_of_arguments(
     function: StandardFunction,
     arguments: &[Argument],
 ) -> Option<Elem>
-    ensures { result ≡ standard_own function (owns_in (known_arguments (scope_at scope.now) arguments.now)) }
+    ensures { result ≡ standard_own function
+        (owns_in (known_arguments (scope_at scope.now) arguments.now)) }
 {
     let mut is_first = true;
     'arguments: for argument in arguments {
@@ -136,7 +128,8 @@ fn own_of_argument(
     is_first: bool,
     argument: &Argument,
 ) -> Option<Elem>
-    ensures { result ≡ argument_own function is_first (known_argument (scope_at scope.now) argument.now) }
+    ensures { result ≡ argument_own function is_first
+        (known_argument (scope_at scope.now) argument.now) }
 {
     if !types_call(function, is_first) {
         return None;
@@ -151,18 +144,19 @@ fn own_of_argument(
 pub fn own_type(scope: &Scope<'_>, expression: &Expression) -> Elem
     ensures { result ≡ alone (known (scope_at scope.now) expression.now) }
 {
-    own(scope, expression).unwrap_or(Elem::Lint)
+    or_lint(own(scope, expression))
 }
 
 /// The type at which the two sides of a comparison are taken: the first own type of the two, or else LINT.
 fn compared_type(scope: &Scope<'_>, left: &Expression, operations: &[Operation]) -> Elem
-    ensures { result ≡ compared_type (known (scope_at scope.now) left.now).own (owns_of (known_operations (scope_at scope.now) operations.now)) }
+    ensures { result ≡ compared_type (known (scope_at scope.now) left.now).own
+        (owns_of (known_operations (scope_at scope.now) operations.now)) }
 {
     if let Some(elem) = own(scope, left) {
         return elem;
     }
     match operations.first() {
-        Some(operation) => own_of_operand(scope, operation).unwrap_or(Elem::Lint),
+        Some(operation) => or_lint(own_of_operand(scope, operation)),
         None => Elem::Lint,
     }
 }
@@ -175,7 +169,8 @@ pub fn chain_type(
     operations: &[Operation],
     due: Option<Elem>,
 ) -> Option<Elem>
-    ensures { result ≡ chain_type (known (scope_at scope.now) left.now) (known_operations (scope_at scope.now) operations.now) due }
+    ensures { result ≡ chain_type (known (scope_at scope.now) left.now)
+        (known_operations (scope_at scope.now) operations.now) due }
 {
     if compares(operations) {
         Some(compared_type(scope, left, operations))
@@ -196,7 +191,7 @@ pub fn selected_type(
     if found.is_none() && fits_all(alloc, scope, selector)? {
         return Ok(None);
     }
-    Ok(Some(found.unwrap_or(Elem::Lint)))
+    Ok(Some(or_lint(found)))
 }
 
 /// Whether the type of an expression can't be known, for a fault of its own.

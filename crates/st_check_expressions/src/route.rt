@@ -7,10 +7,9 @@ ghost use Rattle.st_check_expressions.specs.Variables.{element_route, entered_by
 ghost use Rattle.st_check_expressions.specs.Variables as variables;
 ghost use Rattle.st_check_expressions.specs.Walk.{known_part, known_parts, known_variable};
 
-use st_names::is_same_name;
 use st_scopes::Scope;
 use st_tree::tree::{Identifier, Part, Position, Variable};
-use st_types::{Base, Elements, Member, Shape};
+use st_types::{Base, Elements, Member, Shape, is_same_name};
 use st_values::Elem;
 
 /// What a variable, or a part of it, is, and whether the way to it led through an instance or a step.
@@ -124,7 +123,8 @@ fn field<'a>(scope: &Scope<'a>, route: &Route<'a>, name: &Identifier) -> Route<'
 
 /// The way on through so many subscripts.
 fn element<'a>(scope: &Scope<'a>, route: &Route<'a>, count: usize) -> Route<'a>
-    ensures { result ≡ element_route route.now.through count (shape_elements (scope_at scope.now) route.now.shape) }
+    ensures { result ≡ element_route route.now.through count
+        (shape_elements (scope_at scope.now) route.now.shape) }
 {
     match elements(scope, &route.shape) {
         Some(elements) => {
@@ -142,7 +142,8 @@ fn element<'a>(scope: &Scope<'a>, route: &Route<'a>, count: usize) -> Route<'a>
 
 /// The way on through a part.
 pub fn select<'a>(scope: &Scope<'a>, route: &Route<'a>, part: &Part) -> Route<'a>
-    ensures { result ≡ select (scope_at scope.now) route.now (known_part (scope_at scope.now) part.now) }
+    ensures { result ≡ select (scope_at scope.now)
+        route.now (known_part (scope_at scope.now) part.now) }
 {
     match part {
         Part::Field(name) => field(scope, route, name),
@@ -152,7 +153,8 @@ pub fn select<'a>(scope: &Scope<'a>, route: &Route<'a>, part: &Part) -> Route<'a
 
 /// The way on through some parts.
 fn select_all<'a>(scope: &Scope<'a>, route: Route<'a>, parts: &[Part]) -> Route<'a>
-    ensures { result ≡ select_all (scope_at scope.now) route.entry (known_parts (scope_at scope.now) parts.now) }
+    ensures { result ≡ select_all (scope_at scope.now)
+        route.entry (known_parts (scope_at scope.now) parts.now) }
 {
     let mut route = route;
     'parts: for part in parts {
@@ -174,7 +176,8 @@ pub struct Start<'a> {
 
 /// A flag or the time of a step, of this type.
 fn step_value<'a>(elem: Elem) -> Start<'a>
-    ensures { result ≡ variables.start (variables.route (plain (Base.Elementary elem)) true) None 1 }
+    ensures { result ≡ variables.start (variables.route (plain (Base.Elementary elem)) true)
+        None 1 }
 {
     Start {
         route: Route {
@@ -199,7 +202,8 @@ fn unknown<'a>(position: Position, taken: usize) -> Start<'a>
 
 /// Where the way begins at the name of a step, which has a flag X and a time T (2.6.2).
 fn step_start<'a>(variable: &Variable) -> Start<'a>
-    ensures start { (names : Names) → result ≡ variables.step_start variable.now.name (known_parts names variable.now.parts) }
+    ensures start { (names : Names)
+        → result ≡ variables.step_start variable.now.name (known_parts names variable.now.parts) }
     ensures taken { result.taken ≤ length variable.now.parts }
 {
     let Some(Part::Field(name)) = variable.parts.as_slice().first() else {

@@ -9,10 +9,9 @@ ghost use Rattle.st_check_expressions.specs.Variables.{field_faults, is_fixed, u
 
 use crate::route::{Route, elem_of, elements, is_unknown, member};
 use st_faults::{FirstFault, Rule};
-use st_names::is_same_name;
 use st_scopes::Scope;
 use st_tree::tree::{Identifier, Position, Variable};
-use st_types::{Purpose, Shape, Symbol};
+use st_types::{Purpose, Shape, Symbol, is_same_name};
 use st_values::Elem;
 
 /// Offers that a name isn't there.
@@ -28,7 +27,8 @@ pub fn offer_unknown(unknown: Option<Position>, first: &mut FirstFault)
 
 /// Offers the faults of a name behind a variable.
 pub fn check_field(scope: &Scope<'_>, route: &Route<'_>, name: &Identifier, first: &mut FirstFault)
-    ensures { first.new ≡ offer_all first.old (field_faults (scope_at scope.now) route.now name.now) }
+    ensures { first.new ≡ offer_all first.old (field_faults (scope_at scope.now)
+        route.now name.now) }
 {
     let is_there = is_unknown(route.shape.base)
         || member(scope, &route.shape, name).symbol.is_some();
@@ -44,7 +44,8 @@ pub fn check_count(
     count: usize,
     first: &mut FirstFault,
 )
-    ensures { first.new ≡ offer_all first.old (count_faults (scope_at scope.now) shape.now position count) }
+    ensures { first.new ≡ offer_all first.old (count_faults (scope_at scope.now)
+        shape.now position count) }
 {
     let fits = match elements(scope, shape) {
         Some(elements) => elements.subscripts.len() == count,
@@ -111,7 +112,8 @@ pub fn is_kept(
     variable: &Variable,
     route: &Route<'_>,
 ) -> bool
-    ensures { result ≡ is_kept (scope_at scope.now) (map (λ n. n.now) counters.now) variable.now route.now }
+    ensures { result ≡ is_kept (scope_at scope.now) (map (λ n. n.now) counters.now)
+        variable.now route.now }
 {
     let name = variable.name.spelling.as_slice();
     is_fixed(scope.variable(name))

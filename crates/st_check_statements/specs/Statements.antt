@@ -21,7 +21,7 @@ use Rattle.st_tree.specs.declared.tree.statement.WhileStatement.{WhileStatement,
 use Rattle.st_faults.specs.Faults.{fault, when}
 use Rattle.st_faults.specs.declared.fault.Fault.{Fault}
 use Rattle.st_faults.specs.declared.fault.Rule.TheVariants as rules
-use Rattle.st_types.specs.OwnTypes.{is_integer}
+use Rattle.st_operators.specs.Operators.{is_integer}
 use Rattle.st_types.specs.Scopes.{Scope, elem_due}
 use Rattle.st_types.specs.Types.{Shape, elem_of, is_unknown}
 use Rattle.st_types.specs.declared.symbol.Due.{Due}

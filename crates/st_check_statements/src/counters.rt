@@ -5,8 +5,9 @@ ghost use Rattle.st_types.specs.Scopes.{scope_at};
 ghost use Rattle.st_check_expressions.specs.Variables.{is_fixed_purpose};
 ghost use Rattle.st_check_statements.specs.Statements.{counter_due, counter_faults, counts, is_integer_type, may_count};
 
-use st_check_expressions::{elem_due, elem_of, is_counted, is_integer, is_unknown};
+use st_check_expressions::{elem_due, elem_of, is_counted, is_unknown};
 use st_faults::{FirstFault, Rule};
+use st_operators::is_integer;
 use st_scopes::Scope;
 use st_tree::tree::Identifier;
 use st_types::{Due, Purpose, Shape, Symbol};
@@ -52,7 +53,8 @@ pub fn check_counter(
     name: &Identifier,
     first: &mut FirstFault,
 )
-    ensures { first.new ≡ offer_all first.old (counter_faults (map (λ n. n.now) counters.now) name.now ((scope_at scope.now).variable name.now.spelling)) }
+    ensures { first.new ≡ offer_all first.old (counter_faults (map (λ n. n.now) counters.now)
+        name.now ((scope_at scope.now).variable name.now.spelling)) }
 {
     let spelling = name.spelling.as_slice();
     match scope.variable(spelling) {

@@ -26,7 +26,9 @@ pub fn check_call_statement(
     call: &Call,
     first: &mut FirstFault,
 ) -> Result<(), AllocError>
-    ensures { OnOk result (first.new ≡ offer_all first.old (call_statement_faults (scope_at scope.now) around.now.counters (known_call (scope_at scope.now) call.now))) }
+    ensures { OnOk result (first.new ≡ offer_all first.old
+        (call_statement_faults (scope_at scope.now)
+        around.now.counters (known_call (scope_at scope.now) call.now))) }
 {
     match scope.callee(call.name.spelling.as_slice()) {
         Callee::Instance(base) => check_invocation(alloc, scope, around, base, call, first)?,
@@ -55,7 +57,8 @@ fn check_no_instance(
     call: &Call,
     first: &mut FirstFault,
 ) -> Result<(), AllocError>
-    ensures { OnOk result (first.new ≡ offer_all first.old (other_faults (known_call (scope_at scope.now) call.now) callee.now)) }
+    ensures { OnOk result (first.new ≡ offer_all first.old
+        (other_faults (known_call (scope_at scope.now) call.now) callee.now)) }
 {
     // Typing rests on this rule in its cases `standard_block` and `own_block`.
     offer_broken(statement_rule(callee), call.name.position, first);
@@ -80,7 +83,9 @@ fn check_invocation(
     call: &Call,
     first: &mut FirstFault,
 ) -> Result<(), AllocError>
-    ensures { OnOk result (first.new ≡ offer_all first.old (invocation_faults (scope_at scope.now) around.now.counters (known_call (scope_at scope.now) call.now) base)) }
+    ensures { OnOk result (first.new ≡ offer_all first.old
+        (invocation_faults (scope_at scope.now)
+        around.now.counters (known_call (scope_at scope.now) call.now) base)) }
 {
     let arguments = call.arguments.as_slice();
     let fits = are_pins(alloc, scope, base, arguments)?;
@@ -99,7 +104,8 @@ fn are_pins(
     base: Base,
     arguments: &[Argument],
 ) -> Result<bool, AllocError>
-    ensures { IfOk result (λ fits. fits ≡ are_pins (scope_at scope.now) base (known_arguments (scope_at scope.now) arguments.now)) }
+    ensures { IfOk result (λ fits. fits ≡ are_pins (scope_at scope.now)
+        base (known_arguments (scope_at scope.now) arguments.now)) }
 {
     if count_positionals(arguments) != 0 {
         return Ok(false);
@@ -117,7 +123,8 @@ fn are_inputs(
     base: Base,
     names: &[&Identifier],
 ) -> Result<bool, AllocError>
-    ensures { IfOk result (λ fits. fits ≡ are_inputs (scope_at scope.now) base (map (λ n. n.now) names.now)) }
+    ensures { IfOk result (λ fits. fits ≡ are_inputs (scope_at scope.now)
+        base (map (λ n. n.now) names.now)) }
 {
     if has_repeated(alloc, names)? {
         return Ok(false);
@@ -140,7 +147,8 @@ fn are_outputs(
     base: Base,
     names: &[&Identifier],
 ) -> Result<bool, AllocError>
-    ensures { IfOk result (λ fits. fits ≡ are_outputs (scope_at scope.now) base (map (λ n. n.now) names.now)) }
+    ensures { IfOk result (λ fits. fits ≡ are_outputs (scope_at scope.now)
+        base (map (λ n. n.now) names.now)) }
 {
     if has_repeated(alloc, names)? {
         return Ok(false);
@@ -165,7 +173,9 @@ fn check_pins(
     arguments: &[Argument],
     first: &mut FirstFault,
 ) -> Result<(), AllocError>
-    ensures { OnOk result (first.new ≡ offer_all first.old (flat_map (pin_faults (scope_at scope.now) base around.now.counters) (known_arguments (scope_at scope.now) arguments.now))) }
+    ensures { OnOk result (first.new ≡ offer_all first.old
+        (flat_map (pin_faults (scope_at scope.now) base around.now.counters)
+        (known_arguments (scope_at scope.now) arguments.now))) }
 {
     'arguments: for argument in arguments {
         check_pin(alloc, scope, around, base, argument, first)?;
@@ -183,7 +193,9 @@ fn check_pin(
     argument: &Argument,
     first: &mut FirstFault,
 ) -> Result<(), AllocError>
-    ensures { OnOk result (first.new ≡ offer_all first.old (pin_faults (scope_at scope.now) base around.now.counters (known_argument (scope_at scope.now) argument.now))) }
+    ensures { OnOk result (first.new ≡ offer_all first.old
+        (pin_faults (scope_at scope.now)
+        base around.now.counters (known_argument (scope_at scope.now) argument.now))) }
 {
     match argument {
         Argument::Positional(value) => check_expression(alloc, scope, value, Due::Any, first)?,
@@ -208,7 +220,9 @@ fn check_output(
     variable: &Variable,
     first: &mut FirstFault,
 ) -> Result<(), AllocError>
-    ensures { OnOk result (first.new ≡ offer_all first.old (output_faults (scope_at scope.now) base around.now.counters name.now (known_variable (scope_at scope.now) variable.now))) }
+    ensures { OnOk result (first.new ≡ offer_all first.old
+        (output_faults (scope_at scope.now)
+        base around.now.counters name.now (known_variable (scope_at scope.now) variable.now))) }
 {
     let target = check_target(alloc, scope, around.counters, variable, first)?;
     check_taker(scope, base, name, variable.name.position, &target, first);

@@ -117,7 +117,8 @@ pub fn check_taker(
     target: &Shape<'_>,
     first: &mut FirstFault,
 )
-    ensures { first.new ≡ offer_all first.old (taker_faults position target.now (pin (scope_at scope.now) base name.now)) }
+    ensures { first.new ≡ offer_all first.old (taker_faults position target.now
+        (pin (scope_at scope.now) base name.now)) }
 {
     if let Some(symbol) = pin(scope, base, name) {
         let is_broken = is_output_purpose(symbol.purpose) && is_other(target, &symbol.shape);

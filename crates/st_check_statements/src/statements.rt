@@ -28,7 +28,8 @@ pub fn check_body(
     statements: &[Statement],
     first: &mut FirstFault,
 ) -> Result<(), AllocError>
-    ensures { OnOk result (first.new ≡ offer_all first.old (body_faults (scope_at scope.now) statements.now)) }
+    ensures { OnOk result (first.new ≡ offer_all first.old
+        (body_faults (scope_at scope.now) statements.now)) }
 {
     let around = Around {
         in_loop: false,
@@ -47,7 +48,8 @@ fn check_statements(
     statements: &[Statement],
     first: &mut FirstFault,
 ) -> Result<(), AllocError>
-    ensures { OnOk result (first.new ≡ offer_all first.old (all_faults (map (statement_faults (scope_at scope.now)) statements.now) around.now)) }
+    ensures { OnOk result (first.new ≡ offer_all first.old
+        (all_faults (map (statement_faults (scope_at scope.now)) statements.now) around.now)) }
 {
     'statements: for statement in statements {
         check_statement(alloc, scope, around, statement, first)?;
@@ -65,7 +67,8 @@ fn check_statement(
     statement: &Statement,
     first: &mut FirstFault,
 ) -> Result<(), AllocError>
-    ensures { OnOk result (first.new ≡ offer_all first.old (statement_faults (scope_at scope.now) statement.now around.now)) }
+    ensures { OnOk result (first.new ≡ offer_all first.old
+        (statement_faults (scope_at scope.now) statement.now around.now)) }
 {
     match statement {
         Statement::Empty(_) | Statement::Return(_) => {}
@@ -103,7 +106,8 @@ fn check_assignment(
     expression: &Expression,
     first: &mut FirstFault,
 ) -> Result<(), AllocError>
-    ensures { OnOk result (first.new ≡ offer_all first.old (assignment_faults (scope_at scope.now) variable.now expression.now around.now)) }
+    ensures { OnOk result (first.new ≡ offer_all first.old
+        (assignment_faults (scope_at scope.now) variable.now expression.now around.now)) }
 {
     let target = check_target(alloc, scope, around.counters, variable, first)?;
     let due = elem_due(elem_of(&target));
@@ -118,7 +122,8 @@ fn check_condition(
     condition: &Expression,
     first: &mut FirstFault,
 ) -> Result<(), AllocError>
-    ensures { OnOk result (first.new ≡ offer_all first.old (condition_faults (scope_at scope.now) condition.now)) }
+    ensures { OnOk result (first.new ≡ offer_all first.old
+        (condition_faults (scope_at scope.now) condition.now)) }
 {
     check_expression(alloc, scope, condition, Due::Type(Elem::Bool), first)
 }
@@ -133,7 +138,8 @@ fn check_if(
     statement: &IfStatement,
     first: &mut FirstFault,
 ) -> Result<(), AllocError>
-    ensures { OnOk result (first.new ≡ offer_all first.old (if_faults (scope_at scope.now) statement.now around.now)) }
+    ensures { OnOk result (first.new ≡ offer_all first.old
+        (if_faults (scope_at scope.now) statement.now around.now)) }
 {
     check_parts(alloc, scope, around, statement.parts.as_slice(), first)?;
     check_statements(alloc, scope, around, statement.otherwise.as_slice(), first)?;
@@ -150,7 +156,8 @@ fn check_parts(
     parts: &[ConditionalPart],
     first: &mut FirstFault,
 ) -> Result<(), AllocError>
-    ensures { OnOk result (first.new ≡ offer_all first.old (all_faults (map (part_faults (scope_at scope.now)) parts.now) around.now)) }
+    ensures { OnOk result (first.new ≡ offer_all first.old
+        (all_faults (map (part_faults (scope_at scope.now)) parts.now) around.now)) }
 {
     'parts: for part in parts {
         check_part(alloc, scope, around, part, first)?;
@@ -168,7 +175,8 @@ fn check_part(
     part: &ConditionalPart,
     first: &mut FirstFault,
 ) -> Result<(), AllocError>
-    ensures { OnOk result (first.new ≡ offer_all first.old (part_faults (scope_at scope.now) part.now around.now)) }
+    ensures { OnOk result (first.new ≡ offer_all first.old
+        (part_faults (scope_at scope.now) part.now around.now)) }
 {
     check_condition(alloc, scope, &part.condition, first)?;
     check_statements(alloc, scope, around, part.statements.as_slice(), first)?;
@@ -185,7 +193,8 @@ fn check_case(
     statement: &CaseStatement,
     first: &mut FirstFault,
 ) -> Result<(), AllocError>
-    ensures { OnOk result (first.new ≡ offer_all first.old (case_faults (scope_at scope.now) statement.now around.now)) }
+    ensures { OnOk result (first.new ≡ offer_all first.old
+        (case_faults (scope_at scope.now) statement.now around.now)) }
 {
     let selector = statement.selector.get();
     check_expression(alloc, scope, selector, Due::Integer, first)?;
@@ -213,7 +222,9 @@ fn check_elements(
     elements: &[CaseElement],
     first: &mut FirstFault,
 ) -> Result<(), AllocError>
-    ensures { OnOk result (first.new ≡ offer_all first.old (flat_map (λ c. c elem around.now) (map (element_faults (scope_at scope.now)) elements.now))) }
+    ensures { OnOk result (first.new ≡ offer_all first.old
+        (flat_map (λ c. c elem around.now)
+        (map (element_faults (scope_at scope.now)) elements.now))) }
 {
     'elements: for element in elements {
         check_element(alloc, scope, around, elem, element, first)?;
@@ -232,7 +243,8 @@ fn check_element(
     element: &CaseElement,
     first: &mut FirstFault,
 ) -> Result<(), AllocError>
-    ensures { OnOk result (first.new ≡ offer_all first.old (element_faults (scope_at scope.now) element.now elem around.now)) }
+    ensures { OnOk result (first.new ≡ offer_all first.old
+        (element_faults (scope_at scope.now) element.now elem around.now)) }
 {
     check_labels(element.labels.as_slice(), elem, first);
     check_statements(alloc, scope, around, element.statements.as_slice(), first)?;
@@ -249,7 +261,8 @@ fn check_for(
     statement: &ForStatement,
     first: &mut FirstFault,
 ) -> Result<(), AllocError>
-    ensures { OnOk result (first.new ≡ offer_all first.old (for_faults (scope_at scope.now) statement.now around.now)) }
+    ensures { OnOk result (first.new ≡ offer_all first.old
+        (for_faults (scope_at scope.now) statement.now around.now)) }
 {
     let variable = &statement.variable;
     check_counter(scope, around.counters, variable, first);
@@ -285,7 +298,9 @@ fn check_inside_for(
     statements: &[Statement],
     first: &mut FirstFault,
 ) -> Result<(), AllocError>
-    ensures { OnOk result (first.new ≡ offer_all first.old (all_faults (map (statement_faults (scope_at scope.now)) statements.now) (inside_for name.now around.now))) }
+    ensures { OnOk result (first.new ≡ offer_all first.old
+        (all_faults (map (statement_faults (scope_at scope.now)) statements.now)
+        (inside_for name.now around.now))) }
 {
     let mut counters = Vec::from_slice(alloc, around.counters)?;
     counters.push(name)?;
@@ -308,7 +323,8 @@ fn check_range(
     step: &Option<Boxed<Expression>>,
     first: &mut FirstFault,
 ) -> Result<(), AllocError>
-    ensures { OnOk result (first.new ≡ offer_all first.old (range_faults (scope_at scope.now) due start.now end.now step.now)) }
+    ensures { OnOk result (first.new ≡ offer_all first.old
+        (range_faults (scope_at scope.now) due start.now end.now step.now)) }
 {
     check_expression(alloc, scope, start, due, first)?;
     check_expression(alloc, scope, end, due, first)?;
@@ -325,7 +341,8 @@ fn check_optional(
     expression: &Option<Boxed<Expression>>,
     first: &mut FirstFault,
 ) -> Result<(), AllocError>
-    ensures { OnOk result (first.new ≡ offer_all first.old (optional_faults (scope_at scope.now) due expression.now)) }
+    ensures { OnOk result (first.new ≡ offer_all first.old
+        (optional_faults (scope_at scope.now) due expression.now)) }
 {
     if let Some(expression) = expression {
         check_expression(alloc, scope, expression.get(), due, first)?;
@@ -343,7 +360,8 @@ fn check_while(
     statement: &WhileStatement,
     first: &mut FirstFault,
 ) -> Result<(), AllocError>
-    ensures { OnOk result (first.new ≡ offer_all first.old (while_faults (scope_at scope.now) statement.now around.now)) }
+    ensures { OnOk result (first.new ≡ offer_all first.old
+        (while_faults (scope_at scope.now) statement.now around.now)) }
 {
     check_condition(alloc, scope, statement.condition.get(), first)?;
     let inside = around.inside_loop();
@@ -367,7 +385,8 @@ fn check_repeat(
     statement: &RepeatStatement,
     first: &mut FirstFault,
 ) -> Result<(), AllocError>
-    ensures { OnOk result (first.new ≡ offer_all first.old (repeat_faults (scope_at scope.now) statement.now around.now)) }
+    ensures { OnOk result (first.new ≡ offer_all first.old
+        (repeat_faults (scope_at scope.now) statement.now around.now)) }
 {
     let inside = around.inside_loop();
     check_statements(

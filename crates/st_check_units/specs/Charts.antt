@@ -16,7 +16,7 @@ use Rattle.st_tree.specs.declared.tree.unit.Step.{Step}
 use Rattle.st_faults.specs.Faults.{fault, when}
 use Rattle.st_faults.specs.declared.fault.Fault.{Fault}
 use Rattle.st_faults.specs.declared.fault.Rule.TheVariants as rules
-use Rattle.st_types.specs.OwnTypes.{is_boolean}
+use Rattle.st_operators.specs.Operators.{is_boolean}
 use Rattle.st_types.specs.Scopes.{Scope}
 use Rattle.st_types.specs.Types.{elem_of, is_unknown}
 use Rattle.st_types.specs.declared.symbol.Symbol.{Symbol}

@@ -20,6 +20,7 @@ use Rattle.st_tree.specs.declared.tree.declaration.VarKind.{VarKind}
 use Rattle.st_tree.specs.declared.tree.declaration.VarKind.TheVariants as var_kinds
 use Rattle.st_tree.specs.declared.tree.position.Identifier.{Identifier}
 use Rattle.st_tree.specs.declared.tree.position.Position.{Position}
+use Rattle.st_tree.specs.Kinds.{is_output}
 use Rattle.st_faults.specs.Faults.{fault, when}
 use Rattle.st_faults.specs.declared.fault.Fault.{Fault}
 use Rattle.st_faults.specs.declared.fault.Rule.TheVariants as rules
@@ -167,10 +168,6 @@ is_misvalued units s (Some initial) = is_composed s || is_excessive units s init
 abbrev pub is_function : Declares → Bool
 is_function (names.function f) = true
 is_function _ = false
-
-abbrev pub is_output : VarKind → Bool
-is_output var_kinds.Output = true
-is_output _ = false
 
 -- Functions have no outputs, and their variables, as constants, are of elementary types.
 abbrev pub permitted : Declares → VarKind → Permitted

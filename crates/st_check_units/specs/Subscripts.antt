@@ -8,7 +8,7 @@ use Rattle.st_tree.specs.declared.tree.declaration.Subrange.{Subrange}
 use Rattle.st_faults.specs.Faults.{fault, when}
 use Rattle.st_faults.specs.declared.fault.Fault.{Fault}
 use Rattle.st_faults.specs.declared.fault.Rule.TheVariants as rules
-use Rattle.st_check_expressions.specs.Known.{number_of}
+use Rattle.st_tree.specs.Literals.{number_of}
 
 -- a number of LINT
 abbrev pub bound_by : ℤ → Option ℤ

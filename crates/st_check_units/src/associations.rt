@@ -111,7 +111,8 @@ fn check_associated(name: &Identifier, symbol: Option<Symbol<'_>>, first: &mut F
 /// Offers the faults of an association.
 #[tactic(auto, unfolding(st_faults::specs::Faults::offer_all), using(st_faults::proofs::Least::offer_append))]
 fn check_association(scope: &Scope<'_>, association: &Association, first: &mut FirstFault)
-    ensures { first.new ≡ offer_all first.old (association_faults (scope_at scope.now) association.now) }
+    ensures { first.new ≡ offer_all first.old (association_faults (scope_at scope.now)
+        association.now) }
 {
     let name = &association.name;
     check_qualifier(name, &association.qualifier, first);
@@ -124,7 +125,8 @@ fn check_association(scope: &Scope<'_>, association: &Association, first: &mut F
 /// Offers the faults of the associations of a step.
 #[tactic(auto, unfolding(st_faults::specs::Faults::offer_all))]
 pub fn check_associations(scope: &Scope<'_>, associations: &[Association], first: &mut FirstFault)
-    ensures { first.new ≡ offer_all first.old (flat_map (association_faults (scope_at scope.now)) associations.now) }
+    ensures { first.new ≡ offer_all first.old (flat_map (association_faults (scope_at scope.now))
+        associations.now) }
 {
     for association in associations {
         check_association(scope, association, first);

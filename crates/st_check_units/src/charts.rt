@@ -19,7 +19,8 @@ use std::alloc::{AllocError, Global};
 /// Offers a fault where an element is an initial step, and there is one already. Tells whether there is one then.
 #[tactic(auto, unfolding(st_faults::specs::Faults::offer_all))]
 fn check_initial(element: &ChartElement, has_initial: bool, first: &mut FirstFault) -> bool
-    ensures first { first.new ≡ offer_all first.old (further_faults has_initial (initial_in element.now)) }
+    ensures first { first.new ≡ offer_all first.old
+        (further_faults has_initial (initial_in element.now)) }
     ensures has_initial { result ≡ (has_initial || not (is_empty (initial_in element.now))) }
 {
     let ChartElement::Step(step) = element else {
@@ -36,7 +37,8 @@ fn check_initial(element: &ChartElement, has_initial: bool, first: &mut FirstFau
 /// Offers a fault for each initial step but the first, or at the unit's name where there is none.
 #[tactic(auto, unfolding(st_faults::specs::Faults::offer_all))]
 fn check_initial_steps(unit: &Identifier, elements: &[ChartElement], first: &mut FirstFault)
-    ensures { first.new ≡ offer_all first.old (initial_step_faults unit.now (initial_steps elements.now)) }
+    ensures { first.new ≡ offer_all first.old (initial_step_faults unit.now
+        (initial_steps elements.now)) }
 {
     let mut has_initial = false;
     for element in elements {
@@ -49,7 +51,8 @@ fn check_initial_steps(unit: &Identifier, elements: &[ChartElement], first: &mut
 /// Offers a fault for each of these names that no step has.
 #[tactic(auto, unfolding(st_faults::specs::Faults::offer_all))]
 fn check_step_names(scope: &Scope<'_>, names: &[Identifier], first: &mut FirstFault)
-    ensures { first.new ≡ offer_all first.old (flat_map (step_name_faults (scope_at scope.now)) names.now) }
+    ensures { first.new ≡ offer_all first.old (flat_map (step_name_faults (scope_at scope.now))
+        names.now) }
 {
     for name in names {
         let is_step = scope.is_step(name.spelling.as_slice());
@@ -66,7 +69,8 @@ fn check_transition(
     transition: &Transition,
     first: &mut FirstFault,
 ) -> Result<(), AllocError>
-    ensures { OnOk result (first.new ≡ offer_all first.old (element_faults (scope_at scope.now) (ChartElement.Transition transition.now))) }
+    ensures { OnOk result (first.new ≡ offer_all first.old
+        (element_faults (scope_at scope.now) (ChartElement.Transition transition.now))) }
 {
     check_step_names(scope, transition.from.as_slice(), first);
     check_step_names(scope, transition.to.as_slice(), first);
@@ -82,7 +86,8 @@ fn check_element(
     element: &ChartElement,
     first: &mut FirstFault,
 ) -> Result<(), AllocError>
-    ensures { OnOk result (first.new ≡ offer_all first.old (element_faults (scope_at scope.now) element.now)) }
+    ensures { OnOk result (first.new ≡ offer_all first.old
+        (element_faults (scope_at scope.now) element.now)) }
 {
     match element {
         ChartElement::Step(step) => {
@@ -104,7 +109,8 @@ fn check_elements(
     elements: &[ChartElement],
     first: &mut FirstFault,
 ) -> Result<(), AllocError>
-    ensures { OnOk result (first.new ≡ offer_all first.old (flat_map (element_faults (scope_at scope.now)) elements.now)) }
+    ensures { OnOk result (first.new ≡ offer_all first.old
+        (flat_map (element_faults (scope_at scope.now)) elements.now)) }
 {
     for element in elements {
         check_element(alloc, scope, element, first)?;
@@ -121,7 +127,8 @@ pub fn check_chart(
     elements: &[ChartElement],
     first: &mut FirstFault,
 ) -> Result<(), AllocError>
-    ensures { OnOk result (first.new ≡ offer_all first.old (chart_faults (scope_at scope.now) unit.now elements.now)) }
+    ensures { OnOk result (first.new ≡ offer_all first.old
+        (chart_faults (scope_at scope.now) unit.now elements.now)) }
 {
     check_initial_steps(unit, elements, first);
     check_elements(alloc, scope, elements, first)

@@ -4,7 +4,7 @@ ghost use Rattle.std.specs.Prelude.{◌≡◌, OnOk};
 ghost use Rattle.st_faults.specs.Faults.{offer_all};
 ghost use Rattle.st_types.specs.Names.{units_of};
 ghost use Rattle.st_types.specs.Inside.{declared_by};
-ghost use Rattle.st_check_units.specs.Declarations.{block_faults, declaration_faults, is_function, is_misdeclared, is_output, misdeclared_faults, permitted, specified_faults, type_declaration_faults};
+ghost use Rattle.st_check_units.specs.Declarations.{block_faults, declaration_faults, is_function, is_misdeclared, misdeclared_faults, permitted, specified_faults, type_declaration_faults};
 
 use crate::permitted::Permitted;
 use crate::repeats::check_declared_names;
@@ -12,13 +12,12 @@ use crate::sizes::TextTypes;
 use crate::type_uses::{check_specification, is_permitted};
 use crate::values::check_initial;
 use st_faults::{FirstFault, Rule};
-use st_names::NameTable;
 use st_scopes::{may_hold_instances, must_be_value};
 use st_tree::Boxed;
 use st_tree::tree::{
     Declaration, DeclaredType, Identifier, Initial, Specification, VarBlock, VarKind,
 };
-use st_types::UnitKind;
+use st_types::{NameTable, UnitKind};
 use std::alloc::{AllocError, Global};
 
 /// Whether the unit is a function.
@@ -28,18 +27,11 @@ fn is_function(unit: UnitKind<'_>) -> bool
     matches!(unit, UnitKind::Function(_))
 }
 
-/// Whether these are outputs.
-fn is_output(kind: VarKind) -> bool
-    ensures { result ≡ is_output kind }
-{
-    matches!(kind, VarKind::Output)
-}
-
 /// What variables of this kind may be in the unit.
 fn permitted(unit: UnitKind<'_>, kind: VarKind) -> Permitted
     ensures { result ≡ permitted (declared_by unit.entry) kind }
 {
-    if is_function(unit) && is_output(kind) {
+    if is_function(unit) && kind.is_output() {
         Permitted::Nothing
     } else if must_be_value(unit, kind) {
         Permitted::Values
@@ -59,8 +51,10 @@ fn check_specified(
     initial: &Option<Boxed<Initial>>,
     first: &mut FirstFault,
 ) -> bool
-    ensures first { first.new ≡ offer_all first.old (specified_faults (units_of types.now) specification.now initial.now) }
-    ensures is_misdeclared { result ≡ is_misdeclared (units_of types.now) permitted specification.now initial.now }
+    ensures first { first.new ≡ offer_all first.old
+        (specified_faults (units_of types.now) specification.now initial.now) }
+    ensures is_misdeclared { result ≡ is_misdeclared (units_of types.now)
+        permitted specification.now initial.now }
 {
     let tables = types.tables();
     check_specification(tables, specification, first);
@@ -89,7 +83,8 @@ fn check_declaration(
     declaration: &Declaration,
     first: &mut FirstFault,
 )
-    ensures { first.new ≡ offer_all first.old (declaration_faults (units_of types.now) permitted declaration.now) }
+    ensures { first.new ≡ offer_all first.old (declaration_faults (units_of types.now)
+        permitted declaration.now) }
 {
     let specification = &declaration.specification;
     let are_wrong = check_specified(types, permitted, specification, &declaration.initial, first);
@@ -104,7 +99,8 @@ fn check_declarations(
     declarations: &[Declaration],
     first: &mut FirstFault,
 )
-    ensures { first.new ≡ offer_all first.old (flat_map (declaration_faults (units_of types.now) permitted) declarations.now) }
+    ensures { first.new ≡ offer_all first.old (flat_map
+        (declaration_faults (units_of types.now) permitted) declarations.now) }
 {
     for declaration in declarations {
         check_declaration(types, permitted, declaration, first);
@@ -118,7 +114,8 @@ fn check_block(
     block: &VarBlock,
     first: &mut FirstFault,
 )
-    ensures { first.new ≡ offer_all first.old (block_faults (units_of types.now) (declared_by unit.entry) block.now) }
+    ensures { first.new ≡ offer_all first.old (block_faults (units_of types.now)
+        (declared_by unit.entry) block.now) }
 {
     let permitted = permitted(unit, block.kind);
     check_declarations(types, permitted, block.declarations.as_slice(), first);
@@ -132,7 +129,8 @@ pub fn check_blocks(
     blocks: &[VarBlock],
     first: &mut FirstFault,
 )
-    ensures { first.new ≡ offer_all first.old (flat_map (block_faults (units_of types.now) (declared_by unit.entry)) blocks.now) }
+    ensures { first.new ≡ offer_all first.old (flat_map
+        (block_faults (units_of types.now) (declared_by unit.entry)) blocks.now) }
 {
     for block in blocks {
         check_block(types, unit, block, first);
@@ -148,7 +146,8 @@ pub fn check_type(
     declared: &DeclaredType,
     first: &mut FirstFault,
 ) -> Result<(), AllocError>
-    ensures { OnOk result (first.new ≡ offer_all first.old (type_declaration_faults (units_of types.now) name.now declared.now)) }
+    ensures { OnOk result (first.new ≡ offer_all first.old
+        (type_declaration_faults (units_of types.now) name.now declared.now)) }
 {
     match declared {
         DeclaredType::Derived(specification, initial) => {

@@ -6,8 +6,8 @@ ghost use Rattle.st_check_units.specs.Repeats.{is_there, repeated, spellings};
 ghost use Rattle.st_check_units.specs.Units.{chart_names, element_names, variable_names};
 
 use st_faults::{FirstFault, Rule};
-use st_names::NameTable;
 use st_tree::tree::{ChartElement, Declaration, Identifier, VarBlock};
+use st_types::NameTable;
 use std::alloc::AllocError;
 
 /// Whether a name stands in the table.
@@ -23,7 +23,8 @@ fn check_name<'a>(
     name: &'a Identifier,
     first: &mut FirstFault,
 ) -> Result<(), AllocError>
-    ensures first { first.new ≡ offer_all first.old (when (is_there seen.old name.now.spelling) (fault name.now.position Rule.NameTwice)) }
+    ensures first { first.new ≡ offer_all first.old
+        (when (is_there seen.old name.now.spelling) (fault name.now.position Rule.NameTwice)) }
     ensures seen { OnOk result (seen.new ≡ seen.old ++ name.now.spelling ∷ []) }
 {
     let spelling = name.spelling.as_slice();
@@ -57,8 +58,10 @@ pub fn check_declared_names<'a>(
     declarations: &'a [Declaration],
     first: &mut FirstFault,
 ) -> Result<(), AllocError>
-    ensures first { OnOk result (first.new ≡ offer_all first.old (repeated seen.old (declared_names declarations.now))) }
-    ensures seen { OnOk result (seen.new ≡ seen.old ++ spellings (declared_names declarations.now)) }
+    ensures first { OnOk result
+        (first.new ≡ offer_all first.old (repeated seen.old (declared_names declarations.now))) }
+    ensures seen { OnOk result (seen.new ≡ seen.old
+        ++ spellings (declared_names declarations.now)) }
 {
     for declaration in declarations {
         check_names(seen, declaration.names.as_slice(), first)?;
@@ -73,7 +76,8 @@ pub fn check_variable_names<'a>(
     blocks: &'a [VarBlock],
     first: &mut FirstFault,
 ) -> Result<(), AllocError>
-    ensures first { OnOk result (first.new ≡ offer_all first.old (repeated seen.old (variable_names blocks.now))) }
+    ensures first { OnOk result
+        (first.new ≡ offer_all first.old (repeated seen.old (variable_names blocks.now))) }
     ensures seen { OnOk result (seen.new ≡ seen.old ++ spellings (variable_names blocks.now)) }
 {
     for block in blocks {
@@ -89,7 +93,8 @@ fn check_element_name<'a>(
     element: &'a ChartElement,
     first: &mut FirstFault,
 ) -> Result<(), AllocError>
-    ensures first { OnOk result (first.new ≡ offer_all first.old (repeated seen.old (element_names element.now))) }
+    ensures first { OnOk result
+        (first.new ≡ offer_all first.old (repeated seen.old (element_names element.now))) }
     ensures seen { OnOk result (seen.new ≡ seen.old ++ spellings (element_names element.now)) }
 {
     match element {
@@ -109,7 +114,8 @@ pub fn check_chart_names<'a>(
     elements: &'a [ChartElement],
     first: &mut FirstFault,
 ) -> Result<(), AllocError>
-    ensures first { OnOk result (first.new ≡ offer_all first.old (repeated seen.old (chart_names elements.now))) }
+    ensures first { OnOk result
+        (first.new ≡ offer_all first.old (repeated seen.old (chart_names elements.now))) }
     ensures seen { OnOk result (seen.new ≡ seen.old ++ spellings (chart_names elements.now)) }
 {
     for element in elements {

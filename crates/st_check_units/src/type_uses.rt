@@ -90,7 +90,8 @@ pub fn check_specification(
     specification: &Specification,
     first: &mut FirstFault,
 )
-    ensures { first.new ≡ offer_all first.old (specification_faults (units_of tables.now) specification.now) }
+    ensures { first.new ≡ offer_all first.old (specification_faults (units_of tables.now)
+        specification.now) }
 {
     match specification {
         Specification::Simple(name) => check_type(tables, name, first),

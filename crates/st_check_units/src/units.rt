@@ -12,11 +12,10 @@ use crate::repeats::{check_chart_names, check_variable_names, is_there};
 use crate::sizes::TextTypes;
 use st_check_statements::check_body;
 use st_faults::{FirstFault, Rule};
-use st_names::NameTable;
 use st_scopes::{Scope, Tables};
 use st_tree::MAX_NAME_BYTES;
 use st_tree::tree::{Body, ChartElement, Function, Identifier, Pou};
-use st_types::{NamedUnit, UnitKind, standard_of};
+use st_types::{NameTable, NamedUnit, UnitKind, standard_of};
 use std::alloc::{AllocError, Global};
 
 /// The most units that a text may have.
@@ -40,7 +39,8 @@ fn check_body_of(
     body: &Body,
     first: &mut FirstFault,
 ) -> Result<(), AllocError>
-    ensures { OnOk result (first.new ≡ offer_all first.old (body_of_faults (scope_at scope.now) unit.now body.now)) }
+    ensures { OnOk result (first.new ≡ offer_all first.old
+        (body_of_faults (scope_at scope.now) unit.now body.now)) }
 {
     match body {
         Body::Statements(statements) => check_body(alloc, scope, statements.as_slice(), first),
@@ -57,7 +57,8 @@ fn check_function(
     function: &Function,
     first: &mut FirstFault,
 ) -> Result<(), AllocError>
-    ensures { OnOk result (first.new ≡ offer_all first.old (function_faults (units_of types.now) (scope_at scope.now) function.now)) }
+    ensures { OnOk result (first.new ≡ offer_all first.old
+        (function_faults (units_of types.now) (scope_at scope.now) function.now)) }
 {
     let variables = function.variables.as_slice();
     let mut seen = NameTable::new(alloc);
@@ -77,7 +78,8 @@ fn check_pou(
     pou: &Pou,
     first: &mut FirstFault,
 ) -> Result<(), AllocError>
-    ensures { OnOk result (first.new ≡ offer_all first.old (pou_faults (units_of types.now) (scope_at scope.now) (declared_by unit.entry) pou.now)) }
+    ensures { OnOk result (first.new ≡ offer_all first.old
+        (pou_faults (units_of types.now) (scope_at scope.now) (declared_by unit.entry) pou.now)) }
 {
     let variables = pou.variables.as_slice();
     let mut seen = NameTable::new(alloc);
@@ -95,7 +97,9 @@ fn check_unit(
     unit: &NamedUnit<'_>,
     first: &mut FirstFault,
 ) -> Result<(), AllocError>
-    ensures { OnOk result (first.new ≡ offer_all first.old (unit_faults (units_of types.now) (scope_at scope.now) unit.now.name.now (declared_by unit.now.kind))) }
+    ensures { OnOk result (first.new ≡ offer_all first.old
+        (unit_faults (units_of types.now) (scope_at scope.now)
+        unit.now.name.now (declared_by unit.now.kind))) }
 {
     match unit.kind {
         UnitKind::Type(declared) => check_type(alloc, types, unit.name, declared, first),
@@ -132,7 +136,8 @@ fn check_unit_names(
     tables: &Tables<'_>,
     first: &mut FirstFault,
 ) -> Result<(), AllocError>
-    ensures { OnOk result (first.new ≡ offer_all first.old (names_faults [] (units_of tables.now))) }
+    ensures { OnOk result (first.new ≡ offer_all first.old
+        (names_faults [] (units_of tables.now))) }
 {
     let units = tables.units();
     let mut seen = NameTable::new(alloc);

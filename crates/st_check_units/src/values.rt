@@ -112,7 +112,8 @@ fn check_list(
 
 /// Offers the faults of the initial value of what may have one.
 fn check_value(tables: &Tables<'_>, shape: &Shape<'_>, initial: &Initial, first: &mut FirstFault)
-    ensures { first.new ≡ offer_all first.old (value_faults (units_of tables.now) shape.now initial.now) }
+    ensures { first.new ≡ offer_all first.old (value_faults (units_of tables.now)
+        shape.now initial.now) }
 {
     let element = element_of(tables, shape);
     match initial {
@@ -141,7 +142,8 @@ pub fn check_initial(
     initial: &Option<Boxed<Initial>>,
     first: &mut FirstFault,
 )
-    ensures { first.new ≡ offer_all first.old (initial_faults (units_of tables.now) shape.now initial.now) }
+    ensures { first.new ≡ offer_all first.old (initial_faults (units_of tables.now)
+        shape.now initial.now) }
 {
     if let Some(initial) = initial {
         if !is_composed(shape) {

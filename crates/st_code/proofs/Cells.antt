@@ -11,9 +11,9 @@ use Rattle.st_values.specs.declared.elem.Elem.{Elem}
 use Rattle.st_values.specs.declared.elem.Elem.TheVariants as elems
 use Rattle.st_values.specs.declared.value.Value.{Value}
 use Rattle.st_tree.specs.declared.tree.declaration.Subrange.{Subrange}
-use Rattle.st_sizes.specs.Subscripts.{values_from}
+use Rattle.st_leaves.specs.Subscripts.{values_from}
 use Rattle.st_leaves.specs.Bounds.{IsBounded}
-use Rattle.st_leaves.specs.Leaves.{number_of}
+use Rattle.st_tree.specs.Literals.{number_of}
 use Rattle.st_leaves.specs.Places.{extent_of}
 use Rattle.st_operators.specs.Laws.{IsOf}
 use Rattle.st_meaning.specs.Meaning.{is_within}

@@ -6,7 +6,7 @@ use Rattle.std.proofs.lemmas.Bool.{le-leb}
 use Rattle.std.proofs.lemmas.List.{append-nil, length-map, length-reverse, map-append, reverse-append, reverse-reverse}
 use Rattle.st_values.specs.declared.elem.Elem.TheVariants as elems
 use Rattle.st_values.specs.declared.value.Value.{Value}
-use Rattle.st_leaves.specs.LeavesIn.{truth}
+use Rattle.st_values.specs.Values.{truth}
 use Rattle.st_leaves.specs.Paths.{field}
 use Rattle.st_operators.specs.Laws.{IsOf}
 use Rattle.st_meaning.specs.Charts.{actions_on, is_asked, names_on, names_stored, variables_on}

@@ -1,3 +1,9 @@
+mod Tables
+pub mod BodyDepths
+pub mod ChartDepths
+pub mod DepthFolds
+pub mod ExpressionDepths
+pub mod TypedDepths
 pub mod Beside
 pub mod CalledFunctions
 pub mod Calls

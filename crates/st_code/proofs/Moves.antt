@@ -3,13 +3,13 @@ use Rattle.std.proofs.Common.{◌≡◌, ℕ, ◌+◌, ◌≤◌, true, false, L
 use Rattle.std.specs.Prelude.{max, slice_get}
 use Rattle.std.specs.List.{AllZip}
 use Rattle.st_values.specs.Types.{is_same}
-use Rattle.st_values.specs.Values.{in_range}
+use Rattle.st_values.specs.Values.{in_range, IsOfType}
 use Rattle.st_values.specs.declared.elem.Elem.{Elem}
 use Rattle.st_types.specs.Compositions.{Composition, standard}
 use Rattle.st_types.specs.declared.standard.StandardBlock.{StandardBlock}
 use Rattle.st_leaves.specs.Places.{count}
 use Rattle.st_leaves.specs.Selected.{selected_by}
-use Rattle.st_blocks.specs.Cells.{IsOfType, types_of}
+use Rattle.st_blocks.specs.Cells.{types_of}
 use Rattle.st_meaning.specs.Meaning.{Values, located, stored_at, value_of}
 use Rattle.st_meaning.specs.Offsets.{offset_of}
 use Rattle.st_meaning.specs.Sound.{AreSoundMoves, AreValuesOf, IsInvocation, IsPlaceOf, IsSoundTerm, is_fixed, term_type}

@@ -13,7 +13,7 @@ use Rattle.st_tree.specs.declared.tree.declaration.Subrange.{Subrange}
 use Rattle.st_types.specs.Compositions.{Composition, unknown, elementary, array, composed, standard, Members, none, member}
 use Rattle.st_types.specs.Standard.{Pin, pin_named, pins_of}
 use Rattle.st_leaves.specs.Bounds.{HasBounds, HaveBounds, IsBounded}
-use Rattle.st_leaves.specs.Leaves.{number_of}
+use Rattle.st_tree.specs.Literals.{number_of}
 use Rattle.st_leaves.specs.Paths.{Path, field, index}
 use Rattle.st_leaves.specs.Places.{IsDistance, no_more, above, IsMember, here, later, IsPart, first, behind, LeadsTo, end, element, into, pin, count, counts, extent, extent_of}
 use Rattle.st_leaves.specs.Selected.{member_selected, pin_selected, selected_by}

@@ -1,3 +1,6 @@
+pub mod Fused
+pub mod Pairs
+pub mod Depths
 pub mod Beside
 pub mod CalledFunctions
 pub mod Charts

@@ -29,7 +29,7 @@ use Rattle.st_machine.specs.declared.stacks.Room.{Room}
 use Rattle.st_places.specs.Parts.{is_block, is_small_block}
 use Rattle.st_places.proofs.Roots.{charts_are_in_bodies}
 use Rattle.st_compile.specs.Programs.{block_code, block_level, block_room, block_view, code_depth, function_room, made_of, most_taken, own_depth, program_blocks, program_charts, program_functions, program_rooms, program_units, room_at, unit_code, unit_meaning}
-use Rattle.st_bodies.proofs.ChartDepths.{body_of_unit_deep}
+use Rattle.st_code.proofs.ChartDepths.{body_of_unit_deep}
 use Rattle.st_compile.proofs.Charted.{has_its_chart, is_chart_where, is_known_chart, no_sketch, unit_sketch}
 use Rattle.st_compile.proofs.Known.{Known}
 use Rattle.st_compile.proofs.OfTypes.{many_elems, test_of_values, values_by_test}

@@ -26,7 +26,7 @@ use Rattle.st_machine.specs.declared.stacks.Room.{Room}
 use Rattle.st_places.specs.Parts.{is_small_function}
 use Rattle.st_places.specs.Functions.{starts_of}
 use Rattle.st_places.proofs.Roots.{charts_are_in_bodies}
-use Rattle.st_bodies.proofs.ChartDepths.{body_of_unit_deep}
+use Rattle.st_code.proofs.ChartDepths.{body_of_unit_deep}
 use Rattle.st_compile.specs.Programs.{block_room, function_room, function_view, made_of, most_taken, no_function, no_level, own_depth, program_functions, program_rooms, room_at, small_function, types_taken, unit_code}
 use Rattle.st_compile.proofs.Callable.{AreFunctionsSmall, function_calls, have_types, sound_calls}
 use Rattle.st_compile.proofs.Known.{Known}

@@ -12,7 +12,7 @@ use Rattle.st_meaning.specs.CalledBy.{BodyCalls, CalledTest}
 use Rattle.st_meaning.specs.Sound.{AreSoundCalls}
 use Rattle.st_meaning.specs.Units.{body_of_unit, called_as, called_by, calls_of, function_at, statements_of, unit_whole}
 use Rattle.st_meaning.specs.Wholes.{Called}
-use Rattle.st_calls.specs.Passing.{passing}
+use Rattle.st_compile.specs.Passing.{passing}
 use Rattle.st_code.specs.CalledFunctions.{FunctionsPass}
 use Rattle.st_code.specs.Correct.{HaveTypes}
 use Rattle.st_machine.specs.Functions.{CallsBelow, is_callable, may_call}

@@ -16,7 +16,7 @@ use Rattle.st_meaning.specs.Terms.{Body, Commands, plain_body, chart_body}
 use Rattle.st_meaning.specs.Typing.{body_in, body_of, chart_or}
 use Rattle.st_meaning.specs.Units.{body_of_unit, statements_of, unit_whole}
 use Rattle.st_meaning.specs.Wholes.{Whole}
-use Rattle.st_sketches.specs.Views.{IsOf, SketchView}
+use Rattle.st_meaning.specs.Views.{IsOf, SketchView}
 use Rattle.st_chart_runs.specs.Charts.{chart_at}
 use Rattle.st_code.specs.Charts.{ChartTest, IsChartWhere}
 use Rattle.st_code.specs.Correct.{HasItsChart}

@@ -27,7 +27,7 @@ use Rattle.st_types.specs.Compositions.{composition_of}
 use Rattle.st_types.specs.Inside.{named_by}
 use Rattle.st_types.specs.Names.{Named, unit_at, units_of}
 use Rattle.st_types.specs.declared.unit.NamedUnit.{NamedUnit}
-use Rattle.st_bodies.specs.Depths.{declared_depth}
+use Rattle.st_code.specs.Depths.{declared_depth}
 use Rattle.st_compile.specs.Programs.{HasRoom, block_code, chart_view, faulty, faulty_name, made_of, most_taken, name_in, program_charts, program_code, program_depth, program_names, program_rooms, types_taken, unit_chart, unit_code, own_depth}
 use Rattle.st_compile.specs.Small.{function_is_small}
 use Rattle.st_compile.proofs.Charted.{whichever_statements}

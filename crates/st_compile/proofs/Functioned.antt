@@ -12,7 +12,7 @@ use Rattle.st_machine.specs.Levels.{no_room}
 use Rattle.st_machine.specs.declared.stacks.Room.{Room}
 use Rattle.st_places.specs.Functions.{starts_of}
 use Rattle.st_places.specs.Parts.{is_small_function}
-use Rattle.st_bodies.specs.Depths.{declared_depth}
+use Rattle.st_code.specs.Depths.{declared_depth}
 use Rattle.st_check.specs.Programs.{level_in}
 use Rattle.st_compile.specs.Programs.{block_code, block_level, block_room, block_view, function_view, most_taken, no_function, no_level, own_depth, small_function, types_taken, unit_code}
 

@@ -4,7 +4,7 @@ use Rattle.std.specs.Prelude.{max, slice_index_or}
 use Rattle.std.proofs.lemmas.List.{take_more}
 use Rattle.st_machine.specs.Levels.{no_room}
 use Rattle.st_machine.specs.declared.stacks.Room.{Room}
-use Rattle.st_bodies.specs.Depths.{most}
+use Rattle.st_code.specs.Depths.{most}
 use Rattle.st_compile.specs.Programs.{stacks_in}
 
 most_last : (rs : List Room) (r : Room) → most (stacks_in (rs ++ r ∷ [])) ≡ max (most (stacks_in rs)) r.stack

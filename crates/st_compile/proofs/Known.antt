@@ -1,6 +1,6 @@
 -- What is known of units and of code: laws of the crates below.
-use Rattle.st_calls.specs.Checked.{CheckedCallsAreThoseOfTheirBodies, CheckedFunctionsCallBelow, CheckedFunctionsHaveNoInstances}
-use Rattle.st_calls.specs.Passing.{SoundBodiesCallWhatPasses}
+use Rattle.st_compile.specs.Checked.{CheckedCallsAreThoseOfTheirBodies, CheckedFunctionsCallBelow, CheckedFunctionsHaveNoInstances}
+use Rattle.st_compile.specs.Passing.{SoundBodiesCallWhatPasses}
 use Rattle.st_check.specs.Laws.{CheckedIsSmall}
 use Rattle.st_code.specs.CalledFunctions.{CodeCallsFunctions}
 use Rattle.st_code.specs.Charts.{CodeIsOfItsChart}

@@ -1,3 +1,36 @@
+pub mod Checked
+pub mod Deeper
+pub mod Elementary
+pub mod LevelLemmas
+pub mod NamedExpressions
+pub mod NamedStatements
+pub mod NamedTerms
+pub mod Passing
+pub mod Ranks
+pub mod Turns
+mod TypedCalls
+mod Chains
+mod TypedCharts
+mod Expressions
+mod TypedFunctions
+mod Initials
+mod InitialsFound
+mod Invocations
+mod Literals
+mod Made
+mod Names
+mod Numbers
+mod OneChart
+mod OneCommand
+mod OneTerm
+mod Places
+mod Sketches
+mod Statements
+mod Targets
+mod Types
+mod TypedUnits
+mod Variables
+mod Words
 pub mod AreBlocks
 pub mod AreFunctions
 pub mod Callable

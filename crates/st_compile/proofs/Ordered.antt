@@ -5,7 +5,7 @@ use Rattle.std.specs.Prelude.{slice_index_or}
 use Rattle.std.proofs.lemmas.Bool.{eqb-true, eqb-false}
 use Rattle.std.proofs.lemmas.List.{get_or-append-add, get_or_append_left, length-map}
 use Rattle.st_check.specs.Programs.{level_in}
-use Rattle.st_order.specs.Graphs.{IsOrder}
+use Rattle.st_references.specs.Graphs.{IsOrder}
 use Rattle.st_references.specs.References.{graph_of, references}
 use Rattle.st_types.specs.Names.{Named, unit_at}
 use Rattle.st_types.proofs.Units.{found_below}

@@ -8,8 +8,8 @@ use Rattle.st_values.specs.declared.value.Value.{Value}
 use Rattle.st_types.specs.Names.{Named, number_of, unit_at}
 use Rattle.st_meaning.specs.Units.{called_by, function_at, function_by, unit_whole}
 use Rattle.st_meaning.specs.Wholes.{Called, Input}
-use Rattle.st_bodies.specs.Depths.{most}
-use Rattle.st_bodies.proofs.TypedDepths.{TakeAtMost}
+use Rattle.st_code.specs.Depths.{most}
+use Rattle.st_code.proofs.TypedDepths.{TakeAtMost}
 use Rattle.st_compile.specs.Programs.{most_taken, numbered, taken, types_taken}
 use Rattle.st_compile.proofs.Listed.{views_more}
 use Rattle.st_compile.proofs.Ordered.{view_at}

@@ -7,7 +7,7 @@ use Rattle.st_meaning.specs.Statements.{Setting, body_meaning}
 use Rattle.st_meaning.specs.Terms.{Body}
 use Rattle.st_meaning.specs.Units.{calls_of, unit_whole}
 use Rattle.st_code.specs.Code.{code_of}
-use Rattle.st_typed.specs.Programs.{IsTyped, TypingsAreOne}
+use Rattle.st_compile.specs.TypedPrograms.{IsTyped, TypingsAreOne}
 use Rattle.st_compile.specs.Programs.{made_of, optional_meaning, program_code, result_in, scan_result, unit_code}
 use Rattle.st_compile.specs.Typed.{HasTypedCode, IsMainTyping, typed_result}
 

@@ -1,3 +1,16 @@
+pub mod Bounds
+pub mod Checked
+pub mod Named
+pub mod Passing
+pub mod Ranks
+pub mod Bodies
+pub mod Charts
+pub mod Commands
+pub mod Initials
+pub mod Laws
+pub mod TypedPrograms
+pub mod Terms
+pub mod Ties
 pub mod Programs
 pub mod Small
 pub mod Typed

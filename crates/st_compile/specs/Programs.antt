@@ -16,7 +16,7 @@ use Rattle.st_meaning.specs.Units.{body_of_unit, calls_of, function_at, unit_who
 use Rattle.st_meaning.specs.Wholes.{Called}
 use Rattle.st_meaning.specs.declared.fault.RunFault.{RunFault}
 use Rattle.st_code.specs.Code.{Line, code_of}
-use Rattle.st_sketches.specs.Views.{SketchView}
+use Rattle.st_meaning.specs.Views.{SketchView}
 use Rattle.st_chart_runs.specs.Charts.{IsRoomFor}
 use Rattle.st_machine.specs.Blocks.{BlockView, UnitsView}
 use Rattle.st_machine.specs.Functions.{FunctionView}
@@ -24,7 +24,7 @@ use Rattle.st_machine.specs.Levels.{Rooms, no_room}
 use Rattle.st_machine.specs.declared.stacks.Room.{Room}
 use Rattle.st_places.specs.Parts.{is_small_block, is_small_function}
 use Rattle.st_places.specs.Functions.{starts_of}
-use Rattle.st_bodies.specs.Depths.{declared_depth, most}
+use Rattle.st_code.specs.Depths.{declared_depth, most}
 
 -- ---- units
 

@@ -8,8 +8,8 @@ use Rattle.st_meaning.specs.Terms.{Body}
 use Rattle.st_meaning.specs.Units.{calls_of, unit_whole}
 use Rattle.st_meaning.specs.declared.fault.RunFault.{RunFault}
 use Rattle.st_code.specs.Code.{code_of}
-use Rattle.st_typed.specs.Bodies.{IsTyping}
-use Rattle.st_typed.specs.Programs.{IsTyped}
+use Rattle.st_compile.specs.Bodies.{IsTyping}
+use Rattle.st_compile.specs.TypedPrograms.{IsTyped}
 use Rattle.st_compile.specs.Programs.{main_unit, program_code, result_in, unit_code}
 
 -- the typing of the main unit

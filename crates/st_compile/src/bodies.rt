@@ -1,6 +1,6 @@
 //! The code of bodies, and how deep its stack gets.
 ghost use Rattle.std.specs.Prelude.{[], ◌≡◌, if◌then◌else◌, IfOk, length, map, min};
-ghost use Rattle.st_bodies.specs.Depths.{declared_depth};
+ghost use Rattle.st_code.specs.Depths.{declared_depth};
 ghost use Rattle.st_check.specs.Programs.{text_of};
 ghost use Rattle.st_code.specs.Code.{code_of};
 ghost use Rattle.st_leaves.specs.Bounds.{HasBounds};
@@ -12,9 +12,8 @@ ghost use Rattle.st_types.specs.Inside.{named_by};
 ghost use Rattle.st_types.specs.Names.{units_of};
 ghost use Rattle.st_compile.specs.Programs.{most_taken, program_code, program_depth};
 
-use st_bodies::{body_depth, statements_depth};
 use st_check::{Program, checked_program_is_small};
-use st_code::Code;
+use st_code::{Code, body_depth, statements_depth};
 use st_emit::{emit_body, emit_chart};
 use st_leaves::AssociatedNames;
 use st_places::Tables;
@@ -59,8 +58,14 @@ pub(crate) fn block_of(
     inputs: usize,
 ) -> Result<Body, AllocError>
     requires bounds { HasBounds (whole_in tables.now number).variables }
-    ensures code { IfOk result (λ body. body.code ≡ (if is_small_block_in tables.now number then code_of (whole_in tables.now number).variables (body_in (whole_in tables.now number) number (statements_of (named_by unit.now).declares)) else [])) }
-    ensures depth { IfOk result (λ body. body.depth ≡ min (declared_depth inputs (named_by unit.now).declares) (length body.code)) }
+    ensures code { IfOk result (λ body. body.code
+        ≡ (if is_small_block_in tables.now number
+        then code_of (whole_in tables.now number).variables
+        (body_in (whole_in tables.now number) number (statements_of (named_by unit.now).declares))
+        else [])) }
+    ensures depth { IfOk result
+        (λ body. body.depth ≡ min (declared_depth inputs (named_by unit.now).declares)
+        (length body.code)) }
 {
     if tables.is_small_block(number) {
         body_of(alloc, unit, tables, number, inputs)
@@ -79,8 +84,13 @@ pub(crate) fn body_of(
     inputs: usize,
 ) -> Result<Body, AllocError>
     requires small { IsSmall (whole_in tables.now number).variables }
-    ensures code { IfOk result (λ body. body.code ≡ code_of (whole_in tables.now number).variables (body_in (whole_in tables.now number) number (statements_of (named_by unit.now).declares))) }
-    ensures depth { IfOk result (λ body. body.depth ≡ min (declared_depth inputs (named_by unit.now).declares) (length body.code)) }
+    ensures code { IfOk result (λ body. body.code
+        ≡ code_of (whole_in tables.now number).variables
+        (body_in (whole_in tables.now number)
+        number (statements_of (named_by unit.now).declares))) }
+    ensures depth { IfOk result
+        (λ body. body.depth ≡ min (declared_depth inputs (named_by unit.now).declares)
+        (length body.code)) }
 {
     let code = code_of(alloc, unit, tables, number)?;
     let depth = declared_depth(unit, inputs).min(code.len());
@@ -95,7 +105,9 @@ fn code_of(
     number: usize,
 ) -> Result<Code, AllocError>
     requires small { IsSmall (whole_in tables.now number).variables }
-    ensures { IfOk result (λ code. code ≡ code_of (whole_in tables.now number).variables (body_in (whole_in tables.now number) number (statements_of (named_by unit.now).declares))) }
+    ensures { IfOk result (λ code. code ≡ code_of (whole_in tables.now number).variables
+        (body_in (whole_in tables.now number)
+        number (statements_of (named_by unit.now).declares))) }
 {
     let elements = tables.chart(number);
     if elements.is_empty() {

@@ -12,8 +12,8 @@ ghost use Rattle.st_compile.specs.Programs.{chart_view, program_charts};
 
 use st_check::{Program, checked_program_is_small};
 use st_leaves::AssociatedNames;
+use st_meaning::{Sketch, sketch_of};
 use st_places::{Tables, units_are_sound};
-use st_sketches::{Sketch, sketch_of};
 use st_values::Elem;
 use std::alloc::{AllocError, Global};
 
@@ -49,7 +49,9 @@ fn chart_of(
 ) -> Result<Option<Sketch>, AllocError>
     requires bounds { HasBounds (whole_in tables.now number).variables }
     requires small { number ≡ main → IsSmall (whole_in tables.now number).variables }
-    ensures { IfOk result (λ chart. chart ≡ (if number == main || is_small_block_in tables.now number then chart_view (body_in (whole_in tables.now number) number []) else None)) }
+    ensures { IfOk result (λ chart. chart ≡ (if number == main
+        || is_small_block_in tables.now number
+        then chart_view (body_in (whole_in tables.now number) number []) else None)) }
 {
     if number == main || tables.is_small_block(number) {
         body_chart(alloc, tables, number)
@@ -65,7 +67,8 @@ fn body_chart(
     number: usize,
 ) -> Result<Option<Sketch>, AllocError>
     requires { IsSmall (whole_in tables.now number).variables }
-    ensures { IfOk result (λ chart. chart ≡ chart_view (body_in (whole_in tables.now number) number [])) }
+    ensures { IfOk result (λ chart. chart ≡ chart_view
+        (body_in (whole_in tables.now number) number [])) }
 {
     let elements = tables.chart(number);
     if elements.is_empty() {
@@ -85,7 +88,8 @@ fn bool_variables(
     names: &AssociatedNames<'_>,
 ) -> Result<Vec<bool>, AllocError>
     requires { IsSmall (whole_in tables.now unit).variables }
-    ensures { IfOk result (λ variables. variables.items ≡ map (λ n. is_some (variable_named (whole_in tables.now unit).variables n)) names.now) }
+    ensures { IfOk result (λ variables. variables.items
+        ≡ map (λ n. is_some (variable_named (whole_in tables.now unit).variables n)) names.now) }
 {
     let mut variables = Vec::with_capacity(alloc, names.len())?;
     'names: for number in 0..names.len() {

@@ -42,11 +42,15 @@ pub(crate) fn function_of(
     requires found { unit_at (units_of (text_of program.now)) number ≡ Some (named_by unit.now) }
     requires tables { tables.now.text ≡ text_of program.now }
     requires bounds { HasBounds (whole_in tables.now number).variables }
-    requires arrays { is_function (named_by unit.now).declares ≡ true → HasSmallArrays (whole_in tables.now number).variables }
+    requires arrays { is_function (named_by unit.now).declares ≡ true
+        → HasSmallArrays (whole_in tables.now number).variables }
     requires level { level ≡ level_in (order_of program.now) number }
     requires inputs { inputs ≡ most_taken (units_of (text_of program.now)) }
-    ensures function { IfOk result (λ made. made.function ≡ function_view (units_of (text_of program.now)) (order_of program.now) number (named_by unit.now)) }
-    ensures room { IfOk result (λ made. made.room ≡ function_room (units_of (text_of program.now)) number (named_by unit.now)) }
+    ensures function { IfOk result
+        (λ made. made.function ≡ function_view (units_of (text_of program.now))
+        (order_of program.now) number (named_by unit.now)) }
+    ensures room { IfOk result (λ made. made.room
+        ≡ function_room (units_of (text_of program.now)) number (named_by unit.now)) }
 {
     if !tables.is_small_function(number) {
         let none = program.order().len() * 2;
@@ -67,7 +71,8 @@ pub(crate) fn function_of(
 
 /// No code, on this level.
 fn nothing(alloc: Global, level: usize) -> Made
-    ensures function { result.function ≡ record { code = []; level = level; inputs = []; starts = [] } }
+    ensures function { result.function
+        ≡ record { code = []; level = level; inputs = []; starts = [] } }
     ensures room { result.room ≡ no_room }
 {
     let code = Code::new(alloc);
@@ -81,7 +86,8 @@ fn nothing(alloc: Global, level: usize) -> Made
 
 /// The types of the inputs of the function that the unit of this number is.
 fn types_taken(alloc: Global, tables: &Tables<'_>, number: usize) -> Result<Vec<Elem>, AllocError>
-    ensures { IfOk result (λ types. types.items ≡ types_taken (function_at (units_of tables.now.text) number)) }
+    ensures { IfOk result (λ types. types.items ≡ types_taken
+        (function_at (units_of tables.now.text) number)) }
 {
     let mut types = Vec::new(alloc);
     if let Some(function) = tables.function_at(number) {
@@ -129,7 +135,8 @@ pub(crate) fn functions_are_small(
 
 /// Whether a unit, which has this number in the tables, has at most 999,999 variables, if it is a function.
 fn function_is_small(unit: &NamedUnit<'_>, tables: &Tables<'_>, number: usize) -> bool
-    ensures { result ≡ (not (is_function (named_by unit.now).declares) || is_small_function_in tables.now number) }
+    ensures { result ≡ (not (is_function (named_by unit.now).declares)
+        || is_small_function_in tables.now number) }
 {
     !matches!(unit.kind, UnitKind::Function(_)) || tables.is_small_function(number)
 }

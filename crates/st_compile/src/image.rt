@@ -9,13 +9,13 @@ ghost use Rattle.st_listing.specs.Worded.{IsWorded};
 mod apart;
 
 use crate::making::made_of;
+use crate::{checked_programs_are_typed, typings_are_one};
 use st_check::Program;
-use st_fused::Fused;
+use st_code::Fused;
 use st_layout::Layout;
 use st_listing::OfProgram;
 use st_machine::{Room, Stacks, Units};
 use st_tree::Name;
-use st_typed::{checked_programs_are_typed, typings_are_one};
 use std::alloc::{AllocError, Global};
 use std::marker::Model;
 

@@ -15,7 +15,9 @@ pub(crate) fn levels_of(
 ) -> Result<Vec<usize>, AllocError>
     requires { All (λ number. number < units) order.now }
     ensures len { IfOk result (λ levels. length levels.items ≡ units) }
-    ensures places { IfOk result (λ levels. (number : ℕ) → number < units → slice_index_or levels.items number 0 ≡ level_in order.now number) }
+    ensures places { IfOk result
+        (λ levels. (number : ℕ) → number < units
+        → slice_index_or levels.items number 0 ≡ level_in order.now number) }
 {
     let mut levels = vec![in alloc; order.len(); units]?;
     let mut place = order.len();
@@ -35,7 +37,9 @@ pub(crate) fn in_order(
 ) -> Result<Vec<Room>, AllocError>
     requires functions { All (λ number. number < length functions.now) order.now }
     requires blocks { All (λ number. number < length blocks.now) order.now }
-    ensures { IfOk result (λ placed. placed.items ≡ map (λ number. slice_index_or functions.now number no_room) order.now ++ map (λ number. slice_index_or blocks.now number no_room) order.now) }
+    ensures { IfOk result (λ placed. placed.items
+        ≡ map (λ number. slice_index_or functions.now number no_room) order.now
+        ++ map (λ number. slice_index_or blocks.now number no_room) order.now) }
 {
     let mut placed = Vec::with_capacity(alloc, order.len())?;
     'functions: for number in order {

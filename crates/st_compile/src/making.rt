@@ -11,7 +11,7 @@ use crate::bodies::main_body;
 use crate::functions::{functions_are_small, most_taken};
 use crate::units::bodies_of;
 use st_check::Program;
-use st_fused::Fused;
+use st_code::Fused;
 use st_machine::{Room, Units};
 use st_places::Tables;
 use st_tree::Name;

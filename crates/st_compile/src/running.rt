@@ -5,13 +5,14 @@ ghost use Rattle.st_chart_runs.specs.Views.{setting_at};
 ghost use Rattle.st_compile.specs.Programs.{HasRoom, scan_result};
 ghost use Rattle.st_compile.specs.Typed.{IsMainTyping, typed_result};
 ghost use Rattle.st_meaning.specs.Terms.{Body};
-ghost use Rattle.st_typed.specs.Programs.{IsTyped};
+ghost use Rattle.st_compile.specs.TypedPrograms.{IsTyped};
 ghost use Rattle.st_types.specs.Names.{Named};
 
 use crate::image::Image;
-use st_calls::{
+use crate::{
     checked_calls_are_those_of_their_bodies, checked_functions_call_below,
-    checked_functions_have_no_instances, sound_bodies_call_what_passes,
+    checked_functions_have_no_instances, checked_programs_are_typed, sound_bodies_call_what_passes,
+    typings_are_one,
 };
 use st_check::checked_program_is_small;
 use st_code::{
@@ -23,7 +24,6 @@ use st_machine::{Stacks, run_fused};
 use st_meaning::{RunFault, bodies_keep_the_frame, calls_are_sound, typing_gives_sound_units};
 use st_memory::Memory;
 use st_places::{instances_are_of_blocks, units_are_sound};
-use st_typed::{checked_programs_are_typed, typings_are_one};
 
 /// Runs a program once, over the values of its leaves, at a moment in milliseconds. What it gives is what the program's typing means,
 /// in which nothing of the program is taken as nothing. It takes no memory.
@@ -41,10 +41,25 @@ pub fn run<M: Memory>(
     requires room { HasRoom image.now stacks.old }
     ensures over { M.IsOver (leaves_of_program image.now) memory.new }
     ensures room { HasRoom image.now stacks.new }
-    ensures forced { (M.content (leaves_of_program image.now) memory.new).forced ≡ (M.content (leaves_of_program image.now) memory.old).forced }
-    ensures result { MatchResult result (λ done. scan_result image.now (setting_at now (M.content (leaves_of_program image.now) memory.old).forced) (M.content (leaves_of_program image.now) memory.old).values limit ≡ Ok (M.content (leaves_of_program image.now) memory.new).values) (λ fault. scan_result image.now (setting_at now (M.content (leaves_of_program image.now) memory.old).forced) (M.content (leaves_of_program image.now) memory.old).values limit ≡ Err fault) }
+    ensures forced { (M.content (leaves_of_program image.now) memory.new).forced
+        ≡ (M.content (leaves_of_program image.now) memory.old).forced }
+    ensures result { MatchResult result
+        (λ done. scan_result image.now
+        (setting_at now (M.content (leaves_of_program image.now) memory.old).forced)
+        (M.content (leaves_of_program image.now) memory.old).values limit
+        ≡ Ok (M.content (leaves_of_program image.now) memory.new).values)
+        (λ fault. scan_result image.now
+        (setting_at now (M.content (leaves_of_program image.now) memory.old).forced)
+        (M.content (leaves_of_program image.now) memory.old).values limit ≡ Err fault) }
     ensures typed { IsTyped image.now }
-    ensures meaning { (unit : Named) (body : Body) → IsMainTyping image.now unit body → MatchResult result (λ done. typed_result image.now unit body (setting_at now (M.content (leaves_of_program image.now) memory.old).forced) (M.content (leaves_of_program image.now) memory.old).values limit ≡ Ok (M.content (leaves_of_program image.now) memory.new).values) (λ fault. typed_result image.now unit body (setting_at now (M.content (leaves_of_program image.now) memory.old).forced) (M.content (leaves_of_program image.now) memory.old).values limit ≡ Err fault) }
+    ensures meaning { (unit : Named) (body : Body) → IsMainTyping image.now unit body
+        → MatchResult result (λ done. typed_result image.now unit body
+        (setting_at now (M.content (leaves_of_program image.now) memory.old).forced)
+        (M.content (leaves_of_program image.now) memory.old).values limit
+        ≡ Ok (M.content (leaves_of_program image.now) memory.new).values)
+        (λ fault. typed_result image.now unit body
+        (setting_at now (M.content (leaves_of_program image.now) memory.old).forced)
+        (M.content (leaves_of_program image.now) memory.old).values limit ≡ Err fault) }
 {
     checked_program_is_small();
     units_are_sound();

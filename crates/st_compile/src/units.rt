@@ -10,7 +10,7 @@ use crate::charts::charts_of;
 use crate::functions::function_of;
 use crate::levels::{in_order, levels_of};
 use st_check::Program;
-use st_fused::Fused;
+use st_code::Fused;
 use st_machine::{Block, Function, Room, Units};
 use st_places::{Tables, units_are_sound};
 use st_types::NamedUnit;
@@ -78,9 +78,13 @@ fn blocks_of(
     requires tables { tables.now.text ≡ text_of program.now }
     requires inputs { inputs ≡ most_taken (units_of (text_of program.now)) }
     requires all { length levels.now ≡ length units.now }
-    requires places { (number : ℕ) → number < length units.now → slice_index_or levels.now number 0 ≡ level_in (order_of program.now) number }
+    requires places { (number : ℕ) → number < length units.now
+        → slice_index_or levels.now number 0 ≡ level_in (order_of program.now) number }
     ensures blocks { IfOk result (λ made. made.blocks.items ≡ program_blocks program.now) }
-    ensures rooms { IfOk result (λ made. made.rooms.items ≡ numbered (block_room (units_of (text_of program.now))) 0 (units_of (text_of program.now))) }
+    ensures rooms { IfOk result
+        (λ made. made.rooms.items
+        ≡ numbered (block_room (units_of (text_of program.now)))
+        0 (units_of (text_of program.now))) }
 {
     units_are_sound();
     let first = program.order().len();
@@ -111,9 +115,13 @@ fn functions_of(
     requires tables { tables.now.text ≡ text_of program.now }
     requires inputs { inputs ≡ most_taken (units_of (text_of program.now)) }
     requires all { length levels.now ≡ length units.now }
-    requires places { (number : ℕ) → number < length units.now → slice_index_or levels.now number 0 ≡ level_in (order_of program.now) number }
+    requires places { (number : ℕ) → number < length units.now
+        → slice_index_or levels.now number 0 ≡ level_in (order_of program.now) number }
     ensures functions { IfOk result (λ made. made.functions.items ≡ program_functions program.now) }
-    ensures rooms { IfOk result (λ made. made.rooms.items ≡ numbered (function_room (units_of (text_of program.now))) 0 (units_of (text_of program.now))) }
+    ensures rooms { IfOk result
+        (λ made. made.rooms.items
+        ≡ numbered (function_room (units_of (text_of program.now)))
+        0 (units_of (text_of program.now))) }
 {
     units_are_sound();
     let _checked = program.units();

@@ -11,11 +11,12 @@ use Rattle.st_tree.specs.declared.tree.unit.Step.{Step}
 use Rattle.st_types.specs.Compositions.{Composition, unknown, elementary, array, composed, standard, Members, none, member}
 use Rattle.st_types.specs.Initials.{value_written}
 use Rattle.st_types.specs.Names.{steps_in}
-use Rattle.st_types.specs.Standard.{Pin, pins_of}
+use Rattle.st_types.specs.Standard.{Pin, pins_of, Kept, block_name, kept_by}
 use Rattle.st_types.specs.declared.standard.StandardBlock.{StandardBlock}
 use Rattle.st_leaves.specs.Charts.{is_pulse, stored_by}
 use Rattle.st_leaves.specs.Flags.{leaf_in_at, no_leaf_in}
-use Rattle.st_leaves.specs.LeavesIn.{Kept, LeafIn, Use, active, all_steps_in, as_input, begun, block_leaves, block_name, chart_in, elapsed, first_written, hidden, input, kept_by, kept_leaf, leaves_in, leaves_of_whole, member_names, members_in, one, pin_leaf, plain, pulsed, starting, state_in, step_in, stored_in, subscript_lists, truth, used_as, whole_chart_in, within}
+use Rattle.st_values.specs.Values.{truth}
+use Rattle.st_leaves.specs.LeavesIn.{LeafIn, Use, active, all_steps_in, as_input, begun, block_leaves, chart_in, elapsed, first_written, hidden, input, kept_leaf, leaves_in, leaves_of_whole, member_names, members_in, one, pin_leaf, plain, pulsed, starting, state_in, step_in, stored_in, subscript_lists, used_as, whole_chart_in, within}
 use Rattle.st_leaves.specs.LeavesIn as leaves
 use Rattle.st_leaves.specs.Paths.{Path, Selector, field, index, kept}
 

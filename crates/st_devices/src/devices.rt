@@ -27,7 +27,8 @@ pub trait Source {
         requires works { has_failed self.old ≡ false }
         ensures bound { IfOk result (λ count. count ≤ length buffer.new) }
         ensures bytes { ReadConsumes (rest self.old) (rest self.new) result buffer.new }
-        ensures progress { IfOk result (λ count. 0 < count → reads_left self.new < reads_left self.old) }
+        ensures progress { IfOk result
+            (λ count. 0 < count → reads_left self.new < reads_left self.old) }
         ensures steady { OnOk result (reads_left self.new ≤ reads_left self.old) }
         ensures failed { has_failed self.new ≡ is_err result };
 

@@ -86,7 +86,8 @@ impl Input {
         requires { R.has_failed source.old ≡ false }
         ensures bytes { OnOk result (Keeps (pending self.old (R.rest source.old))
             (pending self.new (R.rest source.new))) }
-        ensures end { OnOk result (self.new.at ≡ self.new.end → IsAtEnd (pending self.new (R.rest source.new))) }
+        ensures end { OnOk result (self.new.at ≡ self.new.end
+            → IsAtEnd (pending self.new (R.rest source.new))) }
         ensures at_end { OnOk result (self.new.at ≡ self.new.end → has_ended self.new ≡ true) }
         ensures lines { OnOk result (lines_of self.new ≡ lines_of self.old) }
         ensures err { OnErr result (Keeps (R.rest source.old) (R.rest source.new)) }
@@ -112,7 +113,8 @@ impl Input {
         ensures bytes { IfOk result (λ byte. OnReading (pending self.old (R.rest source.old))
             (pending self.new (R.rest source.new)) (TakesByte byte)) }
         ensures at_end { IfOk result (λ byte. byte ≡ None → has_ended self.new ≡ true) }
-        ensures lines { IfOk result (λ byte. lines_of self.new ≡ lines_after (lines_of self.old) byte) }
+        ensures lines { IfOk result
+            (λ byte. lines_of self.new ≡ lines_after (lines_of self.old) byte) }
         ensures err { OnErr result (Keeps (R.rest source.old) (R.rest source.new)) }
         ensures empty { OnErr result ((unread self.old ≡ []) × (has_ended self.old ≡ false)) }
         ensures steady { OnOk result (left self.new (R.reads_left source.new)
@@ -180,7 +182,8 @@ impl Input {
         requires capacity { 4096 ≤ vec_capacity line.old }
         ensures line { IfOk result (λ found. OnReading (pending self.old (R.rest source.old))
             (pending self.new (R.rest source.new)) (TakesFound found (has_ended self.new) line.new.items)) }
-        ensures err { OnErr result (OnReading (pending self.old (R.rest source.old)) (R.rest source.new) TakesPart) }
+        ensures err { OnErr result (OnReading (pending self.old (R.rest source.old))
+            (R.rest source.new) TakesPart) }
         ensures not_ended { OnErr result (has_ended self.old ≡ false) }
         ensures progress { IfOk result (λ found. IsFound found → left self.new (R.reads_left source.new)
             < left self.old (R.reads_left source.old)) }
@@ -265,7 +268,8 @@ fn keep(line: &mut Vec<u8>, bytes: &[u8]) -> bool
 /// The line that ends here, without one CR at its end.
 fn ended(line: &mut Vec<u8>, is_long: bool) -> Found
     ensures long { is_long ≡ true → result ≡ Found.TooLong }
-    ensures text { is_long ≡ false → (result ≡ Found.Line) × (line.new.items ≡ strip_carriage_return line.old.items) }
+    ensures text { is_long ≡ false
+        → (result ≡ Found.Line) × (line.new.items ≡ strip_carriage_return line.old.items) }
     ensures capacity { vec_capacity line.old ≤ vec_capacity line.new }
     ensures short { length line.new.items ≤ length line.old.items }
 {

@@ -55,7 +55,8 @@ impl Sink for Sheet {
         requires works { has_failed_of self.old ≡ false }
         ensures bound { IfOk result (λ count. count ≤ length bytes.now) }
         ensures progress { IfOk result (λ count. 0 < count) }
-        ensures bytes { WriteAppends (Some (written_on self.old)) (Some (written_on self.new)) result bytes.now }
+        ensures bytes { WriteAppends (Some (written_on self.old)) (Some (written_on self.new))
+            result bytes.now }
         ensures failed { has_failed_of self.new ≡ is_err result }
 
         // It fails only after the good calls or for want of room, and takes a whole piece where there is one.

@@ -48,8 +48,10 @@ impl<'a> Source for Bytes<'a> {
         requires not_empty { 0 < length buffer.old }
         requires works { has_failed_of self.old ≡ false }
         ensures bound { IfOk result (λ count. count ≤ length buffer.new) }
-        ensures bytes { ReadConsumes (Some (rest_of self.old)) (Some (rest_of self.new)) result buffer.new }
-        ensures progress { IfOk result (λ count. 0 < count → length (rest_of self.new) < length (rest_of self.old)) }
+        ensures bytes { ReadConsumes (Some (rest_of self.old)) (Some (rest_of self.new))
+            result buffer.new }
+        ensures progress { IfOk result
+            (λ count. 0 < count → length (rest_of self.new) < length (rest_of self.old)) }
         ensures steady { OnOk result (length (rest_of self.new) ≤ length (rest_of self.old)) }
         ensures failed { has_failed_of self.new ≡ is_err result }
 

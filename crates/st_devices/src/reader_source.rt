@@ -46,8 +46,10 @@ impl<R: Read> Source for FromReader<R> {
         requires not_empty { 0 < length buffer.old }
         requires works { reader_has_failed self.old ≡ false }
         ensures bound { IfOk result (λ count. count ≤ length buffer.new) }
-        ensures bytes { ReadConsumes (R.remaining (reader_of self.old)) (R.remaining (reader_of self.new)) result buffer.new }
-        ensures progress { IfOk result (λ count. 0 < count → reads_left_of self.new < reads_left_of self.old) }
+        ensures bytes { ReadConsumes (R.remaining (reader_of self.old))
+            (R.remaining (reader_of self.new)) result buffer.new }
+        ensures progress { IfOk result
+            (λ count. 0 < count → reads_left_of self.new < reads_left_of self.old) }
         ensures steady { OnOk result (reads_left_of self.new ≤ reads_left_of self.old) }
         ensures failed { reader_has_failed self.new ≡ is_err result }
 

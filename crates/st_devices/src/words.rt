@@ -5,9 +5,11 @@ ghost use Rattle.st_devices.specs.Words.{HasNoBlankFirst, is_blank, words_of};
 
 /// The first word of a text, and what stands after it.
 pub fn split_word(text: &[u8]) -> Option<(&[u8], &[u8])>
-    ensures words { MatchOption result (words_of text.now ≡ []) (λ split. words_of text.now ≡ split.0.now ∷ words_of split.1.now) }
+    ensures words { MatchOption result (words_of text.now ≡ [])
+        (λ split. words_of text.now ≡ split.0.now ∷ words_of split.1.now) }
     ensures shorter { IfSome result (λ split. length split.1.now < length text.now) }
-    ensures room { IfSome result (λ split. length split.0.now + length split.1.now ≤ length text.now) }
+    ensures room { IfSome result
+        (λ split. length split.0.now + length split.1.now ≤ length text.now) }
 {
     let text = skip_blanks(text);
     if text.is_empty() {

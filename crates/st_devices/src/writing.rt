@@ -8,7 +8,8 @@ use crate::devices::{DeviceFault, Sink};
 pub fn write_all<W: Sink>(sink: &mut W, bytes: &[u8]) -> Result<(), DeviceFault>
     requires { W.has_failed sink.old ≡ false }
     ensures ok { OnOk result (Appends (W.taken sink.old) (W.taken sink.new) bytes.now) }
-    ensures err { OnErr result ((count : ℕ) × Appends (W.taken sink.old) (W.taken sink.new) (take count bytes.now)) }
+    ensures err { OnErr result ((count : ℕ) × Appends (W.taken sink.old) (W.taken sink.new)
+        (take count bytes.now)) }
     ensures failed { W.has_failed sink.new ≡ is_err result }
 {
     let mut at = 0;

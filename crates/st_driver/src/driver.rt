@@ -45,7 +45,8 @@ const KEPT_BYTES: usize = 31 * 1_048_576;
 ///
 /// No clause knows the words that it was started with. So of some words the status is theirs.
 pub fn run<R: Env + Files + Input + Print + Eprint + AllocGlobal>(rt: &R) -> u8
-    ensures { (result ≡ no_memory) ⊎ (result ≡ usage) ⊎ ((words : List Text) × EndsByWords words result) }
+    ensures { (result ≡ no_memory) ⊎ (result ≡ usage)
+        ⊎ ((words : List Text) × EndsByWords words result) }
 {
     match given_words(rt) {
         Ok(words) => obey_given(rt, words.as_slice()),
@@ -211,7 +212,8 @@ fn read_source<R: Files + AllocGlobal>(rt: &R, path: &str) -> io::Result<Vec<u8>
 
 /// As much of what the reader gives as a source text may have, and one byte more.
 fn read_text<R: Read + Drop>(alloc: Global, reader: R) -> io::Result<Vec<u8>>
-    ensures { IfOk result (λ text. IfSome (R.remaining reader) (λ bytes. text.items ≡ take (2 ^ 20 + 1) bytes)) }
+    ensures { IfOk result (λ text. IfSome (R.remaining reader)
+        (λ bytes. text.items ≡ take (2 ^ 20 + 1) bytes)) }
 {
     let mut text = Vec::new(alloc);
     reader.take(MAX_READ_BYTES).read_to_end(&mut text)?;
@@ -298,7 +300,8 @@ pub fn obey_text<R: Source, W: Sink, O: Observer>(
     ensures run_all { order.entry.verb ≡ Verb.Run → result ≢ device_failed → result ≢ no_memory
         → OnBytes (R.rest source.old) (λ bytes. OfLoad text.now order.entry.main.now order.entry.steps
         (WritesAll bytes result (W.taken sink.old) (W.taken sink.new))) }
-    ensures run_refused { order.entry.verb ≡ Verb.Run → result ≡ no_program → source.new ≡ source.old }
+    ensures run_refused { order.entry.verb ≡ Verb.Run → result ≡ no_program
+        → source.new ≡ source.old }
 
     // There was no memory for some command, and the replies to all are written; or there was none before the first command was
     // read, and then nothing is read, and either that is written or nothing.
@@ -320,7 +323,8 @@ pub fn obey_text<R: Source, W: Sink, O: Observer>(
     // A text that is too long is refused for that alone, also where there is no memory.
     ensures long { 2 ^ 20 < length text.now → result ≢ device_failed → (result ≡ no_program)
         × Appends (W.taken sink.old) (W.taken sink.new) (ended (codes "refused S4 line 1")) }
-    ensures failed { IsTrue (R.has_failed source.new || W.has_failed sink.new) ↔ (result ≡ device_failed) }
+    ensures failed { IsTrue (R.has_failed source.new || W.has_failed sink.new)
+        ↔ (result ≡ device_failed) }
 {
     let main = order.main.as_bytes();
     match order.verb {

@@ -19,7 +19,8 @@ impl Explainer for TextExplainer {
         text: &[u8],
         main: &[u8],
     ) -> Result<String, AllocError>
-        ensures { IfOk result (λ told. ExplainsFirst file.now text.now main.now (string_bytes told)) }
+        ensures { IfOk result (λ told. ExplainsFirst file.now text.now main.now
+            (string_bytes told)) }
     {
         explain_text(alloc, file, text, main)
     }

@@ -21,7 +21,8 @@ pub fn emit_body(
     statements: &[Statement],
 ) -> Result<Code, AllocError>
     requires small { IsSmall (whole_in tables.now unit).variables }
-    ensures { IfOk result (λ code. code ≡ body_code (whole_in tables.now unit).variables (body_of (whole_in tables.now unit) statements.now)) }
+    ensures { IfOk result (λ code. code ≡ body_code (whole_in tables.now unit).variables
+        (body_of (whole_in tables.now unit) statements.now)) }
 {
     let scope = Scope::new(alloc, tables, unit);
     let mut code = Code::new(alloc);

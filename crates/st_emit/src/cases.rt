@@ -9,7 +9,7 @@ ghost use Rattle.st_emit_expressions.specs.Trees.{whole_of};
 use crate::statements::emit_statements;
 use st_code::{Code, Instr};
 use st_emit_expressions::{Scope, emit_expression, emit_value, own_or_lint};
-use st_initials::value_written;
+use st_references::value_written;
 use st_tree::tree::{CaseElement, CaseStatement, Constant, Label};
 use st_values::Elem;
 use std::alloc::AllocError;
@@ -25,7 +25,9 @@ pub(crate) fn emit_case(
 ) -> Result<(), AllocError>
     requires out { out ≤ length code.old }
     requires end { end ≤ length code.old }
-    ensures { OnOk result (code.new ≡ code.old ++ reverse (command_code (whole_of scope.now).variables (case_in (whole_of scope.now) statement.now) (length code.old - out) (length code.old - end))) }
+    ensures { OnOk result (code.new ≡ code.old ++ reverse
+        (command_code (whole_of scope.now).variables (case_in (whole_of scope.now) statement.now)
+        (length code.old - out) (length code.old - end))) }
 {
     let start = code.len();
     let elem = own_or_lint(scope, statement.selector.get());
@@ -55,7 +57,9 @@ fn emit_element(
 ) -> Result<(), AllocError>
     requires out { out ≤ length code.old }
     requires end { end ≤ length code.old }
-    ensures { OnOk result (code.new ≡ code.old ++ reverse (case_code (whole_of scope.now) elem element.now rest (length code.old - out) (length code.old - end))) }
+    ensures { OnOk result (code.new ≡ code.old ++ reverse
+        (case_code (whole_of scope.now) elem element.now rest (length code.old - out)
+        (length code.old - end))) }
 {
     let start = code.len();
     code.push(Instr::GoOn(rest), 0)?;
@@ -68,7 +72,8 @@ fn emit_element(
 
 /// Whether the selector's number has one of the labels.
 fn emit_labels(code: &mut Code, elem: Elem, labels: &[Label]) -> Result<(), AllocError>
-    ensures { OnOk result (code.new ≡ code.old ++ reverse (case_test elem (map (label_range elem) labels.now))) }
+    ensures { OnOk result (code.new ≡ code.old ++ reverse
+        (case_test elem (map (label_range elem) labels.now))) }
 {
     let mut i = labels.len();
     while i > 0 {
@@ -80,7 +85,8 @@ fn emit_labels(code: &mut Code, elem: Elem, labels: &[Label]) -> Result<(), Allo
 
 /// Whether it has this one, or had one before.
 fn emit_label(code: &mut Code, elem: Elem, label: &Label) -> Result<(), AllocError>
-    ensures { OnOk result (code.new ≡ code.old ++ reverse (label_code elem (label_range elem label.now))) }
+    ensures { OnOk result (code.new ≡ code.old ++ reverse
+        (label_code elem (label_range elem label.now))) }
 {
     code.push(Instr::Within(elem), 0)?;
     match label {
@@ -97,7 +103,8 @@ fn emit_label(code: &mut Code, elem: Elem, label: &Label) -> Result<(), AllocErr
 
 /// A literal of this type.
 fn emit_literal(code: &mut Code, elem: Elem, literal: &Constant) -> Result<(), AllocError>
-    ensures { OnOk result (code.new ≡ code.old ++ reverse (plain (Instr.Push (cell_of (value_written elem literal.now).bits)))) }
+    ensures { OnOk result (code.new ≡ code.old ++ reverse
+        (plain (Instr.Push (cell_of (value_written elem literal.now).bits)))) }
 {
     emit_value(code, value_written(elem, literal))
 }

@@ -8,7 +8,7 @@ ghost use Rattle.st_meaning.specs.Terms.{field_part, whole};
 ghost use Rattle.st_meaning.specs.Typing.{body_in};
 ghost use Rattle.st_code.specs.Code.{actions_code, base_of, code_of, tests_code, variables_code};
 ghost use Rattle.st_places.specs.Parts.{whole_in};
-ghost use Rattle.st_sketches.specs.Views.{names_of};
+ghost use Rattle.st_meaning.specs.Views.{names_of};
 ghost use Rattle.st_emit.specs.Charts.{action_code, acts_in, test_code, tests_in};
 ghost use Rattle.st_emit_expressions.specs.Trees.{whole_of};
 
@@ -33,7 +33,8 @@ pub fn emit_chart(
     requires small { IsSmall (whole_in tables.now unit).variables }
     requires elements { elements.now ≡ chart_within (whole_in tables.now unit).variables }
     requires names { names.now ≡ names_of elements.now }
-    ensures { IfOk result (λ code. code ≡ code_of (whole_in tables.now unit).variables (body_in (whole_in tables.now unit) unit [])) }
+    ensures { IfOk result (λ code. code ≡ code_of (whole_in tables.now unit).variables
+        (body_in (whole_in tables.now unit) unit [])) }
 {
     let mut code = Code::new(alloc);
     if elements.is_empty() {
@@ -57,7 +58,8 @@ fn emit_actions(
     scope: &Scope<'_>,
     elements: &[ChartElement],
 ) -> Result<(), AllocError>
-    ensures { OnOk result (code.new ≡ code.old ++ reverse (actions_code (whole_of scope.now).variables (acts_in (whole_of scope.now) elements.now))) }
+    ensures { OnOk result (code.new ≡ code.old ++ reverse
+        (actions_code (whole_of scope.now).variables (acts_in (whole_of scope.now) elements.now))) }
 {
     let mut left = 0;
     let mut i = elements.len();
@@ -81,7 +83,8 @@ fn emit_action(
     left: u32,
     action: &Action,
 ) -> Result<(), AllocError>
-    ensures { OnOk result (code.new ≡ code.old ++ reverse (action_code (whole_of scope.now) left action.now)) }
+    ensures { OnOk result (code.new ≡ code.old ++ reverse
+        (action_code (whole_of scope.now) left action.now)) }
 {
     let end = code.len();
     emit_statements(code, scope, action.statements.as_slice(), end, end)?;
@@ -96,7 +99,9 @@ fn emit_variables(
     scope: &Scope<'_>,
     names: &AssociatedNames<'_>,
 ) -> Result<(), AllocError>
-    ensures { OnOk result (code.new ≡ code.old ++ reverse (variables_code (whole_of scope.now).variables (map (variable_named (whole_of scope.now).variables) names.now))) }
+    ensures { OnOk result (code.new ≡ code.old ++ reverse
+        (variables_code (whole_of scope.now).variables
+        (map (variable_named (whole_of scope.now).variables) names.now))) }
 {
     let mut number = names.len();
     while number > 0 {
@@ -111,7 +116,8 @@ fn emit_variables(
 
 /// The leaf of the BOOL variable of this name.
 fn bool_named(scope: &Scope<'_>, name: &[u8]) -> Option<u32>
-    ensures { result ≡ option_map (λ n. base_of (whole_of scope.now).variables (field_part n whole)) (variable_named (whole_of scope.now).variables name.now) }
+    ensures { result ≡ option_map (λ n. base_of (whole_of scope.now).variables (field_part n whole))
+        (variable_named (whole_of scope.now).variables name.now) }
 {
     let (elem, leaf) = place_named(scope, name)?;
     if elem.is(Elem::Bool) {
@@ -129,7 +135,9 @@ fn emit_tests(
     leaf: u32,
     elements: &[ChartElement],
 ) -> Result<(), AllocError>
-    ensures { OnOk result (code.new ≡ code.old ++ reverse (tests_code (whole_of scope.now).variables unit leaf 0 (tests_in (whole_of scope.now) elements.now))) }
+    ensures { OnOk result (code.new ≡ code.old ++ reverse
+        (tests_code (whole_of scope.now).variables unit leaf 0
+        (tests_in (whole_of scope.now) elements.now))) }
 {
     let mut number = narrow(transition_count(elements))?;
     let mut i = elements.len();
@@ -169,7 +177,8 @@ fn emit_test(
     number: u32,
     transition: &Transition,
 ) -> Result<(), AllocError>
-    ensures { OnOk result (code.new ≡ code.old ++ reverse (test_code (whole_of scope.now) unit leaf number transition.now)) }
+    ensures { OnOk result (code.new ≡ code.old ++ reverse
+        (test_code (whole_of scope.now) unit leaf number transition.now)) }
 {
     code.push(Instr::Push(0), 0)?;
     let start = code.len();

@@ -20,7 +20,9 @@ pub(crate) fn emit_invocation(
     scope: &Scope<'_>,
     call: &Call,
 ) -> Result<(), AllocError>
-    ensures { OnOk result (code.new ≡ code.old ++ reverse (command_code (whole_of scope.now).variables (call_command (whole_of scope.now) call.now) 0 0)) }
+    ensures { OnOk result (code.new ≡ code.old ++ reverse
+        (command_code (whole_of scope.now).variables (call_command (whole_of scope.now) call.now)
+        0 0)) }
 {
     let line = call.name.position.line;
     let Some(block) = instance(scope, &call.name) else {
@@ -48,8 +50,11 @@ fn instance(scope: &Scope<'_>, name: &Identifier) -> Option<Instr>
 
 /// The type of an input or an output of an instance, and how many leaves stand before it.
 fn pin(scope: &Scope<'_>, instance: &Identifier, name: &Identifier) -> Option<(Elem, u32)>
-    ensures elem { option_map (λ found. found.0) result ≡ type_of (whole_of scope.now).variables (pin_of instance.now.spelling name.now.spelling) }
-    ensures leaf { IfSome result (λ found. found.1 ≡ base_of (whole_of scope.now).variables (pin_of instance.now.spelling name.now.spelling)) }
+    ensures elem { option_map (λ found. found.0) result
+        ≡ type_of (whole_of scope.now).variables (pin_of instance.now.spelling name.now.spelling) }
+    ensures leaf { IfSome result
+        (λ found. found.1 ≡ base_of (whole_of scope.now).variables
+        (pin_of instance.now.spelling name.now.spelling)) }
 {
     let (first, whole) = scope.select(scope.root(), instance.spelling.as_slice())?;
     let (before, node) = scope.select(whole, name.spelling.as_slice())?;
@@ -64,7 +69,9 @@ fn emit_inputs(
     instance: &Identifier,
     arguments: &[Argument],
 ) -> Result<(), AllocError>
-    ensures { OnOk result (code.new ≡ code.old ++ reverse (moves_code (whole_of scope.now).variables (inputs_of (whole_of scope.now) instance.now.spelling arguments.now))) }
+    ensures { OnOk result (code.new ≡ code.old ++ reverse
+        (moves_code (whole_of scope.now).variables
+        (inputs_of (whole_of scope.now) instance.now.spelling arguments.now))) }
 {
     let mut i = arguments.len();
     while i > 0 {
@@ -81,7 +88,9 @@ fn emit_input(
     instance: &Identifier,
     argument: &Argument,
 ) -> Result<(), AllocError>
-    ensures { OnOk result (code.new ≡ code.old ++ reverse (moves_code (whole_of scope.now).variables (inputs_of (whole_of scope.now) instance.now.spelling (argument.now ∷ [])))) }
+    ensures { OnOk result (code.new ≡ code.old ++ reverse
+        (moves_code (whole_of scope.now).variables
+        (inputs_of (whole_of scope.now) instance.now.spelling (argument.now ∷ [])))) }
 {
     match argument {
         Argument::Input(name, value) => {
@@ -103,7 +112,9 @@ fn emit_outputs(
     instance: &Identifier,
     arguments: &[Argument],
 ) -> Result<(), AllocError>
-    ensures { OnOk result (code.new ≡ code.old ++ reverse (moves_code (whole_of scope.now).variables (outputs_of (whole_of scope.now) instance.now.spelling arguments.now))) }
+    ensures { OnOk result (code.new ≡ code.old ++ reverse
+        (moves_code (whole_of scope.now).variables
+        (outputs_of (whole_of scope.now) instance.now.spelling arguments.now))) }
 {
     let mut i = arguments.len();
     while i > 0 {
@@ -120,7 +131,9 @@ fn emit_output(
     instance: &Identifier,
     argument: &Argument,
 ) -> Result<(), AllocError>
-    ensures { OnOk result (code.new ≡ code.old ++ reverse (moves_code (whole_of scope.now).variables (outputs_of (whole_of scope.now) instance.now.spelling (argument.now ∷ [])))) }
+    ensures { OnOk result (code.new ≡ code.old ++ reverse
+        (moves_code (whole_of scope.now).variables
+        (outputs_of (whole_of scope.now) instance.now.spelling (argument.now ∷ [])))) }
 {
     match argument {
         Argument::Output(name, variable) => {
@@ -143,7 +156,10 @@ fn emit_pin(
     name: &Identifier,
     due: Elem,
 ) -> Result<(), AllocError>
-    ensures { let place = pin_of instance.now.spelling name.now.spelling in OnOk result (Emits (whole_of scope.now).variables due ((place_typed place (type_of (whole_of scope.now).variables place)).as_type due) code.old code.new) }
+    ensures { let place = pin_of instance.now.spelling name.now.spelling in
+        OnOk result (Emits (whole_of scope.now).variables due
+        ((place_typed place (type_of (whole_of scope.now).variables place)).as_type due)
+        code.old code.new) }
 {
     let Some((elem, leaf)) = pin(scope, instance, name) else {
         emit_nil(code, scope, due)?;

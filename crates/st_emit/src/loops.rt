@@ -22,7 +22,9 @@ pub(crate) fn emit_while(
     end: usize,
 ) -> Result<(), AllocError>
     requires { end ≤ length code.old }
-    ensures { OnOk result (code.new ≡ code.old ++ reverse (command_code (whole_of scope.now).variables (while_in (whole_of scope.now) statement.now) 0 (length code.old - end))) }
+    ensures { OnOk result (code.new ≡ code.old ++ reverse
+        (command_code (whole_of scope.now).variables (while_in (whole_of scope.now) statement.now)
+        0 (length code.old - end))) }
 {
     let line = statement.position.line;
     let body = statement.statements.as_slice();
@@ -48,7 +50,9 @@ pub(crate) fn emit_repeat(
     end: usize,
 ) -> Result<(), AllocError>
     requires { end ≤ length code.old }
-    ensures { OnOk result (code.new ≡ code.old ++ reverse (command_code (whole_of scope.now).variables (repeat_in (whole_of scope.now) statement.now) 0 (length code.old - end))) }
+    ensures { OnOk result (code.new ≡ code.old ++ reverse
+        (command_code (whole_of scope.now).variables (repeat_in (whole_of scope.now) statement.now)
+        0 (length code.old - end))) }
 {
     let line = statement.position.line;
     let body = statement.statements.as_slice();
@@ -77,8 +81,13 @@ fn emit_turns(
     end: usize,
 ) -> Result<usize, AllocError>
     requires { end ≤ length code.old }
-    ensures code { OnOk result (code.new ≡ code.old ++ reverse (turns_code line until (term_code (whole_of scope.now).variables (condition (whole_of scope.now) test.now)) (commands_code (whole_of scope.now).variables (body_of (whole_of scope.now) statements.now) 1 (1 + (length code.old - end))))) }
-    ensures past { IfOk result (λ past. past ≡ length (term_code (whole_of scope.now).variables (condition (whole_of scope.now) test.now)) + 1) }
+    ensures code { OnOk result (code.new ≡ code.old
+        ++ reverse (turns_code line until (term_code (whole_of scope.now).variables
+        (condition (whole_of scope.now) test.now))
+        (commands_code (whole_of scope.now).variables (body_of (whole_of scope.now) statements.now)
+        1 (1 + (length code.old - end))))) }
+    ensures past { IfOk result (λ past. past ≡ length
+        (term_code (whole_of scope.now).variables (condition (whole_of scope.now) test.now)) + 1) }
 {
     let start = code.len();
     code.push(Instr::GoBack(0), line)?;
@@ -112,7 +121,9 @@ pub(crate) fn emit_for(
     end: usize,
 ) -> Result<(), AllocError>
     requires { end ≤ length code.old }
-    ensures { OnOk result (code.new ≡ code.old ++ reverse (command_code (whole_of scope.now).variables (for_in (whole_of scope.now) statement.now) 0 (length code.old - end))) }
+    ensures { OnOk result (code.new ≡ code.old ++ reverse
+        (command_code (whole_of scope.now).variables (for_in (whole_of scope.now) statement.now)
+        0 (length code.old - end))) }
 {
     let line = statement.position.line;
     if let Some((elem, leaf)) = place_named(scope, statement.variable.spelling.as_slice()) {
@@ -137,7 +148,10 @@ fn emit_count(
     end: usize,
 ) -> Result<(), AllocError>
     requires { end ≤ length code.old }
-    ensures { OnOk result (code.new ≡ code.old ++ reverse (count_code line elem leaf [] (commands_code (whole_of scope.now).variables (body_of (whole_of scope.now) statements.now) 1 (2 + (length code.old - end))))) }
+    ensures { OnOk result (code.new ≡ code.old ++ reverse
+        (count_code line elem leaf []
+        (commands_code (whole_of scope.now).variables (body_of (whole_of scope.now) statements.now)
+        1 (2 + (length code.old - end))))) }
 {
     code.push(Instr::Leave, 0)?;
     let start = code.len();
@@ -157,7 +171,9 @@ fn emit_step(
     step: &Option<Boxed<Expression>>,
     elem: Elem,
 ) -> Result<(), AllocError>
-    ensures code { OnOk result (code.new ≡ code.old ++ reverse (term_code (whole_of scope.now).variables (step_typed (whole_of scope.now) step.now elem))) }
+    ensures code { OnOk result (code.new ≡ code.old
+        ++ reverse (term_code (whole_of scope.now).variables
+        (step_typed (whole_of scope.now) step.now elem))) }
 {
     match step {
         Some(expression) => emit_expression(code, scope, expression.get(), elem),

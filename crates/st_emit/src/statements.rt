@@ -26,7 +26,9 @@ pub(crate) fn emit_statements(
 ) -> Result<(), AllocError>
     requires out { out ≤ length code.old }
     requires end { end ≤ length code.old }
-    ensures { OnOk result (code.new ≡ code.old ++ reverse (commands_code (whole_of scope.now).variables (body_of (whole_of scope.now) statements.now) (length code.old - out) (length code.old - end))) }
+    ensures { OnOk result (code.new ≡ code.old ++ reverse
+        (commands_code (whole_of scope.now).variables (body_of (whole_of scope.now) statements.now)
+        (length code.old - out) (length code.old - end))) }
 {
     let mut i = statements.len();
     while i > 0 {
@@ -47,7 +49,9 @@ fn emit_statement(
 ) -> Result<(), AllocError>
     requires out { out ≤ length code.old }
     requires end { end ≤ length code.old }
-    ensures { OnOk result (code.new ≡ code.old ++ reverse (command_code (whole_of scope.now).variables (command_of (whole_of scope.now) statement.now) (length code.old - out) (length code.old - end))) }
+    ensures { OnOk result (code.new ≡ code.old ++ reverse
+        (command_code (whole_of scope.now).variables (command_of (whole_of scope.now) statement.now)
+        (length code.old - out) (length code.old - end))) }
 {
     match statement {
         Statement::Empty(position) => code.push(Instr::Step, position.line),
@@ -72,7 +76,9 @@ fn emit_assignment(
     variable: &Variable,
     value: &Expression,
 ) -> Result<(), AllocError>
-    ensures { OnOk result (code.new ≡ code.old ++ reverse (command_code (whole_of scope.now).variables (assignment_in (whole_of scope.now) variable.now value.now) 0 0)) }
+    ensures { OnOk result (code.new ≡ code.old ++ reverse
+        (command_code (whole_of scope.now).variables
+        (assignment_in (whole_of scope.now) variable.now value.now) 0 0)) }
 {
     if let Some(place) = locate(scope, variable) {
         emit_store(code, scope, variable, place)?;
@@ -84,7 +90,8 @@ fn emit_assignment(
 /// A jump to where there were so many instructions.
 fn emit_jump(code: &mut Code, goal: usize, line: u32) -> Result<(), AllocError>
     requires { goal ≤ length code.old }
-    ensures { OnOk result (code.new ≡ code.old ++ reverse (at line Instr.Step ++ plain (Instr.GoOn (length code.old - goal)))) }
+    ensures { OnOk result (code.new ≡ code.old ++ reverse
+        (at line Instr.Step ++ plain (Instr.GoOn (length code.old - goal)))) }
 {
     let distance = code.len() - goal;
     code.push(Instr::GoOn(distance), 0)?;
@@ -102,7 +109,9 @@ fn emit_if(
 ) -> Result<(), AllocError>
     requires out { out ≤ length code.old }
     requires end { end ≤ length code.old }
-    ensures { OnOk result (code.new ≡ code.old ++ reverse (command_code (whole_of scope.now).variables (if_in (whole_of scope.now) statement.now) (length code.old - out) (length code.old - end))) }
+    ensures { OnOk result (code.new ≡ code.old ++ reverse
+        (command_code (whole_of scope.now).variables (if_in (whole_of scope.now) statement.now)
+        (length code.old - out) (length code.old - end))) }
 {
     let start = code.len();
     emit_statements(code, scope, statement.otherwise.as_slice(), out, end)?;
@@ -128,7 +137,9 @@ fn emit_part(
 ) -> Result<(), AllocError>
     requires out { out ≤ length code.old }
     requires end { end ≤ length code.old }
-    ensures { OnOk result (code.new ≡ code.old ++ reverse (part_code (whole_of scope.now) part.now rest (length code.old - out) (length code.old - end))) }
+    ensures { OnOk result (code.new ≡ code.old ++ reverse
+        (part_code (whole_of scope.now) part.now rest (length code.old - out)
+        (length code.old - end))) }
 {
     let start = code.len();
     code.push(Instr::GoOn(rest), 0)?;

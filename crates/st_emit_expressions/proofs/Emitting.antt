@@ -21,15 +21,15 @@ use Rattle.st_tree.specs.declared.tree.position.Identifier.{Identifier}
 use Rattle.st_tree.specs.declared.tree.position.Position.{Position}
 use Rattle.st_types.specs.Compositions.{Composition, unknown, elementary, array, composed, standard}
 use Rattle.st_leaves.specs.Bounds.{HasBounds}
-use Rattle.st_types.specs.OwnTypes.{first_own, is_bits, is_comparison, is_integer, or_lint, takes}
+use Rattle.st_types.specs.OwnTypes.{first_own, or_lint}
 use Rattle.st_types.specs.Standard.{standard_of}
 use Rattle.st_types.specs.declared.standard.Standard.{Standard}
 use Rattle.st_types.specs.declared.standard.Standard.TheVariants as standards
 use Rattle.st_types.specs.declared.standard.StandardFunction.TheVariants as functions
-use Rattle.st_leaves.specs.Leaves.{number_of}
+use Rattle.st_tree.specs.Literals.{number_of}
 use Rattle.st_leaves.specs.Places.{count, extent, extent_of}
 use Rattle.st_leaves.specs.Selected.{element_of, selected_by, subscripts_of, takes_subscripts}
-use Rattle.st_operators.specs.Operators.{type_given}
+use Rattle.st_operators.specs.Operators.{type_given, is_bits, is_comparison, is_integer, takes}
 use Rattle.st_meaning.specs.Operations.{binary_type}
 use Rattle.st_meaning.specs.Sound.{term_type, types_in}
 use Rattle.st_meaning.specs.Terms.{Term, Parts, binary, selection, unary, whole, field_part, element_part, how_many}

@@ -12,7 +12,8 @@ use Rattle.st_tree.specs.declared.tree.expression.Expression.{Expression}
 use Rattle.st_tree.specs.declared.tree.expression.Expression.TheVariants as expressions
 use Rattle.st_tree.specs.declared.tree.expression.Operation.{Operation, out-Operation}
 use Rattle.st_tree.specs.declared.tree.position.Position.{Position}
-use Rattle.st_types.specs.OwnTypes.{first_own, is_comparison}
+use Rattle.st_operators.specs.Operators.{is_comparison}
+use Rattle.st_types.specs.OwnTypes.{first_own}
 use Rattle.st_types.specs.Standard.{standard_of}
 use Rattle.st_types.specs.declared.standard.Standard.{Standard}
 use Rattle.st_types.specs.declared.standard.Standard.TheVariants as standards

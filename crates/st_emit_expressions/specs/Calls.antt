@@ -1,16 +1,17 @@
 -- Calls of standard functions and conversions, argument by argument (2.5.1.5).
-use Rattle.std.specs.Prelude.{ℕ, suc, ◌≡◌, ◌==◌, Bool, false, ◌&&◌, ◌||◌, not, if◌then◌else◌, List, [], ◌∷◌, ◌++◌, map, Option, Some, None}
+use Rattle.std.specs.Prelude.{ℕ, suc, ◌≡◌, ◌==◌, Bool, false, ◌&&◌, not, if◌then◌else◌, List, [], ◌∷◌, ◌++◌, map, Option, Some, None}
 use Rattle.std.specs.List.{flat_map}
 use Rattle.std.specs.Option.{is_some}
 use Rattle.st_values.specs.Types.{is_same}
 use Rattle.st_values.specs.declared.elem.Elem.{Elem}
-use Rattle.st_values.specs.declared.elem.Elem.TheVariants as elems
 use Rattle.st_tree.specs.declared.tree.expression.Argument.{Argument}
 use Rattle.st_types.specs.Compositions.{Composition}
-use Rattle.st_types.specs.OwnTypes.{is_bits, is_integer, is_shift, or_lint}
+use Rattle.st_types.specs.OwnTypes.{function_gives, or_lint, standard_due, types_call}
 use Rattle.st_types.specs.declared.standard.Standard.{Standard}
 use Rattle.st_types.specs.declared.standard.Standard.TheVariants as standards
 use Rattle.st_types.specs.declared.standard.StandardFunction.TheVariants as functions
+use Rattle.st_types.specs.declared.symbol.Due.{Due}
+use Rattle.st_types.specs.declared.symbol.Due.TheVariants as dues
 use Rattle.st_meaning.specs.Sound.{term_type}
 use Rattle.st_meaning.specs.Typing.{Passed, Typed, argument_typed, converted, function_typed, unnamed, untyped}
 use Rattle.st_meaning.specs.Wholes.{Whole}
@@ -47,15 +48,13 @@ takes_number (standards.Block b) n = false
 
 -- it gives values of the type
 abbrev pub gives_type : Standard → Elem → Bool
-gives_type (standards.Function functions.Abs) t = is_integer t
-gives_type (standards.Function f) t = not (is_shift f) || is_bits t
+gives_type (standards.Function f) t = function_gives f t
 gives_type (standards.Conversion from to) t = is_same to t
 gives_type (standards.Block b) t = false
 
 -- the own type of the argument of this number counts
 abbrev pub counts : Standard → ℕ → Bool
-counts (standards.Function functions.Sel) n = not (n == 0)
-counts (standards.Function f) n = not (is_shift f) || n == 0
+counts (standards.Function f) n = types_call f (n == 0)
 counts _ n = false
 
 -- the first own type of arguments that counts, from the argument of this number on
@@ -63,10 +62,14 @@ abbrev pub own_from : Standard → ℕ → List Typed → Option Elem
 own_from s n [] = None
 own_from s n (x ∷ xs) = if counts s n && is_some x.own then x.own else own_from s (suc n) xs
 
+-- the type at which an argument of this own type is taken, where this is due of it
+abbrev pub taken_at : Due → Option Elem → Elem
+taken_at (dues.Type t) own = t
+taken_at _ own = or_lint own
+
 -- the type that is due of the argument of this number, which has this own type, where this type is due of the call
 abbrev pub argument_type : Standard → Elem → ℕ → Option Elem → Elem
-argument_type (standards.Function functions.Sel) t n own = if n == 0 then elems.Bool else t
-argument_type (standards.Function f) t n own = if is_shift f && not (n == 0) then or_lint own else t
+argument_type (standards.Function f) t n own = taken_at (standard_due f (dues.Type t) n) own
 argument_type (standards.Conversion from to) t n own = from
 argument_type (standards.Block b) t n own = t
 

@@ -7,7 +7,8 @@ use Rattle.st_tree.specs.declared.operator.BinOp.{BinOp}
 use Rattle.st_tree.specs.declared.tree.expression.Expression.{Expression}
 use Rattle.st_tree.specs.declared.tree.expression.Operation.{Operation}
 use Rattle.st_tree.specs.declared.tree.expression.Part.{Part}
-use Rattle.st_types.specs.OwnTypes.{first_own, is_comparison, or_lint}
+use Rattle.st_operators.specs.Operators.{is_comparison}
+use Rattle.st_types.specs.OwnTypes.{first_own, or_lint}
 use Rattle.st_meaning.specs.Operations.{takes_two}
 use Rattle.st_values.specs.declared.value.Value.{Value}
 use Rattle.st_meaning.specs.Terms.{Parts, whole, field_part}

@@ -6,25 +6,25 @@ ghost use Rattle.st_meaning.specs.Operations.{unary_type};
 ghost use Rattle.st_meaning.specs.Typing.{arguments_from, as_input, call_typed_in, input_at, place_of, prefixed, typed, variable_typed};
 ghost use Rattle.st_meaning.specs.Wholes.{type_of};
 ghost use Rattle.st_code.specs.Code.{base_of, parts_code, store_code, term_code, terms_code};
-ghost use Rattle.st_emit_expressions.specs.Calls.{AreTyped, argument_code, argument_type, arguments_code, behind_argument, passed_in, positionals};
+ghost use Rattle.st_emit_expressions.specs.Calls.{AreTyped, argument_code, argument_type, arguments_code, behind_argument, passed_in, positionals, taken_at};
 ghost use Rattle.st_emit_expressions.specs.Emits.{Emits, own_types, terms_in};
 ghost use Rattle.st_types.specs.Standard.{standard_of};
 ghost use Rattle.st_emit_expressions.specs.Trees.{chain_of, operand_type, whole_of};
 
 use crate::functions::{emit_behind, input_type, passed_count};
 use crate::index::{emit_added, emit_dimensions, emit_nil, emit_value};
-use crate::literal::{is_comparison, or_lint};
 use crate::own::{own, own_of_front, own_or_lint, positional_count, takes_number};
 use crate::places::{Place, constant_named, locate, stops};
 use crate::scope::Scope;
 use crate::steps::emit_step_part;
-use crate::takes::{gives_type, takes, takes_one};
+use crate::takes::{gives_type, takes_one};
 use st_code::{Code, Instr};
-use st_initials::value_written;
 use st_meaning::{Binary, Unary};
+use st_operators::{is_comparison, takes};
 use st_places::Function;
+use st_references::value_written;
 use st_tree::tree::{Argument, Call, Expression, Operation, Part, Variable};
-use st_types::{Standard, StandardFunction, standard_of};
+use st_types::{Due, Standard, StandardFunction, or_lint, standard_due, standard_of};
 use st_values::Elem;
 use std::alloc::AllocError;
 
@@ -36,7 +36,9 @@ fn operand_type(
     operation: &Operation,
     due: Elem,
 ) -> Option<Elem>
-    ensures { result ≡ operand_type operation.now.operator (chain_of (whole_of scope.now) first.now front.now).own (typed (whole_of scope.now) operation.now.operand).own due }
+    ensures { result ≡ operand_type operation.now.operator
+        (chain_of (whole_of scope.now) first.now front.now).own
+        (typed (whole_of scope.now) operation.now.operand).own due }
 {
     if !is_comparison(operation.operator) {
         return if takes(operation.operator, due) {
@@ -55,6 +57,16 @@ fn operand_type(
     Some(own_or_lint(scope, &operation.operand))
 }
 
+/// The type at which an argument is taken, where this is due of it.
+fn taken_at(scope: &Scope<'_>, due: Due, expression: &Expression) -> Elem
+    ensures { result ≡ taken_at due (typed (whole_of scope.now) expression.now).own }
+{
+    match due {
+        Due::Type(elem) => elem,
+        _ => own_or_lint(scope, expression),
+    }
+}
+
 /// The type that is due of the argument of this number.
 fn argument_type(
     scope: &Scope<'_>,
@@ -63,18 +75,19 @@ fn argument_type(
     number: usize,
     expression: &Expression,
 ) -> Elem
-    ensures { result ≡ argument_type standard due number (typed (whole_of scope.now) expression.now).own }
+    ensures { result ≡ argument_type standard due number
+        (typed (whole_of scope.now) expression.now).own }
 {
     match standard {
-        Standard::Function(StandardFunction::Sel) if number == 0 => Elem::Bool,
-        Standard::Function(
-            StandardFunction::Shl
-            | StandardFunction::Shr
-            | StandardFunction::Rol
-            | StandardFunction::Ror,
-        ) if number != 0 => own_or_lint(scope, expression),
-        Standard::Function(_) | Standard::Block(_) => due,
+        Standard::Function(function) => {
+            taken_at(
+                scope,
+                standard_due(function, Due::Type(due), number),
+                expression,
+            )
+        }
         Standard::Conversion(from, _) => from,
+        Standard::Block(_) => due,
     }
 }
 
@@ -113,7 +126,8 @@ pub fn emit_expression(
     expression: &Expression,
     due: Elem,
 ) -> Result<(), AllocError>
-    ensures { OnOk result (Emits (whole_of scope.now).variables due ((typed (whole_of scope.now) expression.now).as_type due) code.old code.new) }
+    ensures { OnOk result (Emits (whole_of scope.now).variables due
+        ((typed (whole_of scope.now) expression.now).as_type due) code.old code.new) }
 {
     match expression {
         Expression::Constant(literal) => emit_value(code, value_written(due, literal))?,
@@ -161,7 +175,8 @@ fn emit_prefixed(
     due: Elem,
 ) -> Result<(), AllocError>
     requires { unary_type unary due ≡ due }
-    ensures { OnOk result (Emits (whole_of scope.now).variables due ((prefixed unary (typed (whole_of scope.now) operand.now)).as_type due) code.old code.new) }
+    ensures { OnOk result (Emits (whole_of scope.now).variables due
+        ((prefixed unary (typed (whole_of scope.now) operand.now)).as_type due) code.old code.new) }
 {
     if !takes_one(unary, due) {
         emit_nil(code, scope, due)?;
@@ -180,7 +195,9 @@ fn emit_variable(
     variable: &Variable,
     due: Elem,
 ) -> Result<(), AllocError>
-    ensures { OnOk result (Emits (whole_of scope.now).variables due ((variable_typed (whole_of scope.now) (place_of (whole_of scope.now) variable.now)).as_type due) code.old code.new) }
+    ensures { OnOk result (Emits (whole_of scope.now).variables due
+        ((variable_typed (whole_of scope.now)
+        (place_of (whole_of scope.now) variable.now)).as_type due) code.old code.new) }
 {
     if let Some(value) = constant_named(scope, variable) {
         if value.elem.is(due) {
@@ -214,8 +231,11 @@ pub(crate) fn emit_parts(
     scope: &Scope<'_>,
     variable: &Variable,
 ) -> Result<(), AllocError>
-    requires { IsTrue (is_some (type_of (whole_of scope.now).variables (place_of (whole_of scope.now) variable.now))) }
-    ensures { OnOk result (code.new ≡ code.old ++ reverse (parts_code (whole_of scope.now).variables false (whole_of scope.now).variables (place_of (whole_of scope.now) variable.now))) }
+    requires { IsTrue (is_some (type_of (whole_of scope.now).variables
+        (place_of (whole_of scope.now) variable.now))) }
+    ensures { OnOk result (code.new ≡ code.old ++ reverse
+        (parts_code (whole_of scope.now).variables false (whole_of scope.now).variables
+        (place_of (whole_of scope.now) variable.now))) }
 {
     let all = stops(scope, variable)?;
     let parts = variable.parts.as_slice();
@@ -251,8 +271,12 @@ fn emit_alone(
     scope: &Scope<'_>,
     expressions: &[Expression],
 ) -> Result<(), AllocError>
-    ensures code { OnOk result (code.new ≡ code.old ++ reverse (terms_code (whole_of scope.now).variables (terms_in (whole_of scope.now) expressions.now))) }
-    ensures types { OnOk result (types_in (whole_of scope.now).variables (terms_in (whole_of scope.now) expressions.now) ≡ own_types (whole_of scope.now) expressions.now) }
+    ensures code { OnOk result (code.new ≡ code.old
+        ++ reverse (terms_code (whole_of scope.now).variables
+        (terms_in (whole_of scope.now) expressions.now))) }
+    ensures types { OnOk result
+        (types_in (whole_of scope.now).variables (terms_in (whole_of scope.now) expressions.now)
+        ≡ own_types (whole_of scope.now) expressions.now) }
 {
     let mut i = expressions.len();
     while i > 0 {
@@ -267,7 +291,8 @@ fn emit_alone(
 /// A call of a function.
 #[cycle(emit)]
 fn emit_call(code: &mut Code, scope: &Scope<'_>, call: &Call, due: Elem) -> Result<(), AllocError>
-    ensures { OnOk result (Emits (whole_of scope.now).variables due ((call_typed_in (whole_of scope.now) call.now).as_type due) code.old code.new) }
+    ensures { OnOk result (Emits (whole_of scope.now).variables due
+        ((call_typed_in (whole_of scope.now) call.now).as_type due) code.old code.new) }
 {
     let arguments = call.arguments.as_slice();
     let Some(standard) = standard_of(call.name.spelling.as_slice()) else {
@@ -298,8 +323,12 @@ fn emit_arguments(
     arguments: &[Argument],
 ) -> Result<(), AllocError>
     requires { number ≡ length (positionals (whole_of scope.now) arguments.now) }
-    ensures code { OnOk result (code.new ≡ code.old ++ reverse (arguments_code (whole_of scope.now).variables standard due 0 (positionals (whole_of scope.now) arguments.now))) }
-    ensures types { OnOk result (AreTyped (whole_of scope.now).variables standard due 0 (positionals (whole_of scope.now) arguments.now)) }
+    ensures code { OnOk result (code.new ≡ code.old
+        ++ reverse (arguments_code (whole_of scope.now).variables standard due 0
+        (positionals (whole_of scope.now) arguments.now))) }
+    ensures types { OnOk result
+        (AreTyped (whole_of scope.now).variables standard due 0
+        (positionals (whole_of scope.now) arguments.now)) }
 {
     let mut left = number;
     let mut i = arguments.len();
@@ -327,8 +356,14 @@ fn emit_argument(
     number: usize,
     expression: &Expression,
 ) -> Result<(), AllocError>
-    ensures code { OnOk result (code.new ≡ code.old ++ reverse (argument_code (whole_of scope.now).variables standard due number (typed (whole_of scope.now) expression.now))) }
-    ensures typed { OnOk result (term_type (whole_of scope.now).variables ((typed (whole_of scope.now) expression.now).as_type (argument_type standard due number (typed (whole_of scope.now) expression.now).own)) ≡ argument_type standard due number (typed (whole_of scope.now) expression.now).own) }
+    ensures code { OnOk result (code.new ≡ code.old
+        ++ reverse (argument_code (whole_of scope.now).variables standard due number
+        (typed (whole_of scope.now) expression.now))) }
+    ensures typed { OnOk result
+        (term_type (whole_of scope.now).variables
+        ((typed (whole_of scope.now) expression.now).as_type
+        (argument_type standard due number (typed (whole_of scope.now) expression.now).own))
+        ≡ argument_type standard due number (typed (whole_of scope.now) expression.now).own) }
 {
     let elem = argument_type(scope, standard, due, number, expression);
     if let Some(instr) = behind_argument(standard, due, number, elem) {
@@ -347,7 +382,8 @@ fn emit_function(
     due: Elem,
 ) -> Result<(), AllocError>
     requires { standard_of call.now.name.spelling ≡ None }
-    ensures { OnOk result (Emits (whole_of scope.now).variables due ((call_typed_in (whole_of scope.now) call.now).as_type due) code.old code.new) }
+    ensures { OnOk result (Emits (whole_of scope.now).variables due
+        ((call_typed_in (whole_of scope.now) call.now).as_type due) code.old code.new) }
 {
     let Some(function) = scope.function(call.name.spelling.as_slice()) else {
         emit_nil(code, scope, due)?;
@@ -372,7 +408,9 @@ fn emit_passed(
     function: &Function<'_>,
     arguments: &[Argument],
 ) -> Result<(), AllocError>
-    ensures { OnOk result (code.new ≡ code.old ++ reverse (terms_code (whole_of scope.now).variables (arguments_from function.now.inputs 0 (passed_in (whole_of scope.now) arguments.now)))) }
+    ensures { OnOk result (code.new ≡ code.old ++ reverse
+        (terms_code (whole_of scope.now).variables
+        (arguments_from function.now.inputs 0 (passed_in (whole_of scope.now) arguments.now)))) }
 {
     let mut place = passed_count(scope, arguments);
     let mut number = arguments.len();
@@ -403,7 +441,10 @@ fn emit_value_of_input(
     input: Option<usize>,
     expression: &Expression,
 ) -> Result<(), AllocError>
-    ensures { OnOk result (code.new ≡ code.old ++ reverse (term_code (whole_of scope.now).variables (as_input (typed (whole_of scope.now) expression.now) (input_at function.now.inputs input)))) }
+    ensures { OnOk result (code.new ≡ code.old ++ reverse
+        (term_code (whole_of scope.now).variables
+        (as_input (typed (whole_of scope.now) expression.now)
+        (input_at function.now.inputs input)))) }
 {
     let due = input_type(scope, function, input, expression);
     emit_expression(code, scope, expression, due)?;
@@ -417,10 +458,14 @@ pub fn emit_store(
     variable: &Variable,
     place: Place,
 ) -> Result<(), AllocError>
-    requires elem { type_of (whole_of scope.now).variables (place_of (whole_of scope.now) variable.now) ≡ Some place.elem }
-    requires base { place.base ≡ base_of (whole_of scope.now).variables (place_of (whole_of scope.now) variable.now) }
+    requires elem { type_of (whole_of scope.now).variables
+        (place_of (whole_of scope.now) variable.now) ≡ Some place.elem }
+    requires base { place.base ≡ base_of (whole_of scope.now).variables
+        (place_of (whole_of scope.now) variable.now) }
     requires fixed { place.is_fixed ≡ is_fixed (place_of (whole_of scope.now) variable.now) }
-    ensures { OnOk result (code.new ≡ code.old ++ reverse (store_code (whole_of scope.now).variables place.elem (place_of (whole_of scope.now) variable.now))) }
+    ensures { OnOk result (code.new ≡ code.old ++ reverse
+        (store_code (whole_of scope.now).variables place.elem
+        (place_of (whole_of scope.now) variable.now))) }
 {
     if place.is_fixed {
         code.push(Instr::Put(place.elem, place.base), 0)?;

@@ -21,7 +21,8 @@ use std::alloc::AllocError;
 
 /// The type of the result of the function of the text of this name.
 pub(crate) fn result_named(scope: &Scope<'_>, name: &[u8]) -> Option<Elem>
-    ensures { result ≡ option_map (λ (function : Called). function.result) ((whole_of scope.now).functions name.now) }
+    ensures { result ≡ option_map (λ (function : Called). function.result)
+        ((whole_of scope.now).functions name.now) }
 {
     let function = scope.function(name)?;
     Some(function.result())
@@ -29,7 +30,8 @@ pub(crate) fn result_named(scope: &Scope<'_>, name: &[u8]) -> Option<Elem>
 
 /// The value that the input of this number begins with.
 fn initial(function: &Function<'_>, number: usize) -> Option<Value>
-    ensures { result ≡ option_map (λ (input : Taken). input.initial) (slice_get function.now.inputs number) }
+    ensures { result ≡ option_map (λ (input : Taken). input.initial)
+        (slice_get function.now.inputs number) }
 {
     function.initials().get(number).copied()
 }
@@ -41,7 +43,8 @@ pub(crate) fn input_type(
     input: Option<usize>,
     expression: &Expression,
 ) -> Elem
-    ensures { result ≡ input_type (typed (whole_of scope.now) expression.now).own (input_at function.now.inputs input) }
+    ensures { result ≡ input_type (typed (whole_of scope.now) expression.now).own
+        (input_at function.now.inputs input) }
 {
     let Some(number) = input else {
         return own_or_lint(scope, expression);
@@ -73,7 +76,8 @@ fn destination(
     place: usize,
     argument: &Argument,
 ) -> Option<Option<usize>>
-    ensures { go_to function.now.inputs place (argument_typed (whole_of scope.now) argument.now) ≡ destination_list result }
+    ensures { go_to function.now.inputs place (argument_typed (whole_of scope.now) argument.now)
+        ≡ destination_list result }
 {
     match argument {
         Argument::Positional(_) => Some(Some(place)),
@@ -94,7 +98,8 @@ fn is_number(number: usize, found: Option<usize>) -> bool
 
 /// Whether the arguments are the inputs, one after the other.
 fn are_in_order(scope: &Scope<'_>, function: &Function<'_>, arguments: &[Argument]) -> bool
-    ensures { result ≡ are_in_order (length (passed_in (whole_of scope.now) arguments.now)) 0 (sources_in (whole_of scope.now) function.now arguments.now) }
+    ensures { result ≡ are_in_order (length (passed_in (whole_of scope.now) arguments.now))
+        0 (sources_in (whole_of scope.now) function.now arguments.now) }
 {
     let mut place = 0;
     for argument in arguments {
@@ -140,7 +145,8 @@ fn first_arguments(
     function: &Function<'_>,
     arguments: &[Argument],
 ) -> Result<Vec<Option<usize>>, AllocError>
-    ensures { IfOk result (λ all. AreFirst (length function.now.inputs) (destinations (whole_of scope.now) function.now arguments.now) all.items) }
+    ensures { IfOk result (λ all. AreFirst (length function.now.inputs)
+        (destinations (whole_of scope.now) function.now arguments.now) all.items) }
 {
     let mut all = none_noted(scope, function)?;
     let mut place = 0;
@@ -164,7 +170,9 @@ fn emit_source(
 ) -> Result<(), AllocError>
     requires in_range { All (λ (input : Taken). IsValue input.initial) function.now.inputs }
     requires number { number < length function.now.inputs }
-    ensures { OnOk result ((input : Taken) → slice_get function.now.inputs number ≡ Some input → code.new ≡ code.old ++ reverse (input_code arguments number (source_of input.initial first))) }
+    ensures { OnOk result ((input : Taken) → slice_get function.now.inputs number ≡ Some input
+        → code.new ≡ code.old ++ reverse (input_code arguments number
+        (source_of input.initial first))) }
 {
     let Some(place) = first else {
         return match initial(function, number as usize) {
@@ -186,8 +194,10 @@ fn emit_sources(
     first: &[Option<usize>],
 ) -> Result<(), AllocError>
     requires in_range { All (λ (input : Taken). IsValue input.initial) function.now.inputs }
-    requires first { AreFirst (length function.now.inputs) (destinations (whole_of scope.now) function.now arguments.now) first.now }
-    ensures { OnOk result (code.new ≡ code.old ++ reverse (inputs_code count 0 (sources_in (whole_of scope.now) function.now arguments.now))) }
+    requires first { AreFirst (length function.now.inputs)
+        (destinations (whole_of scope.now) function.now arguments.now) first.now }
+    ensures { OnOk result (code.new ≡ code.old ++ reverse
+        (inputs_code count 0 (sources_in (whole_of scope.now) function.now arguments.now))) }
 {
     let mut number = narrow(first.len())?;
     while number > 0 {
@@ -205,7 +215,9 @@ pub(crate) fn emit_behind(
     arguments: &[Argument],
 ) -> Result<(), AllocError>
     requires { All (λ (input : Taken). IsValue input.initial) function.now.inputs }
-    ensures { OnOk result (code.new ≡ code.old ++ reverse (call_code function.now.number (length (passed_in (whole_of scope.now) arguments.now)) (sources_in (whole_of scope.now) function.now arguments.now))) }
+    ensures { OnOk result (code.new ≡ code.old ++ reverse
+        (call_code function.now.number (length (passed_in (whole_of scope.now) arguments.now))
+        (sources_in (whole_of scope.now) function.now arguments.now))) }
 {
     let unit = narrow(function.number())?;
     let count = narrow(passed_count(scope, arguments))?;

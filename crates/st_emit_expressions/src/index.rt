@@ -19,7 +19,8 @@ use std::alloc::AllocError;
 /// A value.
 pub fn emit_value(code: &mut Code, value: Value) -> Result<(), AllocError>
     requires { IsValue value }
-    ensures { OnOk result (code.new ≡ code.old ++ reverse (plain (Instr.Push (cell_of value.bits)))) }
+    ensures { OnOk result (code.new ≡ code.old ++ reverse
+        (plain (Instr.Push (cell_of value.bits)))) }
 {
     code.push(Instr::Push(cell(value)), 0)
 }
@@ -64,7 +65,8 @@ pub(crate) fn emit_dimensions(
     subscripts: &[Expression],
 ) -> Result<(), AllocError>
     requires { length dimensions.now ≡ length subscripts.now }
-    ensures { OnOk result (code.new ≡ code.old ++ reverse (dimensions_code line (own_types (whole_of scope.now) subscripts.now) dimensions.now)) }
+    ensures { OnOk result (code.new ≡ code.old ++ reverse
+        (dimensions_code line (own_types (whole_of scope.now) subscripts.now) dimensions.now)) }
 {
     if dimensions.is_empty() {
         code.push(Instr::Push(0), 0)?;

@@ -7,12 +7,12 @@ ghost use Rattle.st_emit_expressions.specs.Trees.{chain_of, ends_in_comparison, 
 ghost use Rattle.std.specs.Prelude.{length};
 
 use crate::functions::result_named;
-use crate::literal::{is_comparison, literal_own, or_lint};
 use crate::places::{constant_named, place_type};
 use crate::scope::Scope;
 use crate::steps::step_type;
+use st_operators::is_comparison;
 use st_tree::tree::{Argument, Call, Expression, Operation, Variable};
-use st_types::{Standard, StandardFunction, standard_of};
+use st_types::{Standard, StandardFunction, literal_own, or_lint, standard_of, types_call};
 use st_values::Elem;
 
 /// Whether the last operator compares.
@@ -45,14 +45,7 @@ fn counts(standard: Standard, number: usize) -> bool
     ensures { result ≡ counts standard number }
 {
     match standard {
-        Standard::Function(
-            StandardFunction::Shl
-            | StandardFunction::Shr
-            | StandardFunction::Rol
-            | StandardFunction::Ror,
-        ) => number == 0,
-        Standard::Function(StandardFunction::Sel) => number != 0,
-        Standard::Function(_) => true,
+        Standard::Function(function) => types_call(function, number == 0),
         Standard::Conversion(_, _) | Standard::Block(_) => false,
     }
 }
@@ -73,7 +66,8 @@ pub(crate) fn positional_count(scope: &Scope<'_>, arguments: &[Argument]) -> usi
 
 /// The own type of a variable, of a part of a step, or of a constant.
 fn own_of_variable(scope: &Scope<'_>, variable: &Variable) -> Option<Elem>
-    ensures { result ≡ (variable_typed (whole_of scope.now) (place_of (whole_of scope.now) variable.now)).own }
+    ensures { result ≡ (variable_typed (whole_of scope.now)
+        (place_of (whole_of scope.now) variable.now)).own }
 {
     if let Some(value) = constant_named(scope, variable) {
         return Some(value.elem);
@@ -178,7 +172,8 @@ fn own_of_arguments(scope: &Scope<'_>, standard: Standard, arguments: &[Argument
 /// The own type of an argument, where it counts.
 #[cycle(own)]
 fn own_of_argument(scope: &Scope<'_>, is_counted: bool, expression: &Expression) -> Option<Elem>
-    ensures { result ≡ (if is_counted then (typed (whole_of scope.now) expression.now).own else None) }
+    ensures { result ≡ (if is_counted then (typed (whole_of scope.now) expression.now).own
+        else None) }
 {
     if is_counted {
         own(scope, expression)

@@ -51,7 +51,11 @@ pub(crate) struct Stop {
 impl Stop {
     /// What stands behind a part.
     fn behind(self, taken: Taken) -> Stop
-        ensures { result ≡ record { node = taken.node; is_indexed = self.is_indexed || not taken.is_member } }
+        ensures { result ≡ record {
+          node = taken.node;
+          is_indexed = self.is_indexed
+              || not taken.is_member;
+        } }
     {
         Stop {
             node: taken.node,
@@ -64,8 +68,11 @@ impl Stop {
 pub(crate) fn take_part(scope: &Scope<'_>, node: Node, part: &Part) -> Option<Taken>
     requires node { IsNodeOf scope.now.0 node }
     requires small { IsSmall (part_in scope.now.0 node) }
-    ensures taken { IfSome result (λ t. IsTaken (whole_of scope.now) scope.now.0 (part_in scope.now.0 node) part.now t) }
-    ensures none { result ≡ None → (rest : Parts) → type_of (part_in scope.now.0 node) (part_typed (whole_of scope.now) part.now rest) ≡ None }
+    ensures taken { IfSome result
+        (λ t. IsTaken (whole_of scope.now) scope.now.0 (part_in scope.now.0 node) part.now t) }
+    ensures none { result ≡ None → (rest : Parts)
+        → type_of (part_in scope.now.0 node) (part_typed (whole_of scope.now) part.now rest)
+        ≡ None }
 {
     match part {
         Part::Field(name) => {
@@ -92,9 +99,13 @@ pub(crate) fn take_part(scope: &Scope<'_>, node: Node, part: &Part) -> Option<Ta
 
 /// Where the variable, or the part of one, stands, where it has an elementary type.
 pub fn locate(scope: &Scope<'_>, variable: &Variable) -> Option<Place>
-    ensures elem { option_map (λ p. p.elem) result ≡ type_of (whole_of scope.now).variables (place_of (whole_of scope.now) variable.now) }
-    ensures base { IfSome result (λ p. p.base ≡ base_of (whole_of scope.now).variables (place_of (whole_of scope.now) variable.now)) }
-    ensures fixed { IfSome result (λ p. p.is_fixed ≡ is_fixed (place_of (whole_of scope.now) variable.now)) }
+    ensures elem { option_map (λ p. p.elem) result
+        ≡ type_of (whole_of scope.now).variables (place_of (whole_of scope.now) variable.now) }
+    ensures base { IfSome result
+        (λ p. p.base ≡ base_of (whole_of scope.now).variables
+        (place_of (whole_of scope.now) variable.now)) }
+    ensures fixed { IfSome result
+        (λ p. p.is_fixed ≡ is_fixed (place_of (whole_of scope.now) variable.now)) }
 {
     let (mut base, mut node) = scope.select(scope.root(), variable.name.spelling.as_slice())?;
     let mut is_fixed = true;
@@ -114,8 +125,10 @@ pub fn locate(scope: &Scope<'_>, variable: &Variable) -> Option<Place>
 
 /// The type of the variable of this name, and how many leaves stand before it.
 pub fn place_named(scope: &Scope<'_>, name: &[u8]) -> Option<(Elem, u32)>
-    ensures elem { option_map (λ found. found.0) result ≡ type_of (whole_of scope.now).variables (field_part name.now whole) }
-    ensures leaf { IfSome result (λ found. found.1 ≡ base_of (whole_of scope.now).variables (field_part name.now whole)) }
+    ensures elem { option_map (λ found. found.0) result
+        ≡ type_of (whole_of scope.now).variables (field_part name.now whole) }
+    ensures leaf { IfSome result
+        (λ found. found.1 ≡ base_of (whole_of scope.now).variables (field_part name.now whole)) }
 {
     let (leaf, node) = scope.select(scope.root(), name)?;
     let elem = scope.value(node)?;
@@ -124,7 +137,8 @@ pub fn place_named(scope: &Scope<'_>, name: &[u8]) -> Option<(Elem, u32)>
 
 /// The elementary type of the variable, or of the part of one.
 pub(crate) fn place_type(scope: &Scope<'_>, variable: &Variable) -> Option<Elem>
-    ensures { result ≡ type_of (whole_of scope.now).variables (place_of (whole_of scope.now) variable.now) }
+    ensures { result ≡ type_of (whole_of scope.now).variables
+        (place_of (whole_of scope.now) variable.now) }
 {
     let place = locate(scope, variable)?;
     Some(place.elem)
@@ -132,7 +146,8 @@ pub(crate) fn place_type(scope: &Scope<'_>, variable: &Variable) -> Option<Elem>
 
 /// The value of the constant, where the name is that of one.
 pub(crate) fn constant_named(scope: &Scope<'_>, variable: &Variable) -> Option<Value>
-    ensures value { result ≡ constant_in (whole_of scope.now) (place_of (whole_of scope.now) variable.now) }
+    ensures value { result ≡ constant_in (whole_of scope.now)
+        (place_of (whole_of scope.now) variable.now) }
     ensures in_range { IfSome result (λ value. IsValue value) }
 {
     if variable.parts.is_empty() {
@@ -144,8 +159,13 @@ pub(crate) fn constant_named(scope: &Scope<'_>, variable: &Variable) -> Option<V
 
 /// What stands before each part of a variable.
 pub(crate) fn stops(scope: &Scope<'_>, variable: &Variable) -> Result<Vec<Stop>, AllocError>
-    requires { IsTrue (is_some (type_of (whole_of scope.now).variables (place_of (whole_of scope.now) variable.now))) }
-    ensures { IfOk result (λ all. AreStops (whole_of scope.now) scope.now.0 (type_of (whole_of scope.now).variables (place_of (whole_of scope.now) variable.now)) (selected_by (whole_of scope.now).variables variable.now.name.spelling) variable.now.parts all.items) }
+    requires { IsTrue (is_some (type_of (whole_of scope.now).variables
+        (place_of (whole_of scope.now) variable.now))) }
+    ensures { IfOk result (λ all. AreStops (whole_of scope.now)
+        scope.now.0 (type_of (whole_of scope.now).variables
+        (place_of (whole_of scope.now) variable.now))
+        (selected_by (whole_of scope.now).variables variable.now.name.spelling)
+        variable.now.parts all.items) }
 {
     let mut all = scope.list();
     let Some((_, node)) = scope.select(scope.root(), variable.name.spelling.as_slice()) else {

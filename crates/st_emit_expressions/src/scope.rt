@@ -85,8 +85,10 @@ impl<'a> Scope<'a> {
     pub fn select(&self, node: Node, name: &[u8]) -> Option<(u32, Node)>
         requires node { IsNodeOf self.now.0 node }
         requires small { IsSmall (part_in self.now.0 node) }
-        ensures offset { IfSome result (λ found. found.0 ≡ offset_of (part_in self.now.0 node) name.now) }
-        ensures part { IfSome result (λ found. part_in self.now.0 found.1 ≡ selected_by (part_in self.now.0 node) name.now) }
+        ensures offset { IfSome result
+            (λ found. found.0 ≡ offset_of (part_in self.now.0 node) name.now) }
+        ensures part { IfSome result
+            (λ found. part_in self.now.0 found.1 ≡ selected_by (part_in self.now.0 node) name.now) }
         ensures node { IfSome result (λ found. IsNodeOf self.now.0 found.1) }
         ensures none { result ≡ None → selected_by (part_in self.now.0 node) name.now ≡ unknown }
     {
@@ -98,9 +100,14 @@ impl<'a> Scope<'a> {
         requires node { IsNodeOf self.now.0 node }
         requires small { IsSmall (part_in self.now.0 node) }
         ensures array { IfSome result (λ found. is_array (part_in self.now.0 node) ≡ true) }
-        ensures number { IfSome result (λ found. length found.0.now ≡ length (subscripts_of (part_in self.now.0 node))) }
-        ensures dimensions { IfSome result (λ found. 0 < count (element_of (part_in self.now.0 node)) → found.0.now ≡ dimensions_in (subscripts_of (part_in self.now.0 node)) (count (element_of (part_in self.now.0 node)))) }
-        ensures part { IfSome result (λ found. part_in self.now.0 found.1 ≡ element_of (part_in self.now.0 node)) }
+        ensures number { IfSome result
+            (λ found. length found.0.now ≡ length (subscripts_of (part_in self.now.0 node))) }
+        ensures dimensions { IfSome result
+            (λ found. 0 < count (element_of (part_in self.now.0 node))
+            → found.0.now ≡ dimensions_in (subscripts_of (part_in self.now.0 node))
+            (count (element_of (part_in self.now.0 node)))) }
+        ensures part { IfSome result
+            (λ found. part_in self.now.0 found.1 ≡ element_of (part_in self.now.0 node)) }
         ensures node { IfSome result (λ found. IsNodeOf self.now.0 found.1) }
         ensures none { result ≡ None → is_array (part_in self.now.0 node) ≡ false }
     {
@@ -146,9 +153,11 @@ impl<'a> Scope<'a> {
 
     /// The function of the text of this name.
     pub(crate) fn function(&self, name: &[u8]) -> Option<&'a Function<'a>>
-        ensures some { IfSome result (λ function. (whole_of self.now).functions name.now ≡ Some function.now) }
+        ensures some { IfSome result
+            (λ function. (whole_of self.now).functions name.now ≡ Some function.now) }
         ensures none { result ≡ None → (whole_of self.now).functions name.now ≡ None }
-        ensures in_range { IfSome result (λ function. All (λ (input : Input). IsValue input.initial) function.now.inputs) }
+        ensures in_range { IfSome result
+            (λ function. All (λ (input : Input). IsValue input.initial) function.now.inputs) }
     {
         self.tables.function(name)
     }

@@ -8,8 +8,8 @@ ghost use Rattle.st_emit_expressions.specs.Trees.{whole_of};
 use crate::index::emit_nil;
 use crate::scope::Scope;
 use st_code::{Code, Instr};
-use st_names::is_same_name;
 use st_tree::tree::{Part, Variable};
+use st_types::is_same_name;
 use st_values::Elem;
 use std::alloc::AllocError;
 
@@ -28,7 +28,8 @@ fn step_part(part: &[u8]) -> Option<bool>
 
 /// The type of this part of the step of this name, and its leaf.
 fn step_named(scope: &Scope<'_>, name: &[u8], part: &[u8]) -> Option<(Elem, u32)>
-    ensures { result ≡ step_leaf_named (whole_of scope.now).variables name.now (step_part part.now) }
+    ensures { result ≡ step_leaf_named (whole_of scope.now).variables name.now
+        (step_part part.now) }
 {
     let is_time = step_part(part)?;
     let leaf = scope.step(is_time, name)?;
@@ -38,7 +39,8 @@ fn step_named(scope: &Scope<'_>, name: &[u8], part: &[u8]) -> Option<(Elem, u32)
 
 /// The type of X or T of a step, and its leaf, where the variable is written as one of these.
 fn step_at(scope: &Scope<'_>, variable: &Variable) -> Option<(Elem, u32)>
-    ensures { result ≡ step_leaf_at (whole_of scope.now).variables (place_of (whole_of scope.now) variable.now) }
+    ensures { result ≡ step_leaf_at (whole_of scope.now).variables
+        (place_of (whole_of scope.now) variable.now) }
 {
     let parts = variable.parts.as_slice();
     if parts.len() != 1 {
@@ -56,7 +58,8 @@ fn step_at(scope: &Scope<'_>, variable: &Variable) -> Option<(Elem, u32)>
 
 /// The type of X or T of a step, where the variable is written as one of these.
 pub(crate) fn step_type(scope: &Scope<'_>, variable: &Variable) -> Option<Elem>
-    ensures { result ≡ (as_step (whole_of scope.now).variables (place_of (whole_of scope.now) variable.now)).own }
+    ensures { result ≡ (as_step (whole_of scope.now).variables
+        (place_of (whole_of scope.now) variable.now)).own }
 {
     let (elem, _) = step_at(scope, variable)?;
     Some(elem)
@@ -69,7 +72,9 @@ pub(crate) fn emit_step_part(
     variable: &Variable,
     due: Elem,
 ) -> Result<(), AllocError>
-    ensures { OnOk result (Emits (whole_of scope.now).variables due ((as_step (whole_of scope.now).variables (place_of (whole_of scope.now) variable.now)).as_type due) code.old code.new) }
+    ensures { OnOk result (Emits (whole_of scope.now).variables due
+        ((as_step (whole_of scope.now).variables
+        (place_of (whole_of scope.now) variable.now)).as_type due) code.old code.new) }
 {
     let Some((elem, leaf)) = step_at(scope, variable) else {
         emit_nil(code, scope, due)?;

@@ -9,15 +9,13 @@ ghost use Rattle.st_faults.specs.Faults.{offer_all};
 ghost use Rattle.st_types.specs.Inside.{named_by};
 ghost use Rattle.st_types.specs.Names.{units_of};
 
+use st_check::{is_too_large, type_sizes};
 use st_check_units::check_units;
 use st_faults::{Fault, FirstFault, Rule};
-use st_names::is_same_name;
-use st_order::{OrderFault, order};
-use st_program_sizes::{is_too_large, type_sizes};
-use st_references::references;
+use st_leaves::Size;
+use st_references::{OrderFault, order, references};
 use st_scopes::Tables;
-use st_sizes::Size;
-use st_types::{NamedUnit, UnitKind};
+use st_types::{NamedUnit, UnitKind, is_same_name};
 use std::alloc::{AllocError, Global};
 
 /// What the rules find in a text.

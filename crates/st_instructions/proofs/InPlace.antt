@@ -3,10 +3,10 @@ use Rattle.std.proofs.Common.{◌≡◌, ℕ, zero, suc, ◌+◌, pos, List, [],
 use Rattle.std.specs.List.{All, AllZip}
 use Rattle.std.proofs.lemmas.List.Elements.{All-append, All-cons, All-drop, All-nil, All-take}
 use Rattle.std.proofs.lemmas.Slice.Zip.{AllZip-long}
-use Rattle.st_values.specs.Values.{IsValue}
+use Rattle.st_values.specs.Values.{IsValue, IsOfType}
 use Rattle.st_values.specs.declared.elem.Elem.{Elem}
 use Rattle.st_types.specs.declared.standard.StandardBlock.{StandardBlock}
-use Rattle.st_blocks.specs.Cells.{AreLeavesOf, IsOfType, types_of}
+use Rattle.st_blocks.specs.Cells.{AreLeavesOf, types_of}
 use Rattle.st_blocks.specs.Steps.{stepped}
 use Rattle.st_meaning.specs.Meaning.{Values}
 use Rattle.st_meaning.specs.Statements.{block_done, stretch, unless_forced, with_stretch}

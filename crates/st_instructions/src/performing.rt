@@ -1,7 +1,7 @@
 //! Doing an instruction.
 ghost use Rattle.std.specs.Prelude.{◌≡◌, ◌≤◌, ℕ, length, IsTrue};
 ghost use Rattle.st_code.specs.Machine.{act};
-ghost use Rattle.st_fused.specs.Fused.{is_own};
+ghost use Rattle.st_code.specs.Fused.{is_own};
 ghost use Rattle.st_instructions.specs.Ready.{is_ready};
 ghost use Rattle.st_instructions.specs.Moves.{environment_at, moved};
 

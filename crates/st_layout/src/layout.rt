@@ -114,7 +114,9 @@ impl Layout {
 fn offsets_of(alloc: Global, leaves: &[Leaf]) -> Result<Vec<u32>, AllocError>
     requires { length leaves.now ≤ 65536 }
     ensures count { IfOk result (λ offsets. length offsets.items ≡ length leaves.now + 1) }
-    ensures offsets { IfOk result (λ offsets. EachIndex offsets.items (λ i. slice_index offsets.items i ≡ offset_of leaves.now i)) }
+    ensures offsets { IfOk result
+        (λ offsets. EachIndex offsets.items
+        (λ i. slice_index offsets.items i ≡ offset_of leaves.now i)) }
 {
     let mut offsets = Vec::with_capacity(alloc, leaves.len() + 1)?;
     let mut end = 0;

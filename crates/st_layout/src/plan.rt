@@ -39,7 +39,8 @@ impl Plan {
     ) -> Result<Plan, PlanFault>
         ensures ok { IfOk result (λ plan. plan ≡ pairs_between old.now new.now renames.now) }
         ensures pairable { OnOk result (is_pairable old.now new.now renames.now ≡ true) }
-        ensures not_paired { result ≡ Err PlanFault.NotPaired → is_pairable old.now new.now renames.now ≡ false }
+        ensures not_paired { result ≡ Err PlanFault.NotPaired
+            → is_pairable old.now new.now renames.now ≡ false }
         ensures pairing { IfOk result (λ plan. IsPairing old.now new.now plan) }
     {
         let renames = RenameTable::of(alloc, old, new, renames)?;

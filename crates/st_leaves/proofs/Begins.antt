@@ -6,7 +6,7 @@ use Rattle.std.proofs.lemmas.List.Elements.{All-append, All-cons, All-from_recur
 use Rattle.st_values.specs.declared.elem.Elem.{Elem}
 use Rattle.st_values.specs.declared.elem.Elem.TheVariants as elems
 use Rattle.st_values.specs.declared.value.Value.{Value}
-use Rattle.st_values.specs.Values.{IsValue}
+use Rattle.st_values.specs.Values.{IsValue, truth}
 use Rattle.st_tree.specs.declared.tree.constant.Constant.{Constant}
 use Rattle.st_tree.specs.declared.tree.declaration.DeclaredType.TheVariants as declared_types
 use Rattle.st_tree.specs.declared.tree.declaration.Initial.{Initial}
@@ -16,18 +16,19 @@ use Rattle.st_tree.specs.declared.tree.declaration.VarKind.{VarKind}
 use Rattle.st_tree.specs.declared.tree.declaration.VarKind.TheVariants as var_kinds
 use Rattle.st_tree.specs.declared.tree.unit.ChartElement.{ChartElement}
 use Rattle.st_tree.specs.declared.tree.unit.Step.{Step}
-use Rattle.st_types.specs.Compositions.{Composition, unknown, elementary, array, composed, standard, Members, none, member, composition_of, composition_within, declared_composition, elements_composition, is_constant, members_by, optional_composition, started, subscripted, unit_composition}
+use Rattle.st_tree.specs.Kinds.{is_constant}
+use Rattle.st_types.specs.Compositions.{Composition, unknown, elementary, array, composed, standard, Members, none, member, composition_of, composition_within, declared_composition, elements_composition, members_by, optional_composition, started, subscripted, unit_composition}
 use Rattle.st_types.specs.Initials.{element_initial, initial_of, number_in, unit_element_initial, value_written, zero_of}
 use Rattle.st_types.specs.Names.{Declared, Declares, Named, members_of, steps_in, unit_at, variables_in}
 use Rattle.st_types.specs.Names as names
-use Rattle.st_types.specs.Standard.{pins_of}
+use Rattle.st_types.specs.Standard.{pins_of, block_name, kept_by}
 use Rattle.st_types.specs.Types.{Elements, elements_in, shape_of}
 use Rattle.st_types.specs.declared.base.Base.{Base}
 use Rattle.st_types.specs.declared.base.Base.TheVariants as bases
 use Rattle.st_types.specs.declared.standard.StandardBlock.{StandardBlock}
 use Rattle.st_leaves.specs.Charts.{is_pulse, stored_by}
 use Rattle.st_leaves.specs.Compositions.{BeginWithValues}
-use Rattle.st_leaves.specs.LeavesIn.{LeafIn, Use, all_steps_in, begun, block_leaves, block_name, chart_in, first_written, hidden, kept_by, kept_leaf, leaves_in, leaves_of_whole, member_names, members_in, one, pin_leaf, starting, state_in, step_in, stored_in, subscript_lists, truth, used_as, within}
+use Rattle.st_leaves.specs.LeavesIn.{LeafIn, Use, all_steps_in, begun, block_leaves, chart_in, first_written, hidden, kept_leaf, leaves_in, leaves_of_whole, member_names, members_in, one, pin_leaf, starting, state_in, step_in, stored_in, subscript_lists, used_as, within}
 use Rattle.st_leaves.specs.LeavesIn as leaves
 use Rattle.st_leaves.specs.Paths.{Selector, field, index, kept}
 use Rattle.st_leaves.proofs.Wrapped.{wrapped_is_value}

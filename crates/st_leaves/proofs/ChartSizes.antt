@@ -8,11 +8,10 @@ use Rattle.st_tree.specs.declared.tree.unit.Association.{Association}
 use Rattle.st_tree.specs.declared.tree.unit.ChartElement.{ChartElement}
 use Rattle.st_tree.specs.declared.tree.unit.Step.{Step}
 use Rattle.st_types.specs.Names.{steps_in}
-use Rattle.st_sizes.specs.Sizes.{IsSize}
-use Rattle.st_sizes.specs.declared.size.Size.{Size}
-use Rattle.st_leaves.specs.Charts.{LeafBelow, all_leaves, associations_in, associations_of, below, chart_leaves, is_pulse, named, step_leaves, stored_leaves}
+use Rattle.st_leaves.specs.Sizes.{IsSize}
+use Rattle.st_leaves.specs.declared.limited.Size.{Size}
+use Rattle.st_leaves.specs.Charts.{LeafBelow, all_leaves, associations_in, associations_of, below, chart_leaves, is_pulse, kept_under, step_leaves, stored_leaves, state_leaves}
 use Rattle.st_leaves.specs.Limits.{size_of, sizes_of}
-use Rattle.st_leaves.specs.Steps.{state_leaves}
 
 -- two lists of leaves, one after the other
 pub sizes_joined : (size : Size) (leaves more all : List LeafBelow) → leaves ++ more ≡ all → IsSize size (sizes_of leaves ++ sizes_of more) → IsSize size (sizes_of all)
@@ -44,9 +43,9 @@ chart_some stored [] some = absurd (omega (arith, some))
 chart_some stored (e ∷ es) some = refl
 
 -- one name more
-pub leaves_stored : (names : List (List ℕ)) (name : List ℕ) → stored_leaves names ++ below (codes "." ++ name) (named (codes "$S") elems.Bool ∷ []) ≡ stored_leaves (names ++ name ∷ [])
+pub leaves_stored : (names : List (List ℕ)) (name : List ℕ) → stored_leaves names ++ below (codes "." ++ name) (kept_under (codes "S") elems.Bool ∷ []) ≡ stored_leaves (names ++ name ∷ [])
 leaves_stored names name =
-    sym (flat_map-append (λ n. below (codes "." ++ n) (named (codes "$S") elems.Bool ∷ [])) names (name ∷ []))
+    sym (flat_map-append (λ n. below (codes "." ++ n) (kept_under (codes "S") elems.Bool ∷ [])) names (name ∷ []))
 
 -- a step, by whether it has pulses
 pub step_sized : (size : Size) (s : Step) (name : List ℕ) (associations : List Association) (has_pulse : Bool) → name ≡ s.name.spelling → associations ≡ s.associations → has_pulse ≡ list_any is_pulse associations

@@ -7,7 +7,8 @@ use Rattle.st_tree.specs.declared.tree.declaration.Initial.{Initial}
 use Rattle.st_tree.specs.declared.tree.declaration.Subrange.{Subrange}
 use Rattle.st_tree.specs.declared.tree.declaration.VarKind.{VarKind}
 use Rattle.st_tree.specs.declared.tree.unit.ChartElement.{ChartElement}
-use Rattle.st_types.specs.Compositions.{Composition, composed, elements_composition, Members, member, composition_of, composition_within, declared_composition, is_constant, members_by, optional_composition, started, subscripted, unit_composition}
+use Rattle.st_tree.specs.Kinds.{is_constant}
+use Rattle.st_types.specs.Compositions.{Composition, composed, elements_composition, Members, member, composition_of, composition_within, declared_composition, members_by, optional_composition, started, subscripted, unit_composition}
 use Rattle.st_types.specs.Initials.{element_initial, initial_of, unit_element_initial}
 use Rattle.st_types.specs.Names.{Declared, Declares, Named, chart_in, members_of, unit_at, variables_in}
 use Rattle.st_types.specs.Names as names

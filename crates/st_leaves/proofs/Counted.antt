@@ -18,12 +18,11 @@ use Rattle.st_types.specs.Initials.{first_values, value_written}
 use Rattle.st_types.specs.Names.{steps_in}
 use Rattle.st_types.specs.declared.standard.StandardBlock.{StandardBlock}
 use Rattle.st_types.specs.declared.standard.StandardBlock.TheVariants as blocks
-use Rattle.st_leaves.specs.Charts.{LeafBelow, below, chart_leaves, is_pulse, named, step_leaves, stored_by, stored_leaves}
+use Rattle.st_leaves.specs.Charts.{LeafBelow, below, chart_leaves, is_pulse, kept_under, step_leaves, stored_by, stored_leaves, state_leaves}
 use Rattle.st_leaves.specs.Compositions.{counted}
 use Rattle.st_leaves.specs.Leaves.{array_leaves, choices, numbers_in, standard_leaves, subscript_text}
 use Rattle.st_leaves.specs.LeavesIn.{LeafIn, all_steps_in, block_leaves, chart_in, elements_in, first_written, leaves_in, leaves_of_whole, member_names, members_in, starting, state_in, step_in, stored_in, subscript_lists, used_as, variables_in, within}
 use Rattle.st_leaves.specs.Paths.{Selector, field, index, selector_text, subscripts_text}
-use Rattle.st_leaves.specs.Steps.{state_leaves}
 use Rattle.st_leaves.proofs.SubscriptTexts.{IsSome, some_signed}
 
 abbrev pub counts : List LeafIn → List LeafBelow
@@ -148,7 +147,7 @@ counts_stored name (n ∷ stored) = ap (λ ls. counts (stored_in name n) ++ ls) 
 pub counts_chart : (name : List ℕ) (stored : List (List ℕ)) (elements : List ChartElement) → counts (chart_in name stored elements) ≡ chart_leaves stored elements
 counts_chart name stored [] = refl
 counts_chart name stored (e ∷ es) =
-    ap (λ ls. named (codes "$CHART") elems.Bool ∷ ls)
+    ap (λ ls. kept_under (codes "CHART") elems.Bool ∷ ls)
     (counts_append (all_steps_in name 1 steps) (flat_map (stored_in name) stored) ∙ ap (λ ls. ls ++ counts (flat_map (stored_in name) stored)) (counts_steps name 1 steps)
     ∙ ap (λ ls. flat_map step_leaves steps ++ ls) (counts_stored name stored)) where
       steps : List Step

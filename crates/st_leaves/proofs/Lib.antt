@@ -1,3 +1,6 @@
+pub mod Counts
+pub mod Products
+pub mod Texts
 pub mod Begins
 pub mod ChartSizes
 pub mod ChartWays

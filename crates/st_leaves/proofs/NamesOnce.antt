@@ -10,8 +10,8 @@ use Rattle.std.proofs.lemmas.List.Elements.{filter-append, filter_agree}
 use Rattle.std.proofs.lemmas.Slice.Eq.{bytes_eq-Decides}
 use Rattle.st_values.specs.Words.{is_word}
 use Rattle.st_values.proofs.SameWords.{is_word_comm}
-use Rattle.st_names.specs.Tables.{first_of}
-use Rattle.st_names.proofs.Passing.{some_position}
+use Rattle.st_types.specs.Tables.{first_of}
+use Rattle.st_types.proofs.Passing.{some_position}
 use Rattle.st_tree.specs.declared.tree.unit.Association.{Association}
 use Rattle.st_types.proofs.Cases.{by_test}
 use Rattle.st_leaves.specs.Charts.{associated_names, each_once, is_stored, is_stored_by, set_names, spelled, stored_names}

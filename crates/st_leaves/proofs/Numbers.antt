@@ -1,9 +1,9 @@
 -- How many leaves there are.
-use Rattle.std.proofs.Common.{◌≡◌, ℕ, zero, suc, ◌+◌, ◌*◌, ℤ, Bool, true, false, List, [], ◌∷◌, ◌++◌, codes, drop, length, map, Option, Some, None, if◌then◌else◌, refl, ap, sym, ◌∙◌, arith, length-append}
+use Rattle.std.proofs.Common.{◌≡◌, ℕ, zero, suc, ◌+◌, ◌*◌, ℤ, Bool, true, false, List, [], ◌∷◌, ◌++◌, codes, drop, length, map, Option, Some, None, refl, ap, sym, ◌∙◌, arith, length-append}
 use Rattle.std.specs.List.{flat_map, list_any}
 use Rattle.std.proofs.Math.Nat.{suc-mul}
 use Rattle.std.proofs.lemmas.List.{length-map, map-append}
-use Rattle.st_sizes.specs.Subscripts.{next, numbers}
+use Rattle.st_leaves.specs.Subscripts.{next, numbers}
 use Rattle.st_tree.specs.declared.tree.constant.Constant.{Constant}
 use Rattle.st_tree.specs.declared.tree.declaration.Subrange.{Subrange}
 use Rattle.st_tree.specs.declared.tree.declaration.VarKind.{VarKind}
@@ -12,12 +12,13 @@ use Rattle.st_tree.specs.declared.tree.unit.ChartElement.{ChartElement}
 use Rattle.st_tree.specs.declared.tree.unit.Step.{Step}
 use Rattle.st_types.specs.Compositions.{Composition, unknown, elementary, array, composed, standard, Members, none, member}
 use Rattle.st_types.specs.Names.{steps_in}
-use Rattle.st_types.specs.Standard.{pins_of}
+use Rattle.st_types.specs.Standard.{pins_of, kept_by}
 use Rattle.st_types.specs.declared.standard.StandardBlock.{StandardBlock}
 use Rattle.st_types.specs.declared.standard.StandardBlock.TheVariants as blocks
-use Rattle.st_leaves.specs.Charts.{associations_of, is_pulse, stored_by, stored_names}
-use Rattle.st_leaves.specs.Leaves.{number_of, numbers_in}
-use Rattle.st_leaves.specs.LeavesIn.{LeafIn, all_steps_in, block_leaves, chart_in, elements_in, first_written, kept_by, leaves_in, leaves_of_whole, member_names, members_in, starting, state_in, step_in, stored_in, subscript_lists, used_as, variables_in, within}
+use Rattle.st_leaves.specs.Charts.{associations_of, is_pulse, step_types, stored_by, stored_names}
+use Rattle.st_tree.specs.Literals.{number_of}
+use Rattle.st_leaves.specs.Leaves.{numbers_in}
+use Rattle.st_leaves.specs.LeavesIn.{LeafIn, all_steps_in, block_leaves, chart_in, elements_in, first_written, leaves_in, leaves_of_whole, member_names, members_in, starting, state_in, step_in, stored_in, subscript_lists, used_as, variables_in, within}
 use Rattle.st_leaves.specs.Paths.{Path, Selector, field, index}
 use Rattle.st_leaves.specs.Places.{LeavesAreCounted, chart_count, count, counts, extent, extent_of, step_count, steps_count}
 use Rattle.st_leaves.proofs.Spellings.{stored_by_count}
@@ -80,7 +81,7 @@ block_length blocks.Tp = refl
 
 -- ---- charts
 
-state_length : (back : ℕ) (is_initial has_pulse : Bool) → length (state_in back is_initial has_pulse) ≡ (if has_pulse then 4 else 3)
+state_length : (back : ℕ) (is_initial has_pulse : Bool) → length (state_in back is_initial has_pulse) ≡ length (step_types has_pulse)
 state_length back is_initial true = refl
 state_length back is_initial false = refl
 

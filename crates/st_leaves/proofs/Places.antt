@@ -7,20 +7,22 @@ use Rattle.std.proofs.Math.Nat.{add-mul, mul_assoc, suc-mul}
 use Rattle.std.proofs.lemmas.Bool.Decides.{Decides-int_eq}
 use Rattle.std.proofs.lemmas.Int.{ints}
 use Rattle.std.proofs.lemmas.List.{length-map}
-use Rattle.st_sizes.specs.Subscripts.{next, numbers}
+use Rattle.st_leaves.specs.Subscripts.{next, numbers}
 use Rattle.st_tree.specs.declared.tree.constant.Constant.{Constant}
 use Rattle.st_tree.specs.declared.tree.declaration.Subrange.{Subrange}
 use Rattle.st_tree.specs.declared.tree.unit.ChartElement.{ChartElement}
 use Rattle.st_tree.specs.declared.tree.unit.Step.{Step}
 use Rattle.st_types.specs.Compositions.{Composition, composed, Members}
 use Rattle.st_types.specs.Names.{steps_in}
-use Rattle.st_types.specs.Standard.{Pin, pins_of}
+use Rattle.st_types.specs.Standard.{Pin, pins_of, block_name, kept_by}
 use Rattle.st_types.specs.declared.standard.StandardBlock.{StandardBlock}
 use Rattle.st_values.specs.Words.{is_word}
 use Rattle.st_values.proofs.SameWords.{is_word_comm}
 use Rattle.st_leaves.specs.Charts.{is_pulse, stored_by}
-use Rattle.st_leaves.specs.Leaves.{number_of, numbers_in}
-use Rattle.st_leaves.specs.LeavesIn.{LeafIn, all_steps_in, begun, block_leaves, block_name, chart_in, elements_in, first_written, kept_by, kept_leaf, leaves_in, leaves_of_whole, member_names, members_in, one, pin_leaf, starting, state_in, step_in, stored_in, subscript_lists, truth, within}
+use Rattle.st_tree.specs.Literals.{number_of}
+use Rattle.st_leaves.specs.Leaves.{numbers_in}
+use Rattle.st_values.specs.Values.{truth}
+use Rattle.st_leaves.specs.LeavesIn.{LeafIn, all_steps_in, begun, block_leaves, chart_in, elements_in, first_written, kept_leaf, leaves_in, leaves_of_whole, member_names, members_in, one, pin_leaf, starting, state_in, step_in, stored_in, subscript_lists, within}
 use Rattle.st_leaves.specs.Paths.{Path, Selector, are_same_numbers, field, index, is_same_path, is_same_selector, kept}
 use Rattle.st_leaves.specs.Places.{IsDistance, no_more, above, IsMember, here, later, IsPart, first, behind, IsPin, IsStep, LeadsTo, end, element, into, pin, flag, time, PlacesAreNumbers, count, counts, extent, extent_of, step_count}
 use Rattle.st_leaves.proofs.Numbers.{element_length, length_is_count, length_is_counts, length_within, step_length, subscripts_length, whole_paths}

@@ -4,9 +4,9 @@ use Rattle.std.specs.List.{flat_map}
 use Rattle.std.proofs.lemmas.List.{map-append}
 use Rattle.st_values.specs.Types.{width_of}
 use Rattle.st_values.specs.declared.elem.Elem.{Elem}
-use Rattle.st_sizes.specs.Sizes.{IsSize, copies, leaf}
-use Rattle.st_sizes.specs.Sizes as sizes
-use Rattle.st_sizes.specs.declared.size.Size.{Size}
+use Rattle.st_leaves.specs.Sizes.{IsSize, copies, leaf}
+use Rattle.st_leaves.specs.Sizes as sizes
+use Rattle.st_leaves.specs.declared.limited.Size.{Size}
 use Rattle.st_leaves.specs.Charts.{LeafBelow, below, named}
 use Rattle.st_leaves.specs.Limits.{size_of, sizes_of}
 

@@ -5,10 +5,11 @@ use Rattle.std.specs.List.{flat_map}
 use Rattle.std.specs.Str.{bytes_eq, str_to_ascii_lowercase}
 use Rattle.std.proofs.lemmas.List.{length-map}
 use Rattle.std.proofs.lemmas.Slice.Eq.{bytes_eq-Decides}
-use Rattle.st_sizes.specs.Sizes.{leaf}
+use Rattle.st_leaves.specs.Sizes.{leaf}
 use Rattle.st_tree.specs.declared.tree.unit.ChartElement.{ChartElement}
 use Rattle.st_types.proofs.Cases.{by_test}
-use Rattle.st_types.specs.Compositions.{Composition, Members, is_constant, member, members_by}
+use Rattle.st_tree.specs.Kinds.{is_constant}
+use Rattle.st_types.specs.Compositions.{Composition, Members, member, members_by}
 use Rattle.st_types.specs.Compositions as compositions
 use Rattle.st_types.specs.Names.{Declared, Named, steps_in}
 use Rattle.st_types.specs.declared.base.Base.{Base}

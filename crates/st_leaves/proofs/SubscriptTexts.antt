@@ -5,10 +5,11 @@ use Rattle.std.specs.List.{flat_map}
 use Rattle.std.proofs.Math.Seq.{take-suc}
 use Rattle.std.proofs.lemmas.List.{map-append}
 use Rattle.std.proofs.lemmas.List.Sums.{fold-append}
-use Rattle.st_sizes.specs.Sizes.{pairs}
-use Rattle.st_sizes.specs.Subscripts.{texts_between}
+use Rattle.st_leaves.specs.Sizes.{pairs}
+use Rattle.st_leaves.specs.Subscripts.{texts_between}
 use Rattle.st_tree.specs.declared.tree.declaration.Subrange.{Subrange}
-use Rattle.st_leaves.specs.Leaves.{choices, number_of, numbers_in, subscript_text}
+use Rattle.st_tree.specs.Literals.{number_of}
+use Rattle.st_leaves.specs.Leaves.{choices, numbers_in, subscript_text}
 
 abbrev pub texts_in : Subrange → List ℕ
 texts_in r = texts_between (number_of r.lower) (number_of r.upper)

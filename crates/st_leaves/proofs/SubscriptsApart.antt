@@ -3,7 +3,7 @@ use Rattle.std.proofs.Common.{◌≡◌, ℕ, zero, suc, ℤ, pos, negsuc, true,
 use Rattle.std.specs.List.{AllByRecursion as Each, flat_map}
 use Rattle.std.specs.Ordering.{int_eq}
 use Rattle.std.proofs.lemmas.Bool.{and_left, and_right, ltb-true, lt-ltb}
-use Rattle.st_sizes.specs.Subscripts.{next, numbers}
+use Rattle.st_leaves.specs.Subscripts.{next, numbers}
 use Rattle.st_tree.specs.declared.tree.declaration.Subrange.{Subrange}
 use Rattle.st_leaves.specs.Leaves.{numbers_in}
 use Rattle.st_leaves.specs.LeavesIn.{subscript_lists}

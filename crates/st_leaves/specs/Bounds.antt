@@ -5,7 +5,7 @@ use Rattle.st_values.specs.Values.{in_range}
 use Rattle.st_values.specs.declared.elem.Elem.TheVariants as elems
 use Rattle.st_tree.specs.declared.tree.declaration.Subrange.{Subrange}
 use Rattle.st_types.specs.Compositions.{Composition, array, composed, Members, none, member}
-use Rattle.st_leaves.specs.Leaves.{number_of}
+use Rattle.st_tree.specs.Literals.{number_of}
 
 -- both bounds are values of LINT, and the lower one isn't above the upper one
 pub record IsBounded (r : Subrange) : Type 0 where

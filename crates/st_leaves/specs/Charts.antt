@@ -1,6 +1,6 @@
 -- What a chart keeps of itself (2.6): leaves whose names can't be written in a program, but for the flag and the time of a step.
 use Rattle.std.specs.Borrow.{Bor}
-use Rattle.std.specs.Prelude.{ℕ, Bool, false, ◌&&◌, not, List, [], ◌∷◌, ◌++◌, codes, map, Option, Some, None, if◌then◌else◌}
+use Rattle.std.specs.Prelude.{ℕ, Bool, true, false, ◌&&◌, not, List, [], ◌∷◌, ◌++◌, codes, map, Option, Some, None, if◌then◌else◌}
 use Rattle.std.specs.List.{filter, flat_map, list_any}
 use Rattle.st_values.specs.Words.{is_word}
 use Rattle.st_values.specs.declared.elem.Elem.{Elem}
@@ -9,7 +9,7 @@ use Rattle.st_tree.specs.declared.tree.unit.ActionQualifier.{ActionQualifier}
 use Rattle.st_tree.specs.declared.tree.unit.Association.{Association}
 use Rattle.st_tree.specs.declared.tree.unit.ChartElement.{ChartElement}
 use Rattle.st_tree.specs.declared.tree.unit.Step.{Step}
-use Rattle.st_types.specs.Compositions.{is_constant}
+use Rattle.st_tree.specs.Kinds.{is_constant}
 use Rattle.st_types.specs.Names.{Declared, Declares, actions_in, chart_in, steps_in, variables_in}
 
 -- a leaf below some part: the rest of its path as it is shown, and its type
@@ -20,6 +20,10 @@ pub record LeafBelow : Type 0 where
 -- below `.` and a name
 abbrev pub named : List ℕ → Elem → LeafBelow
 named name elem = record { path = codes "." ++ name; elem = elem }
+
+-- below `.$` and a name: no program can name it
+abbrev pub kept_under : List ℕ → Elem → LeafBelow
+kept_under name elem = named (codes "$" ++ name) elem
 
 abbrev pub below : List ℕ → List LeafBelow → List LeafBelow
 below text [] = []
@@ -37,12 +41,23 @@ is_pulse a = has_qualifier (codes "P") a.qualifier
 abbrev pub is_stored : Association → Bool
 is_stored a = has_qualifier (codes "S") a.qualifier
 
--- of a step: whether it is active, for how long, and since when; and whether its pulses were given, where it has any
+-- ---- steps
+
+-- of each step, below its name: whether it is active, for how long, and since when
+abbrev pub timed_leaves : List LeafBelow
+timed_leaves = named (codes "X") elems.Bool ∷ named (codes "T") elems.Time ∷ kept_under (codes "M") elems.Time ∷ []
+
+-- and, where it has pulses, whether they were given
+abbrev pub state_leaves : Bool → List LeafBelow
+state_leaves false = timed_leaves
+state_leaves true = timed_leaves ++ kept_under (codes "P") elems.Bool ∷ []
+
+-- the types of these
+abbrev pub step_types : Bool → List Elem
+step_types has_pulse = map (λ l. l.elem) (state_leaves has_pulse)
+
 abbrev pub step_leaves : Step → List LeafBelow
-step_leaves s =
-    below (codes "." ++ s.name.spelling)
-    (named (codes "X") elems.Bool ∷ named (codes "T") elems.Time ∷ named (codes "$M") elems.Time
-    ∷ (if list_any is_pulse s.associations then named (codes "$P") elems.Bool ∷ [] else []))
+step_leaves s = below (codes "." ++ s.name.spelling) (state_leaves (list_any is_pulse s.associations))
 
 -- ---- associated names
 
@@ -108,11 +123,11 @@ stored_of unit = stored_by (variable_names (variables_in unit)) (chart_in unit)
 -- ---- the whole
 
 abbrev pub stored_leaves : List (List ℕ) → List LeafBelow
-stored_leaves names = flat_map (λ name. below (codes "." ++ name) (named (codes "$S") elems.Bool ∷ [])) names
+stored_leaves names = flat_map (λ name. below (codes "." ++ name) (kept_under (codes "S") elems.Bool ∷ [])) names
 
 -- whether the chart has begun, then its steps, then the names that it stores
 abbrev pub all_leaves : List (List ℕ) → List Step → List LeafBelow
-all_leaves stored steps = named (codes "$CHART") elems.Bool ∷ flat_map step_leaves steps ++ stored_leaves stored
+all_leaves stored steps = kept_under (codes "CHART") elems.Bool ∷ flat_map step_leaves steps ++ stored_leaves stored
 
 -- of the elements of a chart that stores these names; without any there is no chart
 abbrev pub chart_leaves : List (List ℕ) → List ChartElement → List LeafBelow

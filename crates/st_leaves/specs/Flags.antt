@@ -4,7 +4,8 @@ use Rattle.std.specs.List.{AllByRecursion}
 use Rattle.st_values.specs.Words.{raised}
 use Rattle.st_values.specs.declared.elem.Elem.TheVariants as elems
 use Rattle.st_types.specs.Compositions.{Composition}
-use Rattle.st_leaves.specs.LeavesIn.{LeafIn, Use, active, begun, input, leaves_of_whole, plain, truth}
+use Rattle.st_values.specs.Values.{truth}
+use Rattle.st_leaves.specs.LeavesIn.{LeafIn, Use, active, begun, input, leaves_of_whole, plain}
 use Rattle.st_leaves.specs.Paths.{Path, field, kept, path_text}
 
 abbrev pub no_leaf_in : LeafIn

@@ -2,26 +2,27 @@
 use Rattle.std.specs.Prelude.{ℕ, zero, suc, ℤ, pos, ◌-ℤ◌, List, [], ◌∷◌, ◌++◌, map, length, codes, Option, Some, None, if◌then◌else◌}
 use Rattle.std.specs.List.{flat_map}
 use Rattle.std.specs.Fmt.{signed_decimal}
-use Rattle.st_values.specs.declared.elem.Elem.TheVariants as elems
 use Rattle.st_tree.specs.declared.tree.constant.SignedInteger.{SignedInteger}
 use Rattle.st_tree.specs.declared.tree.declaration.DeclaredType.TheVariants as declared_types
 use Rattle.st_tree.specs.declared.tree.declaration.Subrange.{Subrange}
-use Rattle.st_types.specs.Compositions.{is_constant}
+use Rattle.st_tree.specs.Kinds.{is_constant}
+use Rattle.st_tree.specs.Literals.{number_of}
 use Rattle.st_types.specs.Names.{Declared, Declares, Named, chart_in, members_of, unit_at, variables_in}
 use Rattle.st_types.specs.Names as names
-use Rattle.st_types.specs.Standard.{pins_of}
+use Rattle.st_types.specs.Standard.{kept_by, pins_of}
 use Rattle.st_types.specs.Types.{Elements, elements_in, shape_of}
 use Rattle.st_types.specs.declared.base.Base.{Base}
 use Rattle.st_types.specs.declared.base.Base.TheVariants as bases
 use Rattle.st_types.specs.declared.standard.StandardBlock.{StandardBlock}
-use Rattle.st_types.specs.declared.standard.StandardBlock.TheVariants as blocks
-use Rattle.st_sizes.specs.Subscripts.{below_zero, numbers, values_from}
-use Rattle.st_leaves.specs.Charts.{LeafBelow, below, chart_leaves, named, stored_of}
+use Rattle.st_leaves.specs.Subscripts.{numbers, values_from}
+use Rattle.st_leaves.specs.declared.subrange.Number.{Number}
+use Rattle.st_leaves.specs.Charts.{LeafBelow, below, chart_leaves, kept_under, named, stored_of}
 
 -- ---- the elements of an array
 
-abbrev pub number_of : SignedInteger → ℤ
-number_of n = if n.is_negative then below_zero n.magnitude else pos n.magnitude
+-- the number that is written, as subscripts are counted
+abbrev pub number_written : SignedInteger → Number
+number_written written = record { is_negative = written.is_negative; magnitude = written.magnitude }
 
 -- all numbers from the lower bound to the upper one
 abbrev pub numbers_in : Subrange → List ℤ
@@ -43,20 +44,8 @@ array_leaves ranges leaves = flat_map (λ text. below (codes "[" ++ text ++ code
 
 -- ---- standard function blocks (2.5.2.3)
 
--- what a block keeps behind its inputs and outputs
-abbrev pub hidden_leaves : StandardBlock → List LeafBelow
-hidden_leaves blocks.RTrig = named (codes "$M") elems.Bool ∷ []
-hidden_leaves blocks.FTrig = named (codes "$M") elems.Bool ∷ []
-hidden_leaves blocks.Sr = []
-hidden_leaves blocks.Rs = []
-hidden_leaves blocks.Ctu = named (codes "$M") elems.Bool ∷ []
-hidden_leaves blocks.Ctd = named (codes "$M") elems.Bool ∷ []
-hidden_leaves blocks.Ton = named (codes "$RUN") elems.Bool ∷ named (codes "$START") elems.Time ∷ []
-hidden_leaves blocks.Tof = named (codes "$M") elems.Bool ∷ named (codes "$RUN") elems.Bool ∷ named (codes "$START") elems.Time ∷ []
-hidden_leaves blocks.Tp = named (codes "$M") elems.Bool ∷ named (codes "$RUN") elems.Bool ∷ named (codes "$START") elems.Time ∷ []
-
 abbrev pub standard_leaves : StandardBlock → List LeafBelow
-standard_leaves b = map (λ p. named p.name p.elem) (pins_of b) ++ hidden_leaves b
+standard_leaves b = map (λ p. named p.name p.elem) (pins_of b) ++ map (λ k. kept_under k.name k.elem) (kept_by b)
 
 -- ---- variables: `inside` gives the leaves of what has a type
 

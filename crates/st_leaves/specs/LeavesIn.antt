@@ -4,6 +4,7 @@ use Rattle.std.specs.List.{flat_map, list_any}
 use Rattle.st_values.specs.declared.elem.Elem.{Elem}
 use Rattle.st_values.specs.declared.elem.Elem.TheVariants as elems
 use Rattle.st_values.specs.declared.value.Value.{Value}
+use Rattle.st_values.specs.Values.{truth}
 use Rattle.st_tree.specs.declared.tree.constant.Constant.{Constant}
 use Rattle.st_tree.specs.declared.tree.declaration.Subrange.{Subrange}
 use Rattle.st_tree.specs.declared.tree.declaration.VarKind.{VarKind}
@@ -13,9 +14,8 @@ use Rattle.st_tree.specs.declared.tree.unit.Step.{Step}
 use Rattle.st_types.specs.Compositions.{Composition, unknown, elementary, array, composed, standard, Members, none, member}
 use Rattle.st_types.specs.Initials.{value_written, zero_of}
 use Rattle.st_types.specs.Names.{steps_in}
-use Rattle.st_types.specs.Standard.{Pin, pins_of}
+use Rattle.st_types.specs.Standard.{Kept, Pin, block_name, kept_by, pins_of}
 use Rattle.st_types.specs.declared.standard.StandardBlock.{StandardBlock}
-use Rattle.st_types.specs.declared.standard.StandardBlock.TheVariants as blocks
 use Rattle.st_leaves.specs.Charts.{is_pulse, stored_by}
 use Rattle.st_leaves.specs.Leaves.{numbers_in}
 use Rattle.st_leaves.specs.Paths.{Path, Selector, field, index, kept}
@@ -78,36 +78,6 @@ elements_in (is ∷ others) firsts leaves = within (index is) (codes "array") (s
 
 -- ---- standard function blocks (2.5.2.3)
 
-abbrev pub block_name : StandardBlock → List ℕ
-block_name blocks.RTrig = codes "R_TRIG"
-block_name blocks.FTrig = codes "F_TRIG"
-block_name blocks.Sr = codes "SR"
-block_name blocks.Rs = codes "RS"
-block_name blocks.Ctu = codes "CTU"
-block_name blocks.Ctd = codes "CTD"
-block_name blocks.Ton = codes "TON"
-block_name blocks.Tof = codes "TOF"
-block_name blocks.Tp = codes "TP"
-
-pub record Kept : Type 0 where
-  pub name : List ℕ
-  pub elem : Elem
-
-abbrev pub keeps : List ℕ → Elem → List Kept
-keeps name elem = record { name = name; elem = elem } ∷ []
-
--- what a block keeps behind its inputs and outputs
-abbrev pub kept_by : StandardBlock → List Kept
-kept_by blocks.RTrig = keeps (codes "M") elems.Bool
-kept_by blocks.FTrig = keeps (codes "M") elems.Bool
-kept_by blocks.Sr = []
-kept_by blocks.Rs = []
-kept_by blocks.Ctu = keeps (codes "M") elems.Bool
-kept_by blocks.Ctd = keeps (codes "M") elems.Bool
-kept_by blocks.Ton = keeps (codes "RUN") elems.Bool ++ keeps (codes "START") elems.Time
-kept_by blocks.Tof = keeps (codes "M") elems.Bool ++ keeps (codes "RUN") elems.Bool ++ keeps (codes "START") elems.Time
-kept_by blocks.Tp = keeps (codes "M") elems.Bool ++ keeps (codes "RUN") elems.Bool ++ keeps (codes "START") elems.Time
-
 abbrev pub pin_leaf : List ℕ → Pin → List LeafIn
 pin_leaf name p = one (field p.name) name (zero_of p.elem) plain
 
@@ -118,9 +88,6 @@ abbrev pub block_leaves : StandardBlock → List LeafIn
 block_leaves b = flat_map (pin_leaf (block_name b)) (pins_of b) ++ flat_map (kept_leaf (block_name b)) (kept_by b)
 
 -- ---- charts (2.6), in a unit of this name
-
-abbrev pub truth : Bool → Value
-truth b = record { elem = elems.Bool; bits = if b then pos 1 else pos 0 }
 
 -- whether a step is active, for how long, since when, and, where it has any, whether it has given its pulses
 abbrev pub state_in : ℕ → Bool → Bool → List LeafIn

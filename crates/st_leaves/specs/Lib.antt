@@ -1,3 +1,5 @@
+pub mod Sizes
+pub mod Subscripts
 pub mod Associated
 pub mod Bounds
 pub mod Charts
@@ -13,4 +15,3 @@ pub mod Places
 pub mod Programs
 pub mod Selected
 pub mod Sound
-pub mod Steps

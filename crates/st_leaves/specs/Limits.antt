@@ -1,7 +1,7 @@
 -- How large a program may be: C9.
 use Rattle.std.specs.Prelude.{ℕ, ◌+◌, nat_lt, Bool, false, ◌||◌, List, [], map, length}
 use Rattle.st_values.specs.Types.{width_of}
-use Rattle.st_sizes.specs.Sizes.{LeafSize, leaf, longest_path, total_bytes}
+use Rattle.st_leaves.specs.Sizes.{LeafSize, leaf, longest_path, total_bytes}
 use Rattle.st_leaves.specs.Charts.{LeafBelow}
 
 -- how many bytes its path has, and how many its value takes

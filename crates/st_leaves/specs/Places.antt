@@ -1,7 +1,7 @@
 -- Where a leaf stands among those of what variables consist of: its number, by offsets and strides.
-use Rattle.std.specs.Prelude.{◌≡◌, ℕ, ◌+◌, ◌*◌, ◌<◌, ℤ, pos, ◌+ℤ◌, ◌-ℤ◌, true, false, List, [], ◌∷◌, codes, length, Option, if◌then◌else◌}
+use Rattle.std.specs.Prelude.{◌≡◌, ℕ, ◌+◌, ◌*◌, ◌<◌, ℤ, pos, ◌+ℤ◌, ◌-ℤ◌, true, false, List, [], ◌∷◌, codes, length, Option}
 use Rattle.std.specs.List.{HoldsAt, flat_map, list_any}
-use Rattle.st_sizes.specs.Subscripts.{values_from}
+use Rattle.st_leaves.specs.Subscripts.{values_from}
 use Rattle.st_tree.specs.declared.tree.constant.Constant.{Constant}
 use Rattle.st_tree.specs.declared.tree.declaration.Subrange.{Subrange}
 use Rattle.st_tree.specs.declared.tree.declaration.VarKind.{VarKind}
@@ -9,13 +9,13 @@ use Rattle.st_tree.specs.declared.tree.unit.ChartElement.{ChartElement}
 use Rattle.st_tree.specs.declared.tree.unit.Step.{Step}
 use Rattle.st_types.specs.Compositions.{Composition, unknown, elementary, array, composed, standard, Members, none, member}
 use Rattle.st_types.specs.Names.{steps_in}
-use Rattle.st_types.specs.Standard.{pins_of}
+use Rattle.st_types.specs.Standard.{pins_of, kept_by}
 use Rattle.st_types.specs.declared.standard.StandardBlock.{StandardBlock}
 use Rattle.st_values.specs.Words.{is_word}
 use Rattle.st_values.specs.declared.value.Value.{Value}
-use Rattle.st_leaves.specs.Charts.{associations_of, is_pulse, stored_names}
-use Rattle.st_leaves.specs.Leaves.{number_of}
-use Rattle.st_leaves.specs.LeavesIn.{LeafIn, kept_by, leaves_in, leaves_of_whole}
+use Rattle.st_leaves.specs.Charts.{associations_of, is_pulse, step_types, stored_names}
+use Rattle.st_tree.specs.Literals.{number_of}
+use Rattle.st_leaves.specs.LeavesIn.{LeafIn, leaves_in, leaves_of_whole}
 use Rattle.st_leaves.specs.Paths.{Path, field, index, is_same_path}
 
 -- ---- how many leaves
@@ -29,9 +29,8 @@ abbrev pub extent : List Subrange → ℕ
 extent [] = 1
 extent (r ∷ rs) = extent_of r * extent rs
 
--- of a step: X, T, since when, and, where it has any, whether its pulses were given
 abbrev pub step_count : Step → ℕ
-step_count s = if list_any is_pulse s.associations then 4 else 3
+step_count s = length (step_types (list_any is_pulse s.associations))
 
 abbrev pub steps_count : List Step → ℕ
 steps_count [] = 0

@@ -5,9 +5,9 @@ ghost use Rattle.st_leaves.specs.Associated.{HasNamesOf};
 ghost use Rattle.st_leaves.specs.Charts.{associated_names, associations_in, spelled};
 ghost use Rattle.st_values.specs.Words.{is_word};
 
-use st_names::NameTable;
 use st_tree::Word;
 use st_tree::tree::{Association, ChartElement};
+use st_types::NameTable;
 use std::alloc::{AllocError, Global};
 use std::marker::Model;
 

@@ -1,16 +1,16 @@
 //! The names that a chart stores (2.6.4.4).
 ghost use Rattle.std.specs.Prelude.{◌≡◌, ◌++◌, IfOk, OnOk};
-ghost use Rattle.st_sizes.specs.Sizes.{IsSize};
+ghost use Rattle.st_leaves.specs.Sizes.{IsSize};
 ghost use Rattle.st_leaves.specs.Associated.{names_among};
 ghost use Rattle.st_leaves.specs.Charts.{associations_in, has_qualifier, set_names, spelled, stored_leaves, stored_names};
 ghost use Rattle.st_leaves.specs.Limits.{sizes_of};
 
+use crate::Size;
 use crate::names::AssociatedNames;
-use crate::size::{named_leaf_size, named_size};
-use st_names::{NameTable, is_same_name};
-use st_sizes::Size;
+use crate::size::{kept_leaf_size, named_size};
 use st_tree::Word;
 use st_tree::tree::{Association, ChartElement};
+use st_types::{NameTable, is_same_name};
 use st_values::Elem;
 use std::alloc::{AllocError, Global};
 
@@ -19,7 +19,8 @@ pub fn stored_names<'a>(
     alloc: Global,
     elements: &'a [ChartElement],
 ) -> Result<Vec<&'a Word>, AllocError>
-    ensures { IfOk result (λ words. spelled words.items ≡ stored_names (associations_in elements.now)) }
+    ensures { IfOk result (λ words. spelled words.items
+        ≡ stored_names (associations_in elements.now)) }
 {
     let set = names_set(alloc, elements)?;
     if set.len() == 0 {
@@ -35,7 +36,8 @@ fn words_among<'a>(
     words: &[&'a Word],
     names: &NameTable<'_>,
 ) -> Result<Vec<&'a Word>, AllocError>
-    ensures { IfOk result (λ among. spelled among.items ≡ names_among names.now (spelled words.now)) }
+    ensures { IfOk result (λ among. spelled among.items
+        ≡ names_among names.now (spelled words.now)) }
 {
     let mut among = Vec::new(alloc);
     'words: for word in words {
@@ -78,7 +80,7 @@ pub(crate) fn flags_size(names: &[&Word]) -> Size
 {
     let mut size = Size::none();
     'names: for name in names {
-        let flag = named_leaf_size(b"$S", Elem::Bool);
+        let flag = kept_leaf_size(b"S", Elem::Bool);
         size = size.beside(named_size(name.as_slice(), flag));
     }
     size

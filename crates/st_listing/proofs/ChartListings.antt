@@ -5,7 +5,8 @@ use Rattle.std.specs.List.{flat_map}
 use Rattle.std.proofs.lemmas.Grind.{flat_map-append}
 use Rattle.std.proofs.lemmas.List.{length-map, length-take-le, map-append, take-append-drop, take_more}
 use Rattle.st_tree.specs.declared.tree.unit.Step.{Step}
-use Rattle.st_leaves.specs.LeavesIn.{begun, one, truth, all_steps_in, step_in, stored_in, whole_chart_in}
+use Rattle.st_values.specs.Values.{truth}
+use Rattle.st_leaves.specs.LeavesIn.{begun, one, all_steps_in, step_in, stored_in, whole_chart_in}
 use Rattle.st_leaves.specs.Paths.{kept}
 use Rattle.st_values.specs.declared.value.Value.{Value}
 use Rattle.st_chart_parts.specs.Charts.{ChartView, leaves_of_parts}

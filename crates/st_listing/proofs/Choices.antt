@@ -9,14 +9,15 @@ use Rattle.std.specs.String.{string_bytes}
 use Rattle.std.specs.Prelude.{String}
 use Rattle.std.specs.Global.{Global}
 use Rattle.std.proofs.lemmas.List.Elements.{All-cons, All-head, All-nil, All-tail}
-use Rattle.st_sizes.specs.Subscripts.{next, numbers, value_of, values_from}
-use Rattle.st_sizes.specs.declared.subrange.Number.{Number}
-use Rattle.st_sizes.proofs.Texts.{next_is}
+use Rattle.st_leaves.specs.Subscripts.{next, numbers, value_of, values_from}
+use Rattle.st_leaves.specs.declared.subrange.Number.{Number}
+use Rattle.st_leaves.proofs.Texts.{next_is}
 use Rattle.st_tree.specs.declared.tree.declaration.Subrange.{Subrange}
-use Rattle.st_leaves.specs.Leaves.{number_of, numbers_in}
+use Rattle.st_tree.specs.Literals.{number_of}
+use Rattle.st_leaves.specs.Leaves.{numbers_in, number_written}
 use Rattle.st_leaves.specs.LeavesIn.{subscript_lists}
 use Rattle.st_leaves.specs.Paths.{index, selector_text, subscripts_text}
-use Rattle.st_listing.specs.Choices.{AreSubscripts, HasNumbers, IsStep, between, choices_from, choices_left, left_if, lowers, number_written}
+use Rattle.st_listing.specs.Choices.{AreSubscripts, HasNumbers, IsStep, between, choices_from, choices_left, left_if, lowers}
 use Rattle.st_listing.specs.declared.subscripts.Subscripts.TheInside.{Inside}
 
 -- ---- numbers

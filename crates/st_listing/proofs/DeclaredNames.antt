@@ -11,9 +11,9 @@ use Rattle.st_tree.specs.declared.tree.declaration.VarKind.TheVariants as var_ki
 use Rattle.st_leaves.specs.LeavesIn.{LeafIn, used_as, within}
 use Rattle.st_leaves.specs.Paths.{field}
 use Rattle.st_chart_parts.proofs.Units.{names_of_unit}
-use Rattle.st_program_sizes.specs.Sized.{type_leaves}
+use Rattle.st_check.specs.Sized.{type_leaves}
 use Rattle.st_scopes.specs.Declarations.{names_at, names_in}
-use Rattle.st_types.specs.Compositions.{is_constant}
+use Rattle.st_tree.specs.Kinds.{is_constant}
 use Rattle.st_types.specs.Inside.{declared_by, named_by}
 use Rattle.st_types.specs.Names.{Declared, Named, declared_in, unit_at}
 use Rattle.st_types.specs.Types.{shape_of}

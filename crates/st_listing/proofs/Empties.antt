@@ -5,9 +5,10 @@ use Rattle.std.proofs.Math.Nat.{mul-le-mul_left, mul-zero}
 use Rattle.st_tree.specs.declared.tree.declaration.DeclaredType.TheVariants as declared_types
 use Rattle.st_tree.specs.declared.tree.declaration.Initial.{Initial}
 use Rattle.st_tree.specs.declared.tree.declaration.Subrange.{Subrange}
-use Rattle.st_sizes.specs.Sizes.{IsSize}
-use Rattle.st_sizes.specs.declared.size.Size.{Size}
-use Rattle.st_types.specs.Compositions.{Composition, composition_within, declared_composition, elements_composition, is_constant, member, members_by, optional_composition, started, subscripted, unit_composition}
+use Rattle.st_leaves.specs.Sizes.{IsSize}
+use Rattle.st_leaves.specs.declared.limited.Size.{Size}
+use Rattle.st_tree.specs.Kinds.{is_constant}
+use Rattle.st_types.specs.Compositions.{Composition, composition_within, declared_composition, elements_composition, member, members_by, optional_composition, started, subscripted, unit_composition}
 use Rattle.st_types.specs.Initials.{element_initial, initial_of, unit_element_initial}
 use Rattle.st_types.specs.Names.{Declared, Declares, Named, chart_in, members_of, unit_at, variables_in}
 use Rattle.st_types.specs.Names as names
@@ -23,7 +24,7 @@ use Rattle.st_leaves.specs.Places.{chart_count, count, counts, extent}
 use Rattle.st_leaves.proofs.Composed.{leaves_of_bases}
 use Rattle.st_leaves.proofs.Numbers.{leaves_are_counted}
 use Rattle.st_leaves.proofs.Started.{started_count}
-use Rattle.st_program_sizes.specs.Sized.{IsSized, size_at, type_leaves, unit_of}
+use Rattle.st_check.specs.Sized.{IsSized, size_at, type_leaves, unit_of}
 
 -- ---- where bases have no more leaves, what is made of them has no more
 

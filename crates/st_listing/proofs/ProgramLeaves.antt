@@ -4,7 +4,7 @@ use Rattle.std.proofs.lemmas.Bool.Decides.{nat_tests}
 use Rattle.std.proofs.lemmas.List.{length-map}
 use Rattle.st_tree.specs.declared.leaf.Leaf.{Leaf}
 use Rattle.st_tree.specs.declared.tree.unit.Unit.{Unit as Section}
-use Rattle.st_sizes.specs.Sizes.{total_bytes}
+use Rattle.st_leaves.specs.Sizes.{total_bytes}
 use Rattle.st_types.specs.Compositions.{composition_of}
 use Rattle.st_types.specs.Inside.{named_by}
 use Rattle.st_types.specs.Names.{Named, unit_at, units_of}

@@ -5,7 +5,7 @@ use Rattle.st_values.specs.Words.{AreWordBytes}
 use Rattle.st_tree.specs.declared.tree.declaration.DeclaredType.TheVariants as declared_types
 use Rattle.st_tree.specs.declared.tree.declaration.VarKind.{VarKind}
 use Rattle.st_tree.specs.declared.tree.declaration.VarKind.TheVariants as var_kinds
-use Rattle.st_types.specs.Compositions.{Composition, composition_of, composition_within, is_constant}
+use Rattle.st_types.specs.Compositions.{Composition, composition_of, composition_within}
 use Rattle.st_types.specs.Names.{Declared, Declares, Named, chart_in, unit_at, variables_of}
 use Rattle.st_types.specs.Names as names
 use Rattle.st_types.specs.declared.base.Base.{Base}
@@ -17,7 +17,7 @@ use Rattle.st_chart_parts.specs.Charts.{ChartView, leaves_of_parts, parts_of}
 use Rattle.st_chart_parts.proofs.UnitCharts.{leaves_are}
 use Rattle.st_chart_parts.proofs.Units.{names_of_unit, unit_item}
 use Rattle.st_scopes.specs.Declarations.{names_at, names_in}
-use Rattle.st_listing.specs.Kinds.{is_input}
+use Rattle.st_tree.specs.Kinds.{is_input, is_constant}
 use Rattle.st_listing.specs.Listings.{AreWays, ListingView, as_inputs, inside, listed, outside}
 use Rattle.st_listing.specs.Members.{MemberView, declared_of}
 use Rattle.st_listing.specs.Walks.{ListsTheSame, declared_leaves, variable_leaves}

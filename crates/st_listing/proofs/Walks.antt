@@ -12,7 +12,8 @@ use Rattle.st_tree.specs.declared.tree.constant.Constant.{Constant}
 use Rattle.st_tree.specs.declared.tree.declaration.DeclaredType.TheVariants as declared_types
 use Rattle.st_tree.specs.declared.tree.declaration.Initial.{Initial}
 use Rattle.st_tree.specs.declared.tree.declaration.Initial.TheVariants as initials
-use Rattle.st_types.specs.Compositions.{Composition, member, composition_within, declared_composition, is_constant, members_by, optional_composition, started, subscripted, unknown}
+use Rattle.st_tree.specs.Kinds.{is_constant}
+use Rattle.st_types.specs.Compositions.{Composition, member, composition_within, declared_composition, members_by, optional_composition, started, subscripted, unknown}
 use Rattle.st_types.specs.Names.{Declared, Declares, Named, chart_in, variables_of}
 use Rattle.st_types.specs.Names as names
 use Rattle.st_types.specs.Names.{unit_at}

@@ -1,11 +1,11 @@
 -- The choices of subscripts that are still to come.
 use Rattle.std.specs.Prelude.{◌≡◌, ◌<◌, ◌-ℤ◌, ◌++◌, ℤ, Bool, true, false, List, [], ◌∷◌, length, map}
 use Rattle.std.specs.List.{All, flat_map}
-use Rattle.st_sizes.specs.Subscripts.{next, numbers, value_of, values_from}
-use Rattle.st_sizes.specs.declared.subrange.Number.{Number}
+use Rattle.st_leaves.specs.Subscripts.{next, numbers, value_of, values_from}
+use Rattle.st_leaves.specs.declared.subrange.Number.{Number}
 use Rattle.st_tree.specs.declared.tree.constant.SignedInteger.{SignedInteger}
 use Rattle.st_tree.specs.declared.tree.declaration.Subrange.{Subrange}
-use Rattle.st_leaves.specs.Leaves.{number_of}
+use Rattle.st_tree.specs.Literals.{number_of}
 use Rattle.st_leaves.specs.LeavesIn.{subscript_lists}
 use Rattle.st_listing.specs.declared.subscripts.Subscripts.TheInside.{Inside}
 
@@ -18,10 +18,6 @@ abbrev pub choices_from : List Subrange → List ℤ → List (List ℤ)
 choices_from [] is = [] ∷ []
 choices_from (r ∷ rs) [] = [] ∷ []
 choices_from (r ∷ rs) (i ∷ is) = map (λ js. i ∷ js) (choices_from rs is) ++ flat_map (λ j. map (λ js. j ∷ js) (subscript_lists rs)) (between (next i) (number_of r.upper))
-
--- the number that is written
-abbrev pub number_written : SignedInteger → Number
-number_written written = record { is_negative = written.is_negative; magnitude = written.magnitude }
 
 -- the first choice
 abbrev pub lowers : List Subrange → List ℤ

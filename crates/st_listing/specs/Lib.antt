@@ -1,5 +1,4 @@
 pub mod Choices
-pub mod Kinds
 pub mod Listings
 pub mod Members
 pub mod Rows

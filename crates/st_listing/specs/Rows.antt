@@ -1,7 +1,7 @@
 -- Declared names that aren't constants.
 use Rattle.std.specs.Prelude.{◌≡◌, false}
 use Rattle.std.specs.Option.{option_map}
-use Rattle.st_types.specs.Compositions.{is_constant}
+use Rattle.st_tree.specs.Kinds.{is_constant}
 use Rattle.st_types.specs.Names.{Declared}
 use Rattle.st_listing.specs.declared.rows.Row.TheInside.{Inside}
 

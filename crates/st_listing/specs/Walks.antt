@@ -17,8 +17,8 @@ use Rattle.st_types.specs.Types.{elements_in, type_at}
 use Rattle.st_types.specs.declared.base.Base.TheVariants as bases
 use Rattle.st_leaves.specs.LeavesIn.{LeafIn, leaves_in, members_in, variables_in}
 use Rattle.st_chart_parts.specs.Charts.{parts_of}
-use Rattle.st_initials.specs.Tables.{AreInitials}
-use Rattle.st_program_sizes.specs.Sized.{IsSized}
+use Rattle.st_references.specs.Tables.{AreInitials}
+use Rattle.st_check.specs.Sized.{IsSized}
 use Rattle.st_scopes.specs.Declarations.{names_at}
 use Rattle.st_listing.specs.Members.{IsMember, MemberView, declared_of}
 use Rattle.st_listing.specs.declared.rows.Sieve.{Sieve}

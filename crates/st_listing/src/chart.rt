@@ -8,10 +8,10 @@ ghost use Rattle.st_listing.specs.Listings.{AreWays, listed};
 
 use crate::leaf_use::LeafUse;
 use crate::listing::Listing;
-use crate::values::{truth, zero_of};
+use crate::values::zero_of;
 use st_chart_parts::{ChartParts, StepPart};
 use st_tree::Word;
-use st_values::Elem;
+use st_values::{Elem, truth};
 use std::alloc::{AllocError, Global};
 
 impl<'a> Listing<'a> {
@@ -23,7 +23,8 @@ impl<'a> Listing<'a> {
         chart: &ChartParts<'_>,
     ) -> Result<(), AllocError>
         requires room { length self.old.leaves + length (leaves_of_parts of.now chart.now) ≤ 65536 }
-        ensures listed { OnOk result (self.new ≡ listed self.old (leaves_of_parts of.now chart.now)) }
+        ensures listed { OnOk result
+            (self.new ≡ listed self.old (leaves_of_parts of.now chart.now)) }
         ensures ways { OnOk result (AreWays (leaves_of_parts of.now chart.now)) }
     {
         if !chart.is_there() {
@@ -44,7 +45,8 @@ impl<'a> Listing<'a> {
     ) -> Result<(), AllocError>
         requires room { length self.old.leaves + length (all_steps_in of.now 1 steps.now) ≤ 65536 }
         requires begun { 1 ≤ length self.old.leaves }
-        ensures listed { OnOk result (self.new ≡ listed self.old (all_steps_in of.now 1 steps.now)) }
+        ensures listed { OnOk result
+            (self.new ≡ listed self.old (all_steps_in of.now 1 steps.now)) }
         ensures ways { OnOk result (AreWays (all_steps_in of.now 1 steps.now)) }
     {
         let first = self.count();
@@ -83,7 +85,8 @@ impl<'a> Listing<'a> {
         is_initial: bool,
         has_pulse: bool,
     ) -> Result<(), AllocError>
-        requires room { length self.old.leaves + length (state_in back is_initial has_pulse) ≤ 65536 }
+        requires room { length self.old.leaves + length (state_in back is_initial has_pulse)
+            ≤ 65536 }
         requires back { back ≤ length self.old.leaves }
         ensures { OnOk result (self.new ≡ listed self.old (state_in back is_initial has_pulse)) }
     {
@@ -106,7 +109,8 @@ impl<'a> Listing<'a> {
         stored: &[&Word],
     ) -> Result<(), AllocError>
         requires room { length self.old.leaves + length stored.now ≤ 65536 }
-        ensures listed { OnOk result (self.new ≡ listed self.old (flat_map (stored_in of.now) (spelled stored.now))) }
+        ensures listed { OnOk result
+            (self.new ≡ listed self.old (flat_map (stored_in of.now) (spelled stored.now))) }
         ensures ways { OnOk result (AreWays (flat_map (stored_in of.now) (spelled stored.now))) }
     {
         'stored: for name in stored {

@@ -1,11 +1,11 @@
 //! Types without leaves, by their sizes.
 ghost use Rattle.std.specs.Prelude.{◌≡◌, [], ℕ, IsTrue};
-ghost use Rattle.st_program_sizes.specs.Sized.{IsSized, size_at, type_leaves, unit_of};
+ghost use Rattle.st_check.specs.Sized.{IsSized, size_at, type_leaves, unit_of};
 ghost use Rattle.st_types.specs.Names.{units_of};
 ghost use Rattle.st_types.specs.Types.{type_at};
 
+use st_leaves::Size;
 use st_scopes::Tables;
-use st_sizes::Size;
 use st_types::Base;
 
 /// Whether the sizes tell that what has this base has no leaves. The table has the sizes of types, by the numbers of the units.

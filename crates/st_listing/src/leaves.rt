@@ -7,7 +7,7 @@ ghost use Rattle.st_leaves.specs.Sound.{IsSound};
 ghost use Rattle.st_listing.specs.Listings.{AreWays};
 ghost use Rattle.st_listing.specs.Walks.{IsWalk, units_in};
 ghost use Rattle.st_listing.specs.Worded.{IsWorded};
-ghost use Rattle.st_order.specs.Graphs.{IsOrder};
+ghost use Rattle.st_references.specs.Graphs.{IsOrder};
 ghost use Rattle.st_references.specs.References.{graph_of};
 ghost use Rattle.st_types.specs.Compositions.{composition_of};
 ghost use Rattle.st_types.specs.Inside.{named_by};
@@ -19,10 +19,9 @@ use crate::members::members_of;
 use crate::rows::rows_of;
 use crate::walk::Walk;
 use st_chart_parts::chart_parts;
-use st_check::{Program, checked_program_has_sound_leaves};
-use st_initials::{Initials, types_written};
+use st_check::{Program, checked_program_has_sound_leaves, type_sizes};
 use st_leaves::leaves_follow_the_composition;
-use st_program_sizes::type_sizes;
+use st_references::{Initials, types_written};
 use st_scopes::Tables;
 use st_tree::{Leaf, List};
 use st_types::NamedUnit;
@@ -49,9 +48,13 @@ fn main_leaves(
 ) -> Result<Vec<Leaf>, AllocError>
     requires order { IsOrder (graph_of (units_of tables.now)) order.now }
     requires main { main < length (units_of tables.now) }
-    requires few { (u : Named) → unit_at (units_of tables.now) main ≡ Some u → length (leaves_of_whole (composition_of (units_of tables.now) u.declares)) ≤ 65536 }
-    ensures leaves { IfOk result (λ leaves. (u : Named) → unit_at (units_of tables.now) main ≡ Some u → leaves.items ≡ program_leaves (units_of tables.now) u) }
-    ensures ways { IfOk result (λ _. (u : Named) → unit_at (units_of tables.now) main ≡ Some u → AreWays (leaves_of_whole (composition_of (units_of tables.now) u.declares))) }
+    requires few { (u : Named) → unit_at (units_of tables.now) main ≡ Some u
+        → length (leaves_of_whole (composition_of (units_of tables.now) u.declares)) ≤ 65536 }
+    ensures leaves { IfOk result
+        (λ leaves. (u : Named) → unit_at (units_of tables.now) main ≡ Some u
+        → leaves.items ≡ program_leaves (units_of tables.now) u) }
+    ensures ways { IfOk result (λ _. (u : Named) → unit_at (units_of tables.now) main ≡ Some u
+        → AreWays (leaves_of_whole (composition_of (units_of tables.now) u.declares))) }
 {
     let written = types_written(alloc, tables)?;
     let initials = Initials::new(alloc, tables, &written, order)?;
@@ -75,9 +78,13 @@ fn main_leaves(
 fn walked_leaves(walk: Walk<'_, '_>, main: usize) -> Result<Vec<Leaf>, AllocError>
     requires walk { IsWalk walk }
     requires main { main < length (units_in walk) }
-    requires few { (u : Named) → unit_at (units_in walk) main ≡ Some u → length (leaves_of_whole (composition_of (units_in walk) u.declares)) ≤ 65536 }
-    ensures leaves { IfOk result (λ leaves. (u : Named) → unit_at (units_in walk.entry) main ≡ Some u → leaves.items ≡ program_leaves (units_in walk.entry) u) }
-    ensures ways { IfOk result (λ _. (u : Named) → unit_at (units_in walk.entry) main ≡ Some u → AreWays (leaves_of_whole (composition_of (units_in walk.entry) u.declares))) }
+    requires few { (u : Named) → unit_at (units_in walk) main ≡ Some u
+        → length (leaves_of_whole (composition_of (units_in walk) u.declares)) ≤ 65536 }
+    ensures leaves { IfOk result
+        (λ leaves. (u : Named) → unit_at (units_in walk.entry) main ≡ Some u
+        → leaves.items ≡ program_leaves (units_in walk.entry) u) }
+    ensures ways { IfOk result (λ _. (u : Named) → unit_at (units_in walk.entry) main ≡ Some u
+        → AreWays (leaves_of_whole (composition_of (units_in walk.entry) u.declares))) }
 {
     let name = walk.tables.unit(main).name.spelling.as_slice();
     let mut listing = Listing::new(walk.alloc, name)?;
@@ -87,7 +94,8 @@ fn walked_leaves(walk: Walk<'_, '_>, main: usize) -> Result<Vec<Leaf>, AllocErro
 
 /// The names of units, in upper case.
 fn upper_names(alloc: Global, units: &[NamedUnit<'_>]) -> Result<Vec<List<u8>>, AllocError>
-    ensures { IfOk result (λ names. names.items ≡ map (λ u. raised u.name.spelling) (map named_by units.now)) }
+    ensures { IfOk result (λ names. names.items ≡ map (λ u. raised u.name.spelling)
+        (map named_by units.now)) }
 {
     let mut names = Vec::with_capacity(alloc, units.len())?;
     'each: for unit in units {

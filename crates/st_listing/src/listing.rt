@@ -9,7 +9,7 @@ ghost use Rattle.st_listing.specs.Uses.{meant};
 ghost use Rattle.st_listing.specs.Walks.{begins_with};
 
 use crate::leaf_use::LeafUse;
-use st_initials::value_written;
+use st_references::value_written;
 use st_tree::tree::Constant;
 use st_tree::{Leaf, List};
 use st_values::Value;
@@ -40,7 +40,12 @@ impl<'a> Model for Listing<'a> {
 impl<'a> Listing<'a> {
     /// No leaves. The way is that to the program, which has this name.
     pub fn new(alloc: Global, main: &[u8]) -> Result<Listing<'a>, AllocError>
-        ensures { IfOk result (λ listing. listing ≡ record { leaves = []; text = main.now; spine = []; is_input = false }) }
+        ensures { IfOk result (λ listing. listing ≡ record {
+          leaves = [];
+          text = main.now;
+          spine = [];
+          is_input = false;
+        }) }
     {
         Ok(Listing {
             leaves: Vec::new(alloc),
@@ -119,7 +124,8 @@ impl<'a> Listing<'a> {
         leaf_use: LeafUse,
     ) -> Result<(), AllocError>
         requires room { length self.old.leaves + 1 ≤ 65536 }
-        ensures { OnOk result (self.new ≡ listed self.old (record { path = []; spine = []; initial = initial; use' = meant leaf_use } ∷ [])) }
+        ensures { OnOk result (self.new ≡ listed self.old
+            (record { path = []; spine = []; initial = initial; use' = meant leaf_use } ∷ [])) }
     {
         let number = self.count() as u32;
         let leaf = Leaf {
@@ -155,7 +161,8 @@ impl<'a> Listing<'a> {
         leaf_use: LeafUse,
     ) -> Result<(), AllocError>
         requires room { length self.old.leaves + 1 ≤ 65536 }
-        ensures { OnOk result (self.new ≡ listed self.old (one (field name.now) of.now initial (meant leaf_use))) }
+        ensures { OnOk result (self.new ≡ listed self.old
+            (one (field name.now) of.now initial (meant leaf_use))) }
     {
         let mark = self.mark();
         self.enter(name, of)?;
@@ -174,7 +181,8 @@ impl<'a> Listing<'a> {
         leaf_use: LeafUse,
     ) -> Result<(), AllocError>
         requires room { length self.old.leaves + 1 ≤ 65536 }
-        ensures { OnOk result (self.new ≡ listed self.old (one (kept name.now) of.now initial (meant leaf_use))) }
+        ensures { OnOk result (self.new ≡ listed self.old
+            (one (kept name.now) of.now initial (meant leaf_use))) }
     {
         let mark = self.mark();
         self.enter_kept(name, of)?;

@@ -1,12 +1,12 @@
 //! The declared names that have leaves, with what stands for their types, looked up once for each unit: no instance looks a name up.
 ghost use Rattle.std.specs.Option.{option_copied, option_map};
 ghost use Rattle.std.specs.Prelude.{◌≡◌, IfOk, map};
-ghost use Rattle.st_initials.specs.Tables.{AreInitials};
+ghost use Rattle.st_references.specs.Tables.{AreInitials};
 ghost use Rattle.st_listing.specs.Members.{member_of};
 ghost use Rattle.st_types.specs.Names.{units_of};
 
 use crate::rows::Row;
-use st_initials::{Initials, Written};
+use st_references::{Initials, Written};
 use st_scopes::Tables;
 use st_tree::List;
 use st_tree::tree::Subrange;
@@ -97,7 +97,8 @@ pub(crate) fn members_of<'a, 't>(
     rows: &'t [List<Row<'a>>],
 ) -> Result<Vec<List<Member<'a, 't>>>, AllocError>
     requires { AreInitials (units_of tables.now) initials.now }
-    ensures { IfOk result (λ members. members.items ≡ map (map (member_of (units_of tables.now))) rows.now) }
+    ensures { IfOk result (λ members. members.items
+        ≡ map (map (member_of (units_of tables.now))) rows.now) }
 {
     let mut members = Vec::with_capacity(alloc, rows.len())?;
     'units: for unit in rows {

@@ -3,18 +3,17 @@ ghost use Rattle.std.specs.List.{flat_map};
 ghost use Rattle.std.specs.Option.{option_copied, option_map};
 ghost use Rattle.std.specs.Prelude.{◌≡◌, ◌++◌, ℕ, IfOk, OnOk, false};
 ghost use Rattle.st_listing.specs.Walks.{AreRows, IsSieve, ListsTheSame};
-ghost use Rattle.st_program_sizes.specs.Sized.{IsSized};
+ghost use Rattle.st_check.specs.Sized.{IsSized};
 ghost use Rattle.st_scopes.specs.Declarations.{names_in};
-ghost use Rattle.st_types.specs.Compositions.{is_constant};
+ghost use Rattle.st_tree.specs.Kinds.{is_constant};
 ghost use Rattle.st_types.specs.Inside.{declared_by};
 ghost use Rattle.st_types.specs.Names.{declared_in, units_of, variables_of};
 ghost use Rattle.st_types.specs.Types.{type_at};
 
 use crate::empty::is_empty;
-use crate::program::is_constant;
-use st_initials::{Written, written};
+use st_leaves::Size;
+use st_references::{Written, written};
 use st_scopes::Tables;
-use st_sizes::Size;
 use st_tree::tree::{
     Declaration, DeclaredType, Identifier, Initial, Specification, VarBlock, VarKind,
 };
@@ -56,7 +55,12 @@ impl<'a> Row<'a> {
     ) -> Result<Row<'a>, AllocError>
         requires variable { is_constant kind ≡ false }
         requires written { option_map (λ one. one.value) written.now ≡ declaration.now.initial }
-        ensures { IfOk result (λ row. row ≡ record { name = name.now; kind = kind; specification = declaration.now.specification; initial = declaration.now.initial }) }
+        ensures { IfOk result (λ row. row ≡ record {
+          name = name.now;
+          kind = kind;
+          specification = declaration.now.specification;
+          initial = declaration.now.initial;
+        }) }
     {
         let written = match written {
             Some(all) => Some(all.clone()?),
@@ -138,7 +142,8 @@ impl<'a, 't> Sieve<'a, 't> {
     /// The names of a unit that have leaves, in order.
     fn unit_rows(self, unit: UnitKind<'a>) -> Result<List<Row<'a>>, AllocError>
         requires { IsSieve self }
-        ensures { IfOk result (λ rows. ListsTheSame (units_of self.entry.tables.now) rows (names_in (declared_by unit.entry))) }
+        ensures { IfOk result (λ rows. ListsTheSame (units_of self.entry.tables.now)
+            rows (names_in (declared_by unit.entry))) }
     {
         let mut rows = List::new(self.alloc);
         match unit {
@@ -159,7 +164,8 @@ impl<'a, 't> Sieve<'a, 't> {
     /// Adds the variables of blocks of declarations.
     fn add_blocks(self, blocks: &'a [VarBlock], rows: &mut List<Row<'a>>) -> Result<(), AllocError>
         requires { IsSieve self }
-        ensures { OnOk result (ListsTheSame (units_of self.entry.tables.now) rows.new (rows.old ++ variables_of blocks.now)) }
+        ensures { OnOk result (ListsTheSame (units_of self.entry.tables.now)
+            rows.new (rows.old ++ variables_of blocks.now)) }
     {
         'each: for block in blocks {
             self.add_declarations(block.kind, block.declarations.as_slice(), rows)?;
@@ -175,7 +181,8 @@ impl<'a, 't> Sieve<'a, 't> {
         rows: &mut List<Row<'a>>,
     ) -> Result<(), AllocError>
         requires { IsSieve self }
-        ensures { OnOk result (ListsTheSame (units_of self.entry.tables.now) rows.new (rows.old ++ flat_map (declared_in kind) declarations.now)) }
+        ensures { OnOk result (ListsTheSame (units_of self.entry.tables.now)
+            rows.new (rows.old ++ flat_map (declared_in kind) declarations.now)) }
     {
         'declarations: for declaration in declarations {
             self.add_declaration(kind, declaration, rows)?;
@@ -191,9 +198,10 @@ impl<'a, 't> Sieve<'a, 't> {
         rows: &mut List<Row<'a>>,
     ) -> Result<(), AllocError>
         requires { IsSieve self }
-        ensures { OnOk result (ListsTheSame (units_of self.entry.tables.now) rows.new (rows.old ++ declared_in kind declaration.now)) }
+        ensures { OnOk result (ListsTheSame (units_of self.entry.tables.now)
+            rows.new (rows.old ++ declared_in kind declaration.now)) }
     {
-        if is_constant(kind) {
+        if kind.is_constant() {
             return Ok(());
         }
         let shape = self.tables.shape_of(&declaration.specification);

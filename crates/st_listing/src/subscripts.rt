@@ -3,12 +3,13 @@ ghost use Rattle.std.specs.Fmt.{signed_decimal};
 ghost use Rattle.std.specs.List.{All, flat_map};
 ghost use Rattle.std.specs.Prelude.{◌≡◌, ◌↔◌, ◌<ℤ◌, ◌≤ℤ◌, ◌++◌, ◌∷◌, [], ℤ, IfOk, IfSome, IsTrue, List, None, OnOk, codes, drop, length, map};
 ghost use Rattle.std.specs.String.{string_bytes};
-ghost use Rattle.st_sizes.specs.Subscripts.{next, value_of};
+ghost use Rattle.st_leaves.specs.Subscripts.{next, value_of};
 ghost use Rattle.st_leaves.specs.LeavesIn.{subscript_lists};
 ghost use Rattle.st_leaves.specs.Paths.{index, selector_text, subscripts_text};
-ghost use Rattle.st_listing.specs.Choices.{HasNumbers, IsStep, number_written};
+ghost use Rattle.st_leaves.specs.Leaves.{number_written};
+ghost use Rattle.st_listing.specs.Choices.{HasNumbers, IsStep};
 
-use st_sizes::Number;
+use st_leaves::{Number, number_written};
 use st_tree::tree::{SignedInteger, Subrange};
 use std::alloc::{AllocError, Global};
 use std::marker::Model;
@@ -55,7 +56,8 @@ impl<'a> Subscripts<'a> {
 
     /// The next choice, as it is written.
     pub fn text(&self, alloc: Global) -> Result<String, AllocError>
-        ensures { IfOk result (λ text. (is : List ℤ) (others : List (List ℤ)) → self.now ≡ is ∷ others → string_bytes text ≡ selector_text (index is)) }
+        ensures { IfOk result (λ text. (is : List ℤ) (others : List (List ℤ))
+            → self.now ≡ is ∷ others → string_bytes text ≡ selector_text (index is)) }
     {
         choice_text(alloc, &self.chosen)
     }
@@ -81,7 +83,7 @@ fn have_numbers(ranges: &[Subrange]) -> bool
 fn has_numbers(range: Subrange) -> bool
     ensures { IsTrue result ↔ HasNumbers range }
 {
-    !is_below(number(range.upper), number(range.lower))
+    !is_below(number_written(range.upper), number_written(range.lower))
 }
 
 /// The least number of each range.
@@ -90,7 +92,7 @@ fn first_choice(alloc: Global, ranges: &[Subrange]) -> Result<Vec<Number>, Alloc
 {
     ranges
         .iter()
-        .map(|range| number(range.lower))
+        .map(|range| number_written(range.lower))
         .collect(alloc)
 }
 
@@ -108,25 +110,15 @@ fn step(ranges: &[Subrange], chosen: &mut [Number]) -> bool
     if step(&ranges[1..], &mut chosen[1..]) {
         return true;
     }
-    match following(first, number(range.upper)) {
+    match following(first, number_written(range.upper)) {
         Some(number) => {
             chosen[0] = number;
             true
         }
         None => {
-            chosen[0] = number(range.lower);
+            chosen[0] = number_written(range.lower);
             false
         }
-    }
-}
-
-/// The number that is written.
-fn number(written: SignedInteger) -> Number
-    ensures { result ≡ number_written written }
-{
-    Number {
-        is_negative: written.is_negative,
-        magnitude: written.magnitude.get(),
     }
 }
 
@@ -165,7 +157,8 @@ fn following(number: Number, upper: Number) -> Option<Number>
 
 /// How a choice is written.
 fn choice_text(alloc: Global, chosen: &[Number]) -> Result<String, AllocError>
-    ensures { IfOk result (λ text. string_bytes text ≡ selector_text (index (map value_of chosen.now))) }
+    ensures { IfOk result (λ text. string_bytes text
+        ≡ selector_text (index (map value_of chosen.now))) }
 {
     let mut text = String::new(alloc);
     text.push('[')?;
@@ -176,7 +169,8 @@ fn choice_text(alloc: Global, chosen: &[Number]) -> Result<String, AllocError>
 
 /// Puts numbers at the end, with `,` between them.
 fn put_choice(chosen: &[Number], text: &mut String) -> Result<(), AllocError>
-    ensures { OnOk result (string_bytes text.new ≡ string_bytes text.old ++ subscripts_text (map value_of chosen.now)) }
+    ensures { OnOk result (string_bytes text.new
+        ≡ string_bytes text.old ++ subscripts_text (map value_of chosen.now)) }
 {
     if chosen.is_empty() {
         return Ok(());
@@ -188,7 +182,9 @@ fn put_choice(chosen: &[Number], text: &mut String) -> Result<(), AllocError>
 
 /// Puts numbers at the end, with `,` before each.
 fn put_others(numbers: &[Number], text: &mut String) -> Result<(), AllocError>
-    ensures { OnOk result (string_bytes text.new ≡ string_bytes text.old ++ flat_map (λ n. codes "," ++ signed_decimal (value_of n)) numbers.now) }
+    ensures { OnOk result (string_bytes text.new
+        ≡ string_bytes text.old
+        ++ flat_map (λ n. codes "," ++ signed_decimal (value_of n)) numbers.now) }
 {
     'others: for number in numbers {
         text.push(',')?;
@@ -199,7 +195,8 @@ fn put_others(numbers: &[Number], text: &mut String) -> Result<(), AllocError>
 
 /// Puts a number at the end.
 fn put_number(number: Number, text: &mut String) -> Result<(), AllocError>
-    ensures { OnOk result (string_bytes text.new ≡ string_bytes text.old ++ signed_decimal (value_of number)) }
+    ensures { OnOk result (string_bytes text.new
+        ≡ string_bytes text.old ++ signed_decimal (value_of number)) }
 {
     if number.is_negative && number.magnitude > 0 {
         write!(text, "-{}", number.magnitude)

@@ -3,9 +3,8 @@ ghost use Rattle.std.specs.Prelude.{◌≡◌};
 ghost use Rattle.std.specs.Option.{option_copied};
 ghost use Rattle.st_types.specs.Initials.{zero_of};
 ghost use Rattle.st_listing.specs.Walks.{started_value};
-ghost use Rattle.st_leaves.specs.LeavesIn.{truth};
 
-use st_initials::{Written, value_written};
+use st_references::{Written, value_written};
 use st_tree::tree::Initial;
 use st_values::{Elem, Value};
 
@@ -14,16 +13,6 @@ pub(crate) fn zero_of(elem: Elem) -> Value
     ensures { result ≡ zero_of elem }
 {
     Value { elem, bits: 0 }
-}
-
-/// Of BOOL.
-pub(crate) fn truth(is_true: bool) -> Value
-    ensures { result ≡ truth is_true }
-{
-    Value {
-        elem: Elem::Bool,
-        bits: i128::from(is_true),
-    }
 }
 
 /// With what a value of this type begins: with the one that is written, or else with that of the type.

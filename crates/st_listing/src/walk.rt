@@ -18,7 +18,7 @@ use crate::members::Member;
 use crate::subscripts::Subscripts;
 use crate::values::started_value;
 use st_chart_parts::ChartParts;
-use st_initials::{FirstValues, Initials, Written};
+use st_references::{FirstValues, Initials, Written};
 use st_scopes::Tables;
 use st_tree::List;
 use st_tree::tree::{Constant, Subrange};
@@ -55,8 +55,10 @@ impl<'a, 't> Walk<'a, 't> {
     fn list_part(self, part: Part<'t>, listing: &mut Listing<'t>) -> Result<(), AllocError>
         requires walk { IsWalk self }
         requires depth { part.depth ≤ suc (length (units_in self)) }
-        requires room { length listing.old.leaves + length (part_leaves (units_in self) part) ≤ 65536 }
-        ensures listed { OnOk result (listing.new ≡ listed listing.old (part_leaves (units_in self.entry) part.entry)) }
+        requires room { length listing.old.leaves + length (part_leaves (units_in self) part)
+            ≤ 65536 }
+        ensures listed { OnOk result
+            (listing.new ≡ listed listing.old (part_leaves (units_in self.entry) part.entry)) }
         ensures ways { OnOk result (AreWays (part_leaves (units_in self.entry) part.entry)) }
     {
         if part.depth == 0 {
@@ -86,9 +88,13 @@ impl<'a, 't> Walk<'a, 't> {
     ) -> Result<(), AllocError>
         requires walk { IsWalk self }
         requires depth { depth ≤ suc (length (units_in self)) }
-        requires room { length listing.old.leaves + length (array_leaves (units_in self) depth unit (option_copied initial)) ≤ 65536 }
-        ensures listed { OnOk result (listing.new ≡ listed listing.old (array_leaves (units_in self.entry) depth unit (option_copied initial.entry))) }
-        ensures ways { OnOk result (AreWays (array_leaves (units_in self.entry) depth unit (option_copied initial.entry))) }
+        requires room { length listing.old.leaves
+            + length (array_leaves (units_in self) depth unit (option_copied initial)) ≤ 65536 }
+        ensures listed { OnOk result
+            (listing.new ≡ listed listing.old (array_leaves (units_in self.entry)
+            depth unit (option_copied initial.entry))) }
+        ensures ways { OnOk result (AreWays (array_leaves (units_in self.entry)
+            depth unit (option_copied initial.entry))) }
     {
         let Some(elements) = self.tables.elements(Base::Array(unit)) else {
             return Ok(());
@@ -113,9 +119,14 @@ impl<'a, 't> Walk<'a, 't> {
     ) -> Result<(), AllocError>
         requires walk { IsWalk self }
         requires depth { element.depth ≤ suc (length (units_in self)) }
-        requires room { length listing.old.leaves + length (elements_in (subscript_lists ranges.now) firsts (part_leaves (units_in self) element)) ≤ 65536 }
-        ensures listed { OnOk result (listing.new ≡ listed listing.old (elements_in (subscript_lists ranges.now) firsts.entry (part_leaves (units_in self.entry) element.entry))) }
-        ensures ways { OnOk result (AreWays (elements_in (subscript_lists ranges.now) firsts.entry (part_leaves (units_in self.entry) element.entry))) }
+        requires room { length listing.old.leaves
+            + length (elements_in (subscript_lists ranges.now)
+            firsts (part_leaves (units_in self) element)) ≤ 65536 }
+        ensures listed { OnOk result
+            (listing.new ≡ listed listing.old (elements_in (subscript_lists ranges.now)
+            firsts.entry (part_leaves (units_in self.entry) element.entry))) }
+        ensures ways { OnOk result (AreWays (elements_in (subscript_lists ranges.now)
+            firsts.entry (part_leaves (units_in self.entry) element.entry))) }
     {
         let mut choices = Subscripts::of(self.alloc, ranges)?;
         'elements: while !choices.is_done() {
@@ -138,7 +149,8 @@ impl<'a, 't> Walk<'a, 't> {
     ) -> Result<(), AllocError>
         requires walk { IsWalk self }
         requires depth { element.depth ≤ suc (length (units_in self)) }
-        requires room { length listing.old.leaves + length (part_leaves (units_in self) element) ≤ 65536 }
+        requires room { length listing.old.leaves + length (part_leaves (units_in self) element)
+            ≤ 65536 }
         ensures listed { OnOk result ((is : List ℤ) → subscripts.now ≡ selector_text (index is)
             → listing.new ≡ listed listing.old (within (index is) (codes "array") (starting (option_copied first.entry) (part_leaves (units_in self.entry) element.entry)))) }
         ensures ways { OnOk result (AreWays (part_leaves (units_in self.entry) element.entry)) }
@@ -162,8 +174,10 @@ impl<'a, 't> Walk<'a, 't> {
     ) -> Result<(), AllocError>
         requires walk { IsWalk self }
         requires depth { depth ≤ suc (length (units_in self)) }
-        requires room { length listing.old.leaves + length (unit_leaves (units_in self) depth unit) ≤ 65536 }
-        ensures listed { OnOk result (listing.new ≡ listed listing.old (unit_leaves (units_in self.entry) depth unit)) }
+        requires room { length listing.old.leaves + length (unit_leaves (units_in self) depth unit)
+            ≤ 65536 }
+        ensures listed { OnOk result
+            (listing.new ≡ listed listing.old (unit_leaves (units_in self.entry) depth unit)) }
         ensures ways { OnOk result (AreWays (unit_leaves (units_in self.entry) depth unit)) }
     {
         if unit >= self.tables.len() {
@@ -186,9 +200,14 @@ impl<'a, 't> Walk<'a, 't> {
         requires walk { IsWalk self }
         requires depth { depth ≤ suc (length (units_in self)) }
         requires known { All (IsMember (units_in self)) members.now }
-        requires room { length listing.old.leaves + length (member_leaves (units_in self) depth of.now (declared_of members.now)) ≤ 65536 }
-        ensures listed { OnOk result (listing.new ≡ listed listing.old (member_leaves (units_in self.entry) depth of.now (declared_of members.now))) }
-        ensures ways { OnOk result (AreWays (member_leaves (units_in self.entry) depth of.now (declared_of members.now))) }
+        requires room { length listing.old.leaves
+            + length (member_leaves (units_in self) depth of.now (declared_of members.now))
+            ≤ 65536 }
+        ensures listed { OnOk result
+            (listing.new ≡ listed listing.old (member_leaves (units_in self.entry)
+            depth of.now (declared_of members.now))) }
+        ensures ways { OnOk result (AreWays (member_leaves (units_in self.entry)
+            depth of.now (declared_of members.now))) }
     {
         'members: for member in members {
             self.list_member(depth, of, member, listing)?;
@@ -208,9 +227,14 @@ impl<'a, 't> Walk<'a, 't> {
         requires walk { IsWalk self }
         requires depth { depth ≤ suc (length (units_in self)) }
         requires known { IsMember (units_in self) member.now }
-        requires room { length listing.old.leaves + length (member_leaves (units_in self) depth of.now (member.now.declared ∷ [])) ≤ 65536 }
-        ensures listed { OnOk result (listing.new ≡ listed listing.old (member_leaves (units_in self.entry) depth of.now (member.now.declared ∷ []))) }
-        ensures ways { OnOk result (AreWays (member_leaves (units_in self.entry) depth of.now (member.now.declared ∷ []))) }
+        requires room { length listing.old.leaves
+            + length (member_leaves (units_in self) depth of.now (member.now.declared ∷ []))
+            ≤ 65536 }
+        ensures listed { OnOk result
+            (listing.new ≡ listed listing.old (member_leaves (units_in self.entry)
+            depth of.now (member.now.declared ∷ []))) }
+        ensures ways { OnOk result (AreWays (member_leaves (units_in self.entry)
+            depth of.now (member.now.declared ∷ []))) }
     {
         let mark = listing.mark();
         listing.enter(member.row().name().spelling.letters(), of)?;
@@ -230,9 +254,13 @@ impl<'a, 't> Walk<'a, 't> {
         requires walk { IsWalk self }
         requires depth { depth ≤ suc (length (units_in self)) }
         requires known { IsMember (units_in self) member.now }
-        requires room { length listing.old.leaves + length (declared_leaves (units_in self) depth member.now.declared) ≤ 65536 }
-        ensures listed { OnOk result (listing.new ≡ listed listing.old (declared_leaves (units_in self.entry) depth member.now.declared)) }
-        ensures ways { OnOk result (AreWays (declared_leaves (units_in self.entry) depth member.now.declared)) }
+        requires room { length listing.old.leaves
+            + length (declared_leaves (units_in self) depth member.now.declared) ≤ 65536 }
+        ensures listed { OnOk result
+            (listing.new ≡ listed listing.old (declared_leaves (units_in self.entry)
+            depth member.now.declared)) }
+        ensures ways { OnOk result (AreWays (declared_leaves (units_in self.entry)
+            depth member.now.declared)) }
     {
         let base = member.base();
         let initial = member.initial();

@@ -4,14 +4,14 @@ use Rattle.std.specs.Prelude.{◌≡◌, ◌≢◌, ℕ, Bool, true, false, ℤ,
 use Rattle.std.specs.List.{All}
 use Rattle.st_memory.specs.Memory.{Content}
 use Rattle.st_meaning.specs.Sketches.{Sketch}
-use Rattle.st_sketches.specs.Views.{IsOf, SketchView}
+use Rattle.st_meaning.specs.Views.{IsOf, SketchView}
 use Rattle.st_chart_runs.specs.Charts.{ChartsFit, chart_at}
 use Rattle.st_chart_runs.specs.declared.workspace.ChartRoom.{ChartRoom}
 use Rattle.st_code.specs.Charts.{ChartTest, ChartsWhere}
 use Rattle.st_code.specs.Code.{Line}
 use Rattle.st_code.specs.Machine.{Environment, act, stuck}
 use Rattle.st_code.specs.declared.instr.Instr.{Instr}
-use Rattle.st_fused.specs.Fused.{is_of_chart}
+use Rattle.st_code.specs.Fused.{is_of_chart}
 use Rattle.st_chart_runs.specs.Views.{setting_at}
 
 -- the chart of the unit is known

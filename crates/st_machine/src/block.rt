@@ -1,7 +1,7 @@
 //! The code of function blocks of the text.
 ghost use Rattle.std.specs.Prelude.{◌≡◌};
 
-use st_fused::Fused;
+use st_code::Fused;
 use std::marker::Model;
 
 /// The code of a function block, for all its instances.

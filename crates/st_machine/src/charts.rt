@@ -9,8 +9,8 @@ use st_chart_runs::{Workspace, invoke_chart, is_asked, set_times};
 use st_code::Instr;
 use st_instructions::Stack;
 use st_layout::Layout;
+use st_meaning::Sketch;
 use st_memory::Memory;
-use st_sketches::Sketch;
 
 /// A BOOL's cell.
 fn truth(is: bool) -> i64

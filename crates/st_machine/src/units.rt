@@ -5,7 +5,7 @@ ghost use Rattle.st_chart_runs.specs.Charts.{IsRoomFor};
 use crate::block::Block;
 use crate::function::Function;
 use st_chart_runs::{ChartRoom, room_for};
-use st_sketches::Sketch;
+use st_meaning::Sketch;
 use std::marker::Model;
 
 /// The function blocks, the functions and the charts of a text, each list by the numbers of the units.

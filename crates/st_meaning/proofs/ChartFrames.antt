@@ -3,14 +3,12 @@ use Rattle.std.proofs.Common.{◌≡◌, ℕ, suc, ◌+◌, ◌<◌, ◌≤◌, 
 use Rattle.std.specs.List.{AllZip}
 use Rattle.std.proofs.lemmas.List.{get_or-drop}
 use Rattle.std.proofs.lemmas.Slice.Zip.{AllZip-long}
-use Rattle.st_values.specs.Values.{in_range}
+use Rattle.st_values.specs.Values.{in_range, truth, IsOfType}
 use Rattle.st_values.specs.declared.elem.Elem.{Elem}
 use Rattle.st_values.specs.declared.elem.Elem.TheVariants as elems
 use Rattle.st_types.specs.Compositions.{Composition}
-use Rattle.st_leaves.specs.LeavesIn.{truth}
 use Rattle.st_leaves.specs.Paths.{field}
 use Rattle.st_leaves.specs.Places.{count}
-use Rattle.st_blocks.specs.Cells.{IsOfType}
 use Rattle.st_blocks.proofs.TypeLemmas.{cell_typed}
 use Rattle.st_operators.specs.Laws.{IsOf}
 use Rattle.st_meaning.specs.Charts.{actions_on, is_asked, moved_on, names_on, names_stored, times_set}

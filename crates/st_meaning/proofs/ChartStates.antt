@@ -4,19 +4,19 @@ use Rattle.std.specs.Int.{int_wrapping_sub}
 use Rattle.std.specs.List.{AllZip, range_with_len}
 use Rattle.std.proofs.lemmas.Int.{SFits-int_wrap, wrapping_sub_is, fits_signed_from_abs}
 use Rattle.st_values.specs.Types.{limit_of}
-use Rattle.st_values.specs.Values.{in_range}
+use Rattle.st_values.specs.Values.{in_range, IsOfType}
 use Rattle.st_values.specs.declared.elem.Elem.{Elem}
 use Rattle.st_values.specs.declared.elem.Elem.TheVariants as elems
 use Rattle.st_values.specs.declared.value.Value.{Value}
 use Rattle.st_values.proofs.Cases.{below, is_below}
-use Rattle.st_blocks.specs.Cells.{IsOfType}
 use Rattle.st_blocks.proofs.TypeLemmas.{truth_typed}
 use Rattle.st_charts.specs.Charts.{is_entered, is_left, moved, no_step, remembered, step_between, step_in, timed}
 use Rattle.st_charts.specs.Passages.{Passage, Set}
 use Rattle.st_charts.specs.declared.step.StepCell.{StepCell}
 use Rattle.st_meaning.specs.Charts.{ChartState, cell_in, cells_in, flags_values, moved_on, outcome_of, state_in, state_values, step_values, steps_values, times_set}
 use Rattle.st_meaning.specs.Meaning.{Values}
-use Rattle.st_meaning.specs.Sketches.{Sketch, chart_types, flags_types, step_types, steps_types}
+use Rattle.st_leaves.specs.Charts.{step_types}
+use Rattle.st_meaning.specs.Sketches.{Sketch, chart_types, flags_types, steps_types}
 
 -- ---- values of types
 

@@ -10,7 +10,7 @@ use Rattle.st_tree.specs.declared.tree.unit.ChartElement.{ChartElement}
 use Rattle.st_tree.specs.declared.tree.unit.Step.{Step}
 use Rattle.st_types.specs.Compositions.{Composition, unknown, elementary, array, composed, standard, Members}
 use Rattle.st_types.specs.Names.{steps_in}
-use Rattle.st_leaves.specs.Charts.{associated_names, associations_of, is_pulse, stored_by, stored_names}
+use Rattle.st_leaves.specs.Charts.{associated_names, associations_of, is_pulse, stored_by, stored_names, step_types}
 use Rattle.st_leaves.specs.LeavesIn.{LeafIn, all_steps_in, chart_in, member_names, members_in, state_in, step_in, stored_in, within}
 use Rattle.st_leaves.specs.Paths.{Selector, field}
 use Rattle.st_leaves.specs.Places.{IsPart, first, behind, LeadsTo, flag, time, chart_count, counts, step_count}
@@ -18,7 +18,7 @@ use Rattle.st_leaves.proofs.Numbers.{chart_length, length_is_counts}
 use Rattle.st_leaves.proofs.Spellings.{stored_by_count}
 use Rattle.st_meaning.specs.Offsets.{step_leaf, step_offset}
 use Rattle.st_meaning.specs.Sketched.{number_among, sketch_of}
-use Rattle.st_meaning.specs.Sketches.{chart_size, chart_types, step_types, steps_types}
+use Rattle.st_meaning.specs.Sketches.{chart_size, chart_types, steps_types}
 use Rattle.st_meaning.specs.Sound.{HasChartLeaves, type_at}
 use Rattle.st_meaning.specs.Steps.{has_step, step_elem, step_path}
 use Rattle.st_meaning.proofs.LeafTypes.{elem_right}
@@ -104,7 +104,7 @@ step_part_of (s ∷ steps) name h = by (is_word s.name.spelling name) refl h (st
   by false q h more = behind q (more h)
 
 -- behind the leaves of a step
-types_behind : (p : Bool) (ts us : List Elem) (n : ℕ) → get_or ((step_types p ++ ts) ++ us) ((if p then 4 else 3) + n) elems.Bool ≡ get_or (ts ++ us) n elems.Bool
+types_behind : (p : Bool) (ts us : List Elem) (n : ℕ) → get_or ((step_types p ++ ts) ++ us) (length (step_types p) + n) elems.Bool ≡ get_or (ts ++ us) n elems.Bool
 types_behind true ts us n = let e : 4 + n ≡ suc (suc (suc (suc n))) = omega arith in ap (λ m. get_or ((step_types true ++ ts) ++ us) m elems.Bool) e
 types_behind false ts us n = let e : 3 + n ≡ suc (suc (suc n)) = omega arith in ap (λ m. get_or ((step_types false ++ ts) ++ us) m elems.Bool) e
 
@@ -129,7 +129,7 @@ step_types_at (s ∷ steps) us name h = by (is_word s.name.spelling name) h (ste
       let ts = steps_types (pulses_of steps) in
       let n = step_offset steps name in
       let rest = more h in
-      let e : step_count s + n + 1 ≡ (if p then 4 else 3) + (n + 1) = omega arith in
+      let e : step_count s + n + 1 ≡ length (step_types p) + (n + 1) = omega arith in
       (types_behind p ts us n ∙ rest.0, ap (λ m. get_or ((step_types p ++ ts) ++ us) m elems.Bool) e ∙ types_behind p ts us (n + 1) ∙ rest.1)
 
 pub record StepLeads (root : Composition) (is_time : Bool) (name : List ℕ) : Type 0 where

@@ -8,7 +8,8 @@ use Rattle.st_tree.specs.declared.tree.declaration.DeclaredType.TheVariants as d
 use Rattle.st_tree.specs.declared.tree.declaration.Initial.{Initial}
 use Rattle.st_tree.specs.declared.tree.declaration.Initial.TheVariants as initials
 use Rattle.st_tree.specs.declared.tree.declaration.Subrange.{Subrange}
-use Rattle.st_types.specs.Compositions.{Composition, unknown, elementary, array, composed, standard, composition_within, declared_composition, elements_composition, is_constant, optional_composition, started, subscripted, unit_composition}
+use Rattle.st_tree.specs.Kinds.{is_constant}
+use Rattle.st_types.specs.Compositions.{Composition, unknown, elementary, array, composed, standard, composition_within, declared_composition, elements_composition, optional_composition, started, subscripted, unit_composition}
 use Rattle.st_types.specs.Initials.{element_initial, initial_of, number_in, unit_element_initial}
 use Rattle.st_types.specs.Names.{Declared, Declares, Named, unit_at, variables_in}
 use Rattle.st_types.specs.Names as names

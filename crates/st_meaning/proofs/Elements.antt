@@ -1,10 +1,10 @@
 -- Which element lies at subscripts within their bounds (2.4.1.2).
 use Rattle.std.proofs.Common.{◌≡◌, ℕ, suc, ◌+◌, ◌*◌, ◌<◌, ℤ, pos, negsuc, ◌+ℤ◌, ◌-ℤ◌, int_le, true, List, [], ◌∷◌, refl, ap, sym, ◌∙◌, arith, mul-le-mul_right, suc-mul, add-mul, mul_assoc}
 use Rattle.std.proofs.lemmas.Int.{ints}
-use Rattle.st_sizes.specs.Subscripts.{values_from}
+use Rattle.st_leaves.specs.Subscripts.{values_from}
 use Rattle.st_tree.specs.declared.tree.declaration.Subrange.{Subrange}
 use Rattle.st_values.proofs.Cases.{both}
-use Rattle.st_leaves.specs.Leaves.{number_of}
+use Rattle.st_tree.specs.Literals.{number_of}
 use Rattle.st_leaves.specs.Places.{IsDistance, no_more, above, extent, extent_of}
 use Rattle.st_meaning.specs.Meaning.{are_within, is_within}
 

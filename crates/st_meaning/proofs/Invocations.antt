@@ -1,7 +1,7 @@
 -- Invocations of function blocks keep the frame (3.3.2.2).
 use Rattle.std.proofs.Common.{◌≡◌, ℕ, ◌<◌, ℤ, Bool, true, false, List, IsTrue, drop, length, get_or, if◌then◌else◌, refl, ap, sym, ◌∙◌, subst, arith}
 use Rattle.std.proofs.lemmas.Slice.Zip.{AllZip-long}
-use Rattle.st_values.specs.Values.{in_range}
+use Rattle.st_values.specs.Values.{in_range, IsOfType}
 use Rattle.st_values.specs.declared.elem.Elem.TheVariants as elems
 use Rattle.st_values.specs.declared.value.Value.{Value}
 use Rattle.st_types.specs.Compositions.{Composition, standard}
@@ -9,7 +9,7 @@ use Rattle.st_types.specs.declared.standard.StandardBlock.{StandardBlock}
 use Rattle.st_leaves.specs.Paths.{Path}
 use Rattle.st_leaves.specs.Places.{count}
 use Rattle.st_leaves.specs.Selected.{selected_by}
-use Rattle.st_blocks.specs.Cells.{AreLeavesOf, IsOfType, types_of}
+use Rattle.st_blocks.specs.Cells.{AreLeavesOf, types_of}
 use Rattle.st_blocks.specs.Steps.{stepped}
 use Rattle.st_blocks.proofs.TypeLemmas.{blocks_keep_their_types, cell_typed}
 use Rattle.st_operators.specs.Laws.{IsOf}

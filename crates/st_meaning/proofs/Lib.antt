@@ -1,3 +1,9 @@
+pub mod Links
+pub mod Lists
+pub mod Passages
+pub mod SketchPlaces
+pub mod Stored
+pub mod Whole
 pub mod BegunFunctions
 pub mod Bodies
 pub mod CalledAlone

@@ -5,9 +5,9 @@ use Rattle.st_values.specs.Words.{is_word}
 use Rattle.st_values.specs.declared.elem.Elem.{Elem}
 use Rattle.st_types.specs.Compositions.{Composition, unknown, elementary, array, composed, standard, Members, none, member}
 use Rattle.st_types.specs.Initials.{zero_of}
-use Rattle.st_types.specs.Standard.{Pin, pin_named, pins_of}
+use Rattle.st_types.specs.Standard.{Pin, pin_named, pins_of, block_name, kept_by}
 use Rattle.st_leaves.specs.Charts.{stored_by}
-use Rattle.st_leaves.specs.LeavesIn.{LeafIn, block_name, chart_in, elements_in, kept_by, kept_leaf, leaves_in, member_names, members_in, pin_leaf, subscript_lists, within}
+use Rattle.st_leaves.specs.LeavesIn.{LeafIn, chart_in, elements_in, kept_leaf, leaves_in, member_names, members_in, pin_leaf, subscript_lists, within}
 use Rattle.st_leaves.specs.Paths.{Path, field, index}
 use Rattle.st_leaves.specs.Places.{IsMember, here, later, IsPart, first, behind, LeadsTo, end, element, into, pin, count, counts}
 use Rattle.st_leaves.specs.Selected.{element_of, member_selected, pin_selected, selected_by, subscripts_of, takes_subscripts, value_type}

@@ -4,10 +4,10 @@ use Rattle.std.specs.List.{All}
 use Rattle.std.proofs.lemmas.Int.{ints}
 use Rattle.std.proofs.lemmas.List.Elements.{All-head, All-tail}
 use Rattle.st_tree.specs.declared.tree.declaration.Subrange.{Subrange}
-use Rattle.st_sizes.specs.Subscripts.{values_from}
+use Rattle.st_leaves.specs.Subscripts.{values_from}
 use Rattle.st_types.specs.Compositions.{Composition, unknown, elementary, array, composed, standard, Members, none, member}
 use Rattle.st_leaves.specs.Bounds.{HasBounds, HaveBounds, IsBounded}
-use Rattle.st_leaves.specs.Leaves.{number_of}
+use Rattle.st_tree.specs.Literals.{number_of}
 use Rattle.st_leaves.specs.Places.{count, counts, extent, extent_of}
 use Rattle.st_meaning.specs.Offsets.{HasSmallArrays, HaveSmallArrays}
 

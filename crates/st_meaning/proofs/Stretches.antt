@@ -7,15 +7,16 @@ use Rattle.st_values.specs.declared.elem.Elem.{Elem}
 use Rattle.st_values.specs.declared.elem.Elem.TheVariants as elems
 use Rattle.st_types.specs.Compositions.{Composition, unknown, elementary, array, composed, standard, Members, none, member}
 use Rattle.st_types.specs.Initials.{zero_of}
-use Rattle.st_types.specs.Standard.{Pin, pin_named, pins_of}
+use Rattle.st_types.specs.Standard.{Pin, pin_named, pins_of, block_name, kept_by}
 use Rattle.st_types.specs.declared.standard.StandardBlock.{StandardBlock}
 use Rattle.st_types.specs.declared.standard.StandardBlock.TheVariants as blocks
 use Rattle.st_leaves.specs.Charts.{stored_by}
-use Rattle.st_leaves.specs.LeavesIn.{LeafIn, block_leaves, block_name, chart_in, kept_by, kept_leaf, member_names, members_in, pin_leaf}
+use Rattle.st_leaves.specs.LeavesIn.{LeafIn, block_leaves, chart_in, kept_leaf, member_names, members_in, pin_leaf}
 use Rattle.st_leaves.specs.Places.{IsMember, count, counts}
 use Rattle.st_leaves.specs.Selected.{member_selected, pin_selected, selected_by}
 use Rattle.st_leaves.proofs.Numbers.{length_is_count, length_is_counts}
-use Rattle.st_blocks.specs.Cells.{AreLeavesOf, IsOfType, types_of}
+use Rattle.st_values.specs.Values.{IsOfType}
+use Rattle.st_blocks.specs.Cells.{AreLeavesOf, types_of}
 use Rattle.st_operators.specs.Laws.{IsOf}
 use Rattle.st_meaning.specs.Meaning.{Values, no_value}
 use Rattle.st_meaning.specs.Offsets.{member_offset, offset_of, pin_offset}

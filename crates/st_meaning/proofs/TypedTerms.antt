@@ -11,10 +11,10 @@ use Rattle.st_tree.specs.declared.operator.BinOp.TheVariants as operators
 use Rattle.st_tree.specs.declared.tree.constant.Constant.{Constant}
 use Rattle.st_types.specs.Compositions.{Composition}
 use Rattle.st_types.specs.Initials.{number_in}
-use Rattle.st_types.specs.OwnTypes.{first_own, is_comparison, or_lint}
+use Rattle.st_types.specs.OwnTypes.{first_own, or_lint}
 use Rattle.st_types.specs.declared.standard.StandardFunction.{StandardFunction}
 use Rattle.st_types.specs.declared.standard.StandardFunction.TheVariants as standard_functions
-use Rattle.st_operators.specs.Operators.{takes, type_given}
+use Rattle.st_operators.specs.Operators.{takes, type_given, is_comparison}
 use Rattle.st_operators.proofs.Results.{wrapped_is}
 use Rattle.st_meaning.specs.Operations.{binary_type, has_count, takes_one, takes_two, unary_type}
 use Rattle.st_meaning.specs.Sound.{AreSoundParts, AreSoundTerms, IsTermOf, term_type}

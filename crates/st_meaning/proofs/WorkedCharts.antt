@@ -14,7 +14,7 @@ use Rattle.st_tree.specs.declared.tree.unit.ChartElement.{ChartElement}
 use Rattle.st_tree.specs.declared.tree.unit.ChartElement.TheVariants as chart_elements
 use Rattle.st_types.specs.Compositions.{Composition, elementary, composed, Members, none, member}
 use Rattle.st_types.specs.Initials.{zero_of}
-use Rattle.st_leaves.specs.LeavesIn.{truth}
+use Rattle.st_values.specs.Values.{truth}
 use Rattle.st_charts.specs.Passages.{Passage}
 use Rattle.st_charts.specs.declared.table.Link.{Link}
 use Rattle.st_charts.specs.declared.table.Qualifier.{Qualifier}

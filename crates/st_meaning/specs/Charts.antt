@@ -2,14 +2,15 @@
 use Rattle.std.specs.Prelude.{ℕ, ◌+◌, ℤ, Bool, true, false, ◌&&◌, List, [], ◌∷◌, ◌++◌, drop, get_or, length, map, set, Option, Some, None}
 use Rattle.st_values.specs.declared.elem.Elem.TheVariants as elems
 use Rattle.st_types.specs.Compositions.{Composition}
-use Rattle.st_leaves.specs.LeavesIn.{truth}
+use Rattle.st_values.specs.Values.{truth}
 use Rattle.st_leaves.specs.Paths.{field}
 use Rattle.st_blocks.specs.Cells.{flag_at, number_at, of_type}
 use Rattle.st_charts.specs.Charts.{active_in, is_enabled, no_step, timed}
 use Rattle.st_charts.specs.Outcomes.{Outcome, invoked}
 use Rattle.st_charts.specs.declared.step.StepCell.{StepCell}
 use Rattle.st_meaning.specs.Meaning.{Values, stored_at}
-use Rattle.st_meaning.specs.Sketches.{Sketch, step_types, steps_types}
+use Rattle.st_leaves.specs.Charts.{step_types}
+use Rattle.st_meaning.specs.Sketches.{Sketch, steps_types}
 
 -- whether it has begun, its steps, and the stored flags of all its names, which are FALSE where they are never stored
 pub record ChartState : Type 0 where

@@ -1,3 +1,6 @@
+pub mod Counts
+pub mod Inside
+pub mod Views
 pub mod CalledBy
 pub mod Charts
 pub mod InRange

@@ -6,7 +6,7 @@ use Rattle.st_values.specs.declared.value.Value.{Value}
 use Rattle.st_tree.specs.declared.tree.declaration.Subrange.{Subrange}
 use Rattle.st_types.specs.Compositions.{Composition}
 use Rattle.st_types.specs.Initials.{zero_of}
-use Rattle.st_leaves.specs.Leaves.{number_of}
+use Rattle.st_tree.specs.Literals.{number_of}
 use Rattle.st_leaves.specs.LeavesIn.{leaves_in}
 use Rattle.st_leaves.specs.Paths.{Path, field, index, is_same_path}
 use Rattle.st_leaves.specs.Selected.{element_of, selected_by, subscripts_of}

@@ -5,6 +5,7 @@ use Rattle.st_values.specs.declared.elem.Elem.{Elem}
 use Rattle.st_values.specs.declared.elem.Elem.TheVariants as elems
 use Rattle.st_charts.specs.Passages.{Passage}
 use Rattle.st_charts.specs.declared.table.Link.{Link}
+use Rattle.st_leaves.specs.Charts.{step_types}
 
 pub record Sketch : Type 0 where
   -- of each step whether it is associated with the qualifier P
@@ -22,11 +23,7 @@ pub record Sketch : Type 0 where
 
 -- ---- the types of its leaves
 
--- of a step: whether it is active, for how long, since when, and, where it has pulses, whether they were given
-abbrev pub step_types : Bool → List Elem
-step_types true = elems.Bool ∷ elems.Time ∷ elems.Time ∷ elems.Bool ∷ []
-step_types false = elems.Bool ∷ elems.Time ∷ elems.Time ∷ []
-
+-- of its steps
 abbrev pub steps_types : List Bool → List Elem
 steps_types [] = []
 steps_types (p ∷ pulses) = step_types p ++ steps_types pulses

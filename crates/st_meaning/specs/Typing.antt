@@ -28,7 +28,8 @@ use Rattle.st_tree.specs.declared.tree.unit.Transition.{Transition}
 use Rattle.st_types.specs.Compositions.{Composition}
 use Rattle.st_types.specs.Initials.{value_written, zero_of}
 use Rattle.st_types.specs.Names.{actions_in}
-use Rattle.st_types.specs.OwnTypes.{first_own, is_comparison, literal_own, or_lint}
+use Rattle.st_operators.specs.Operators.{is_comparison}
+use Rattle.st_types.specs.OwnTypes.{first_own, literal_own, or_lint}
 use Rattle.st_types.specs.Standard.{standard_of}
 use Rattle.st_types.specs.declared.standard.StandardBlock.{StandardBlock}
 use Rattle.st_types.specs.declared.standard.Standard.{Standard}

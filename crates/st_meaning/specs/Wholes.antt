@@ -3,7 +3,8 @@ use Rattle.std.specs.Prelude.{ℕ, ◌&&◌, List, [], ◌∷◌, Option, Some, 
 use Rattle.st_values.specs.Words.{is_word}
 use Rattle.st_values.specs.declared.elem.Elem.{Elem}
 use Rattle.st_values.specs.declared.value.Value.{Value}
-use Rattle.st_types.specs.Compositions.{Composition, elementary, standard, is_constant}
+use Rattle.st_tree.specs.Kinds.{is_constant}
+use Rattle.st_types.specs.Compositions.{Composition, elementary, standard}
 use Rattle.st_types.specs.Names.{Declared}
 use Rattle.st_types.specs.declared.standard.StandardBlock.{StandardBlock}
 use Rattle.st_leaves.specs.Selected.{element_of, selected_by, takes_subscripts, value_type}

@@ -1,10 +1,16 @@
 //! Defines what programs mean: the values of expressions, and what statements and charts do to the values of variables, which are found by
-//! their paths (IEC 61131-3:2003, 2.6 and 3.3). No code and no stack stands in it.
+//! their paths (IEC 61131-3:2003, 2.6 and 3.3). No code and no stack stands in it. Charts are put into the numbers that this meaning and the
+//! machine have, once and in time linear in their texts.
 #![tactic(auto)]
 
 mod fault;
 mod laws;
+mod numbers;
+mod offsets;
 mod operation;
+mod parts;
+mod qualifiers;
+mod sketch;
 mod start;
 
 pub use fault::{RunFault, RunFaultKind};
@@ -15,4 +21,5 @@ pub use laws::{
     terms_give_values, typing_gives_sound_bodies, typing_gives_sound_units,
 };
 pub use operation::{Binary, Unary};
+pub use sketch::{Sketch, sketch_of};
 pub use start::Start;

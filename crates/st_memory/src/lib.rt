@@ -10,7 +10,6 @@ mod memory;
 mod packed;
 mod pairs;
 mod saved;
-mod two_leaves;
 
 pub use cells::Cells;
 pub use laws::{

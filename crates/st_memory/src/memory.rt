@@ -72,8 +72,10 @@ pub trait Memory: Sized + Drop {
         requires over { IsOver old.now self.old }
         requires plan { IsPairing old.now new.now plan.now }
         ensures over { OnOk result (IsOver new.now self.new) }
-        ensures moved { OnOk result (content new.now self.new ≡ moved new.now plan.now (content old.now self.old)) }
-        ensures saved { IfOk result (λ dropped. dropped ≡ saved plan.now (content old.now self.old)) }
+        ensures moved { OnOk result
+            (content new.now self.new ≡ moved new.now plan.now (content old.now self.old)) }
+        ensures saved { IfOk result
+            (λ dropped. dropped ≡ saved plan.now (content old.now self.old)) }
         ensures err { OnErr result (self.new ≡ self.old) };
 
     /// Goes back to the layout of the old program: kept leaves have their present values and forces, and dropped ones those
@@ -90,7 +92,9 @@ pub trait Memory: Sized + Drop {
         requires plan { IsPairing old.now new.now plan.now }
         requires holds { HoldsValues old.now plan.now.targets dropped.now.bytes }
         ensures over { OnOk result (IsOver old.now self.new) }
-        ensures unmoved { OnOk result (content old.now self.new ≡ unmoved old.now plan.now (content new.now self.old) dropped.now) }
+        ensures unmoved { OnOk result
+            (content old.now self.new
+            ≡ unmoved old.now plan.now (content new.now self.old) dropped.now) }
         ensures err { OnErr result (self.new ≡ self.old) };
 
     /// What it holds is one value of the right type for each leaf, and as many marks.
@@ -108,12 +112,17 @@ pub fn carry_over<M: Memory>(
     requires over { M.IsOver old.now memory.old }
     requires plan { IsPairing old.now new.now plan.now }
     ensures over { OnOk result (M.IsOver new.now memory.new) }
-    ensures moved { OnOk result (M.content new.now memory.new ≡ moved new.now plan.now (M.content old.now memory.old)) }
-    ensures saved { IfOk result (λ dropped. dropped ≡ saved plan.now (M.content old.now memory.old)) }
-    ensures back { IfOk result (λ dropped. unmoved old.now plan.now (M.content new.now memory.new) dropped ≡ M.content old.now memory.old) }
+    ensures moved { OnOk result
+        (M.content new.now memory.new ≡ moved new.now plan.now (M.content old.now memory.old)) }
+    ensures saved { IfOk result
+        (λ dropped. dropped ≡ saved plan.now (M.content old.now memory.old)) }
+    ensures back { IfOk result (λ dropped. unmoved old.now plan.now (M.content new.now memory.new)
+        dropped ≡ M.content old.now memory.old) }
     ensures holds { IfOk result (λ dropped. HoldsValues old.now plan.now.targets dropped.bytes) }
-    ensures open { ForcesAreOpen old.now (M.content old.now memory.old).forced → OnOk result (ForcesAreOpen new.now (M.content new.now memory.new).forced) }
-    ensures open_saved { ForcesAreOpen old.now (M.content old.now memory.old).forced → IfOk result (λ dropped. All (IsOpenAt old.now) dropped.forced) }
+    ensures open { ForcesAreOpen old.now (M.content old.now memory.old).forced
+        → OnOk result (ForcesAreOpen new.now (M.content new.now memory.new).forced) }
+    ensures open_saved { ForcesAreOpen old.now (M.content old.now memory.old).forced
+        → IfOk result (λ dropped. All (IsOpenAt old.now) dropped.forced) }
     ensures err { OnErr result (memory.new ≡ memory.old) }
 {
     memory.carry(alloc, plan, old, new)

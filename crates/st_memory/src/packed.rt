@@ -113,7 +113,8 @@ impl Memory for Packed {
 
 /// The bytes of the leaves' initial values.
 fn initial_bytes(alloc: Global, layout: &Layout) -> Result<Vec<u8>, AllocError>
-    ensures bytes { IfOk result (λ bytes. bytes.items ≡ encoded (map (λ leaf. leaf.initial) layout.now)) }
+    ensures bytes { IfOk result
+        (λ bytes. bytes.items ≡ encoded (map (λ leaf. leaf.initial) layout.now)) }
     ensures fitting { OnOk result (AreValues layout.now (map (λ leaf. leaf.initial) layout.now)) }
 {
     let mut bytes = Vec::with_capacity(alloc, layout.bytes() as usize)?;

@@ -28,7 +28,8 @@ pub fn is_dropped(plan: &Plan, leaf: u32) -> bool
 /// Tests whether this is the number of a leaf that was dropped.
 pub fn names_dropped(plan: &Plan, old: &Layout, number: u32) -> bool
     requires { length plan.now.targets ≡ length old.now }
-    ensures { result ≡ (nat_lt number (length old.now) && is_none (number_at plan.now.targets number)) }
+    ensures { result ≡ (nat_lt number (length old.now)
+        && is_none (number_at plan.now.targets number)) }
 {
     number < old.len() && is_dropped(plan, number)
 }

@@ -5,7 +5,7 @@ use Rattle.std.proofs.lemmas.Int.{ints}
 use Rattle.std.proofs.lemmas.Nat.{and_le_l, or_lt, xor_lt}
 use Rattle.st_values.proofs.Cases.{is_below}
 use Rattle.st_values.specs.Types.{bits_of, is_signed, limit_of}
-use Rattle.st_values.specs.Values.{in_range, wrapped, wrapped_number, IsValue}
+use Rattle.st_values.specs.Values.{in_range, wrapped, wrapped_number, IsValue, truth}
 use Rattle.st_values.specs.declared.elem.Elem.{Elem}
 use Rattle.st_values.specs.declared.elem.Elem.TheVariants as elems
 use Rattle.st_values.specs.declared.value.Value.{Value}
@@ -13,7 +13,7 @@ use Rattle.st_tree.specs.declared.operator.BinOp.{BinOp}
 use Rattle.st_tree.specs.declared.operator.BinOp.TheVariants as operators
 use Rattle.st_operators.specs.Functions.{greatest_of, least_of, limited_to, rotated_left_by, rotated_right_by, selected_by, selected_of, shifted_left_by, shifted_right_by, turned}
 use Rattle.st_operators.specs.Laws.{divides, IsOf}
-use Rattle.st_operators.specs.Operators.{applied, bits_in, complemented, complements, is_bits, of_bits, truth, type_given, unless_zero, AreAlike, Takes}
+use Rattle.st_operators.specs.Operators.{applied, bits_in, complemented, complements, is_bits, of_bits, type_given, unless_zero, AreAlike, Takes}
 use Rattle.st_operators.proofs.Shifting.{bits_complement, natural_of, turned_few}
 use Rattle.st_operators.proofs.Wrapping.{few_bits}
 

@@ -5,7 +5,8 @@ use Rattle.st_values.specs.declared.elem.Elem.TheVariants as elems
 use Rattle.st_values.specs.declared.value.Value.{Value}
 use Rattle.st_tree.specs.declared.operator.BinOp.TheVariants as operators
 use Rattle.st_operators.specs.Functions.{absolute_of, converted_to, greatest_of, least_of, limited_to, places_of, rotated_left_by, rotated_right_by, selected_of, shifted_left_by, shifted_right_by}
-use Rattle.st_operators.specs.Operators.{applied, complemented, negated, truth}
+use Rattle.st_values.specs.Values.{truth}
+use Rattle.st_operators.specs.Operators.{applied, complemented, negated}
 
 -- a number as a value; `negsuc n` is the number -(n + 1)
 abbrev of : Elem → ℤ → Value

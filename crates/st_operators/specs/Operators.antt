@@ -3,7 +3,7 @@
 use Rattle.std.specs.Ordering.{int_eq}
 use Rattle.std.specs.Prelude.{◌≡◌, ℕ, zero, ◌-◌, ◌^◌, Bool, true, false, ◌||◌, not, if◌then◌else◌, ℤ, pos, neg_ℤ, ◌+ℤ◌, ◌-ℤ◌, ◌*ℤ◌, int_div, int_rem, int_le, int_lt, unsigned_abs, bit_and, bit_or, bit_xor, Result, Ok, Err, IsTrue}
 use Rattle.st_values.specs.Types.{bits_of, class_of, is_same}
-use Rattle.st_values.specs.Values.{wrapped, IsValue}
+use Rattle.st_values.specs.Values.{truth, wrapped, IsValue}
 use Rattle.st_values.specs.declared.elem.Class.{Class}
 use Rattle.st_values.specs.declared.elem.Class.TheVariants as classes
 use Rattle.st_values.specs.declared.elem.Elem.{Elem}
@@ -33,13 +33,29 @@ is_integer elem = is_integer_class (class_of elem)
 abbrev pub is_bits : Elem → Bool
 is_bits elem = is_bits_class (class_of elem)
 
+abbrev pub is_boolean : Elem → Bool
+is_boolean elem = is_same elem elems.Bool
+
+abbrev pub is_duration : Elem → Bool
+is_duration elem = is_same elem elems.Time
+
 -- `-` takes an integer type or TIME
 abbrev pub negates : Elem → Bool
-negates elem = is_integer elem || is_same elem elems.Time
+negates elem = is_integer elem || is_duration elem
 
 -- NOT takes BOOL or a bit string type
 abbrev pub complements : Elem → Bool
-complements elem = is_same elem elems.Bool || is_bits elem
+complements elem = is_boolean elem || is_bits elem
+
+-- the operator compares its operands
+abbrev pub is_comparison : BinOp → Bool
+is_comparison operators.Eq = true
+is_comparison operators.Ne = true
+is_comparison operators.Lt = true
+is_comparison operators.Gt = true
+is_comparison operators.Le = true
+is_comparison operators.Ge = true
+is_comparison _ = false
 
 -- the operator takes operands of the type; a comparison takes any
 abbrev pub takes : BinOp → Elem → Bool
@@ -65,10 +81,6 @@ pub record Takes (operator : BinOp) (a b : Value) : Type 0 where
   pub taken : IsTrue (takes operator a.elem)
 
 -- ---- what an operator gives
-
--- TRUE or FALSE as a value
-abbrev pub truth : Bool → Value
-truth is = record { elem = elems.Bool; bits = if is then pos 1 else pos 0 }
 
 -- the bits of a BOOL or a bit string, as one natural number
 abbrev pub bits_in : Value → ℕ

@@ -1,12 +1,12 @@
 //! The operators between two operands (IEC 61131-3:2003, 3.3.1, table 55).
 ghost use Rattle.std.specs.Prelude.{◌≡◌, Ok, IfOk};
-ghost use Rattle.st_values.specs.Values.{IsValue};
-ghost use Rattle.st_operators.specs.Operators.{applied, truth, type_given, Takes};
+ghost use Rattle.st_values.specs.Values.{IsValue, truth};
+ghost use Rattle.st_operators.specs.Operators.{applied, type_given, Takes};
 
 use crate::arithmetic::{difference, product, quotient, remainder, sum};
 use crate::bits::{conjunction, disjunction, exclusion};
 use st_tree::BinOp;
-use st_values::{Elem, Value};
+use st_values::{Value, truth};
 use thiserror::Error;
 
 /// A divisor of `/` or `MOD` that is 0.
@@ -40,16 +40,5 @@ pub fn apply(op: BinOp, a: Value, b: Value) -> Result<Value, ZeroDivisor>
         BinOp::Gt => Ok(truth(b.bits < a.bits)),
         BinOp::Le => Ok(truth(a.bits <= b.bits)),
         BinOp::Ge => Ok(truth(b.bits <= a.bits)),
-    }
-}
-
-/// TRUE or FALSE as a value.
-fn truth(is: bool) -> Value
-    ensures value { result ≡ truth is }
-    ensures in_range { IsValue result }
-{
-    Value {
-        elem: Elem::Bool,
-        bits: if is { 1 } else { 0 },
     }
 }

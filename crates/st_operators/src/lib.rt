@@ -8,6 +8,7 @@ mod choices;
 mod conversion;
 mod laws;
 mod shifts;
+mod types;
 
 pub use arithmetic::{absolute, negate};
 pub use binary::{ZeroDivisor, apply};
@@ -19,3 +20,4 @@ pub use laws::{
     operators_give_values, rotations_go_round, shifts_end_in_zero, zero_divisors_alone_are_refused,
 };
 pub use shifts::{rotated_left, rotated_right, shifted_left, shifted_right};
+pub use types::{complements, is_bits, is_comparison, is_integer, negates, takes};

@@ -1,3 +1,6 @@
+pub mod Expressions
+pub mod Follows
+pub mod ReaderLemmas
 pub mod Exact
 pub mod Levels
 pub mod Loops

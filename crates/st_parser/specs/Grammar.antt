@@ -1,3 +1,4 @@
+pub mod Expressions
 pub mod Faults
 pub mod Levels
 pub mod Lists

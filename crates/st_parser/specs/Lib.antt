@@ -1,3 +1,3 @@
 pub mod Grammar
-pub mod Names
 pub mod Reader
+pub mod Names

@@ -1,2 +1,3 @@
+pub mod Expressions
 pub mod Functions
 pub mod Parsers

@@ -53,7 +53,8 @@ pub fn many<
 >(alloc: Global, ts: &mut Cursor<'_>, begins: B, item: F) -> Result<List<T>, ReadFault>
     requires test { IsTest (B.pre begins) }
     requires item { IsReader (F.pre item) (F.post item) }
-    ensures read { (test : Option names.Kind → Bool) (p : Parser T) → TestsAs test (B.post begins) → ReadsAs p (F.post item) → Reads (spec.many test p ts.old) result ts.new }
+    ensures read { (test : Option names.Kind → Bool) (p : Parser T) → TestsAs test (B.post begins)
+        → ReadsAs p (F.post item) → Reads (spec.many test p ts.old) result ts.new }
     ensures shorter { OnOk result (length ts.new ≤ length ts.old) }
 {
     more(alloc, ts, begins, item, List::new(alloc))
@@ -67,7 +68,8 @@ pub fn at_least_one<
 >(alloc: Global, ts: &mut Cursor<'_>, begins: B, item: F) -> Result<List<T>, ReadFault>
     requires test { IsTest (B.pre begins) }
     requires item { IsReader (F.pre item) (F.post item) }
-    ensures read { (test : Option names.Kind → Bool) (p : Parser T) → TestsAs test (B.post begins) → ReadsAs p (F.post item) → Reads (spec.leading p test p ts.old) result ts.new }
+    ensures read { (test : Option names.Kind → Bool) (p : Parser T) → TestsAs test (B.post begins)
+        → ReadsAs p (F.post item) → Reads (spec.leading p test p ts.old) result ts.new }
     ensures shorter { OnOk result (length ts.new < length ts.old) }
 {
     let found = single(alloc, item(alloc, ts))?;
@@ -88,7 +90,9 @@ fn more<
 ) -> Result<List<T>, ReadFault>
     requires test { IsTest (B.pre begins) }
     requires item { IsReader (F.pre item) (F.post item) }
-    ensures read { (test : Option names.Kind → Bool) (p : Parser T) → TestsAs test (B.post begins) → ReadsAs p (F.post item) → Reads (spec.ahead found (spec.many test p ts.old)) result ts.new }
+    ensures read { (test : Option names.Kind → Bool) (p : Parser T) → TestsAs test (B.post begins)
+        → ReadsAs p (F.post item)
+        → Reads (spec.ahead found (spec.many test p ts.old)) result ts.new }
     ensures shorter { OnOk result (length ts.new ≤ length ts.old) }
 {
     'items: while begins(ts) {
@@ -105,7 +109,8 @@ pub fn listed<T: Drop, F: FnOnce(Global, &mut Cursor<'_>) -> Result<T, ReadFault
     item: F,
 ) -> Result<List<T>, ReadFault>
     requires { IsReader (F.pre item) (F.post item) }
-    ensures read { (p : Parser T) → ReadsAs p (F.post item) → Reads (spec.listed p ts.old) result ts.new }
+    ensures read { (p : Parser T) → ReadsAs p (F.post item)
+        → Reads (spec.listed p ts.old) result ts.new }
     ensures shorter { OnOk result (length ts.new < length ts.old) }
 {
     let mut found = single(alloc, item(alloc, ts))?;

@@ -10,12 +10,13 @@ use Rattle.std.proofs.lemmas.Option.{same_Some}
 use Rattle.st_values.specs.Values.{IsValue}
 use Rattle.st_values.specs.Words.{is_word}
 use Rattle.st_values.specs.declared.value.Value.{Value}
-use Rattle.st_names.specs.Tables.{first_of}
+use Rattle.st_types.specs.Tables.{first_of}
 use Rattle.st_tree.specs.declared.tree.declaration.VarKind.{VarKind}
 use Rattle.st_tree.specs.declared.tree.declaration.VarKind.TheVariants as var_kinds
 use Rattle.st_tree.specs.declared.tree.unit.Function.{Function as Section}
 use Rattle.st_types.proofs.Places.{position-map}
-use Rattle.st_types.specs.Compositions.{Composition, unknown, elementary, array, composed, standard, Members, none, member, declared_composition, is_constant}
+use Rattle.st_tree.specs.Kinds.{is_constant}
+use Rattle.st_types.specs.Compositions.{Composition, unknown, elementary, array, composed, standard, Members, none, member, declared_composition}
 use Rattle.st_scopes.specs.Declarations.{names_at, names_in}
 use Rattle.st_types.specs.Inside.{declares_at, named_by}
 use Rattle.st_types.specs.declared.unit.NamedUnit.{NamedUnit}

@@ -6,7 +6,7 @@ use Rattle.std.specs.Option.{option_map, option_map_or}
 use Rattle.std.proofs.lemmas.Grind.{flat_map-append}
 use Rattle.std.proofs.lemmas.List.{map-append, take_more}
 use Rattle.std.proofs.lemmas.Option.{same_Some}
-use Rattle.st_names.specs.Tables.{first_of}
+use Rattle.st_types.specs.Tables.{first_of}
 use Rattle.st_scopes.specs.Charts.{step_names}
 use Rattle.st_tree.specs.declared.tree.unit.ChartElement.{ChartElement}
 use Rattle.st_tree.specs.declared.tree.unit.Step.{Step}
@@ -14,7 +14,7 @@ use Rattle.st_types.proofs.Cases.{by_test}
 use Rattle.st_types.specs.Compositions.{Composition, unknown, elementary, array, composed, standard}
 use Rattle.st_types.specs.Names.{Declared, Named, chart_in, steps_in, unit_at, units_of}
 use Rattle.st_values.specs.Words.{is_word}
-use Rattle.st_leaves.specs.Charts.{is_pulse}
+use Rattle.st_leaves.specs.Charts.{is_pulse, step_types}
 use Rattle.st_leaves.specs.Places.{chart_count, count, counts, step_count, steps_count}
 use Rattle.st_meaning.specs.Offsets.{IsSmall, chart_offset, step_leaf, step_offset}
 use Rattle.st_meaning.specs.Steps.{chart_within, steps_within}
@@ -79,7 +79,7 @@ IsFoundAt next steps name (Some k) = IsStepAt next steps name k
 some_leaves : (s : Step) → 3 ≤ step_count s
 some_leaves s = by (list_any is_pulse s.associations)
   where
-    by : (b : Bool) → 3 ≤ (if b then 4 else 3)
+    by : (b : Bool) → 3 ≤ length (step_types b)
     by true = omega arith
     by false = omega arith
 

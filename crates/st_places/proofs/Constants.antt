@@ -3,7 +3,7 @@ use Rattle.std.proofs.Common.{◌≡◌, ℕ, suc, Bool, true, false, ◌&&◌, 
 use Rattle.std.specs.List.{slice_get}
 use Rattle.std.specs.Option.{option_map}
 use Rattle.std.proofs.lemmas.Option.{same_Some}
-use Rattle.st_names.specs.Tables.{first_of}
+use Rattle.st_types.specs.Tables.{first_of}
 use Rattle.st_scopes.specs.Declarations.{spellings_of}
 use Rattle.st_tree.specs.declared.tree.declaration.Declaration.{Declaration}
 use Rattle.st_tree.specs.declared.tree.declaration.DeclaredType.TheVariants as declared_types
@@ -12,7 +12,8 @@ use Rattle.st_tree.specs.declared.tree.declaration.Initial.TheVariants as initia
 use Rattle.st_tree.specs.declared.tree.declaration.VarKind.TheVariants as var_kinds
 use Rattle.st_tree.specs.declared.tree.position.Identifier.{Identifier}
 use Rattle.st_types.proofs.Cases.{by_test}
-use Rattle.st_types.specs.Compositions.{declared_composition, elementary, is_constant, started}
+use Rattle.st_tree.specs.Kinds.{is_constant}
+use Rattle.st_types.specs.Compositions.{declared_composition, elementary, started}
 use Rattle.st_types.specs.Initials.{initial_of, zero_of}
 use Rattle.st_types.specs.Names.{Declared, Declares, Named, members_of, unit_at, units_of, variables_in}
 use Rattle.st_types.specs.Names as names

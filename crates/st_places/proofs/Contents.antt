@@ -6,7 +6,7 @@ use Rattle.std.proofs.lemmas.Option.{same_Some, slice_get_within}
 use Rattle.st_references.specs.References.{contained, type_names_in}
 use Rattle.st_references.proofs.Lists.{all_of}
 use Rattle.std.specs.List.{flat_map}
-use Rattle.st_program_sizes.proofs.Names.{of_name}
+use Rattle.st_check.proofs.Names.{of_name}
 use Rattle.st_tree.specs.declared.tree.constant.Constant.{Constant}
 use Rattle.st_tree.specs.declared.tree.declaration.DeclaredType.TheVariants as declared_types
 use Rattle.st_tree.specs.declared.tree.declaration.Initial.{Initial}

@@ -19,9 +19,9 @@ use Rattle.st_leaves.specs.Places.{count}
 use Rattle.st_leaves.proofs.Composed.{leaves_of_bases}
 use Rattle.st_leaves.proofs.Numbers.{length_is_count}
 use Rattle.st_leaves.proofs.Started.{started_count}
-use Rattle.st_program_sizes.specs.Sized.{IsSized, size_at, type_leaves, unit_of}
-use Rattle.st_sizes.specs.Sizes.{IsSize}
-use Rattle.st_sizes.specs.declared.size.Size.{Size}
+use Rattle.st_check.specs.Sized.{IsSized, size_at, type_leaves, unit_of}
+use Rattle.st_leaves.specs.Sizes.{IsSize}
+use Rattle.st_leaves.specs.declared.limited.Size.{Size}
 use Rattle.st_places.specs.Members.{member_count, shape_count}
 use Rattle.st_places.specs.Parts.{inside}
 

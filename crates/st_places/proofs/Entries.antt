@@ -10,7 +10,8 @@ use Rattle.st_tree.specs.declared.tree.declaration.DeclaredType.TheVariants as d
 use Rattle.st_values.specs.declared.elem.Elem.{Elem}
 use Rattle.st_references.proofs.Lists.{all_of}
 use Rattle.st_references.specs.References.{contained, specified_names}
-use Rattle.st_types.specs.Compositions.{Composition, unknown, elementary, array, composed, standard, composition_within, elements_composition, is_constant, optional_composition, started, subscripted, unit_composition}
+use Rattle.st_tree.specs.Kinds.{is_constant}
+use Rattle.st_types.specs.Compositions.{Composition, unknown, elementary, array, composed, standard, composition_within, elements_composition, optional_composition, started, subscripted, unit_composition}
 use Rattle.st_types.specs.Initials.{element_initial, initial_at, initial_of, known, specified_initial, unit_element_initial, written_or, zero_of}
 use Rattle.st_types.specs.Names.{Declared, Declares, Named, unit_at}
 use Rattle.st_types.specs.Names as names
@@ -18,9 +19,9 @@ use Rattle.st_types.specs.Types.{Elements, elem_by, elem_of, elements_in, is_unk
 use Rattle.st_types.specs.declared.base.Base.{Base}
 use Rattle.st_types.specs.declared.base.Base.TheVariants as bases
 use Rattle.st_types.specs.declared.standard.StandardBlock.{StandardBlock}
-use Rattle.st_program_sizes.specs.Sized.{IsSized}
-use Rattle.st_program_sizes.proofs.Names.{of_shape}
-use Rattle.st_sizes.specs.declared.size.Size.{Size}
+use Rattle.st_check.specs.Sized.{IsSized}
+use Rattle.st_check.proofs.Names.{of_shape}
+use Rattle.st_leaves.specs.declared.limited.Size.{Size}
 use Rattle.st_meaning.specs.Wholes.{constant_value}
 use Rattle.st_places.specs.Members.{HasConstants, HasMembers, HasNames, value_declared}
 use Rattle.st_places.specs.Parts.{constants_among, inside, variables_among}

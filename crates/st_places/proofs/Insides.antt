@@ -6,10 +6,11 @@ use Rattle.st_tree.specs.declared.tree.declaration.DeclaredType.TheVariants as d
 use Rattle.st_tree.specs.declared.tree.declaration.VarKind.{VarKind}
 use Rattle.st_tree.specs.declared.tree.unit.ChartElement.{ChartElement}
 use Rattle.st_values.specs.declared.elem.Elem.{Elem}
-use Rattle.st_program_sizes.proofs.Names.{of_shape}
+use Rattle.st_check.proofs.Names.{of_shape}
 use Rattle.st_references.proofs.Lists.{all_left, all_right}
 use Rattle.st_references.specs.References.{contained, declared_names, unit_types}
-use Rattle.st_types.specs.Compositions.{Composition, composed, Members, member, declared_composition, is_constant, members_by, started, subscripted, unit_composition}
+use Rattle.st_tree.specs.Kinds.{is_constant}
+use Rattle.st_types.specs.Compositions.{Composition, composed, Members, member, declared_composition, members_by, started, subscripted, unit_composition}
 use Rattle.st_types.specs.Initials.{element_initial, initial_of}
 use Rattle.st_types.specs.Names.{Declared, Declares, Named, chart_in, members_of, variables_in}
 use Rattle.st_types.specs.Names as names

@@ -8,7 +8,7 @@ use Rattle.st_leaves.specs.Places.{count}
 use Rattle.st_leaves.specs.Selected.{member_selected, selected_by}
 use Rattle.st_meaning.specs.Units.{block_invoked, body_of_unit, instance_of, instances_in, member_instance, number_invoked, root_of, unit_invoked, unit_root, unit_whole}
 use Rattle.st_meaning.specs.Wholes.{Invoked}
-use Rattle.st_order.proofs.Lists.{Contains-nil}
+use Rattle.st_references.proofs.Listed.{Contains-nil}
 use Rattle.st_references.specs.References.{contained, declared_names, unit_types}
 use Rattle.st_tree.specs.declared.tree.declaration.DeclaredType.TheVariants as declared_types
 use Rattle.st_tree.specs.declared.tree.declaration.Initial.{Initial}
@@ -18,7 +18,8 @@ use Rattle.st_tree.specs.declared.tree.declaration.Specification.TheVariants as 
 use Rattle.st_tree.specs.declared.tree.declaration.Subrange.{Subrange}
 use Rattle.st_tree.specs.declared.tree.position.Identifier.{Identifier}
 use Rattle.st_tree.specs.declared.tree.unit.ChartElement.{ChartElement}
-use Rattle.st_types.specs.Compositions.{Composition, unknown, elementary, array, composed, standard, Members, none, member, composition_within, declared_composition, elements_composition, is_constant, members_by, optional_composition, started, subscripted, unit_composition}
+use Rattle.st_tree.specs.Kinds.{is_constant}
+use Rattle.st_types.specs.Compositions.{Composition, unknown, elementary, array, composed, standard, Members, none, member, composition_within, declared_composition, elements_composition, members_by, optional_composition, started, subscripted, unit_composition}
 use Rattle.st_types.specs.Initials.{element_initial, initial_of, unit_element_initial}
 use Rattle.st_types.specs.Names.{Declared, Declares, Named, chart_of, members_of, named, number_of, unit_at, variables_of}
 use Rattle.st_types.specs.Names as names

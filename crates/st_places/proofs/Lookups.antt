@@ -5,10 +5,11 @@ use Rattle.std.specs.List.{position_or_len, slice_get}
 use Rattle.std.specs.Option.{option_map}
 use Rattle.std.proofs.Math.Numerals.{one-add}
 use Rattle.std.proofs.lemmas.Bool.Decides.{nat_tests}
-use Rattle.st_names.specs.Tables.{first_of}
+use Rattle.st_types.specs.Tables.{first_of}
 use Rattle.st_scopes.specs.Declarations.{spellings_of}
 use Rattle.st_types.proofs.Cases.{by_test}
-use Rattle.st_types.specs.Compositions.{Composition, unknown, Members as Parts, none, member, declared_composition, is_constant, members_by}
+use Rattle.st_tree.specs.Kinds.{is_constant}
+use Rattle.st_types.specs.Compositions.{Composition, unknown, Members as Parts, none, member, declared_composition, members_by}
 use Rattle.st_types.specs.Names.{Declared, Named}
 use Rattle.st_values.specs.Words.{is_word}
 use Rattle.st_leaves.specs.Places.{counts}

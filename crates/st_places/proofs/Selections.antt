@@ -8,10 +8,10 @@ use Rattle.std.proofs.lemmas.Bool.{cases_lt}
 use Rattle.std.proofs.lemmas.List.{length-map, take_all}
 use Rattle.std.proofs.lemmas.List.Elements.{All-contains, All-head, All-tail}
 use Rattle.std.proofs.lemmas.Option.{same_Some}
-use Rattle.st_order.specs.Graphs.{IsOrder}
+use Rattle.st_references.specs.Graphs.{IsOrder}
 use Rattle.st_references.proofs.Contents.{order_len}
 use Rattle.st_references.specs.References.{graph_of, references}
-use Rattle.st_program_sizes.proofs.Names.{past_unknown}
+use Rattle.st_check.proofs.Names.{past_unknown}
 use Rattle.st_tree.specs.declared.tree.declaration.Subrange.{Subrange}
 use Rattle.st_types.specs.Compositions.{Composition, unknown, composition_within}
 use Rattle.st_types.specs.Names.{Named, unit_at, units_of}
@@ -20,7 +20,7 @@ use Rattle.st_types.specs.declared.base.Base.TheVariants as bases
 use Rattle.st_types.specs.declared.standard.StandardBlock.{StandardBlock}
 use Rattle.st_values.specs.declared.elem.Elem.{Elem}
 use Rattle.st_leaves.specs.Bounds.{HasBounds, IsBounded}
-use Rattle.st_leaves.specs.Leaves.{number_of}
+use Rattle.st_tree.specs.Literals.{number_of}
 use Rattle.st_leaves.specs.Places.{count, extent, extent_of}
 use Rattle.st_leaves.specs.Selected.{element_of, selected_by, subscripts_of, value_type}
 use Rattle.st_meaning.specs.Offsets.{HasSmallArrays, IsSmall, offset_of}

@@ -9,9 +9,9 @@ use Rattle.st_tree.specs.declared.tree.declaration.Specification.TheVariants as 
 use Rattle.st_tree.specs.declared.tree.declaration.Subrange.{Subrange}
 use Rattle.st_tree.specs.declared.tree.declaration.TypeName.{TypeName}
 use Rattle.st_tree.specs.declared.tree.position.Identifier.{Identifier}
-use Rattle.st_order.specs.Graphs.{IsOrder}
-use Rattle.st_program_sizes.proofs.Names.{of_name}
-use Rattle.st_program_sizes.proofs.Unfolding.{unfolded}
+use Rattle.st_references.specs.Graphs.{IsOrder}
+use Rattle.st_check.proofs.Names.{of_name}
+use Rattle.st_check.proofs.Unfolding.{unfolded}
 use Rattle.st_references.proofs.Contents.{contents, order_len}
 use Rattle.st_references.proofs.InOrder.{all_in_order}
 use Rattle.st_references.specs.References.{contained, graph_of, type_names_in, unit_types}

@@ -21,7 +21,8 @@ use Rattle.st_meaning.specs.Units.{result_declared, root_name, unit_root}
 use Rattle.st_meaning.proofs.BegunFunctions.{functions_declare_their_results}
 use Rattle.st_tree.specs.declared.tree.declaration.DeclaredType.TheVariants as declared_types
 use Rattle.st_tree.specs.declared.tree.unit.Function.{Function}
-use Rattle.st_types.specs.Compositions.{Composition, composed, composition_of, declared_composition, is_constant, member, members_by, unit_composition}
+use Rattle.st_tree.specs.Kinds.{is_constant}
+use Rattle.st_types.specs.Compositions.{Composition, composed, composition_of, declared_composition, member, members_by, unit_composition}
 use Rattle.st_types.specs.Names.{Declared, Declares, Named, unit_at, units_of, variables_of}
 use Rattle.st_types.specs.Names as names
 use Rattle.st_types.specs.Scopes.{scope_of}

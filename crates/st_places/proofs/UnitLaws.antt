@@ -8,9 +8,9 @@ use Rattle.std.proofs.lemmas.Option.{get_or_from_slice_get, same_Some, slice_get
 use Rattle.st_check.specs.Programs.{IsChecked, ProgramView, order_of, text_of}
 use Rattle.st_meaning.specs.Units.{root_name, root_of, unit_root, unit_whole}
 use Rattle.st_meaning.specs.Wholes.{Invoked}
-use Rattle.st_order.specs.Graphs.{Graph, IsOrder, Refers}
-use Rattle.st_order.proofs.Orders.{references_are_before}
-use Rattle.st_program_sizes.proofs.Names.{of_shape}
+use Rattle.st_references.specs.Graphs.{Graph, IsOrder, Refers}
+use Rattle.st_references.proofs.Orders.{references_are_before}
+use Rattle.st_check.proofs.Names.{of_shape}
 use Rattle.st_references.specs.Calls.{unit_calls}
 use Rattle.st_references.specs.References.{called, contained, graph_of, references, specified_names, unit_types}
 use Rattle.st_references.proofs.Lists.{all_of}

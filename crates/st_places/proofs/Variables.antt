@@ -5,14 +5,15 @@ use Rattle.st_values.specs.declared.elem.Elem.{Elem}
 use Rattle.st_values.specs.declared.value.Value.{Value}
 use Rattle.st_tree.specs.declared.tree.declaration.VarKind.{VarKind}
 use Rattle.st_tree.specs.declared.tree.declaration.VarKind.TheVariants as var_kinds
-use Rattle.st_types.specs.Compositions.{Composition, unknown, elementary, array, composed, standard, Members, none, member, declared_composition, is_constant}
+use Rattle.st_types.specs.Compositions.{Composition, unknown, elementary, array, composed, standard, Members, none, member, declared_composition}
 use Rattle.st_types.specs.Initials.{zero_of}
 use Rattle.st_types.specs.Names.{Declared, Named}
 use Rattle.st_meaning.specs.Units.{input_in, inputs_in, with_input}
 use Rattle.st_meaning.specs.Wholes.{Input, constant_value}
 use Rattle.st_meaning.specs.declared.start.Start.{Start}
 use Rattle.st_meaning.specs.declared.start.Start.TheVariants as beginnings
-use Rattle.st_places.specs.Callables.{HasVariables, declared_members, is_input, own_start, own_starts}
+use Rattle.st_tree.specs.Kinds.{is_input, is_constant}
+use Rattle.st_places.specs.Callables.{HasVariables, declared_members, own_start, own_starts}
 use Rattle.st_places.specs.Members.{value_declared}
 use Rattle.st_places.specs.Parts.{inside}
 use Rattle.st_places.specs.declared.function.Variables.{Variables}

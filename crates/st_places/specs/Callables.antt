@@ -23,10 +23,6 @@ use Rattle.st_places.specs.declared.functions.Functions.{Functions}
 
 -- ---- variables
 
-abbrev pub is_input : VarKind → Bool
-is_input var_kinds.Input = true
-is_input _ = false
-
 -- an input begins with the next value that is given, and what else is one value with that
 abbrev pub own_start : Option Input → Option Value → List Start
 own_start (Some i) v = beginnings.Input ∷ []

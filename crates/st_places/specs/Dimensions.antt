@@ -3,7 +3,7 @@ use Rattle.std.specs.Prelude.{◌≡◌, ℕ, ◌+◌, ◌*◌, ◌-◌, ◌<◌
 use Rattle.st_values.specs.Values.{in_range}
 use Rattle.st_values.specs.declared.elem.Elem.TheVariants as elems
 use Rattle.st_tree.specs.declared.tree.declaration.Subrange.{Subrange}
-use Rattle.st_leaves.specs.Leaves.{number_of}
+use Rattle.st_tree.specs.Literals.{number_of}
 use Rattle.st_leaves.specs.Places.{extent, extent_of}
 use Rattle.st_places.specs.declared.node.Dimension.{Dimension}
 

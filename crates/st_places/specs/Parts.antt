@@ -4,7 +4,8 @@ use Rattle.std.specs.List.{slice_get}
 use Rattle.std.specs.Option.{option_map_or}
 use Rattle.st_tree.specs.declared.tree.unit.ChartElement.{ChartElement}
 use Rattle.st_tree.specs.declared.tree.unit.Unit.{Unit as Section}
-use Rattle.st_types.specs.Compositions.{Composition, array, elementary, unknown, composition_within, declared_composition, elements_composition, is_constant, started}
+use Rattle.st_tree.specs.Kinds.{is_constant}
+use Rattle.st_types.specs.Compositions.{Composition, array, elementary, unknown, composition_within, declared_composition, elements_composition, started}
 use Rattle.st_types.specs.Initials.{element_initial, unit_element_initial, zero_of}
 use Rattle.st_types.specs.Inside.{declares_at}
 use Rattle.st_types.specs.Names.{Declared, Declares, Named, chart_in, unit_at, units_of}

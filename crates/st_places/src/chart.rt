@@ -7,12 +7,10 @@ ghost use Rattle.st_tree.specs.declared.tree.unit.Step.{Step as Section};
 ghost use Rattle.st_types.specs.Inside.{declared_by};
 ghost use Rattle.st_types.specs.Names.{chart_in, chart_of, steps_in};
 
-use st_leaves::has_pulse;
-use st_names::NameTable;
-use st_sizes::MAX_COUNT;
+use st_leaves::{MAX_COUNT, has_pulse, leaves_of_step};
 use st_tree::List;
 use st_tree::tree::{Body, ChartElement, Step};
-use st_types::UnitKind;
+use st_types::{NameTable, UnitKind};
 use std::alloc::{AllocError, Global};
 
 /// The chart of a unit. A unit without a chart has one without elements.
@@ -71,7 +69,8 @@ impl<'a> Steps<'a> {
 
     /// Adds a step.
     fn add(&mut self, step: &'a Step) -> Result<(), AllocError>
-        ensures { OnOk result ((steps : Items Section) → HasSteps steps self.old → HasSteps (steps ++ step.now ∷ []) self.new) }
+        ensures { OnOk result ((steps : Items Section) → HasSteps steps self.old
+            → HasSteps (steps ++ step.now ∷ []) self.new) }
     {
         self.names.push(step.name.spelling.as_slice())?;
         self.offsets.push(self.next.min(MAX_COUNT) as u32)?;
@@ -84,11 +83,7 @@ impl<'a> Steps<'a> {
 fn leaves_of(step: &Step) -> u64
     ensures { result ≡ step_count step.now }
 {
-    if has_pulse(step.associations.as_slice()) {
-        4
-    } else {
-        3
-    }
+    u64::from(leaves_of_step(has_pulse(step.associations.as_slice())))
 }
 
 /// The elements of the chart of what declares this.

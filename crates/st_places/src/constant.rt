@@ -1,6 +1,6 @@
 //! The constants of a unit (2.4.3).
 ghost use Rattle.std.specs.Prelude.{◌≡◌, ◌++◌, ◌∷◌, [], List as Items, OnOk, Some};
-ghost use Rattle.st_initials.specs.Tables.{AreInitials};
+ghost use Rattle.st_references.specs.Tables.{AreInitials};
 ghost use Rattle.st_meaning.specs.Wholes.{constant_value};
 ghost use Rattle.st_places.specs.Members.{HasConstants, value_declared};
 ghost use Rattle.st_scopes.specs.Declarations.{seen};
@@ -8,11 +8,11 @@ ghost use Rattle.st_types.specs.Compositions.{elementary, started};
 ghost use Rattle.st_types.specs.Initials.{zero_of};
 ghost use Rattle.st_types.specs.Names.{Declared as Name, Named, units_of};
 
-use st_initials::{Initials, value_written};
-use st_names::NameTable;
+use st_references::{Initials, value_written};
 use st_scopes::{Declared, Tables};
 use st_tree::List;
 use st_tree::tree::Initial;
+use st_types::NameTable;
 use st_values::{Elem, Value};
 use std::alloc::{AllocError, Global};
 
@@ -43,7 +43,8 @@ impl<'a> Constants<'a> {
         declared: &Declared<'a>,
     ) -> Result<(), AllocError>
         requires { AreInitials (units_of tables.now) initials.now }
-        ensures { OnOk result ((vs : Items Name) → HasConstants (units_of tables.now) vs self.old → HasConstants (units_of tables.now) (vs ++ seen declared.now ∷ []) self.new) }
+        ensures { OnOk result ((vs : Items Name) → HasConstants (units_of tables.now) vs self.old
+            → HasConstants (units_of tables.now) (vs ++ seen declared.now ∷ []) self.new) }
     {
         let value = value_of(tables, initials, declared);
         self.names.push(declared.name.spelling.as_slice())?;
@@ -73,7 +74,8 @@ pub(crate) fn value_of(
 
 /// The value of this type that is written.
 fn started_value(elem: Elem, initial: &Initial) -> Value
-    ensures { Some result ≡ constant_value (started (Some initial.now) (elementary (zero_of elem))) }
+    ensures { Some result ≡ constant_value (started (Some initial.now)
+        (elementary (zero_of elem))) }
 {
     match initial {
         Initial::Constant(constant) => value_written(elem, constant),

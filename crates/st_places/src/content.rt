@@ -14,8 +14,7 @@ ghost use Rattle.st_values.specs.Words.{is_word};
 use crate::member::Member;
 use crate::node::{Dimension, Node};
 use crate::unit::{ArrayParts, UnitParts};
-use st_names::is_same_name;
-use st_types::{Base, Pin, StandardBlock};
+use st_types::{Base, Pin, StandardBlock, is_same_name};
 use st_values::{Elem, Value};
 
 /// What a part consists of.
@@ -33,7 +32,8 @@ enum Content<'t> {
 
 /// What the part consists of.
 fn content_of<'t>(units: &'t [UnitParts<'_>], node: Node) -> Content<'t>
-    ensures { (text : Items Named) → AreOf text units.now → IsContent text (node_part text node) result }
+    ensures { (text : Items Named) → AreOf text units.now
+        → IsContent text (node_part text node) result }
 {
     match node {
         Node::Whole(unit) => Content::Whole(unit),
@@ -52,7 +52,8 @@ fn content_of<'t>(units: &'t [UnitParts<'_>], node: Node) -> Content<'t>
 
 /// What the name selects of the part, and how many leaves stand before it.
 pub(crate) fn selected(units: &[UnitParts<'_>], node: Node, name: &[u8]) -> Option<(u32, Node)>
-    ensures { (text : Items Named) → AreOf text units.now → IsSelected text (node_part text node) name.now result }
+    ensures { (text : Items Named) → AreOf text units.now
+        → IsSelected text (node_part text node) name.now result }
 {
     match content_of(units, node) {
         Content::Whole(unit) => member_named(units, unit, name),
@@ -66,7 +67,8 @@ pub(crate) fn elements<'t>(
     units: &'t [UnitParts<'_>],
     node: Node,
 ) -> Option<(&'t [Dimension], Node)>
-    ensures { (text : Items Named) → AreOf text units.now → AreElementsOf text (node_part text node) result }
+    ensures { (text : Items Named) → AreOf text units.now
+        → AreElementsOf text (node_part text node) result }
 {
     match content_of(units, node) {
         Content::Array(dimensions, element) => Some((dimensions, element)),
@@ -76,7 +78,8 @@ pub(crate) fn elements<'t>(
 
 /// The type of the one value that the part is.
 pub(crate) fn value_type(units: &[UnitParts<'_>], node: Node) -> Option<Elem>
-    ensures { (text : Items Named) → AreOf text units.now → result ≡ value_type (node_part text node) }
+    ensures { (text : Items Named) → AreOf text units.now
+        → result ≡ value_type (node_part text node) }
 {
     match content_of(units, node) {
         Content::Value(elem) => Some(elem),
@@ -86,7 +89,8 @@ pub(crate) fn value_type(units: &[UnitParts<'_>], node: Node) -> Option<Elem>
 
 /// The standard function block that the part is an instance of.
 pub(crate) fn block_of(units: &[UnitParts<'_>], node: Node) -> Option<StandardBlock>
-    ensures { (text : Items Named) → AreOf text units.now → result ≡ block_of (node_part text node) }
+    ensures { (text : Items Named) → AreOf text units.now
+        → result ≡ block_of (node_part text node) }
 {
     match content_of(units, node) {
         Content::Block(block) => Some(block),
@@ -96,7 +100,8 @@ pub(crate) fn block_of(units: &[UnitParts<'_>], node: Node) -> Option<StandardBl
 
 /// What the member of this number consists of.
 fn member_content<'t>(units: &'t [UnitParts<'_>], unit: usize, number: usize) -> Content<'t>
-    ensures { (text : Items Named) → AreOf text units.now → IsContent text (node_part text (nodes.Member unit number)) result }
+    ensures { (text : Items Named) → AreOf text units.now
+        → IsContent text (node_part text (nodes.Member unit number)) result }
 {
     let Some(member) = member_at(units, unit, number) else {
         return Content::Unknown;
@@ -109,7 +114,8 @@ fn member_content<'t>(units: &'t [UnitParts<'_>], unit: usize, number: usize) ->
 
 /// What has this base consists of.
 fn base_content<'t>(units: &'t [UnitParts<'_>], base: Base) -> Content<'t>
-    ensures { (text : Items Named) → AreOf text units.now → IsType text base → IsContent text (inside text base) result }
+    ensures { (text : Items Named) → AreOf text units.now → IsType text base
+        → IsContent text (inside text base) result }
 {
     match base {
         Base::Unknown => Content::Unknown,
@@ -127,7 +133,8 @@ fn base_content<'t>(units: &'t [UnitParts<'_>], base: Base) -> Content<'t>
 
 /// The value of the constant of this name in the unit of this number.
 pub(crate) fn constant_named(units: &[UnitParts<'_>], unit: usize, name: &[u8]) -> Option<Value>
-    ensures { (text : Items Named) → AreOf text units.now → result ≡ (optional_whole text (unit_at text unit)).constants name.now }
+    ensures { (text : Items Named) → AreOf text units.now
+        → result ≡ (optional_whole text (unit_at text unit)).constants name.now }
 {
     let constants = &parts_of(units, unit)?.constants;
     let number = constants.names.find(name)?;
@@ -136,7 +143,9 @@ pub(crate) fn constant_named(units: &[UnitParts<'_>], unit: usize, name: &[u8]) 
 
 /// The number of the function block that the variable of this name in the unit of this number is an instance of.
 pub(crate) fn instance_named(units: &[UnitParts<'_>], unit: usize, name: &[u8]) -> Option<usize>
-    ensures { (text : Items Named) → AreOf text units.now → result ≡ option_map (λ (found : Invoked). found.number) ((optional_whole text (unit_at text unit)).invoked name.now) }
+    ensures { (text : Items Named) → AreOf text units.now
+        → result ≡ option_map (λ (found : Invoked). found.number)
+        ((optional_whole text (unit_at text unit)).invoked name.now) }
 {
     let number = parts_of(units, unit)?.members.names.find(name)?;
     member_block(member_at(units, unit, number)?)
@@ -154,7 +163,8 @@ fn member_block(member: &Member) -> Option<usize>
 
 /// Whether the unit of this number is a function block whose instances have at most 65,536 leaves.
 pub(crate) fn is_small_block(units: &[UnitParts<'_>], unit: usize) -> bool
-    ensures { (text : Items Named) → AreOf text units.now → result ≡ optional_small_block text (unit_at text unit) }
+    ensures { (text : Items Named) → AreOf text units.now
+        → result ≡ optional_small_block text (unit_at text unit) }
 {
     match parts_of(units, unit) {
         Some(parts) => parts.is_small_block,
@@ -193,7 +203,8 @@ fn elements_at<'t>(units: &'t [UnitParts<'_>], unit: usize) -> Option<&'t ArrayP
 
 /// What the name selects of a unit, and how many leaves stand before it.
 fn member_named(units: &[UnitParts<'_>], unit: usize, name: &[u8]) -> Option<(u32, Node)>
-    ensures { (text : Items Named) → AreOf text units.now → IsSelected text (contents_of text (unit_at text unit)) name.now result }
+    ensures { (text : Items Named) → AreOf text units.now
+        → IsSelected text (contents_of text (unit_at text unit)) name.now result }
 {
     let number = parts_of(units, unit)?.members.names.find(name)?;
     let member = member_at(units, unit, number)?;

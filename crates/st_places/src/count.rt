@@ -2,17 +2,17 @@
 ghost use Rattle.std.specs.Prelude.{◌≡◌, ◌≤◌, List, min};
 ghost use Rattle.st_leaves.specs.Places.{count};
 ghost use Rattle.st_places.specs.Parts.{inside};
-ghost use Rattle.st_program_sizes.specs.Sized.{IsSized, size_at};
+ghost use Rattle.st_check.specs.Sized.{IsSized, size_at};
 ghost use Rattle.st_types.specs.Names.{Named};
 
-use st_leaves::standard_size;
-use st_sizes::{MAX_COUNT, Size};
+use st_leaves::{MAX_COUNT, Size, standard_size};
 use st_types::Base;
 
 /// Of this type, where the table has the sizes of arrays, structures and function blocks by their units. The number stops at
 /// 1,000,000.
 pub(crate) fn leaves_of(sizes: &[Size], base: Base) -> u64
-    ensures count { (units : List Named) → IsSized units sizes.now base → result ≡ min (count (inside units base)) 1000000 }
+    ensures count { (units : List Named) → IsSized units sizes.now base
+        → result ≡ min (count (inside units base)) 1000000 }
     ensures most { result ≤ 1000000 }
 {
     match base {

@@ -1,15 +1,14 @@
 //! The dimensions of arrays (2.4.1).
 ghost use Rattle.std.specs.Prelude.{◌≡◌, ◌*◌, ◌≤◌, IfOk, IsTrue, List as Items, min, ℕ};
-ghost use Rattle.st_leaves.specs.Leaves.{number_of};
+ghost use Rattle.st_tree.specs.Literals.{number_of};
 ghost use Rattle.st_leaves.specs.Places.{extent, extent_of};
 ghost use Rattle.st_places.specs.Dimensions.{AreLimited, IsLimited};
-ghost use Rattle.st_sizes.specs.Subscripts.{value_of};
 ghost use Rattle.st_tree.specs.declared.tree.declaration.Subrange.{Subrange as Range};
 ghost use Rattle.st_values.specs.Values.{in_range};
 ghost use Rattle.st_values.specs.declared.elem.Elem.TheVariants as elems;
 
 use crate::node::Dimension;
-use st_sizes::{Choices, MAX_COUNT, Number};
+use st_leaves::{Choices, MAX_COUNT, number_written};
 use st_tree::List;
 use st_tree::tree::{SignedInteger, Subrange};
 use std::alloc::{AllocError, Global};
@@ -28,8 +27,11 @@ pub(crate) fn dimensions_of(
     element: u64,
 ) -> Result<Dimensions, AllocError>
     requires { element ≤ 1000000 }
-    ensures items { IfOk result (λ all. (size : ℕ) → element ≡ min size 1000000 → AreLimited size ranges.now all.items) }
-    ensures count { IfOk result (λ all. (size : ℕ) → element ≡ min size 1000000 → all.count ≡ min (extent ranges.now * size) 1000000) }
+    ensures items { IfOk result
+        (λ all. (size : ℕ) → element ≡ min size 1000000 → AreLimited size ranges.now all.items) }
+    ensures count { IfOk result
+        (λ all. (size : ℕ) → element ≡ min size 1000000
+        → all.count ≡ min (extent ranges.now * size) 1000000) }
     ensures most { IfOk result (λ all. all.count ≤ 1000000) }
 {
     let mut items = Vec::with_capacity(alloc, ranges.len())?;
@@ -51,7 +53,8 @@ pub(crate) fn dimensions_of(
 /// A subscript where two elements are so many leaves apart.
 fn dimension(range: &Subrange, stride: u64) -> Dimension
     requires { stride ≤ 1000000 }
-    ensures { (size : ℕ) (ranges : Items Range) → stride ≡ min (extent ranges * size) 1000000 → IsLimited size range.now ranges result }
+    ensures { (size : ℕ) (ranges : Items Range) → stride ≡ min (extent ranges * size) 1000000
+        → IsLimited size range.now ranges result }
 {
     Dimension {
         last: extent_of(range).min(65_536).saturating_sub(1) as u16,
@@ -64,17 +67,7 @@ fn dimension(range: &Subrange, stride: u64) -> Dimension
 fn extent_of(range: &Subrange) -> u64
     ensures { result ≡ min (extent_of range.now) 1000000 }
 {
-    Choices::of_subrange(number(range.lower), number(range.upper)).count
-}
-
-/// The number that is written.
-fn number(written: SignedInteger) -> Number
-    ensures { value_of result ≡ number_of written }
-{
-    Number {
-        is_negative: written.is_negative,
-        magnitude: written.magnitude.get(),
-    }
+    Choices::of_subrange(number_written(range.lower), number_written(range.upper)).count
 }
 
 /// The number that is written, where it is one of LINT.

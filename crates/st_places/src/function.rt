@@ -1,22 +1,21 @@
 //! The functions of a text (2.5.1), each with a table of its inputs.
 ghost use Rattle.std.specs.Prelude.{◌≡◌, ◌<◌, ◌++◌, ◌∷◌, [], IfOk, IfSome, List as Items, OnOk, length, map};
 ghost use Rattle.std.specs.List.{position};
-ghost use Rattle.st_initials.specs.Tables.{AreInitials};
+ghost use Rattle.st_references.specs.Tables.{AreInitials};
 ghost use Rattle.st_meaning.specs.Wholes.{Input};
-ghost use Rattle.st_places.specs.Callables.{HasVariables, is_input};
+ghost use Rattle.st_places.specs.Callables.{HasVariables};
 ghost use Rattle.st_scopes.specs.Declarations.{seen};
 ghost use Rattle.st_types.specs.Names.{Declared as Name, Named, units_of};
 ghost use Rattle.st_values.specs.Words.{is_word};
 ghost use Rattle.st_values.specs.declared.elem.Elem.{Elem as Kind};
 
 use crate::constant::value_of;
-use crate::unit::is_constant;
-use st_initials::Initials;
 use st_meaning::Start;
-use st_names::NameTable;
+use st_references::Initials;
 use st_scopes::{Declared, Tables};
 use st_tree::List;
 use st_tree::tree::VarKind;
+use st_types::NameTable;
 use st_values::{Elem, Value};
 use std::alloc::{AllocError, Global};
 use std::marker::Model;
@@ -68,7 +67,8 @@ impl<'a> Function<'a> {
 
     /// The number of the input of this name, ignoring case.
     pub fn input(&self, name: &[u8]) -> Option<usize>
-        ensures number { result ≡ position (λ (i : Input). is_word i.name name.now) self.now.inputs }
+        ensures number { result ≡ position (λ (i : Input). is_word i.name name.now)
+            self.now.inputs }
         ensures within { IfSome result (λ i. i < length self.now.inputs) }
     {
         self.names.find(name)
@@ -108,26 +108,21 @@ impl<'a> Variables<'a> {
         declared: &Declared<'a>,
     ) -> Result<(), AllocError>
         requires { AreInitials (units_of tables.now) initials.now }
-        ensures { OnOk result ((e : Kind) (vs : Items Name) → HasVariables (units_of tables.now) e vs self.old → HasVariables (units_of tables.now) e (vs ++ seen declared.now ∷ []) self.new) }
+        ensures { OnOk result ((e : Kind) (vs : Items Name)
+            → HasVariables (units_of tables.now) e vs self.old
+            → HasVariables (units_of tables.now) e (vs ++ seen declared.now ∷ []) self.new) }
     {
-        if is_constant(declared.kind) {
+        if declared.kind.is_constant() {
             return Ok(());
         }
         let Some(value) = value_of(tables, initials, declared) else {
             return Ok(());
         };
-        if !is_input(declared.kind) {
+        if !declared.kind.is_input() {
             return self.starts.push(Start::Value(value));
         }
         self.names.push(declared.name.spelling.as_slice())?;
         self.initials.push(value)?;
         self.starts.push(Start::Input)
     }
-}
-
-/// Whether a declared name is an input.
-fn is_input(kind: VarKind) -> bool
-    ensures { result ≡ is_input kind }
-{
-    matches!(kind, VarKind::Input)
 }

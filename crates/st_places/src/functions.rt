@@ -2,7 +2,7 @@
 ghost use Rattle.std.specs.Prelude.{◌≡◌, ◌<◌, IfOk, List as Items, None, Some, length};
 ghost use Rattle.std.specs.List.{slice_get};
 ghost use Rattle.std.specs.Option.{option_copied};
-ghost use Rattle.st_initials.specs.Tables.{AreInitials};
+ghost use Rattle.st_references.specs.Tables.{AreInitials};
 ghost use Rattle.st_meaning.specs.Units.{function_at, functions_in};
 ghost use Rattle.st_places.specs.Callables.{AreCallable, AreElementary, AreFunctions, IsCallable, callable_function, unit_spellings};
 ghost use Rattle.st_places.specs.Functions.{optional_starts};
@@ -12,13 +12,12 @@ ghost use Rattle.st_types.specs.Names.{Named, unit_at, units_of};
 ghost use Rattle.st_types.specs.Names as names;
 
 use crate::function::{Function, Variables};
-use st_initials::Initials;
 use st_meaning::Start;
-use st_names::NameTable;
+use st_references::Initials;
 use st_scopes::Tables;
 use st_tree::List;
 use st_tree::tree::Function as Section;
-use st_types::UnitKind;
+use st_types::{NameTable, UnitKind};
 use std::alloc::{AllocError, Global};
 
 /// The most variables of a function that has code, its result among them.
@@ -58,21 +57,24 @@ impl<'a> Functions<'a> {
 
     /// The function that the unit of this number is.
     pub fn at(&self, number: usize) -> Option<&Function<'a>>
-        ensures { (text : Items Named) → AreFunctions text self.now → option_copied result ≡ function_at text number }
+        ensures { (text : Items Named) → AreFunctions text self.now
+            → option_copied result ≡ function_at text number }
     {
         function_in(&self.units, number)
     }
 
     /// The function of this name.
     pub fn named(&self, name: &[u8]) -> Option<&Function<'a>>
-        ensures { (text : Items Named) → AreFunctions text self.now → option_copied result ≡ functions_in text name.now }
+        ensures { (text : Items Named) → AreFunctions text self.now
+            → option_copied result ≡ functions_in text name.now }
     {
         self.at(self.names.find(name)?)
     }
 
     /// How the variables of the function begin that the unit of this number is.
     pub fn starts(&self, number: usize) -> &[Start]
-        ensures { (text : Items Named) → AreFunctions text self.now → AreElementary text → result.now ≡ optional_starts text (unit_at text number) }
+        ensures { (text : Items Named) → AreFunctions text self.now → AreElementary text
+            → result.now ≡ optional_starts text (unit_at text number) }
     {
         match callable_at(&self.units, number) {
             Some(callable) => callable.starts.as_slice(),
@@ -82,7 +84,8 @@ impl<'a> Functions<'a> {
 
     /// Whether the unit of this number is a function that has at most 999,999 variables.
     pub fn is_small(&self, number: usize) -> bool
-        ensures { (text : Items Named) → AreFunctions text self.now → AreElementary text → result ≡ optional_small_function text (unit_at text number) }
+        ensures { (text : Items Named) → AreFunctions text self.now → AreElementary text
+            → result ≡ optional_small_function text (unit_at text number) }
     {
         let count = self.starts(number).len();
         0 < count && count <= MAX_VARIABLES

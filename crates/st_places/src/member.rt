@@ -4,7 +4,7 @@ ghost use Rattle.st_leaves.specs.Places.{count};
 ghost use Rattle.st_meaning.specs.Units.{result_declared};
 ghost use Rattle.st_places.specs.Members.{AreOwn, AreParts, HasMembers, shape_count};
 ghost use Rattle.st_places.specs.Parts.{inside};
-ghost use Rattle.st_program_sizes.specs.Sized.{IsSized};
+ghost use Rattle.st_check.specs.Sized.{IsSized};
 ghost use Rattle.st_scopes.specs.Declarations.{seen};
 ghost use Rattle.st_types.specs.Names.{Declared as Name, Named, units_of};
 ghost use Rattle.st_types.specs.Types.{shape_of};
@@ -12,12 +12,11 @@ ghost use Rattle.st_types.specs.Types.{shape_of};
 use crate::count::leaves_of;
 use crate::dimension::dimensions_of;
 use crate::node::Dimension;
-use st_names::NameTable;
+use st_leaves::{MAX_COUNT, Size};
 use st_scopes::{Declared, Tables};
-use st_sizes::{MAX_COUNT, Size};
 use st_tree::List;
 use st_tree::tree::{Function, Specification};
-use st_types::Base;
+use st_types::{Base, NameTable};
 use std::alloc::{AllocError, Global};
 
 /// A variable, or a member of a structure.
@@ -60,8 +59,10 @@ impl<'a> Members<'a> {
         sizes: &[Size],
         declared: &Declared<'a>,
     ) -> Result<(), AllocError>
-        requires { IsSized (units_of tables.now) sizes.now (shape_of (units_of tables.now) (seen declared.now).specification).base }
-        ensures { OnOk result ((vs : Items Name) → HasMembers (units_of tables.now) vs self.old → HasMembers (units_of tables.now) (vs ++ seen declared.now ∷ []) self.new) }
+        requires { IsSized (units_of tables.now)
+            sizes.now (shape_of (units_of tables.now) (seen declared.now).specification).base }
+        ensures { OnOk result ((vs : Items Name) → HasMembers (units_of tables.now) vs self.old
+            → HasMembers (units_of tables.now) (vs ++ seen declared.now ∷ []) self.new) }
     {
         let parts = Parts::of(alloc, tables, sizes, &declared.declaration.specification)?;
         self.put(declared.name.spelling.as_slice(), parts)
@@ -69,7 +70,9 @@ impl<'a> Members<'a> {
 
     /// Adds the result of a function, which has the function's name.
     pub fn add_result(&mut self, function: &'a Function) -> Result<(), AllocError>
-        ensures { OnOk result ((units : Items Named) (vs : Items Name) → HasMembers units vs self.old → HasMembers units (vs ++ result_declared function.now ∷ []) self.new) }
+        ensures { OnOk result ((units : Items Named) (vs : Items Name)
+            → HasMembers units vs self.old
+            → HasMembers units (vs ++ result_declared function.now ∷ []) self.new) }
     {
         let parts = Parts {
             base: Base::Elementary(function.result),
@@ -81,7 +84,9 @@ impl<'a> Members<'a> {
 
     /// Puts what has this name and is made of this behind the others.
     fn put(&mut self, name: &'a [u8], parts: Parts) -> Result<(), AllocError>
-        ensures { OnOk result ((units : Items Named) (vs : Items Name) (v : Name) → v.name.spelling ≡ name.now → AreParts units v parts → HasMembers units vs self.old → HasMembers units (vs ++ v ∷ []) self.new) }
+        ensures { OnOk result ((units : Items Named) (vs : Items Name) (v : Name)
+            → v.name.spelling ≡ name.now → AreParts units v parts → HasMembers units vs self.old
+            → HasMembers units (vs ++ v ∷ []) self.new) }
     {
         self.names.push(name)?;
         self.items.push(Member {
@@ -111,10 +116,19 @@ impl Parts {
         sizes: &[Size],
         specification: &Specification,
     ) -> Result<Parts, AllocError>
-        requires { IsSized (units_of tables.now) sizes.now (shape_of (units_of tables.now) specification.now).base }
-        ensures base { IfOk result (λ parts. parts.base ≡ (shape_of (units_of tables.now) specification.now).base) }
-        ensures dimensions { IfOk result (λ parts. AreOwn (count (inside (units_of tables.now) (shape_of (units_of tables.now) specification.now).base)) (shape_of (units_of tables.now) specification.now).subscripts parts.dimensions) }
-        ensures count { IfOk result (λ parts. parts.count ≡ min (shape_count (shape_of (units_of tables.now) specification.now).subscripts (count (inside (units_of tables.now) (shape_of (units_of tables.now) specification.now).base))) 1000000) }
+        requires { IsSized (units_of tables.now)
+            sizes.now (shape_of (units_of tables.now) specification.now).base }
+        ensures base { IfOk result (λ parts. parts.base
+            ≡ (shape_of (units_of tables.now) specification.now).base) }
+        ensures dimensions { IfOk result
+            (λ parts. AreOwn (count (inside (units_of tables.now)
+            (shape_of (units_of tables.now) specification.now).base))
+            (shape_of (units_of tables.now) specification.now).subscripts parts.dimensions) }
+        ensures count { IfOk result
+            (λ parts. parts.count ≡ min (shape_count
+            (shape_of (units_of tables.now) specification.now).subscripts
+            (count (inside (units_of tables.now)
+            (shape_of (units_of tables.now) specification.now).base))) 1000000) }
     {
         let shape = tables.shape_of(specification);
         let base = shape.base;

@@ -11,12 +11,13 @@ ghost use Rattle.st_types.specs.Names.{Named, unit_at};
 
 use crate::content::parts_of;
 use crate::unit::UnitParts;
-use st_sizes::MAX_COUNT;
+use st_leaves::MAX_COUNT;
 use st_tree::tree::ChartElement;
 
 /// The elements of the chart of the unit of this number.
 pub(crate) fn chart_of<'a>(units: &[UnitParts<'a>], unit: usize) -> &'a [ChartElement]
-    ensures { (text : Items Named) → AreOf text units.now → result.now ≡ chart_within (whole_part text (unit_at text unit)) }
+    ensures { (text : Items Named) → AreOf text units.now
+        → result.now ≡ chart_within (whole_part text (unit_at text unit)) }
 {
     match parts_of(units, unit) {
         Some(parts) => parts.chart.elements,
@@ -26,7 +27,9 @@ pub(crate) fn chart_of<'a>(units: &[UnitParts<'a>], unit: usize) -> &'a [ChartEl
 
 /// The first leaf of the chart of the unit of this number, which has at most 999,999 leaves.
 pub(crate) fn chart_leaf(units: &[UnitParts<'_>], unit: usize) -> u32
-    ensures { (text : Items Named) → AreOf text units.now → count (whole_part text (unit_at text unit)) ≤ 999999 → result ≡ chart_offset (whole_part text (unit_at text unit)) }
+    ensures { (text : Items Named) → AreOf text units.now
+        → count (whole_part text (unit_at text unit)) ≤ 999999
+        → result ≡ chart_offset (whole_part text (unit_at text unit)) }
 {
     match parts_of(units, unit) {
         Some(parts) => parts.members.count.min(MAX_COUNT) as u32,
@@ -37,7 +40,9 @@ pub(crate) fn chart_leaf(units: &[UnitParts<'_>], unit: usize) -> u32
 /// The leaf that says of the step of this name for how long it has been active, or else whether it is, in the unit of this number,
 /// which has at most 999,999 leaves.
 pub(crate) fn step(units: &[UnitParts<'_>], unit: usize, is_time: bool, name: &[u8]) -> Option<u32>
-    ensures { (text : Items Named) → AreOf text units.now → count (whole_part text (unit_at text unit)) ≤ 999999 → result ≡ leaf_of_step (whole_part text (unit_at text unit)) is_time name.now }
+    ensures { (text : Items Named) → AreOf text units.now
+        → count (whole_part text (unit_at text unit)) ≤ 999999
+        → result ≡ leaf_of_step (whole_part text (unit_at text unit)) is_time name.now }
 {
     let steps = &parts_of(units, unit)?.chart.steps;
     let number = steps.names.find(name)?;

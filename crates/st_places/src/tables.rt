@@ -2,7 +2,7 @@
 ghost use Rattle.std.specs.Prelude.{◌≡◌, ◌<◌, IfOk, IfSome, None, false, length, true, ℕ};
 ghost use Rattle.std.specs.List.{All};
 ghost use Rattle.std.specs.Option.{option_copied, option_map};
-ghost use Rattle.st_initials.specs.Tables.{AreInitials};
+ghost use Rattle.st_references.specs.Tables.{AreInitials};
 ghost use Rattle.st_check.specs.Programs.{text_of};
 ghost use Rattle.st_leaves.specs.Places.{count};
 ghost use Rattle.st_leaves.specs.Selected.{element_of, selected_by, subscripts_of, value_type};
@@ -10,14 +10,14 @@ ghost use Rattle.st_meaning.specs.Offsets.{IsSmall, chart_offset, offset_of};
 ghost use Rattle.st_meaning.specs.Steps.{chart_within};
 ghost use Rattle.st_meaning.specs.Units.{function_at};
 ghost use Rattle.st_meaning.specs.Wholes.{Input, Invoked, block_of};
-ghost use Rattle.st_order.specs.Graphs.{IsOrder};
+ghost use Rattle.st_references.specs.Graphs.{IsOrder};
 ghost use Rattle.st_places.specs.Callables.{AreFunctions};
 ghost use Rattle.st_places.specs.Charts.{leaf_of_step};
 ghost use Rattle.st_places.specs.Dimensions.{dimensions_in};
 ghost use Rattle.st_places.specs.Functions.{starts_at};
 ghost use Rattle.st_places.specs.Members.{AreUnits};
 ghost use Rattle.st_places.specs.Parts.{IsNodeOf, is_array, is_small_block_in, is_small_function_in, part_in, whole_in};
-ghost use Rattle.st_program_sizes.specs.Sized.{IsSized};
+ghost use Rattle.st_check.specs.Sized.{IsSized};
 ghost use Rattle.st_references.specs.References.{graph_of};
 ghost use Rattle.st_types.specs.Compositions.{unknown};
 ghost use Rattle.st_types.specs.Names.{units_of};
@@ -32,12 +32,11 @@ use crate::functions::Functions;
 use crate::node::{Dimension, Node};
 use crate::step::{chart_leaf, chart_of, step};
 use crate::unit::UnitParts;
-use st_check::Program;
-use st_initials::{Initials, types_written};
+use st_check::{Program, type_sizes};
+use st_leaves::Size;
 use st_meaning::Start;
-use st_program_sizes::type_sizes;
+use st_references::{Initials, types_written};
 use st_scopes::Tables as Scopes;
-use st_sizes::Size;
 use st_tree::tree::{ChartElement, Unit};
 use st_types::StandardBlock;
 use st_values::{Elem, Value};
@@ -103,7 +102,8 @@ impl<'a> Tables<'a> {
 
     /// The number of the function block that the variable of this name in the unit of this number is an instance of.
     pub fn instance(&self, unit: usize, name: &[u8]) -> Option<usize>
-        ensures { result ≡ option_map (λ (found : Invoked). found.number) ((whole_in self.now unit).invoked name.now) }
+        ensures { result ≡ option_map (λ (found : Invoked). found.number)
+            ((whole_in self.now unit).invoked name.now) }
     {
         instance_named(&self.units, unit, name)
     }
@@ -117,8 +117,10 @@ impl<'a> Tables<'a> {
 
     /// The function of this name, in whichever unit it is called.
     pub fn function(&self, name: &[u8]) -> Option<&Function<'a>>
-        ensures function { (unit : ℕ) → option_copied result ≡ (whole_in self.now unit).functions name.now }
-        ensures in_range { IfSome result (λ function. All (λ (i : Input). IsValue i.initial) function.now.inputs) }
+        ensures function { (unit : ℕ)
+            → option_copied result ≡ (whole_in self.now unit).functions name.now }
+        ensures in_range { IfSome result
+            (λ function. All (λ (i : Input). IsValue i.initial) function.now.inputs) }
     {
         self.functions.named(name)
     }
@@ -173,8 +175,10 @@ impl<'a> Tables<'a> {
     pub fn select(&self, node: Node, name: &[u8]) -> Option<(u32, Node)>
         requires node { IsNodeOf self.now node }
         requires small { IsSmall (part_in self.now node) }
-        ensures offset { IfSome result (λ found. found.0 ≡ offset_of (part_in self.now node) name.now) }
-        ensures part { IfSome result (λ found. part_in self.now found.1 ≡ selected_by (part_in self.now node) name.now) }
+        ensures offset { IfSome result
+            (λ found. found.0 ≡ offset_of (part_in self.now node) name.now) }
+        ensures part { IfSome result
+            (λ found. part_in self.now found.1 ≡ selected_by (part_in self.now node) name.now) }
         ensures node { IfSome result (λ found. IsNodeOf self.now found.1) }
         ensures none { result ≡ None → selected_by (part_in self.now node) name.now ≡ unknown }
     {
@@ -186,9 +190,14 @@ impl<'a> Tables<'a> {
         requires node { IsNodeOf self.now node }
         requires small { IsSmall (part_in self.now node) }
         ensures array { IfSome result (λ found. is_array (part_in self.now node) ≡ true) }
-        ensures number { IfSome result (λ found. length found.0.now ≡ length (subscripts_of (part_in self.now node))) }
-        ensures dimensions { IfSome result (λ found. 0 < count (element_of (part_in self.now node)) → found.0.now ≡ dimensions_in (subscripts_of (part_in self.now node)) (count (element_of (part_in self.now node)))) }
-        ensures part { IfSome result (λ found. part_in self.now found.1 ≡ element_of (part_in self.now node)) }
+        ensures number { IfSome result
+            (λ found. length found.0.now ≡ length (subscripts_of (part_in self.now node))) }
+        ensures dimensions { IfSome result
+            (λ found. 0 < count (element_of (part_in self.now node))
+            → found.0.now ≡ dimensions_in (subscripts_of (part_in self.now node))
+            (count (element_of (part_in self.now node)))) }
+        ensures part { IfSome result
+            (λ found. part_in self.now found.1 ≡ element_of (part_in self.now node)) }
         ensures node { IfSome result (λ found. IsNodeOf self.now found.1) }
         ensures none { result ≡ None → is_array (part_in self.now node) ≡ false }
     {
@@ -254,7 +263,8 @@ fn all_units<'a>(
     sizes: &[Size],
 ) -> Result<Vec<UnitParts<'a>>, AllocError>
     requires initials { AreInitials (units_of scopes.now) initials.now }
-    requires sizes { (i : ℕ) → IsSized (units_of scopes.now) sizes.now (type_at (units_of scopes.now) i) }
+    requires sizes { (i : ℕ) → IsSized (units_of scopes.now)
+        sizes.now (type_at (units_of scopes.now) i) }
     ensures len { IfOk result (λ units. length units.items ≡ length (units_of scopes.now)) }
     ensures units { IfOk result (λ units. AreUnits (units_of scopes.now) units.items) }
 {

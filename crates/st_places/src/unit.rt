@@ -1,11 +1,10 @@
 //! What is declared in a unit: its variables, its constants, its chart, and of an array type its elements.
 ghost use Rattle.std.specs.Prelude.{◌≡◌, ◌<◌, ◌++◌, ◌∷◌, [], ℕ, IfOk, List as Items, OnOk, length};
-ghost use Rattle.st_initials.specs.Tables.{AreInitials};
+ghost use Rattle.st_references.specs.Tables.{AreInitials};
 ghost use Rattle.st_places.specs.Members.{AreElements, HasMembers, HasNames, IsUnit, is_small_type};
 ghost use Rattle.st_places.specs.Parts.{result_names};
-ghost use Rattle.st_program_sizes.specs.Sized.{IsSized};
+ghost use Rattle.st_check.specs.Sized.{IsSized};
 ghost use Rattle.st_scopes.specs.Declarations.{seen};
-ghost use Rattle.st_types.specs.Compositions.{is_constant};
 ghost use Rattle.st_types.specs.Inside.{named_by};
 ghost use Rattle.st_types.specs.Names.{Declared as Name, Named, units_of};
 ghost use Rattle.st_types.specs.Types.{elements_in, type_at};
@@ -17,9 +16,9 @@ use crate::count::leaves_of;
 use crate::dimension::dimensions_of;
 use crate::member::Members;
 use crate::node::Dimension;
-use st_initials::Initials;
+use st_leaves::Size;
+use st_references::Initials;
 use st_scopes::{Declared, Tables};
-use st_sizes::Size;
 use st_tree::List;
 use st_tree::tree::VarKind;
 use st_types::{Base, NamedUnit, UnitKind};
@@ -56,7 +55,8 @@ impl<'a> UnitParts<'a> {
     ) -> Result<UnitParts<'a>, AllocError>
         requires unit { unit < length (units_of tables.now) }
         requires initials { AreInitials (units_of tables.now) initials.now }
-        requires sizes { (i : ℕ) → IsSized (units_of tables.now) sizes.now (type_at (units_of tables.now) i) }
+        requires sizes { (i : ℕ) → IsSized (units_of tables.now)
+            sizes.now (type_at (units_of tables.now) i) }
         ensures { IfOk result (λ parts. IsUnit (units_of tables.now) unit parts) }
     {
         let named = tables.unit(unit);
@@ -83,13 +83,16 @@ impl<'a> UnitParts<'a> {
         declared: &Declared<'a>,
     ) -> Result<(), AllocError>
         requires initials { AreInitials (units_of tables.now) initials.now }
-        requires sizes { (i : ℕ) → IsSized (units_of tables.now) sizes.now (type_at (units_of tables.now) i) }
-        ensures names { OnOk result ((vs : Items Name) → HasNames (units_of tables.now) vs self.old → HasNames (units_of tables.now) (vs ++ seen declared.now ∷ []) self.new) }
+        requires sizes { (i : ℕ) → IsSized (units_of tables.now)
+            sizes.now (type_at (units_of tables.now) i) }
+        ensures names { OnOk result
+            ((vs : Items Name) → HasNames (units_of tables.now) vs self.old
+            → HasNames (units_of tables.now) (vs ++ seen declared.now ∷ []) self.new) }
         ensures chart { OnOk result (self.new.chart ≡ self.old.chart) }
         ensures elements { OnOk result (self.new.elements ≡ self.old.elements) }
         ensures small { OnOk result (self.new.is_small_block ≡ self.old.is_small_block) }
     {
-        if is_constant(declared.kind) {
+        if declared.kind.is_constant() {
             self.constants.add(tables, initials, declared)
         } else {
             self.members.add(alloc, tables, sizes, declared)
@@ -99,7 +102,8 @@ impl<'a> UnitParts<'a> {
 
 /// The result of a unit that is a function, which stands before its variables.
 fn results_of<'a>(alloc: Global, unit: &NamedUnit<'a>) -> Result<Members<'a>, AllocError>
-    ensures { IfOk result (λ members. (units : Items Named) → HasMembers units (result_names (named_by unit.now).declares) members) }
+    ensures { IfOk result (λ members. (units : Items Named)
+        → HasMembers units (result_names (named_by unit.now).declares) members) }
 {
     let mut members = Members::new(alloc);
     match unit.kind {
@@ -113,7 +117,8 @@ fn results_of<'a>(alloc: Global, unit: &NamedUnit<'a>) -> Result<Members<'a>, Al
 
 /// Whether what has this type is an instance of a function block of the text, and has at most 65,536 leaves.
 fn is_small(sizes: &[Size], base: Base) -> bool
-    ensures { (units : Items Named) → IsSized units sizes.now base → result ≡ is_small_type units base }
+    ensures { (units : Items Named) → IsSized units sizes.now base
+        → result ≡ is_small_type units base }
 {
     match base {
         Base::Block(_) => leaves_of(sizes, base) <= 65_536,
@@ -125,13 +130,6 @@ fn is_small(sizes: &[Size], base: Base) -> bool
     }
 }
 
-/// Whether a declared name is a constant.
-pub(crate) fn is_constant(kind: VarKind) -> bool
-    ensures { result ≡ is_constant kind }
-{
-    matches!(kind, VarKind::Constant)
-}
-
 /// The elements of the array type of the unit of this number.
 fn elements_of(
     alloc: Global,
@@ -140,7 +138,8 @@ fn elements_of(
     unit: usize,
 ) -> Result<Option<ArrayParts>, AllocError>
     requires { (i : ℕ) → IsSized (units_of tables.now) sizes.now (type_at (units_of tables.now) i) }
-    ensures { IfOk result (λ parts. AreElements (units_of tables.now) (elements_in (units_of tables.now) (bases.Array unit)) parts) }
+    ensures { IfOk result (λ parts. AreElements (units_of tables.now)
+        (elements_in (units_of tables.now) (bases.Array unit)) parts) }
 {
     let Some(elements) = tables.elements(Base::Array(unit)) else {
         return Ok(None);

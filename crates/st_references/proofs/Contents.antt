@@ -2,8 +2,8 @@
 use Rattle.std.proofs.Common.{◌≡◌, ℕ, ◌<◌, ◌≤◌, List, length, get_or, take, Some, sym, subst, arith}
 use Rattle.std.specs.List.{All, Contains, flat_map}
 use Rattle.std.proofs.lemmas.List.{length-map}
-use Rattle.st_order.specs.Graphs.{IsOrder, Refers}
-use Rattle.st_order.proofs.Orders.{references_are_before}
+use Rattle.st_references.specs.Graphs.{IsOrder, Refers}
+use Rattle.st_references.proofs.Orders.{references_are_before}
 use Rattle.st_references.specs.Calls.{unit_calls}
 use Rattle.st_references.specs.References.{called, contained, graph_of, references, unit_types}
 use Rattle.st_references.proofs.Units.{made_of_unit}

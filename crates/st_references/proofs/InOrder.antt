@@ -3,7 +3,7 @@ use Rattle.std.proofs.Common.{◌≡◌, ℕ, zero, suc, ◌<◌, ◌≤◌, Lis
 use Rattle.std.specs.List.{All, Contains}
 use Rattle.std.proofs.Math.Seq.{take-suc}
 use Rattle.std.proofs.lemmas.List.Elements.{All-contains, All-nil, All-push, All-weaker}
-use Rattle.st_order.specs.Graphs.{IsOrder}
+use Rattle.st_references.specs.Graphs.{IsOrder}
 use Rattle.st_references.specs.References.{graph_of}
 use Rattle.st_types.specs.Names.{Named, unit_at}
 use Rattle.st_references.proofs.Contents.{before_place, contents}

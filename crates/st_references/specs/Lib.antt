@@ -1,3 +1,11 @@
+pub mod Lists
+pub mod Runs
+pub mod Tables
+pub mod Graphs
+pub mod Laws
+pub mod Reversals
+pub mod Searches
+pub mod Walks
 pub mod Callers
 pub mod Calls
 pub mod Contained

@@ -20,7 +20,8 @@ pub fn add_contained(
     kind: &UnitKind<'_>,
     row: &mut List<usize>,
 ) -> Result<(), AllocError>
-    ensures { OnOk result (row.new ≡ row.old ++ flat_map (contained (units_of tables.now)) (unit_types (declared_by kind.now))) }
+    ensures { OnOk result (row.new ≡ row.old ++ flat_map (contained (units_of tables.now))
+        (unit_types (declared_by kind.now))) }
 {
     match kind {
         UnitKind::Type(declared) => add_declared(tables, declared, row),
@@ -37,7 +38,8 @@ fn add_declared(
     declared: &DeclaredType,
     row: &mut List<usize>,
 ) -> Result<(), AllocError>
-    ensures { OnOk result (row.new ≡ row.old ++ flat_map (contained (units_of tables.now)) (unit_types (type declared.now))) }
+    ensures { OnOk result (row.new ≡ row.old ++ flat_map (contained (units_of tables.now))
+        (unit_types (type declared.now))) }
 {
     match declared {
         DeclaredType::Derived(specification, _) => add_found(specified(tables, specification), row),
@@ -51,7 +53,8 @@ fn add_blocks(
     blocks: &[VarBlock],
     row: &mut List<usize>,
 ) -> Result<(), AllocError>
-    ensures { OnOk result (row.new ≡ row.old ++ flat_map (contained (units_of tables.now)) (flat_map block_names blocks.now)) }
+    ensures { OnOk result (row.new ≡ row.old ++ flat_map (contained (units_of tables.now))
+        (flat_map block_names blocks.now)) }
 {
     'items: for block in blocks {
         add_declarations(tables, block.declarations.as_slice(), row)?;
@@ -65,7 +68,8 @@ fn add_declarations(
     declarations: &[Declaration],
     row: &mut List<usize>,
 ) -> Result<(), AllocError>
-    ensures { OnOk result (row.new ≡ row.old ++ flat_map (contained (units_of tables.now)) (flat_map declaration_names declarations.now)) }
+    ensures { OnOk result (row.new ≡ row.old ++ flat_map (contained (units_of tables.now))
+        (flat_map declaration_names declarations.now)) }
 {
     'items: for declaration in declarations {
         add_declaration(tables, declaration, row)?;
@@ -79,7 +83,8 @@ fn add_declaration(
     declaration: &Declaration,
     row: &mut List<usize>,
 ) -> Result<(), AllocError>
-    ensures { OnOk result (row.new ≡ row.old ++ flat_map (contained (units_of tables.now)) (declaration_names declaration.now)) }
+    ensures { OnOk result (row.new ≡ row.old ++ flat_map (contained (units_of tables.now))
+        (declaration_names declaration.now)) }
 {
     let found = specified(tables, &declaration.specification);
     'items: for _name in declaration.names.as_slice() {
@@ -90,7 +95,8 @@ fn add_declaration(
 
 /// The number of the type or function block of the text that a specification names, where it names one.
 fn specified(tables: &Tables<'_>, specification: &Specification) -> Option<usize>
-    ensures { listed result ≡ flat_map (contained (units_of tables.now)) (specified_names specification.now) }
+    ensures { listed result ≡ flat_map (contained (units_of tables.now))
+        (specified_names specification.now) }
 {
     match specification {
         Specification::Simple(name) => type_named(tables, name),

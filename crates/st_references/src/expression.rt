@@ -17,7 +17,8 @@ pub fn add_expression(
     expression: &Expression,
     row: &mut List<usize>,
 ) -> Result<(), AllocError>
-    ensures { OnOk result (row.new ≡ row.old ++ flat_map (called_by caller.now) (expression_calls expression.now)) }
+    ensures { OnOk result (row.new ≡ row.old ++ flat_map (called_by caller.now)
+        (expression_calls expression.now)) }
 {
     match expression {
         Expression::Constant(_) => {}
@@ -41,7 +42,8 @@ fn add_operations(
     operations: &[Operation],
     row: &mut List<usize>,
 ) -> Result<(), AllocError>
-    ensures { OnOk result (row.new ≡ row.old ++ flat_map (called_by caller.now) (all (map operation_calls operations.now))) }
+    ensures { OnOk result (row.new ≡ row.old ++ flat_map (called_by caller.now)
+        (all (map operation_calls operations.now))) }
 {
     'items: for item in operations {
         add_operation(caller, item, row)?;
@@ -56,7 +58,8 @@ fn add_operation(
     operation: &Operation,
     row: &mut List<usize>,
 ) -> Result<(), AllocError>
-    ensures { OnOk result (row.new ≡ row.old ++ flat_map (called_by caller.now) (operation_calls operation.now)) }
+    ensures { OnOk result (row.new ≡ row.old ++ flat_map (called_by caller.now)
+        (operation_calls operation.now)) }
 {
     add_expression(caller, &operation.operand, row)
 }
@@ -68,7 +71,8 @@ pub fn add_variable(
     variable: &Variable,
     row: &mut List<usize>,
 ) -> Result<(), AllocError>
-    ensures { OnOk result (row.new ≡ row.old ++ flat_map (called_by caller.now) (variable_calls variable.now)) }
+    ensures { OnOk result (row.new ≡ row.old ++ flat_map (called_by caller.now)
+        (variable_calls variable.now)) }
 {
     'items: for item in variable.parts.as_slice() {
         add_part(caller, item, row)?;
@@ -79,7 +83,8 @@ pub fn add_variable(
 /// Adds the functions that are called in a part of a variable.
 #[cycle(expression)]
 fn add_part(caller: &Caller<'_>, part: &Part, row: &mut List<usize>) -> Result<(), AllocError>
-    ensures { OnOk result (row.new ≡ row.old ++ flat_map (called_by caller.now) (part_calls part.now)) }
+    ensures { OnOk result (row.new ≡ row.old ++ flat_map (called_by caller.now)
+        (part_calls part.now)) }
 {
     match part {
         Part::Field(_) => Ok(()),
@@ -94,7 +99,8 @@ fn add_subscripts(
     subscripts: &[Expression],
     row: &mut List<usize>,
 ) -> Result<(), AllocError>
-    ensures { OnOk result (row.new ≡ row.old ++ flat_map (called_by caller.now) (all (map expression_calls subscripts.now))) }
+    ensures { OnOk result (row.new ≡ row.old ++ flat_map (called_by caller.now)
+        (all (map expression_calls subscripts.now))) }
 {
     'items: for item in subscripts {
         add_expression(caller, item, row)?;
@@ -105,7 +111,8 @@ fn add_subscripts(
 /// Adds the function that is called, and those that are called in its arguments.
 #[cycle(expression)]
 pub fn add_call(caller: &Caller<'_>, call: &Call, row: &mut List<usize>) -> Result<(), AllocError>
-    ensures { OnOk result (row.new ≡ row.old ++ flat_map (called_by caller.now) (call_calls call.now)) }
+    ensures { OnOk result (row.new ≡ row.old ++ flat_map (called_by caller.now)
+        (call_calls call.now)) }
 {
     caller.add_called(call.name.spelling.as_slice(), row)?;
     'items: for item in call.arguments.as_slice() {
@@ -121,7 +128,8 @@ fn add_argument(
     argument: &Argument,
     row: &mut List<usize>,
 ) -> Result<(), AllocError>
-    ensures { OnOk result (row.new ≡ row.old ++ flat_map (called_by caller.now) (argument_calls argument.now)) }
+    ensures { OnOk result (row.new ≡ row.old ++ flat_map (called_by caller.now)
+        (argument_calls argument.now)) }
 {
     match argument {
         Argument::Positional(value) => add_expression(caller, value, row),

@@ -20,7 +20,8 @@ pub fn add_statements(
     statements: &[Statement],
     row: &mut List<usize>,
 ) -> Result<(), AllocError>
-    ensures { OnOk result (row.new ≡ row.old ++ flat_map (called_by caller.now) (all (map statement_calls statements.now))) }
+    ensures { OnOk result (row.new ≡ row.old ++ flat_map (called_by caller.now)
+        (all (map statement_calls statements.now))) }
 {
     'items: for item in statements {
         add_statement(caller, item, row)?;
@@ -36,7 +37,8 @@ fn add_statement(
     statement: &Statement,
     row: &mut List<usize>,
 ) -> Result<(), AllocError>
-    ensures { OnOk result (row.new ≡ row.old ++ flat_map (called_by caller.now) (statement_calls statement.now)) }
+    ensures { OnOk result (row.new ≡ row.old ++ flat_map (called_by caller.now)
+        (statement_calls statement.now)) }
 {
     match statement {
         Statement::Empty(_) | Statement::Return(_) | Statement::Exit(_) => {}
@@ -62,7 +64,8 @@ fn add_if(
     statement: &IfStatement,
     row: &mut List<usize>,
 ) -> Result<(), AllocError>
-    ensures { OnOk result (row.new ≡ row.old ++ flat_map (called_by caller.now) (if_calls statement.now)) }
+    ensures { OnOk result (row.new ≡ row.old ++ flat_map (called_by caller.now)
+        (if_calls statement.now)) }
 {
     add_conditionals(caller, statement.parts.as_slice(), row)?;
     add_statements(caller, statement.otherwise.as_slice(), row)
@@ -75,7 +78,8 @@ fn add_conditionals(
     parts: &[ConditionalPart],
     row: &mut List<usize>,
 ) -> Result<(), AllocError>
-    ensures { OnOk result (row.new ≡ row.old ++ flat_map (called_by caller.now) (all (map conditional_calls parts.now))) }
+    ensures { OnOk result (row.new ≡ row.old ++ flat_map (called_by caller.now)
+        (all (map conditional_calls parts.now))) }
 {
     'items: for item in parts {
         add_conditional(caller, item, row)?;
@@ -91,7 +95,8 @@ fn add_conditional(
     part: &ConditionalPart,
     row: &mut List<usize>,
 ) -> Result<(), AllocError>
-    ensures { OnOk result (row.new ≡ row.old ++ flat_map (called_by caller.now) (conditional_calls part.now)) }
+    ensures { OnOk result (row.new ≡ row.old ++ flat_map (called_by caller.now)
+        (conditional_calls part.now)) }
 {
     add_expression(caller, &part.condition, row)?;
     add_statements(caller, part.statements.as_slice(), row)
@@ -105,7 +110,8 @@ fn add_case(
     statement: &CaseStatement,
     row: &mut List<usize>,
 ) -> Result<(), AllocError>
-    ensures { OnOk result (row.new ≡ row.old ++ flat_map (called_by caller.now) (case_calls statement.now)) }
+    ensures { OnOk result (row.new ≡ row.old ++ flat_map (called_by caller.now)
+        (case_calls statement.now)) }
 {
     add_expression(caller, statement.selector.get(), row)?;
     add_case_elements(caller, statement.cases.as_slice(), row)?;
@@ -119,7 +125,8 @@ fn add_case_elements(
     elements: &[CaseElement],
     row: &mut List<usize>,
 ) -> Result<(), AllocError>
-    ensures { OnOk result (row.new ≡ row.old ++ flat_map (called_by caller.now) (all (map case_element_calls elements.now))) }
+    ensures { OnOk result (row.new ≡ row.old ++ flat_map (called_by caller.now)
+        (all (map case_element_calls elements.now))) }
 {
     'items: for item in elements {
         add_case_element(caller, item, row)?;
@@ -134,7 +141,8 @@ fn add_case_element(
     element: &CaseElement,
     row: &mut List<usize>,
 ) -> Result<(), AllocError>
-    ensures { OnOk result (row.new ≡ row.old ++ flat_map (called_by caller.now) (case_element_calls element.now)) }
+    ensures { OnOk result (row.new ≡ row.old ++ flat_map (called_by caller.now)
+        (case_element_calls element.now)) }
 {
     add_statements(caller, element.statements.as_slice(), row)
 }
@@ -147,7 +155,8 @@ fn add_for(
     statement: &ForStatement,
     row: &mut List<usize>,
 ) -> Result<(), AllocError>
-    ensures { OnOk result (row.new ≡ row.old ++ flat_map (called_by caller.now) (for_calls statement.now)) }
+    ensures { OnOk result (row.new ≡ row.old ++ flat_map (called_by caller.now)
+        (for_calls statement.now)) }
 {
     add_expression(caller, statement.first.get(), row)?;
     add_expression(caller, statement.last.get(), row)?;
@@ -163,7 +172,8 @@ fn add_while(
     statement: &WhileStatement,
     row: &mut List<usize>,
 ) -> Result<(), AllocError>
-    ensures { OnOk result (row.new ≡ row.old ++ flat_map (called_by caller.now) (while_calls statement.now)) }
+    ensures { OnOk result (row.new ≡ row.old ++ flat_map (called_by caller.now)
+        (while_calls statement.now)) }
 {
     add_expression(caller, statement.condition.get(), row)?;
     add_statements(caller, statement.statements.as_slice(), row)
@@ -177,7 +187,8 @@ fn add_repeat(
     statement: &RepeatStatement,
     row: &mut List<usize>,
 ) -> Result<(), AllocError>
-    ensures { OnOk result (row.new ≡ row.old ++ flat_map (called_by caller.now) (repeat_calls statement.now)) }
+    ensures { OnOk result (row.new ≡ row.old ++ flat_map (called_by caller.now)
+        (repeat_calls statement.now)) }
 {
     add_statements(caller, statement.statements.as_slice(), row)?;
     add_expression(caller, statement.condition.get(), row)
@@ -189,7 +200,8 @@ fn add_optional(
     expression: &Option<Boxed<Expression>>,
     row: &mut List<usize>,
 ) -> Result<(), AllocError>
-    ensures { OnOk result (row.new ≡ row.old ++ flat_map (called_by caller.now) (optional_calls expression.now)) }
+    ensures { OnOk result (row.new ≡ row.old ++ flat_map (called_by caller.now)
+        (optional_calls expression.now)) }
 {
     if let Some(expression) = expression {
         add_expression(caller, expression.get(), row)?;

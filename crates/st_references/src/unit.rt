@@ -20,7 +20,8 @@ pub fn add_unit(
     kind: &UnitKind<'_>,
     row: &mut List<usize>,
 ) -> Result<(), AllocError>
-    ensures { OnOk result (row.new ≡ row.old ++ flat_map (called_by caller.now) (unit_calls (declared_by kind.now))) }
+    ensures { OnOk result (row.new ≡ row.old ++ flat_map (called_by caller.now)
+        (unit_calls (declared_by kind.now))) }
 {
     match kind {
         UnitKind::Type(_) => Ok(()),
@@ -33,7 +34,8 @@ pub fn add_unit(
 /// Adds the functions that are called in a body.
 #[tactic(auto, using(crate::proofs::Rows::all_mapped))]
 fn add_body(caller: &Caller<'_>, body: &Body, row: &mut List<usize>) -> Result<(), AllocError>
-    ensures { OnOk result (row.new ≡ row.old ++ flat_map (called_by caller.now) (body_calls body.now)) }
+    ensures { OnOk result (row.new ≡ row.old ++ flat_map (called_by caller.now)
+        (body_calls body.now)) }
 {
     match body {
         Body::Statements(statements) => add_statements(caller, statements.as_slice(), row),
@@ -47,7 +49,8 @@ fn add_elements(
     elements: &[ChartElement],
     row: &mut List<usize>,
 ) -> Result<(), AllocError>
-    ensures { OnOk result (row.new ≡ row.old ++ flat_map (called_by caller.now) (flat_map element_calls elements.now)) }
+    ensures { OnOk result (row.new ≡ row.old ++ flat_map (called_by caller.now)
+        (flat_map element_calls elements.now)) }
 {
     'items: for element in elements {
         add_element(caller, element, row)?;
@@ -62,7 +65,8 @@ fn add_element(
     element: &ChartElement,
     row: &mut List<usize>,
 ) -> Result<(), AllocError>
-    ensures { OnOk result (row.new ≡ row.old ++ flat_map (called_by caller.now) (element_calls element.now)) }
+    ensures { OnOk result (row.new ≡ row.old ++ flat_map (called_by caller.now)
+        (element_calls element.now)) }
 {
     match element {
         ChartElement::Step(_) => Ok(()),

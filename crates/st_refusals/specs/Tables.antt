@@ -13,24 +13,25 @@ letter_of Check = 67
 letter_of Operator = 79
 letter_of Fault = 70
 
--- a number, and the texts of its sentence and its advice
+-- a number, and the texts of its title, its sentence and its advice
 pub record Meaning : Type 0 where
   pub number : ℕ
+  pub title : List ℕ
   pub sentence : List ℕ
   pub advice : List ℕ
 
-abbrev pub meaning : ℕ → List ℕ → List ℕ → Meaning
-meaning number sentence advice = record { number = number; sentence = sentence; advice = advice }
+abbrev pub meaning : (number : ℕ) (title sentence advice : List ℕ) → Meaning
+meaning number title sentence advice = record { number = number; title = title; sentence = sentence; advice = advice }
 
 abbrev pub meaning_of : Explanation → Meaning
-meaning_of explanation = meaning explanation.number explanation.sentence.now explanation.advice.now
+meaning_of explanation = meaning explanation.number explanation.title.now explanation.sentence.now explanation.advice.now
 
 -- the table of a family
 abbrev pub table_of : Family → List Meaning
-table_of Syntax = map (λ row. meaning row.0 row.1.now row.2.now) SYNTAX
-table_of Check = map (λ row. meaning row.0 row.1.now row.2.now) CHECKS
-table_of Operator = map (λ row. meaning row.0 row.1.now row.2.now) COMMANDS
-table_of Fault = map (λ row. meaning row.0 row.1.now row.2.now) FAULTS
+table_of Syntax = map (λ row. meaning row.0 row.1.now row.2.now row.3.now) SYNTAX
+table_of Check = map (λ row. meaning row.0 row.1.now row.2.now row.3.now) CHECKS
+table_of Operator = map (λ row. meaning row.0 row.1.now row.2.now row.3.now) COMMANDS
+table_of Fault = map (λ row. meaning row.0 row.1.now row.2.now row.3.now) FAULTS
 
 abbrev pub number_of : Meaning → ℕ
 number_of row = row.number

@@ -1,14 +1,46 @@
 //! Texts that are refused, an example for each number of a text's faults but the length of the text.
+ghost use Rattle.std.specs.Prelude.{◌≡◌};
+ghost use Rattle.st_refusals.specs.Causes.{family_of, number_behind};
 
 use crate::explanation::Family;
+use st_faults::Rule;
+
+/// Why a text is refused.
+#[derive(Clone, Copy, Debug, PartialEq, Eq)]
+pub enum Cause {
+    /// It isn't in the grammar: the number behind the S.
+    Syntax(u8),
+    /// It breaks this rule.
+    Rule(Rule),
+}
+
+impl Cause {
+    /// The family of the number that is answered.
+    pub fn family(self) -> Family
+        ensures { result ≡ family_of self }
+    {
+        match self {
+            Cause::Syntax(_) => Family::Syntax,
+            Cause::Rule(_) => Family::Check,
+        }
+    }
+
+    /// The number that is answered.
+    pub fn number(self) -> u8
+        ensures { result ≡ number_behind self }
+    {
+        match self {
+            Cause::Syntax(number) => number,
+            Cause::Rule(rule) => rule.number(),
+        }
+    }
+}
 
 /// A text that is refused.
 #[derive(Clone, Copy, Debug)]
 pub struct Example {
-    /// The family of the number that is answered.
-    pub family: Family,
-    /// The number that is answered.
-    pub number: u8,
+    /// Why it is refused.
+    pub cause: Cause,
     /// The line that is answered, from 1, or 0 where no line is at fault.
     pub line: u32,
     /// The text, whose main program is called `Main`.
@@ -18,8 +50,7 @@ pub struct Example {
 /// The examples, by family and number.
 pub static EXAMPLES: [Example; 13] = [
     Example {
-        family: Family::Syntax,
-        number: 1,
+        cause: Cause::Syntax(1),
         line: 3,
         text: "\
 PROGRAM Main
@@ -29,8 +60,7 @@ END_PROGRAM
 ",
     },
     Example {
-        family: Family::Syntax,
-        number: 2,
+        cause: Cause::Syntax(2),
         line: 4,
         text: "\
 PROGRAM Main
@@ -40,8 +70,7 @@ END_PROGRAM
 ",
     },
     Example {
-        family: Family::Syntax,
-        number: 3,
+        cause: Cause::Syntax(3),
         line: 3,
         text: "\
 PROGRAM Main
@@ -51,8 +80,7 @@ END_PROGRAM
 ",
     },
     Example {
-        family: Family::Check,
-        number: 1,
+        cause: Cause::Rule(Rule::UnknownName),
         line: 3,
         text: "\
 PROGRAM Main
@@ -62,8 +90,7 @@ END_PROGRAM
 ",
     },
     Example {
-        family: Family::Check,
-        number: 2,
+        cause: Cause::Rule(Rule::NameTwice),
         line: 3,
         text: "\
 PROGRAM Main
@@ -73,8 +100,7 @@ END_PROGRAM
 ",
     },
     Example {
-        family: Family::Check,
-        number: 3,
+        cause: Cause::Rule(Rule::TypeMismatch),
         line: 3,
         text: "\
 PROGRAM Main
@@ -84,8 +110,7 @@ END_PROGRAM
 ",
     },
     Example {
-        family: Family::Check,
-        number: 4,
+        cause: Cause::Rule(Rule::OutOfRange),
         line: 3,
         text: "\
 PROGRAM Main
@@ -95,8 +120,7 @@ END_PROGRAM
 ",
     },
     Example {
-        family: Family::Check,
-        number: 5,
+        cause: Cause::Rule(Rule::NotAssignable),
         line: 3,
         text: "\
 PROGRAM Main
@@ -106,8 +130,7 @@ END_PROGRAM
 ",
     },
     Example {
-        family: Family::Check,
-        number: 6,
+        cause: Cause::Rule(Rule::Recursion),
         line: 1,
         text: "\
 FUNCTION Half : INT
@@ -119,8 +142,7 @@ END_PROGRAM
 ",
     },
     Example {
-        family: Family::Check,
-        number: 7,
+        cause: Cause::Rule(Rule::CallMismatch),
         line: 3,
         text: "\
 PROGRAM Main
@@ -130,8 +152,7 @@ END_PROGRAM
 ",
     },
     Example {
-        family: Family::Check,
-        number: 8,
+        cause: Cause::Rule(Rule::MalformedChart),
         line: 4,
         text: "\
 PROGRAM Main
@@ -142,8 +163,7 @@ END_PROGRAM
 ",
     },
     Example {
-        family: Family::Check,
-        number: 9,
+        cause: Cause::Rule(Rule::LimitPassed),
         line: 1,
         text: "\
 PROGRAM Main
@@ -152,8 +172,7 @@ END_PROGRAM
 ",
     },
     Example {
-        family: Family::Check,
-        number: 10,
+        cause: Cause::Rule(Rule::NoProgram),
         line: 0,
         text: "\
 PROGRAM Plant

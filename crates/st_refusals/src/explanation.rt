@@ -34,6 +34,8 @@ impl Family {
 pub struct Explanation {
     /// The number, from 1.
     pub number: u8,
+    /// What is wrong in a few words, as the heading of a message says it where no more is known.
+    pub title: &'static str,
     /// What is wrong, in one sentence.
     pub sentence: &'static str,
     /// What to do about it, in one sentence.

@@ -7,6 +7,6 @@ mod example;
 mod explanation;
 mod table;
 
-pub use example::{EXAMPLES, Example};
+pub use example::{Cause, EXAMPLES, Example};
 pub use explanation::{Explanation, Family};
-pub use table::{explanation_of, numbers_are_listed};
+pub use table::{explanation_of, explanation_of_rule, numbers_are_listed};

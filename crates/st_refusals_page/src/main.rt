@@ -5,7 +5,8 @@
 #![tactic(auto)]
 
 use st_explain::explain_text;
-use st_refusals::{EXAMPLES, Example, Explanation, Family, explanation_of};
+use st_faults::Rule;
+use st_refusals::{Cause, EXAMPLES, Example, Explanation, Family, explanation_of};
 use std::io;
 
 /// What stands before the message that is shown.
@@ -56,7 +57,7 @@ fn main(rt: HostRuntime) -> io::Result<()> {
 /// Prints the message on a number that is out of range.
 fn print_message<R: Print + AllocGlobal>(rt: &R) -> io::Result<()> {
     for example in &EXAMPLES {
-        if example.family == Family::Check && example.number == 4 {
+        if example.cause == Cause::Rule(Rule::OutOfRange) {
             print_told(rt, example)?;
         }
     }
@@ -95,7 +96,7 @@ fn print_explanation<R: Print + AllocGlobal>(
     println!(rt; "{}\n", explanation.sentence)?;
     println!(rt; "To do: {}", explanation.advice)?;
     for example in &EXAMPLES {
-        if example.family == family && example.number == number {
+        if example.cause.family() == family && example.cause.number() == number {
             print_example(rt, example)?;
         }
     }
@@ -110,8 +111,8 @@ fn print_example<R: Print + AllocGlobal>(rt: &R, example: &Example) -> io::Resul
     }
     println!(rt;
         "\nAnswer: `refused {}{} line {}`",
-        example.family.letter(),
-        example.number,
+        example.cause.family().letter(),
+        example.cause.number(),
         example.line
     )?;
     println!(rt; "\nMessage:")?;

@@ -87,7 +87,8 @@ fn push_lists<M: Memory>(
     renames: &[Rename],
     controller: &Controller<M>,
 ) -> Result<(), AllocError>
-    requires { FitsSaved (leaves_of_program old.now) (leaves_of controller.now.state) saved.now renames.now }
+    requires { FitsSaved (leaves_of_program old.now) (leaves_of controller.now.state)
+        saved.now renames.now }
 {
     let (before, now) = (old.layout(), controller.layout());
     let plan = match Plan::between(alloc, before, now, renames) {

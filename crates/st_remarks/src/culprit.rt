@@ -52,7 +52,8 @@ fn pair_at_fault<'a, M: Memory>(
     number: u8,
     controller: &Controller<M>,
 ) -> Option<Subject<'a>>
-    ensures { number ≡ 1 → IfSome result (λ pair. is_some (leaf_of controller.now.state pair.path.now) ≡ false) }
+    ensures { number ≡ 1 → IfSome result (λ pair. is_some
+        (leaf_of controller.now.state pair.path.now) ≡ false) }
 {
     let mut words = Words::of(line);
     words.take()?;
@@ -87,7 +88,8 @@ fn pair_of(spot: Spot<'_>) -> Subject<'_> {
 
 /// Tests whether a scan with a pair is refused for this cause.
 fn is_at_fault<M: Memory>(pair: Subject<'_>, number: u8, controller: &Controller<M>) -> bool
-    ensures { number ≡ 1 → result ≡ not (is_some (leaf_of controller.now.state pair.entry.path.now)) }
+    ensures { number ≡ 1 → result ≡ not (is_some
+        (leaf_of controller.now.state pair.entry.path.now)) }
 {
     match controller.find(pair.path) {
         None => number == NO_SUCH_PATH,

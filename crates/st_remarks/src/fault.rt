@@ -13,8 +13,11 @@ pub fn told_of_fault(
 ) -> Result<String, AllocError> {
     let mut message = String::new(alloc);
     let cause = number_of(fault.kind);
+    let explanation = explanation_of(Family::Fault, cause);
     write!(message, "session:{number}:1: error: F{cause}: ")?;
-    message.push_str(sentence_of(fault.kind))?;
+    if let Some(explanation) = explanation {
+        message.push_str(explanation.title)?;
+    }
     message.push_str(", in ")?;
     push_shown(&mut message, fault.unit.bytes())?;
     write!(
@@ -29,7 +32,7 @@ pub fn told_of_fault(
         &mut message,
         "all values are as before the scan; `reset` lets the program run again",
     )?;
-    if let Some(explanation) = explanation_of(Family::Fault, cause) {
+    if let Some(explanation) = explanation {
         push_help(&mut message, explanation.advice)?;
     }
     Ok(message)
@@ -41,14 +44,5 @@ pub fn number_of(kind: RunFaultKind) -> u8 {
         RunFaultKind::StepLimit => 1,
         RunFaultKind::ZeroDivisor => 2,
         RunFaultKind::IndexOutOfRange => 3,
-    }
-}
-
-/// What happened, by the kind of the fault.
-fn sentence_of(kind: RunFaultKind) -> &'static str {
-    match kind {
-        RunFaultKind::StepLimit => "the scan took as many steps as one may take",
-        RunFaultKind::ZeroDivisor => "a number was divided by zero",
-        RunFaultKind::IndexOutOfRange => "an index is outside the bounds of its array",
     }
 }

@@ -15,24 +15,25 @@ turned_number start number = (number + (2 ^ 32 - start)) % 2 ^ 32
 abbrev pub number_before : ℕ → ℕ → ℕ
 number_before start number = (number + start) % 2 ^ 32
 
-abbrev pub turned_position : ℕ → Position → Position
-turned_position start p = record { number = turned_number start p.number; line = p.line }
+-- a place whose token has the number that `f` gives for its own
+abbrev pub renumbered_position : (ℕ → ℕ) → Position → Position
+renumbered_position f p = record { number = f p.number; line = p.line }
+
+abbrev pub renumbered_identifier : (ℕ → ℕ) → Identifier → Identifier
+renumbered_identifier f name = record { position = renumbered_position f name.position; spelling = name.spelling }
+
+abbrev pub renumbered_integer : (ℕ → ℕ) → SignedInteger → SignedInteger
+renumbered_integer f n = record { position = renumbered_position f n.position; is_negative = n.is_negative; magnitude = n.magnitude }
+
+abbrev pub renumbered_duration : (ℕ → ℕ) → Duration → Duration
+renumbered_duration f d = record { position = renumbered_position f d.position; milliseconds = d.milliseconds }
+
+abbrev pub renumbered_constant : (ℕ → ℕ) → Constant → Constant
+renumbered_constant f (constants.Integer n) = constants.Integer (renumbered_integer f n)
+renumbered_constant f (constants.Typed p v) = constants.Typed (renumbered_position f p) v
+renumbered_constant f (constants.Duration d) = constants.Duration (renumbered_duration f d)
+renumbered_constant f (constants.Bool p b) = constants.Bool (renumbered_position f p) b
 
 -- the place of a token that has got this one
 abbrev pub position_before : ℕ → Position → Position
-position_before start p = record { number = number_before start p.number; line = p.line }
-
-abbrev pub turned_identifier : ℕ → Identifier → Identifier
-turned_identifier start name = record { position = turned_position start name.position; spelling = name.spelling }
-
-abbrev pub turned_integer : ℕ → SignedInteger → SignedInteger
-turned_integer start n = record { position = turned_position start n.position; is_negative = n.is_negative; magnitude = n.magnitude }
-
-abbrev pub turned_duration : ℕ → Duration → Duration
-turned_duration start d = record { position = turned_position start d.position; milliseconds = d.milliseconds }
-
-abbrev pub turned_constant : ℕ → Constant → Constant
-turned_constant start (constants.Integer n) = constants.Integer (turned_integer start n)
-turned_constant start (constants.Typed p v) = constants.Typed (turned_position start p) v
-turned_constant start (constants.Duration d) = constants.Duration (turned_duration start d)
-turned_constant start (constants.Bool p b) = constants.Bool (turned_position start p) b
+position_before start p = renumbered_position (number_before start) p

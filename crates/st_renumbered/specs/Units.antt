@@ -27,118 +27,126 @@ use Rattle.st_tree.specs.declared.tree.unit.Transition.{Transition}
 use Rattle.st_tree.specs.declared.tree.unit.TypeDeclaration.{TypeDeclaration}
 use Rattle.st_tree.specs.declared.tree.unit.Unit.{Unit as Section}
 use Rattle.st_tree.specs.declared.tree.unit.Unit.TheVariants as sections
-use Rattle.st_renumbered.specs.Expressions.{turned_expression}
-use Rattle.st_renumbered.specs.Statements.{turned_statement}
-use Rattle.st_renumbered.specs.Turns.{turned_constant, turned_duration, turned_identifier, turned_integer, turned_position}
+use Rattle.st_renumbered.specs.Expressions.{renumbered_expression}
+use Rattle.st_renumbered.specs.Statements.{renumbered_statement}
+use Rattle.st_renumbered.specs.Turns.{renumbered_constant, renumbered_duration, renumbered_identifier, renumbered_integer, renumbered_position, turned_number}
 
 -- ---- declarations
 
-abbrev pub turned_name : ℕ → TypeName → TypeName
-turned_name start (type_names.Elementary p e) = type_names.Elementary (turned_position start p) e
-turned_name start (type_names.Declared name) = type_names.Declared (turned_identifier start name)
+abbrev pub renumbered_name : (ℕ → ℕ) → TypeName → TypeName
+renumbered_name f (type_names.Elementary p e) = type_names.Elementary (renumbered_position f p) e
+renumbered_name f (type_names.Declared name) = type_names.Declared (renumbered_identifier f name)
 
-abbrev pub turned_range : ℕ → Subrange → Subrange
-turned_range start r = record { lower = turned_integer start r.lower; upper = turned_integer start r.upper }
+abbrev pub renumbered_range : (ℕ → ℕ) → Subrange → Subrange
+renumbered_range f r = record { lower = renumbered_integer f r.lower; upper = renumbered_integer f r.upper }
 
-abbrev pub turned_specification : ℕ → Specification → Specification
-turned_specification start (specifications.Simple t) = specifications.Simple (turned_name start t)
-turned_specification start (specifications.Array p ranges t) = specifications.Array (turned_position start p) (map (turned_range start) ranges) (turned_name start t)
+abbrev pub renumbered_specification : (ℕ → ℕ) → Specification → Specification
+renumbered_specification f (specifications.Simple t) = specifications.Simple (renumbered_name f t)
+renumbered_specification f (specifications.Array p ranges t) = specifications.Array (renumbered_position f p) (map (renumbered_range f) ranges) (renumbered_name f t)
 
-abbrev pub turned_item : ℕ → ArrayElement → ArrayElement
-turned_item start (array_elements.Single c) = array_elements.Single (turned_constant start c)
-turned_item start (array_elements.Repeated p n c) = array_elements.Repeated (turned_position start p) n (option_map (turned_constant start) c)
+abbrev pub renumbered_item : (ℕ → ℕ) → ArrayElement → ArrayElement
+renumbered_item f (array_elements.Single c) = array_elements.Single (renumbered_constant f c)
+renumbered_item f (array_elements.Repeated p n c) = array_elements.Repeated (renumbered_position f p) n (option_map (renumbered_constant f) c)
 
-abbrev pub turned_value : ℕ → Initial → Initial
-turned_value start (initials.Constant c) = initials.Constant (turned_constant start c)
-turned_value start (initials.Array p items) = initials.Array (turned_position start p) (map (turned_item start) items)
+abbrev pub renumbered_value : (ℕ → ℕ) → Initial → Initial
+renumbered_value f (initials.Constant c) = initials.Constant (renumbered_constant f c)
+renumbered_value f (initials.Array p items) = initials.Array (renumbered_position f p) (map (renumbered_item f) items)
 
-abbrev pub turned_initial : ℕ → Option Initial → Option Initial
-turned_initial start initial = option_map (turned_value start) initial
+abbrev pub renumbered_initial : (ℕ → ℕ) → Option Initial → Option Initial
+renumbered_initial f initial = option_map (renumbered_value f) initial
 
-abbrev pub turned_declaration : ℕ → Declaration → Declaration
-turned_declaration start d = record {
-  names = map (turned_identifier start) d.names;
-  specification = turned_specification start d.specification;
-  initial = turned_initial start d.initial;
+abbrev pub renumbered_declaration : (ℕ → ℕ) → Declaration → Declaration
+renumbered_declaration f d = record {
+  names = map (renumbered_identifier f) d.names;
+  specification = renumbered_specification f d.specification;
+  initial = renumbered_initial f d.initial;
 }
 
-abbrev pub turned_block : ℕ → VarBlock → VarBlock
-turned_block start b = record { position = turned_position start b.position; kind = b.kind; declarations = map (turned_declaration start) b.declarations }
+abbrev pub renumbered_block : (ℕ → ℕ) → VarBlock → VarBlock
+renumbered_block f b = record { position = renumbered_position f b.position; kind = b.kind; declarations = map (renumbered_declaration f) b.declarations }
 
-abbrev pub turned_type : ℕ → DeclaredType → DeclaredType
-turned_type start (declared_types.Derived s initial) = declared_types.Derived (turned_specification start s) (turned_initial start initial)
-turned_type start (declared_types.Structure p members) = declared_types.Structure (turned_position start p) (map (turned_declaration start) members)
+abbrev pub renumbered_type : (ℕ → ℕ) → DeclaredType → DeclaredType
+renumbered_type f (declared_types.Derived s initial) = declared_types.Derived (renumbered_specification f s) (renumbered_initial f initial)
+renumbered_type f (declared_types.Structure p members) = declared_types.Structure (renumbered_position f p) (map (renumbered_declaration f) members)
 
 -- ---- charts
 
-abbrev pub turned_qualifier : ℕ → ActionQualifier → ActionQualifier
-turned_qualifier start q = record { name = turned_identifier start q.name; duration = option_map (turned_duration start) q.duration }
+abbrev pub renumbered_qualifier : (ℕ → ℕ) → ActionQualifier → ActionQualifier
+renumbered_qualifier f q = record { name = renumbered_identifier f q.name; duration = option_map (renumbered_duration f) q.duration }
 
-abbrev pub turned_association : ℕ → Association → Association
-turned_association start a = record { name = turned_identifier start a.name; qualifier = option_map (turned_qualifier start) a.qualifier }
+abbrev pub renumbered_association : (ℕ → ℕ) → Association → Association
+renumbered_association f a = record { name = renumbered_identifier f a.name; qualifier = option_map (renumbered_qualifier f) a.qualifier }
 
-abbrev pub turned_step : ℕ → Step → Step
-turned_step start s = record {
-  position = turned_position start s.position;
+abbrev pub renumbered_step : (ℕ → ℕ) → Step → Step
+renumbered_step f s = record {
+  position = renumbered_position f s.position;
   is_initial = s.is_initial;
-  name = turned_identifier start s.name;
-  associations = map (turned_association start) s.associations;
+  name = renumbered_identifier f s.name;
+  associations = map (renumbered_association f) s.associations;
 }
 
-abbrev pub turned_transition : ℕ → Transition → Transition
-turned_transition start t = record {
-  position = turned_position start t.position;
-  name = option_map (turned_identifier start) t.name;
+abbrev pub renumbered_transition : (ℕ → ℕ) → Transition → Transition
+renumbered_transition f t = record {
+  position = renumbered_position f t.position;
+  name = option_map (renumbered_identifier f) t.name;
   priority = t.priority;
-  from = map (turned_identifier start) t.from;
-  to = map (turned_identifier start) t.to;
-  condition = turned_expression start t.condition;
+  from = map (renumbered_identifier f) t.from;
+  to = map (renumbered_identifier f) t.to;
+  condition = renumbered_expression f t.condition;
 }
 
-abbrev pub turned_action : ℕ → Action → Action
-turned_action start a = record {
-  position = turned_position start a.position;
-  name = turned_identifier start a.name;
-  statements = map (turned_statement start) a.statements;
+abbrev pub renumbered_action : (ℕ → ℕ) → Action → Action
+renumbered_action f a = record {
+  position = renumbered_position f a.position;
+  name = renumbered_identifier f a.name;
+  statements = map (renumbered_statement f) a.statements;
 }
 
-abbrev pub turned_element : ℕ → ChartElement → ChartElement
-turned_element start (chart_elements.Step s) = chart_elements.Step (turned_step start s)
-turned_element start (chart_elements.Transition t) = chart_elements.Transition (turned_transition start t)
-turned_element start (chart_elements.Action a) = chart_elements.Action (turned_action start a)
+abbrev pub renumbered_element : (ℕ → ℕ) → ChartElement → ChartElement
+renumbered_element f (chart_elements.Step s) = chart_elements.Step (renumbered_step f s)
+renumbered_element f (chart_elements.Transition t) = chart_elements.Transition (renumbered_transition f t)
+renumbered_element f (chart_elements.Action a) = chart_elements.Action (renumbered_action f a)
 
 -- ---- units
 
-abbrev pub turned_body : ℕ → Body → Body
-turned_body start (bodies.Statements ss) = bodies.Statements (map (turned_statement start) ss)
-turned_body start (bodies.Chart elements) = bodies.Chart (map (turned_element start) elements)
+abbrev pub renumbered_body : (ℕ → ℕ) → Body → Body
+renumbered_body f (bodies.Statements ss) = bodies.Statements (map (renumbered_statement f) ss)
+renumbered_body f (bodies.Chart elements) = bodies.Chart (map (renumbered_element f) elements)
 
-abbrev pub turned_pou : ℕ → Pou → Pou
-turned_pou start b = record {
-  position = turned_position start b.position;
-  name = turned_identifier start b.name;
-  variables = map (turned_block start) b.variables;
-  body = turned_body start b.body;
+abbrev pub renumbered_pou : (ℕ → ℕ) → Pou → Pou
+renumbered_pou f b = record {
+  position = renumbered_position f b.position;
+  name = renumbered_identifier f b.name;
+  variables = map (renumbered_block f) b.variables;
+  body = renumbered_body f b.body;
 }
 
-abbrev pub turned_function : ℕ → Function → Function
-turned_function start f = record {
-  position = turned_position start f.position;
-  name = turned_identifier start f.name;
-  result = f.result;
-  variables = map (turned_block start) f.variables;
-  statements = map (turned_statement start) f.statements;
+abbrev pub renumbered_function : (ℕ → ℕ) → Function → Function
+renumbered_function f g = record {
+  position = renumbered_position f g.position;
+  name = renumbered_identifier f g.name;
+  result = g.result;
+  variables = map (renumbered_block f) g.variables;
+  statements = map (renumbered_statement f) g.statements;
 }
 
-abbrev pub turned_type_declaration : ℕ → TypeDeclaration → TypeDeclaration
-turned_type_declaration start d = record { name = turned_identifier start d.name; declared = turned_type start d.declared }
+abbrev pub renumbered_type_declaration : (ℕ → ℕ) → TypeDeclaration → TypeDeclaration
+renumbered_type_declaration f d = record { name = renumbered_identifier f d.name; declared = renumbered_type f d.declared }
 
-abbrev pub turned_unit : ℕ → Section → Section
-turned_unit start (sections.Types p types) = sections.Types (turned_position start p) (map (turned_type_declaration start) types)
-turned_unit start (sections.Function f) = sections.Function (turned_function start f)
-turned_unit start (sections.FunctionBlock b) = sections.FunctionBlock (turned_pou start b)
-turned_unit start (sections.Program b) = sections.Program (turned_pou start b)
+abbrev pub renumbered_unit : (ℕ → ℕ) → Section → Section
+renumbered_unit f (sections.Types p types) = sections.Types (renumbered_position f p) (map (renumbered_type_declaration f) types)
+renumbered_unit f (sections.Function g) = sections.Function (renumbered_function f g)
+renumbered_unit f (sections.FunctionBlock b) = sections.FunctionBlock (renumbered_pou f b)
+renumbered_unit f (sections.Program b) = sections.Program (renumbered_pou f b)
 
--- the units of a text, with the numbers that their tokens get
+-- the units of a text, with other numbers of its tokens
+abbrev pub renumbered_units : (ℕ → ℕ) → List Section → List Section
+renumbered_units f us = map (renumbered_unit f) us
+
+-- with the numbers that they get where the token of this number gets 0
 abbrev pub turned_units : ℕ → List Section → List Section
-turned_units start us = map (turned_unit start) us
+turned_units start us = renumbered_units (turned_number start) us
+
+-- without numbers: all that the units are but these
+abbrev pub unnumbered_units : List Section → List Section
+unnumbered_units us = renumbered_units (λ number. 0) us

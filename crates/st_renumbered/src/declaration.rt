@@ -1,7 +1,7 @@
 //! Declarations whose tokens get other numbers.
 ghost use Rattle.std.specs.Prelude.{◌≡◌, IfOk, map, option_map};
-ghost use Rattle.st_renumbered.specs.Turns.{turned_constant};
-ghost use Rattle.st_renumbered.specs.Units.{turned_block, turned_declaration, turned_initial, turned_item, turned_name, turned_range, turned_specification, turned_type};
+ghost use Rattle.st_renumbered.specs.Turns.{renumbered_constant, turned_number};
+ghost use Rattle.st_renumbered.specs.Units.{renumbered_block, renumbered_declaration, renumbered_initial, renumbered_item, renumbered_name, renumbered_range, renumbered_specification, renumbered_type};
 
 use crate::turn::Turn;
 use st_tree::tree::{
@@ -13,7 +13,8 @@ use std::alloc::AllocError;
 
 /// Copies of blocks of declarations, with the numbers that their tokens get.
 pub fn turned_blocks(turn: Turn, blocks: &[VarBlock]) -> Result<List<VarBlock>, AllocError>
-    ensures { IfOk result (λ turned. turned ≡ map (turned_block turn.start) blocks.now) }
+    ensures { IfOk result (λ turned. turned
+        ≡ map (renumbered_block (turned_number turn.start)) blocks.now) }
 {
     let mut turned = List::new(turn.alloc);
     for block in blocks {
@@ -31,7 +32,8 @@ fn turned_declarations(
     turn: Turn,
     declarations: &[Declaration],
 ) -> Result<List<Declaration>, AllocError>
-    ensures { IfOk result (λ turned. turned ≡ map (turned_declaration turn.start) declarations.now) }
+    ensures { IfOk result (λ turned. turned
+        ≡ map (renumbered_declaration (turned_number turn.start)) declarations.now) }
 {
     let mut turned = List::new(turn.alloc);
     for declaration in declarations {
@@ -46,7 +48,8 @@ fn turned_declarations(
 
 /// A copy of what a type is declared as, with the numbers that its tokens get.
 pub fn turned_type(turn: Turn, declared: &DeclaredType) -> Result<DeclaredType, AllocError>
-    ensures { IfOk result (λ turned. turned ≡ turned_type turn.start declared.now) }
+    ensures { IfOk result (λ turned. turned
+        ≡ renumbered_type (turned_number turn.start) declared.now) }
 {
     match declared {
         DeclaredType::Derived(specification, initial) => {
@@ -66,7 +69,8 @@ fn turned_specification(
     turn: Turn,
     specification: &Specification,
 ) -> Result<Specification, AllocError>
-    ensures { IfOk result (λ turned. turned ≡ turned_specification turn.start specification.now) }
+    ensures { IfOk result (λ turned. turned
+        ≡ renumbered_specification (turned_number turn.start) specification.now) }
 {
     match specification {
         Specification::Simple(name) => Ok(Specification::Simple(turned_name(turn, name)?)),
@@ -80,7 +84,7 @@ fn turned_specification(
 
 /// A copy of the name of a type.
 fn turned_name(turn: Turn, name: &TypeName) -> Result<TypeName, AllocError>
-    ensures { IfOk result (λ turned. turned ≡ turned_name turn.start name.now) }
+    ensures { IfOk result (λ turned. turned ≡ renumbered_name (turned_number turn.start) name.now) }
 {
     match name {
         TypeName::Elementary(position, elem) => {
@@ -92,7 +96,8 @@ fn turned_name(turn: Turn, name: &TypeName) -> Result<TypeName, AllocError>
 
 /// Copies of subscripts.
 fn turned_ranges(turn: Turn, ranges: &[Subrange]) -> Result<List<Subrange>, AllocError>
-    ensures { IfOk result (λ turned. turned ≡ map (turned_range turn.start) ranges.now) }
+    ensures { IfOk result (λ turned. turned
+        ≡ map (renumbered_range (turned_number turn.start)) ranges.now) }
 {
     let mut turned = List::new(turn.alloc);
     for range in ranges {
@@ -109,7 +114,8 @@ fn turned_initial(
     turn: Turn,
     initial: &Option<Boxed<Initial>>,
 ) -> Result<Option<Boxed<Initial>>, AllocError>
-    ensures { IfOk result (λ turned. turned ≡ turned_initial turn.start initial.now) }
+    ensures { IfOk result (λ turned. turned
+        ≡ renumbered_initial (turned_number turn.start) initial.now) }
 {
     let Some(initial) = initial else {
         return Ok(None);
@@ -126,7 +132,8 @@ fn turned_initial(
 
 /// Copies of items of a list of initial values.
 fn turned_items(turn: Turn, items: &[ArrayElement]) -> Result<List<ArrayElement>, AllocError>
-    ensures { IfOk result (λ turned. turned ≡ map (turned_item turn.start) items.now) }
+    ensures { IfOk result (λ turned. turned
+        ≡ map (renumbered_item (turned_number turn.start)) items.now) }
 {
     let mut turned = List::new(turn.alloc);
     for item in items {
@@ -137,7 +144,7 @@ fn turned_items(turn: Turn, items: &[ArrayElement]) -> Result<List<ArrayElement>
 
 /// A copy of an item of a list of initial values.
 fn turned_item(turn: Turn, item: &ArrayElement) -> Result<ArrayElement, AllocError>
-    ensures { IfOk result (λ turned. turned ≡ turned_item turn.start item.now) }
+    ensures { IfOk result (λ turned. turned ≡ renumbered_item (turned_number turn.start) item.now) }
 {
     match item {
         ArrayElement::Single(value) => Ok(ArrayElement::Single(turn.constant(*value))),
@@ -153,7 +160,8 @@ fn turned_value(
     turn: Turn,
     value: &Option<Boxed<Constant>>,
 ) -> Result<Option<Boxed<Constant>>, AllocError>
-    ensures { IfOk result (λ turned. turned ≡ option_map (turned_constant turn.start) value.now) }
+    ensures { IfOk result (λ turned. turned
+        ≡ option_map (renumbered_constant (turned_number turn.start)) value.now) }
 {
     match value {
         Some(value) => {

@@ -1,6 +1,7 @@
 //! Expressions whose tokens get other numbers.
 ghost use Rattle.std.specs.Prelude.{◌≡◌, IfOk, map};
-ghost use Rattle.st_renumbered.specs.Expressions.{turned_argument, turned_call, turned_expression, turned_operation, turned_part, turned_variable};
+ghost use Rattle.st_renumbered.specs.Expressions.{renumbered_argument, renumbered_call, renumbered_expression, renumbered_operation, renumbered_part, renumbered_variable};
+ghost use Rattle.st_renumbered.specs.Turns.{turned_number};
 
 use crate::turn::Turn;
 use st_tree::tree::{Argument, Call, Expression, Operation, Part, Variable};
@@ -10,7 +11,8 @@ use std::alloc::AllocError;
 /// A copy of an expression, with the numbers that its tokens get.
 #[cycle(turned)]
 pub fn turned_expression(turn: Turn, expression: &Expression) -> Result<Expression, AllocError>
-    ensures { IfOk result (λ turned. turned ≡ turned_expression turn.start expression.now) }
+    ensures { IfOk result (λ turned. turned
+        ≡ renumbered_expression (turned_number turn.start) expression.now) }
 {
     match expression {
         Expression::Constant(constant) => Ok(Expression::Constant(turn.constant(*constant))),
@@ -41,7 +43,8 @@ pub fn turned_expression(turn: Turn, expression: &Expression) -> Result<Expressi
 /// A copy of an expression in a box.
 #[cycle(turned)]
 fn turned_inner(turn: Turn, inner: &Expression) -> Result<Boxed<Expression>, AllocError>
-    ensures { IfOk result (λ turned. turned ≡ turned_expression turn.start inner.now) }
+    ensures { IfOk result (λ turned. turned
+        ≡ renumbered_expression (turned_number turn.start) inner.now) }
 {
     Boxed::new(turn.alloc, turned_expression(turn, inner)?)
 }
@@ -49,7 +52,8 @@ fn turned_inner(turn: Turn, inner: &Expression) -> Result<Boxed<Expression>, All
 /// Copies of operators with their operands.
 #[cycle(turned)]
 fn turned_operations(turn: Turn, operations: &[Operation]) -> Result<List<Operation>, AllocError>
-    ensures { IfOk result (λ turned. turned ≡ map (turned_operation turn.start) operations.now) }
+    ensures { IfOk result (λ turned. turned
+        ≡ map (renumbered_operation (turned_number turn.start)) operations.now) }
 {
     let mut turned = List::new(turn.alloc);
     'operations: for operation in operations {
@@ -61,7 +65,8 @@ fn turned_operations(turn: Turn, operations: &[Operation]) -> Result<List<Operat
 /// A copy of an operator with its operand.
 #[cycle(turned)]
 fn turned_operation(turn: Turn, operation: &Operation) -> Result<Operation, AllocError>
-    ensures { IfOk result (λ turned. turned ≡ turned_operation turn.start operation.now) }
+    ensures { IfOk result (λ turned. turned
+        ≡ renumbered_operation (turned_number turn.start) operation.now) }
 {
     Ok(Operation {
         position: turn.position(operation.position),
@@ -73,7 +78,8 @@ fn turned_operation(turn: Turn, operation: &Operation) -> Result<Operation, Allo
 /// A copy of a variable.
 #[cycle(turned)]
 pub fn turned_variable(turn: Turn, variable: &Variable) -> Result<Variable, AllocError>
-    ensures { IfOk result (λ turned. turned ≡ turned_variable turn.start variable.now) }
+    ensures { IfOk result (λ turned. turned
+        ≡ renumbered_variable (turned_number turn.start) variable.now) }
 {
     Ok(Variable {
         name: turn.identifier(&variable.name)?,
@@ -84,7 +90,8 @@ pub fn turned_variable(turn: Turn, variable: &Variable) -> Result<Variable, Allo
 /// Copies of what selects a part.
 #[cycle(turned)]
 fn turned_parts(turn: Turn, parts: &[Part]) -> Result<List<Part>, AllocError>
-    ensures { IfOk result (λ turned. turned ≡ map (turned_part turn.start) parts.now) }
+    ensures { IfOk result (λ turned. turned
+        ≡ map (renumbered_part (turned_number turn.start)) parts.now) }
 {
     let mut turned = List::new(turn.alloc);
     'parts: for part in parts {
@@ -96,7 +103,7 @@ fn turned_parts(turn: Turn, parts: &[Part]) -> Result<List<Part>, AllocError>
 /// A copy of what selects a part.
 #[cycle(turned)]
 fn turned_part(turn: Turn, part: &Part) -> Result<Part, AllocError>
-    ensures { IfOk result (λ turned. turned ≡ turned_part turn.start part.now) }
+    ensures { IfOk result (λ turned. turned ≡ renumbered_part (turned_number turn.start) part.now) }
 {
     match part {
         Part::Field(name) => Ok(Part::Field(turn.identifier(name)?)),
@@ -110,7 +117,8 @@ fn turned_part(turn: Turn, part: &Part) -> Result<Part, AllocError>
 /// Copies of subscripts.
 #[cycle(turned)]
 fn turned_subscripts(turn: Turn, subscripts: &[Expression]) -> Result<List<Expression>, AllocError>
-    ensures { IfOk result (λ turned. turned ≡ map (turned_expression turn.start) subscripts.now) }
+    ensures { IfOk result (λ turned. turned
+        ≡ map (renumbered_expression (turned_number turn.start)) subscripts.now) }
 {
     let mut turned = List::new(turn.alloc);
     'subscripts: for subscript in subscripts {
@@ -122,7 +130,7 @@ fn turned_subscripts(turn: Turn, subscripts: &[Expression]) -> Result<List<Expre
 /// A copy of a call.
 #[cycle(turned)]
 pub fn turned_call(turn: Turn, call: &Call) -> Result<Call, AllocError>
-    ensures { IfOk result (λ turned. turned ≡ turned_call turn.start call.now) }
+    ensures { IfOk result (λ turned. turned ≡ renumbered_call (turned_number turn.start) call.now) }
 {
     Ok(Call {
         name: turn.identifier(&call.name)?,
@@ -133,7 +141,8 @@ pub fn turned_call(turn: Turn, call: &Call) -> Result<Call, AllocError>
 /// Copies of arguments.
 #[cycle(turned)]
 fn turned_arguments(turn: Turn, arguments: &[Argument]) -> Result<List<Argument>, AllocError>
-    ensures { IfOk result (λ turned. turned ≡ map (turned_argument turn.start) arguments.now) }
+    ensures { IfOk result (λ turned. turned
+        ≡ map (renumbered_argument (turned_number turn.start)) arguments.now) }
 {
     let mut turned = List::new(turn.alloc);
     'arguments: for argument in arguments {
@@ -145,7 +154,8 @@ fn turned_arguments(turn: Turn, arguments: &[Argument]) -> Result<List<Argument>
 /// A copy of an argument.
 #[cycle(turned)]
 fn turned_argument(turn: Turn, argument: &Argument) -> Result<Argument, AllocError>
-    ensures { IfOk result (λ turned. turned ≡ turned_argument turn.start argument.now) }
+    ensures { IfOk result (λ turned. turned
+        ≡ renumbered_argument (turned_number turn.start) argument.now) }
 {
     match argument {
         Argument::Positional(value) => Ok(Argument::Positional(turned_expression(turn, value)?)),

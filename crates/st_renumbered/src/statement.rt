@@ -1,8 +1,8 @@
 //! Statements whose tokens get other numbers.
 ghost use Rattle.std.specs.Prelude.{◌≡◌, IfOk, map};
-ghost use Rattle.st_renumbered.specs.Expressions.{turned_expression};
-ghost use Rattle.st_renumbered.specs.Statements.{turned_case, turned_element, turned_for, turned_if, turned_label, turned_part, turned_repeat, turned_statement, turned_while};
-ghost use Rattle.st_renumbered.specs.Turns.{turned_constant};
+ghost use Rattle.st_renumbered.specs.Expressions.{renumbered_expression};
+ghost use Rattle.st_renumbered.specs.Statements.{renumbered_case, renumbered_element, renumbered_for, renumbered_if, renumbered_label, renumbered_part, renumbered_repeat, renumbered_statement, renumbered_while};
+ghost use Rattle.st_renumbered.specs.Turns.{renumbered_constant, turned_number};
 
 use crate::expression::{turned_call, turned_expression, turned_variable};
 use crate::turn::Turn;
@@ -19,7 +19,8 @@ pub fn turned_statements(
     turn: Turn,
     statements: &[Statement],
 ) -> Result<List<Statement>, AllocError>
-    ensures { IfOk result (λ turned. turned ≡ map (turned_statement turn.start) statements.now) }
+    ensures { IfOk result (λ turned. turned
+        ≡ map (renumbered_statement (turned_number turn.start)) statements.now) }
 {
     let mut turned = List::new(turn.alloc);
     'statements: for statement in statements {
@@ -31,7 +32,8 @@ pub fn turned_statements(
 /// A copy of a statement.
 #[cycle(turned)]
 fn turned_statement(turn: Turn, statement: &Statement) -> Result<Statement, AllocError>
-    ensures { IfOk result (λ turned. turned ≡ turned_statement turn.start statement.now) }
+    ensures { IfOk result (λ turned. turned
+        ≡ renumbered_statement (turned_number turn.start) statement.now) }
 {
     let alloc = turn.alloc;
     match statement {
@@ -71,7 +73,8 @@ fn turned_statement(turn: Turn, statement: &Statement) -> Result<Statement, Allo
 
 /// A copy of an expression in a box.
 fn boxed(turn: Turn, expression: &Expression) -> Result<Boxed<Expression>, AllocError>
-    ensures { IfOk result (λ turned. turned ≡ turned_expression turn.start expression.now) }
+    ensures { IfOk result (λ turned. turned
+        ≡ renumbered_expression (turned_number turn.start) expression.now) }
 {
     Boxed::new(turn.alloc, turned_expression(turn, expression)?)
 }
@@ -79,7 +82,8 @@ fn boxed(turn: Turn, expression: &Expression) -> Result<Boxed<Expression>, Alloc
 /// A copy of IF.
 #[cycle(turned)]
 fn turned_if(turn: Turn, statement: &IfStatement) -> Result<IfStatement, AllocError>
-    ensures { IfOk result (λ turned. turned ≡ turned_if turn.start statement.now) }
+    ensures { IfOk result (λ turned. turned
+        ≡ renumbered_if (turned_number turn.start) statement.now) }
 {
     Ok(IfStatement {
         position: turn.position(statement.position),
@@ -91,7 +95,8 @@ fn turned_if(turn: Turn, statement: &IfStatement) -> Result<IfStatement, AllocEr
 /// Copies of the parts of IF.
 #[cycle(turned)]
 fn turned_parts(turn: Turn, parts: &[ConditionalPart]) -> Result<List<ConditionalPart>, AllocError>
-    ensures { IfOk result (λ turned. turned ≡ map (turned_part turn.start) parts.now) }
+    ensures { IfOk result (λ turned. turned
+        ≡ map (renumbered_part (turned_number turn.start)) parts.now) }
 {
     let mut turned = List::new(turn.alloc);
     'parts: for part in parts {
@@ -103,7 +108,7 @@ fn turned_parts(turn: Turn, parts: &[ConditionalPart]) -> Result<List<Conditiona
 /// A copy of a part of IF.
 #[cycle(turned)]
 fn turned_part(turn: Turn, part: &ConditionalPart) -> Result<ConditionalPart, AllocError>
-    ensures { IfOk result (λ turned. turned ≡ turned_part turn.start part.now) }
+    ensures { IfOk result (λ turned. turned ≡ renumbered_part (turned_number turn.start) part.now) }
 {
     Ok(ConditionalPart {
         condition: turned_expression(turn, &part.condition)?,
@@ -114,7 +119,8 @@ fn turned_part(turn: Turn, part: &ConditionalPart) -> Result<ConditionalPart, Al
 /// A copy of CASE.
 #[cycle(turned)]
 fn turned_case(turn: Turn, statement: &CaseStatement) -> Result<CaseStatement, AllocError>
-    ensures { IfOk result (λ turned. turned ≡ turned_case turn.start statement.now) }
+    ensures { IfOk result (λ turned. turned
+        ≡ renumbered_case (turned_number turn.start) statement.now) }
 {
     Ok(CaseStatement {
         position: turn.position(statement.position),
@@ -127,7 +133,8 @@ fn turned_case(turn: Turn, statement: &CaseStatement) -> Result<CaseStatement, A
 /// Copies of cases.
 #[cycle(turned)]
 fn turned_cases(turn: Turn, cases: &[CaseElement]) -> Result<List<CaseElement>, AllocError>
-    ensures { IfOk result (λ turned. turned ≡ map (turned_element turn.start) cases.now) }
+    ensures { IfOk result (λ turned. turned
+        ≡ map (renumbered_element (turned_number turn.start)) cases.now) }
 {
     let mut turned = List::new(turn.alloc);
     'cases: for case in cases {
@@ -139,7 +146,8 @@ fn turned_cases(turn: Turn, cases: &[CaseElement]) -> Result<List<CaseElement>, 
 /// A copy of a case.
 #[cycle(turned)]
 fn turned_element(turn: Turn, case: &CaseElement) -> Result<CaseElement, AllocError>
-    ensures { IfOk result (λ turned. turned ≡ turned_element turn.start case.now) }
+    ensures { IfOk result (λ turned. turned
+        ≡ renumbered_element (turned_number turn.start) case.now) }
 {
     Ok(CaseElement {
         labels: turned_labels(turn, case.labels.as_slice())?,
@@ -149,7 +157,8 @@ fn turned_element(turn: Turn, case: &CaseElement) -> Result<CaseElement, AllocEr
 
 /// Copies of labels.
 fn turned_labels(turn: Turn, labels: &[Label]) -> Result<List<Label>, AllocError>
-    ensures { IfOk result (λ turned. turned ≡ map (turned_label turn.start) labels.now) }
+    ensures { IfOk result (λ turned. turned
+        ≡ map (renumbered_label (turned_number turn.start)) labels.now) }
 {
     let mut turned = List::new(turn.alloc);
     for label in labels {
@@ -160,7 +169,8 @@ fn turned_labels(turn: Turn, labels: &[Label]) -> Result<List<Label>, AllocError
 
 /// A copy of a label.
 fn turned_label(turn: Turn, label: &Label) -> Result<Label, AllocError>
-    ensures { IfOk result (λ turned. turned ≡ turned_label turn.start label.now) }
+    ensures { IfOk result (λ turned. turned
+        ≡ renumbered_label (turned_number turn.start) label.now) }
 {
     match label {
         Label::Value(value) => Ok(Label::Value(turn.constant(*value))),
@@ -173,7 +183,8 @@ fn turned_label(turn: Turn, label: &Label) -> Result<Label, AllocError>
 
 /// A copy of a literal in a box.
 fn boxed_constant(turn: Turn, constant: Constant) -> Result<Boxed<Constant>, AllocError>
-    ensures { IfOk result (λ turned. turned ≡ turned_constant turn.start constant) }
+    ensures { IfOk result (λ turned. turned
+        ≡ renumbered_constant (turned_number turn.start) constant) }
 {
     Boxed::new(turn.alloc, turn.constant(constant))
 }
@@ -181,7 +192,8 @@ fn boxed_constant(turn: Turn, constant: Constant) -> Result<Boxed<Constant>, All
 /// A copy of FOR.
 #[cycle(turned)]
 fn turned_for(turn: Turn, statement: &ForStatement) -> Result<ForStatement, AllocError>
-    ensures { IfOk result (λ turned. turned ≡ turned_for turn.start statement.now) }
+    ensures { IfOk result (λ turned. turned
+        ≡ renumbered_for (turned_number turn.start) statement.now) }
 {
     Ok(ForStatement {
         position: turn.position(statement.position),
@@ -199,7 +211,8 @@ fn turned_for(turn: Turn, statement: &ForStatement) -> Result<ForStatement, Allo
 /// A copy of WHILE.
 #[cycle(turned)]
 fn turned_while(turn: Turn, statement: &WhileStatement) -> Result<WhileStatement, AllocError>
-    ensures { IfOk result (λ turned. turned ≡ turned_while turn.start statement.now) }
+    ensures { IfOk result (λ turned. turned
+        ≡ renumbered_while (turned_number turn.start) statement.now) }
 {
     Ok(WhileStatement {
         position: turn.position(statement.position),
@@ -211,7 +224,8 @@ fn turned_while(turn: Turn, statement: &WhileStatement) -> Result<WhileStatement
 /// A copy of REPEAT.
 #[cycle(turned)]
 fn turned_repeat(turn: Turn, statement: &RepeatStatement) -> Result<RepeatStatement, AllocError>
-    ensures { IfOk result (λ turned. turned ≡ turned_repeat turn.start statement.now) }
+    ensures { IfOk result (λ turned. turned
+        ≡ renumbered_repeat (turned_number turn.start) statement.now) }
 {
     Ok(RepeatStatement {
         position: turn.position(statement.position),

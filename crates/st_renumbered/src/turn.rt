@@ -1,6 +1,6 @@
 //! Which numbers tokens get.
 ghost use Rattle.std.specs.Prelude.{◌≡◌, IfOk, map};
-ghost use Rattle.st_renumbered.specs.Turns.{position_before, turned_constant, turned_duration, turned_identifier, turned_integer, turned_number, turned_position};
+ghost use Rattle.st_renumbered.specs.Turns.{position_before, renumbered_constant, renumbered_duration, renumbered_identifier, renumbered_integer, turned_number, renumbered_position};
 
 use st_tree::tree::{Constant, Duration, Identifier, Position, SignedInteger};
 use st_tree::{List, Word};
@@ -24,7 +24,7 @@ impl Turn {
 
     /// A place, with the number that its token gets.
     pub fn position(self, position: Position) -> Position
-        ensures { result ≡ turned_position self.start position }
+        ensures { result ≡ renumbered_position (turned_number self.start) position }
     {
         Position {
             number: self.number(position.number),
@@ -44,7 +44,8 @@ impl Turn {
 
     /// A copy of a name, with the number that its token gets.
     pub fn identifier(self, name: &Identifier) -> Result<Identifier, AllocError>
-        ensures { IfOk result (λ turned. turned ≡ turned_identifier self.start name.now) }
+        ensures { IfOk result (λ turned. turned
+            ≡ renumbered_identifier (turned_number self.start) name.now) }
     {
         Ok(Identifier {
             position: self.position(name.position),
@@ -54,7 +55,8 @@ impl Turn {
 
     /// Copies of names, with the numbers that their tokens get.
     pub fn identifiers(self, names: &[Identifier]) -> Result<List<Identifier>, AllocError>
-        ensures { IfOk result (λ turned. turned ≡ map (turned_identifier self.start) names.now) }
+        ensures { IfOk result (λ turned. turned
+            ≡ map (renumbered_identifier (turned_number self.start)) names.now) }
     {
         let mut turned = List::new(self.alloc);
         for name in names {
@@ -65,7 +67,7 @@ impl Turn {
 
     /// A number of the text, with the number that its token gets.
     pub fn signed_integer(self, number: SignedInteger) -> SignedInteger
-        ensures { result ≡ turned_integer self.start number }
+        ensures { result ≡ renumbered_integer (turned_number self.start) number }
     {
         SignedInteger {
             position: self.position(number.position),
@@ -76,7 +78,7 @@ impl Turn {
 
     /// A duration, with the number that its token gets.
     pub fn duration(self, duration: Duration) -> Duration
-        ensures { result ≡ turned_duration self.start duration }
+        ensures { result ≡ renumbered_duration (turned_number self.start) duration }
     {
         Duration {
             position: self.position(duration.position),
@@ -86,7 +88,7 @@ impl Turn {
 
     /// A literal, with the number that its token gets.
     pub fn constant(self, constant: Constant) -> Constant
-        ensures { result ≡ turned_constant self.start constant }
+        ensures { result ≡ renumbered_constant (turned_number self.start) constant }
     {
         match constant {
             Constant::Integer(number) => Constant::Integer(self.signed_integer(number)),

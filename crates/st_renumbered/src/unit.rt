@@ -1,6 +1,7 @@
 //! Units whose tokens get other numbers.
 ghost use Rattle.std.specs.Prelude.{◌≡◌, IfOk, map, option_map};
-ghost use Rattle.st_renumbered.specs.Units.{turned_association, turned_body, turned_element, turned_pou, turned_qualifier, turned_transition, turned_type_declaration, turned_unit, turned_units};
+ghost use Rattle.st_renumbered.specs.Turns.{turned_number};
+ghost use Rattle.st_renumbered.specs.Units.{renumbered_association, renumbered_body, renumbered_element, renumbered_pou, renumbered_qualifier, renumbered_transition, renumbered_type_declaration, renumbered_unit, turned_units};
 
 use crate::declaration::{turned_blocks, turned_type};
 use crate::expression::turned_expression;
@@ -26,7 +27,7 @@ pub fn turned_units(turn: Turn, units: &[Unit]) -> Result<Vec<Unit>, AllocError>
 
 /// A copy of a unit.
 fn turned_unit(turn: Turn, unit: &Unit) -> Result<Unit, AllocError>
-    ensures { IfOk result (λ turned. turned ≡ turned_unit turn.start unit.now) }
+    ensures { IfOk result (λ turned. turned ≡ renumbered_unit (turned_number turn.start) unit.now) }
 {
     match unit {
         Unit::Types(position, types) => {
@@ -47,7 +48,8 @@ fn turned_unit(turn: Turn, unit: &Unit) -> Result<Unit, AllocError>
 
 /// Copies of the types that a unit declares.
 fn turned_types(turn: Turn, types: &[TypeDeclaration]) -> Result<List<TypeDeclaration>, AllocError>
-    ensures { IfOk result (λ turned. turned ≡ map (turned_type_declaration turn.start) types.now) }
+    ensures { IfOk result (λ turned. turned
+        ≡ map (renumbered_type_declaration (turned_number turn.start)) types.now) }
 {
     let mut turned = List::new(turn.alloc);
     for declaration in types {
@@ -61,7 +63,7 @@ fn turned_types(turn: Turn, types: &[TypeDeclaration]) -> Result<List<TypeDeclar
 
 /// A copy of a function block or a program.
 fn turned_pou(turn: Turn, pou: &Pou) -> Result<Pou, AllocError>
-    ensures { IfOk result (λ turned. turned ≡ turned_pou turn.start pou.now) }
+    ensures { IfOk result (λ turned. turned ≡ renumbered_pou (turned_number turn.start) pou.now) }
 {
     Ok(Pou {
         position: turn.position(pou.position),
@@ -73,7 +75,7 @@ fn turned_pou(turn: Turn, pou: &Pou) -> Result<Pou, AllocError>
 
 /// A copy of what a function block or a program does.
 fn turned_body(turn: Turn, body: &Body) -> Result<Body, AllocError>
-    ensures { IfOk result (λ turned. turned ≡ turned_body turn.start body.now) }
+    ensures { IfOk result (λ turned. turned ≡ renumbered_body (turned_number turn.start) body.now) }
 {
     match body {
         Body::Statements(statements) => {
@@ -85,7 +87,8 @@ fn turned_body(turn: Turn, body: &Body) -> Result<Body, AllocError>
 
 /// Copies of the elements of a chart.
 fn turned_elements(turn: Turn, elements: &[ChartElement]) -> Result<List<ChartElement>, AllocError>
-    ensures { IfOk result (λ turned. turned ≡ map (turned_element turn.start) elements.now) }
+    ensures { IfOk result (λ turned. turned
+        ≡ map (renumbered_element (turned_number turn.start)) elements.now) }
 {
     let mut turned = List::new(turn.alloc);
     for element in elements {
@@ -96,7 +99,8 @@ fn turned_elements(turn: Turn, elements: &[ChartElement]) -> Result<List<ChartEl
 
 /// A copy of an element of a chart.
 fn turned_element(turn: Turn, element: &ChartElement) -> Result<ChartElement, AllocError>
-    ensures { IfOk result (λ turned. turned ≡ turned_element turn.start element.now) }
+    ensures { IfOk result (λ turned. turned
+        ≡ renumbered_element (turned_number turn.start) element.now) }
 {
     match element {
         ChartElement::Step(step) => Ok(ChartElement::Step(Step {
@@ -121,7 +125,8 @@ fn turned_associations(
     turn: Turn,
     associations: &[Association],
 ) -> Result<List<Association>, AllocError>
-    ensures { IfOk result (λ turned. turned ≡ map (turned_association turn.start) associations.now) }
+    ensures { IfOk result (λ turned. turned
+        ≡ map (renumbered_association (turned_number turn.start)) associations.now) }
 {
     let mut turned = List::new(turn.alloc);
     for association in associations {
@@ -138,7 +143,8 @@ fn turned_qualifier(
     turn: Turn,
     qualifier: &Option<ActionQualifier>,
 ) -> Result<Option<ActionQualifier>, AllocError>
-    ensures { IfOk result (λ turned. turned ≡ option_map (turned_qualifier turn.start) qualifier.now) }
+    ensures { IfOk result (λ turned. turned
+        ≡ option_map (renumbered_qualifier (turned_number turn.start)) qualifier.now) }
 {
     let Some(qualifier) = qualifier else {
         return Ok(None);
@@ -153,7 +159,8 @@ fn turned_qualifier(
 
 /// A copy of a transition.
 fn turned_transition(turn: Turn, transition: &Transition) -> Result<Transition, AllocError>
-    ensures { IfOk result (λ turned. turned ≡ turned_transition turn.start transition.now) }
+    ensures { IfOk result (λ turned. turned
+        ≡ renumbered_transition (turned_number turn.start) transition.now) }
 {
     Ok(Transition {
         position: turn.position(transition.position),

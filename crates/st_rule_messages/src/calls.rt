@@ -6,7 +6,7 @@ use st_messages::{Lexed, Nearest, Words, push_quoted, push_shown};
 use st_scopes::{Scope, Tables};
 use st_sites::Site;
 use st_tree::tree::{Argument, Call, Expression, Identifier, VarKind};
-use st_types::{Base, Callee, Purpose, Signature, StandardBlock, StandardFunction, UnitKind};
+use st_types::{Base, Callee, Purpose, Signature, StandardFunction, UnitKind};
 use std::alloc::{AllocError, Global};
 
 /// Says why a call, or an EXIT, doesn't fit.
@@ -79,26 +79,11 @@ fn say_block(words: &mut Words, name: &[u8]) -> Result<(), AllocError> {
 /// Puts the name of the function block of an instance at the end of a message.
 fn push_block(message: &mut String, tables: &Tables<'_>, base: Base) -> Result<(), AllocError> {
     match base {
-        Base::Standard(block) => push_shown(message, block_name(block)),
+        Base::Standard(block) => push_shown(message, block.name()),
         Base::Block(unit) if unit < tables.len() => {
             push_shown(message, tables.unit(unit).name.spelling.as_slice())
         }
         _ => message.push_str("it"),
-    }
-}
-
-/// The name of a standard function block.
-fn block_name(block: StandardBlock) -> &'static [u8] {
-    match block {
-        StandardBlock::RTrig => b"R_TRIG",
-        StandardBlock::FTrig => b"F_TRIG",
-        StandardBlock::Sr => b"SR",
-        StandardBlock::Rs => b"RS",
-        StandardBlock::Ctu => b"CTU",
-        StandardBlock::Ctd => b"CTD",
-        StandardBlock::Ton => b"TON",
-        StandardBlock::Tof => b"TOF",
-        StandardBlock::Tp => b"TP",
     }
 }
 

@@ -1,8 +1,8 @@
 //! What is said of limits that are passed.
 
+use st_check::{MAX_IMAGE_BYTES, MAX_LEAVES, MAX_PATH_BYTES};
+use st_leaves::{MAX_COUNT, Size};
 use st_messages::{Lexed, Words, push_quoted};
-use st_program_sizes::{MAX_IMAGE_BYTES, MAX_LEAVES, MAX_PATH_BYTES};
-use st_sizes::{MAX_COUNT, Size};
 use st_tree::MAX_NAME_BYTES;
 use std::alloc::{AllocError, Global};
 

@@ -7,6 +7,7 @@ use crate::limits::explain_limit;
 use crate::names::{explain_repeated, explain_unknown};
 use st_faults::{Fault, Rule};
 use st_messages::{Lexed, Nearest, Words, push_quoted, push_shown};
+use st_refusals::explanation_of_rule;
 use st_scopes::Tables;
 use st_sites::{in_unit, unit_at};
 use st_type_messages::{explain_assigned, explain_range, explain_type};
@@ -51,25 +52,9 @@ pub fn explain_rule(
         _ => {}
     }
     if words.title.is_empty() {
-        words.title.push_str(plain_title(fault.rule))?;
+        words.title.push_str(explanation_of_rule(fault.rule).title)?;
     }
     Ok(words)
-}
-
-/// What is wrong where a rule is broken, where no more is known.
-fn plain_title(rule: Rule) -> &'static str {
-    match rule {
-        Rule::UnknownName => "there is no such name here",
-        Rule::NameTwice => "this name stands for something else already",
-        Rule::TypeMismatch => "this isn't of the type that is wanted here",
-        Rule::OutOfRange => "this is outside the range of its type",
-        Rule::NotAssignable => "this may not be assigned",
-        Rule::Recursion => "this contains or calls itself",
-        Rule::CallMismatch => "this call doesn't fit what it calls",
-        Rule::MalformedChart => "this chart isn't well formed",
-        Rule::LimitPassed => "a limit is passed",
-        Rule::NoProgram => "there is no program of this name",
-    }
 }
 
 /// What is said of a text that breaks no rule and has no program of a name.

@@ -4,7 +4,7 @@ use Rattle.std.specs.List.{slice_get}
 use Rattle.std.proofs.lemmas.List.{length-map}
 use Rattle.std.specs.Option.{option_map, option_map_or}
 use Rattle.std.proofs.lemmas.Option.{same_Some, slice_get_read}
-use Rattle.st_names.specs.Tables.{first_of}
+use Rattle.st_types.specs.Tables.{first_of}
 use Rattle.st_tree.specs.declared.tree.position.Identifier.{Identifier}
 use Rattle.st_tree.specs.declared.tree.unit.Action.{Action}
 use Rattle.st_tree.specs.declared.tree.unit.Step.{Step}

@@ -4,9 +4,8 @@ ghost use Rattle.st_scopes.specs.Charts.{action_names, chart_names, element_name
 ghost use Rattle.st_types.specs.Inside.{declared_by};
 ghost use Rattle.st_types.specs.Names.{actions_in, steps_in};
 
-use st_names::NameTable;
 use st_tree::tree::{Body, ChartElement};
-use st_types::UnitKind;
+use st_types::{NameTable, UnitKind};
 use std::alloc::{AllocError, Global};
 
 /// The names of a chart's steps and actions.
@@ -58,8 +57,10 @@ impl<'a> ChartNames<'a> {
 
     /// Adds the name of an element.
     fn add(&mut self, element: &'a ChartElement) -> Result<(), AllocError>
-        ensures steps { OnOk result (self.new.steps ≡ self.old.steps ++ step_names (steps_in element.now)) }
-        ensures actions { OnOk result (self.new.actions ≡ self.old.actions ++ action_names (actions_in element.now)) }
+        ensures steps { OnOk result
+            (self.new.steps ≡ self.old.steps ++ step_names (steps_in element.now)) }
+        ensures actions { OnOk result
+            (self.new.actions ≡ self.old.actions ++ action_names (actions_in element.now)) }
     {
         match element {
             ChartElement::Step(step) => self.steps.push(step.name.spelling.as_slice()),

@@ -6,9 +6,8 @@ ghost use Rattle.st_types.specs.Inside.{declared_by};
 ghost use Rattle.st_types.specs.Names.{declared_in, declared_named, variables_of};
 ghost use Rattle.st_scopes.specs.Declarations.{names_in, seen};
 
-use st_names::NameTable;
 use st_tree::tree::{Declaration, DeclaredType, Identifier, VarBlock, VarKind};
-use st_types::UnitKind;
+use st_types::{NameTable, UnitKind};
 use std::alloc::{AllocError, Global};
 use std::marker::Model;
 
@@ -84,7 +83,8 @@ impl<'a> Declarations<'a> {
         kind: VarKind,
         declarations: &'a [Declaration],
     ) -> Result<(), AllocError>
-        ensures { OnOk result (self.new ≡ self.old ++ flat_map (declared_in kind) declarations.now) }
+        ensures { OnOk result (self.new ≡ self.old ++ flat_map (declared_in kind)
+            declarations.now) }
     {
         for declaration in declarations {
             self.add_names(kind, declaration)?;

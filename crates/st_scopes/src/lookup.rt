@@ -13,16 +13,16 @@ ghost use Rattle.st_types.specs.Types.{elements_in};
 use crate::declaration::Declarations;
 use crate::tables::Tables;
 use crate::variable::{component_of, symbol_of};
-use st_names::is_same_name;
 use st_tree::tree::{DeclaredType, Function, Specification, VarKind};
 use st_types::{
     Base, Callee, Elements, Member, Pin, Purpose, Shape, Signature, Standard, StandardBlock,
-    Symbol, TypeTable, UnitKind, standard_of,
+    Symbol, TypeTable, UnitKind, is_same_name, standard_of,
 };
 
 /// What the name is in the unit of this number, where it is that of a variable.
 pub fn variable_in<'a>(tables: &'a Tables<'a>, unit: usize, name: &[u8]) -> Option<Symbol<'a>>
-    ensures { result ≡ optional_variable (units_of tables.now) (declares_at (units_of tables.now) unit) name.now }
+    ensures { result ≡ optional_variable (units_of tables.now)
+        (declares_at (units_of tables.now) unit) name.now }
 {
     let kind = tables.types().kind(unit)?;
     let names = tables.names(unit)?;
@@ -61,7 +61,8 @@ fn declared_variable<'s>(
     variables: &Declarations<'s>,
     name: &[u8],
 ) -> Option<Symbol<'s>>
-    ensures { result ≡ option_map (symbol_of types.now (declared_by unit.entry)) (declared_named variables.now name.now) }
+    ensures { result ≡ option_map (symbol_of types.now (declared_by unit.entry))
+        (declared_named variables.now name.now) }
 {
     let variable = variables.find(name)?;
     Some(symbol_of(types, unit, variable))
@@ -112,7 +113,8 @@ pub fn member_of<'a>(tables: &'a Tables<'a>, base: Base, name: &[u8]) -> Member<
 
 /// What the name stands for behind a variable whose type is the unit of this number.
 fn member_in<'a>(tables: &'a Tables<'a>, number: usize, name: &[u8]) -> Member<'a>
-    ensures { result ≡ optional_unit_member (units_of tables.now) (declares_at (units_of tables.now) number) name.now }
+    ensures { result ≡ optional_unit_member (units_of tables.now)
+        (declares_at (units_of tables.now) number) name.now }
 {
     match (tables.types().kind(number), tables.names(number)) {
         (Some(unit), Some(names)) => unit_member(tables.types(), unit, &names.declarations, name),
@@ -197,7 +199,8 @@ pub fn global_callee<'a>(tables: &'a Tables<'a>, name: &[u8]) -> Callee<'a>
 
 /// What the name of the unit of this number stands for before `(`.
 fn unit_callee<'a>(tables: &'a Tables<'a>, number: usize) -> Callee<'a>
-    ensures { result ≡ optional_unit_callee (units_of tables.now) (declares_at (units_of tables.now) number) }
+    ensures { result ≡ optional_unit_callee (units_of tables.now)
+        (declares_at (units_of tables.now) number) }
 {
     match (tables.types().kind(number), tables.names(number)) {
         (Some(UnitKind::Function(function)), Some(names)) => {

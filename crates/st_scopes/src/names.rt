@@ -25,7 +25,8 @@ pub struct UnitNames<'a> {
 
 /// What is declared in each unit of a text.
 pub fn names_of<'a>(alloc: Global, types: &TypeTable<'a>) -> Result<Vec<UnitNames<'a>>, AllocError>
-    ensures { IfOk result (λ names. names.items ≡ map (λ u. unit_names types.now u.declares) types.now) }
+    ensures { IfOk result (λ names. names.items ≡ map (λ u. unit_names types.now u.declares)
+        types.now) }
 {
     let units: &[NamedUnit<'a>] = types.units();
     let mut names = Vec::new(alloc);
@@ -65,7 +66,8 @@ fn inputs_of<'a>(
     unit: UnitKind<'a>,
     variables: &[Declared<'a>],
 ) -> Result<Inputs<'a>, AllocError>
-    ensures { IfOk result (λ inputs. inputs ≡ flat_map (input_of types.now (declared_by unit.entry)) (map seen variables.now)) }
+    ensures { IfOk result (λ inputs. inputs ≡ flat_map (input_of types.now (declared_by unit.entry))
+        (map seen variables.now)) }
 {
     let mut inputs = Inputs::new(alloc);
     for variable in variables {
@@ -81,7 +83,8 @@ fn add_input<'a>(
     variable: Declared<'a>,
     inputs: &mut Inputs<'a>,
 ) -> Result<(), AllocError>
-    ensures { OnOk result (inputs.new ≡ inputs.old ++ input_of types.now (declared_by unit.entry) (seen variable.entry)) }
+    ensures { OnOk result (inputs.new ≡ inputs.old
+        ++ input_of types.now (declared_by unit.entry) (seen variable.entry)) }
 {
     if !matches!(variable.kind, VarKind::Input) {
         return Ok(());

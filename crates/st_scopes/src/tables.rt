@@ -137,7 +137,8 @@ impl<'a> Tables<'a> {
 
     /// What is declared in the unit of this number.
     pub(crate) fn names(&self, unit: usize) -> Option<&UnitNames<'a>>
-        ensures { option_copied result ≡ option_map (unit_names (units_of self.now)) (declares_at (units_of self.now) unit) }
+        ensures { option_copied result
+            ≡ option_map (unit_names (units_of self.now)) (declares_at (units_of self.now) unit) }
     {
         names_at(&self.names, unit)
     }

@@ -1,29 +1,14 @@
 //! Which types are due inside an expression.
 
-use st_check_expressions::{check_target, elem_due, elem_of, is_unknown, selected_type};
+use st_check_expressions::{
+    check_target, compares, elem_due, elem_of, is_unknown, name_due, position_due, selected_type,
+};
 use st_faults::FirstFault;
 use st_scopes::Scope;
-use st_tree::BinOp;
 use st_tree::tree::{Argument, Constant, Expression, Identifier, Operation, Part, Variable};
-use st_types::{Base, Callee, Due, Elements, Shape, StandardFunction};
+use st_types::{Base, Callee, Due, Elements, Shape, or_lint};
 use st_values::Elem;
 use std::alloc::{AllocError, Global};
-
-/// Whether an operator compares.
-pub fn is_comparison(operator: BinOp) -> bool {
-    matches!(
-        operator,
-        BinOp::Eq | BinOp::Ne | BinOp::Lt | BinOp::Gt | BinOp::Le | BinOp::Ge
-    )
-}
-
-/// Whether the first operator compares.
-pub fn compares(operations: &[Operation]) -> bool {
-    match operations.first() {
-        Some(operation) => is_comparison(operation.operator),
-        None => false,
-    }
-}
 
 /// Whether an expression is made of numbers alone, which take the type that is due.
 pub fn is_untyped(expression: &Expression) -> bool {
@@ -66,9 +51,7 @@ pub fn operand_due(
         return Ok(Due::Type(elem));
     }
     match operations.first() {
-        Some(operation) => Ok(Due::Type(own(alloc, scope, &operation.operand)?.unwrap_or(
-            Elem::Lint,
-        ))),
+        Some(operation) => Ok(Due::Type(or_lint(own(alloc, scope, &operation.operand)?))),
         None => Ok(due),
     }
 }
@@ -125,29 +108,9 @@ pub fn argument_due(
 ) -> Due {
     match (callee, argument) {
         (Callee::Instance(base), Argument::Input(name, _)) => pin_due(scope, *base, name),
-        (Callee::Own(signature), Argument::Input(name, _)) => {
-            match signature.number_of(name.spelling.as_slice()) {
-                Some(number) => signature.due_at(number),
-                None => Due::Any,
-            }
-        }
-        (Callee::Own(signature), Argument::Positional(_)) => signature.due_at(number),
-        (Callee::Conversion(from, _), _) => Due::Type(*from),
-        (Callee::Standard(function), _) => standard_due(*function, number, whole),
-        _ => Due::Any,
-    }
-}
-
-/// What is due of the argument of this number, from 0, of a standard function.
-fn standard_due(function: StandardFunction, number: usize, whole: Due) -> Due {
-    match function {
-        StandardFunction::Sel if number == 0 => Due::Type(Elem::Bool),
-        StandardFunction::Shl
-        | StandardFunction::Shr
-        | StandardFunction::Rol
-        | StandardFunction::Ror
-            if number != 0 => { Due::Integer }
-        _ => whole,
+        (_, Argument::Input(name, _)) => name_due(callee, name),
+        (_, Argument::Positional(_)) => position_due(callee, whole, number),
+        (_, Argument::Output(_, _)) => Due::Any,
     }
 }
 

@@ -1,7 +1,8 @@
 //! The walk through expressions to a token.
 
-use crate::due::{argument_due, compares, inner_due, operand_due};
+use crate::due::{argument_due, inner_due, operand_due};
 use crate::site::{Site, position_of};
+use st_check_expressions::compares;
 use st_scopes::Scope;
 use st_tree::tree::{Argument, Call, Expression, Operation, Part, Variable};
 use st_types::{Callee, Due};

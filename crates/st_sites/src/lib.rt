@@ -7,6 +7,6 @@ mod site;
 mod statements;
 mod units;
 
-pub use due::{compares, elements_of, is_comparison, operand_due, own, reached, target_shape};
+pub use due::{elements_of, operand_due, own, reached, target_shape};
 pub use site::Site;
 pub use units::{in_unit, unit_at};

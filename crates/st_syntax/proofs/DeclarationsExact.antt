@@ -16,11 +16,11 @@ use Rattle.st_parser.specs.Reader.Parsers as parser
 use Rattle.st_parser.specs.Reader.Parsers.{Parser, and_then, is_symbol, is_keyword, is_word}
 use Rattle.st_parser.proofs.Exact.{Relation, Exact, Always, Any, Then, seq, IsOne, one, IsPure, done, IsWord, a_word, IsNumber, a_number, exact_bind, exact_as, exact_iff, exact_last, exact_under, exact_zero, exact_pure, made, exact_refuse, exact_on, IsFirst, exact_token, symbol_is, keyword_is, exact_symbol, exact_keyword, exact_open_level, exact_identifier, Before, exact_identifier_before, exact_number, exact_before, Ends, exact_many, exact_listed}
 use Rattle.st_parser.proofs.Levels.{At}
-use Rattle.st_expressions.specs.Grammar.{IsSignedInteger, unsigned, IsConstant, integer}
-use Rattle.st_expressions.proofs.Expressions.{constant_exact, signed_integer_exact}
-use Rattle.st_expressions.proofs.Follows.{constant_begins, begins_constant}
-use Rattle.st_statements.specs.Grammar.Charts.{IsName, name}
-use Rattle.st_statements.proofs.ChartsExact.{name_exact}
+use Rattle.st_parser.specs.Grammar.Expressions.{IsSignedInteger, unsigned, IsConstant, integer}
+use Rattle.st_parser.proofs.Expressions.{constant_exact, signed_integer_exact}
+use Rattle.st_parser.proofs.Follows.{constant_begins, begins_constant}
+use Rattle.st_syntax.specs.Grammar.Charts.{IsName, name}
+use Rattle.st_syntax.proofs.ChartsExact.{name_exact}
 use Rattle.st_syntax.specs.Grammar.Declarations.{subrange_of, declaration_of, block_of, IsTypeName, elementary, declared, IsSubrange, subrange, IsSpecification, simple, array, IsArrayElement, single, repeated_default, repeated, IsInitial, initial_constant, initial_array, IsInitialized, uninitialized, initialized, IsDeclaration, declaration, IsMember, member, IsRetention, unsaid, retained, not_retained, IsInternal, variable, constant, IsVarBlock, internal, input, output}
 use Rattle.st_syntax.specs.Reader.Declarations as spec
 use Rattle.st_syntax.specs.Reader.Declarations.{is_repeated, is_retention, begins_block}

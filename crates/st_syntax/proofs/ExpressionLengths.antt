@@ -3,9 +3,9 @@ use Rattle.std.proofs.Common.{◌≡◌, ℕ, suc, ◌+◌, ◌≤◌, List, [],
 use Rattle.st_tree.specs.declared.tree.expression.Argument.TheVariants as argument_kinds
 use Rattle.st_parser.specs.Grammar.Tokens.{Tok, identifier_of, position}
 use Rattle.st_parser.specs.Names.{Argument, Call, Constant, Expression, Operation, Part, SignedInteger, Variable}
-use Rattle.st_expressions.specs.Grammar.{call_of, operation_of, variable_of, IsSignedInteger, unsigned, plus, minus, IsConstant, integer, typed, duration, truth, falsehood, IsBinary, unary, alone, chain, IsOperations, no_operation, operations, IsOperation, operation, IsUnary, negation, complement, primary, IsPrimary, constant, variable, call, parenthesized, IsVariable, named, IsParts, no_part, parts, IsPart, field, subscripts, IsNextExpressions, no_expression, next_expressions, IsCall, called, IsArguments, no_arguments, arguments, IsNextArguments, no_argument, next_arguments, IsArgument, positional, input, output}
-use Rattle.st_lengths.proofs.Folds.{call_is, chain_is, complement_is, field_is, input_is, literal_is, negation_is, operation_is, output_is, parenthesized_is, place_is, positional_is, subscripts_is, value_is, variable_is}
-use Rattle.st_lengths.specs.Lengths.{argument_length, call_length, expression_length, operation_length, part_length, total, variable_length}
+use Rattle.st_parser.specs.Grammar.Expressions.{call_of, operation_of, variable_of, IsSignedInteger, unsigned, plus, minus, IsConstant, integer, typed, duration, truth, falsehood, IsBinary, unary, alone, chain, IsOperations, no_operation, operations, IsOperation, operation, IsUnary, negation, complement, primary, IsPrimary, constant, variable, call, parenthesized, IsVariable, named, IsParts, no_part, parts, IsPart, field, subscripts, IsNextExpressions, no_expression, next_expressions, IsCall, called, IsArguments, no_arguments, arguments, IsNextArguments, no_argument, next_arguments, IsArgument, positional, input, output}
+use Rattle.st_syntax.proofs.Folds.{call_is, chain_is, complement_is, field_is, input_is, literal_is, negation_is, operation_is, output_is, parenthesized_is, place_is, positional_is, subscripts_is, value_is, variable_is}
+use Rattle.st_syntax.specs.Lengths.{argument_length, call_length, expression_length, operation_length, part_length, total, variable_length}
 
 pub integer_takes : {ts rest : List Tok} {x : SignedInteger} → IsSignedInteger ts x rest → 1 + length rest ≤ length ts
 integer_takes unsigned = omega arith

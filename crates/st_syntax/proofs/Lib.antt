@@ -1,3 +1,8 @@
+pub mod ChartsExact
+pub mod ReaderLemmas
+pub mod Statements
+pub mod Folds
+pub mod Totals
 pub mod DeclarationsExact
 pub mod ExpressionLengths
 pub mod StatementLengths

@@ -5,9 +5,9 @@ use Rattle.st_tree.specs.declared.tree.statement.IfStatement as the_if
 use Rattle.st_parser.specs.Grammar.Lists.{IsMany, none, more, IsNext, comma, IsListed, listed}
 use Rattle.st_parser.specs.Grammar.Tokens.{Tok, identifier_of}
 use Rattle.st_parser.specs.Names.{CaseElement, ConditionalPart, Expression, Label, Position, Statement}
-use Rattle.st_statements.specs.Grammar.Statements.{case_of, case_statement_of, for_of, if_of, part_of, repeat_of, while_of, IsLabel, value, range, IsBy, no_by, by_step, IsStatements, no_statement, statements, IsStatement, empty, assignment, invocation, return_statement, exit_statement, if_statement, case_statement, for_statement, while_statement, repeat_statement, IsConditional, conditional, IsElsifs, no_elsif, elsifs, IsElse, no_else, otherwise, IsCase, case, IsCases, no_case, cases}
-use Rattle.st_lengths.proofs.Folds.{assignment_is, branch_is, case_statement_is, element_is, empty_is, exit_is, for_is, for_statement_is, if_statement_is, invocation_is, repeat_is, repeat_statement_is, return_is, while_is, while_statement_is}
-use Rattle.st_lengths.specs.Lengths.{branch_length, case_length, element_length, expression_length, if_length, statement_length, statements_length, step_length, total}
+use Rattle.st_syntax.specs.Grammar.Statements.{case_of, case_statement_of, for_of, if_of, part_of, repeat_of, while_of, IsLabel, value, range, IsBy, no_by, by_step, IsStatements, no_statement, statements, IsStatement, empty, assignment, invocation, return_statement, exit_statement, if_statement, case_statement, for_statement, while_statement, repeat_statement, IsConditional, conditional, IsElsifs, no_elsif, elsifs, IsElse, no_else, otherwise, IsCase, case, IsCases, no_case, cases}
+use Rattle.st_syntax.proofs.Folds.{assignment_is, branch_is, case_statement_is, element_is, empty_is, exit_is, for_is, for_statement_is, if_statement_is, invocation_is, repeat_is, repeat_statement_is, return_is, while_is, while_statement_is}
+use Rattle.st_syntax.specs.Lengths.{branch_length, case_length, element_length, expression_length, if_length, statement_length, statements_length, step_length, total}
 use Rattle.st_syntax.proofs.ExpressionLengths.{binary_takes, call_takes, constant_takes, variable_takes}
 
 label_takes : {ts rest : List Tok} {x : Label} → IsLabel ts x rest → length rest ≤ length ts

@@ -17,7 +17,7 @@ use Rattle.st_parser.proofs.Exact.{Exact, Always, Any, Ends}
 use Rattle.st_parser.proofs.Levels.{At, fits_from, within_from}
 use Rattle.st_parser.proofs.Loops.{ok_parts}
 use Rattle.st_parser.proofs.TokenLemmas.{length_numbered}
-use Rattle.st_lengths.specs.Lengths.{IsShort}
+use Rattle.st_syntax.specs.Lengths.{IsShort}
 use Rattle.st_syntax.specs.Grammar.Texts.{IsTextOf, IsOutside, Explains}
 use Rattle.st_syntax.specs.Grammar.Units.{IsUnit, AreUnits}
 use Rattle.st_syntax.specs.Reader.Declarations.{in_brackets}

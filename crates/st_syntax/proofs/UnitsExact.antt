@@ -17,12 +17,12 @@ use Rattle.st_parser.specs.Reader.Parsers.{and_then, is_keyword, is_word, Deep}
 use Rattle.st_parser.proofs.Exact.{Relation, Found, Exact, Always, Any, Then, seq, IsOne, one, IsPure, done, IsWord, a_word, exact_bind, exact_as, exact_iff, exact_last, exact_under, exact_zero, exact_pure, made, exact_refuse, exact_on, IsFirst, exact_token, keyword_is, exact_symbol, exact_keyword, exact_identifier, Before, exact_identifier_before, exact_before, Ends, exact_many}
 use Rattle.st_parser.proofs.Levels.{At}
 use Rattle.st_parser.proofs.Loops.{ok_parts}
-use Rattle.st_statements.specs.Grammar.Charts.{IsElement, initial_step, plain_step, transition, action, IsChart, chart}
-use Rattle.st_statements.specs.Grammar.Statements.{IsStatements, no_statement, statements}
-use Rattle.st_statements.specs.Reader.Charts.{begins_element}
-use Rattle.st_statements.specs.Reader.Statements.{begins_statement}
-use Rattle.st_statements.proofs.ChartsExact.{chart_exact}
-use Rattle.st_statements.proofs.Statements.{EndsBlock, statements_exact, begins_is}
+use Rattle.st_syntax.specs.Grammar.Charts.{IsElement, initial_step, plain_step, transition, action, IsChart, chart}
+use Rattle.st_syntax.specs.Grammar.Statements.{IsStatements, no_statement, statements}
+use Rattle.st_syntax.specs.Reader.Charts.{begins_element}
+use Rattle.st_syntax.specs.Reader.Statements.{begins_statement}
+use Rattle.st_syntax.proofs.ChartsExact.{chart_exact}
+use Rattle.st_syntax.proofs.Statements.{EndsBlock, statements_exact, begins_is}
 use Rattle.st_syntax.specs.Grammar.Declarations.{simple, IsMember, IsVarBlock}
 use Rattle.st_syntax.specs.Grammar.Units.{type_of, function_of, pou_of, IsDeclared, derived, structure, IsTypeDeclaration, type_declaration, IsBody, plain_body, chart_body, IsPou, pou, IsUnit, types, function, function_block, program}
 use Rattle.st_syntax.specs.Reader.Declarations as declarations

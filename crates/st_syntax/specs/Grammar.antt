@@ -1,3 +1,5 @@
+pub mod Charts
+pub mod Statements
 pub mod Declarations
 pub mod Texts
 pub mod Units

@@ -1,2 +1,4 @@
 pub mod Grammar
 pub mod Reader
+pub mod Laws
+pub mod Lengths

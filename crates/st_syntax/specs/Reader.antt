@@ -1,2 +1,4 @@
+pub mod Charts
+pub mod Statements
 pub mod Declarations
 pub mod Units

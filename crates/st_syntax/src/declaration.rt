@@ -6,7 +6,7 @@ ghost use Rattle.st_parser.specs.Reader.Parsers.{MayTake, Takes, is_word};
 ghost use Rattle.st_syntax.specs.Reader.Declarations as spec;
 ghost use Rattle.st_syntax.specs.Reader.Declarations.{in_brackets};
 
-use st_expressions::constant::{constant, signed_integer};
+use st_parser::constant::{constant, signed_integer};
 use st_parser::{Cursor, MAX_LEVELS, ReadFault, boxed, listed, many, single, words};
 use st_tokens::{Keyword, Kind, Symbol};
 use st_tree::tree::{

@@ -1,6 +1,6 @@
 //! The units of a text.
 ghost use Rattle.std.specs.Prelude.{◌≡◌, ◌<◌, ◌≤◌, ◌^◌, ℕ, List, length, IfErr, IfOk, MatchResult};
-ghost use Rattle.st_lengths.specs.Lengths.{IsShort};
+ghost use Rattle.st_syntax.specs.Lengths.{IsShort};
 ghost use Rattle.st_parser.specs.Names as names;
 ghost use Rattle.st_syntax.specs.Grammar.Texts.{Explains, IsTextOf};
 
@@ -54,5 +54,6 @@ pub fn parse(alloc: Global, text: &[u8]) -> Result<Vec<Unit>, SyntaxFault>
 
 /// No text is two lists of units.
 pub fn one_reading()
-    ensures { (text : List ℕ) (us vs : List names.Unit) → IsTextOf text us → IsTextOf text vs → us ≡ vs }
+    ensures { (text : List ℕ) (us vs : List names.Unit) → IsTextOf text us → IsTextOf text vs
+        → us ≡ vs }
 {}

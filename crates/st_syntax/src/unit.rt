@@ -5,10 +5,10 @@ ghost use Rattle.st_parser.specs.Reader.Parsers.{MayTake, Takes};
 ghost use Rattle.st_syntax.specs.Reader.Declarations.{in_brackets};
 ghost use Rattle.st_syntax.specs.Reader.Units as spec;
 
+use crate::chart::{begins_element, chart};
 use crate::declaration::{begins_declaration, member, typed, variables};
+use crate::statement::statements;
 use st_parser::{Cursor, MAX_LEVELS, ReadFault, at_least_one, many};
-use st_statements::chart::{begins_element, chart};
-use st_statements::statement::statements;
 use st_tokens::{Keyword, Kind, Symbol};
 use st_tree::List;
 use st_tree::tree::{Body, Declaration, DeclaredType, Function, Pou, TypeDeclaration, Unit};

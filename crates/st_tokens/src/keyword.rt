@@ -190,7 +190,9 @@ fn rows_with(letter: u8) -> Range<usize>
 /// These rows of a table.
 fn part<'a>(table: &'a [(Keyword, &'a [u8])], rows: Range<usize>) -> &'a [(Keyword, &'a [u8])]
     requires { (rows.start ≤ rows.end) × (rows.end ≤ length table.now) }
-    ensures { map (λ row. (row.0, row.1.now)) result.now ≡ slice_range {X = Keyword × List ℕ} (map (λ row. (row.0, row.1.now)) table.now) rows.start rows.end }
+    ensures { map (λ row. (row.0, row.1.now)) result.now
+        ≡ slice_range {X = Keyword × List ℕ} (map (λ row. (row.0, row.1.now)) table.now)
+        rows.start rows.end }
 {
     &table[rows]
 }

@@ -1,7 +1,8 @@
 //! What is said of what may not be assigned.
 
-use st_check_expressions::{elem_of, is_integer};
+use st_check_expressions::elem_of;
 use st_messages::{Words, push_quoted};
+use st_operators::is_integer;
 use st_scopes::Scope;
 use st_sites::{Site, reached};
 use st_tree::tree::Variable;

@@ -1,12 +1,11 @@
 //! What is said where a type is expected and another one found.
 
 use crate::literals::push_range;
-use st_check_expressions::{elem_of, is_integer, is_unknown};
+use st_check_expressions::{compares, elem_of, is_unknown};
 use st_messages::{Lexed, Words, push_quoted, push_shown};
+use st_operators::{is_comparison, is_integer};
 use st_scopes::{Declared, Scope, Tables};
-use st_sites::{
-    Site, compares, elements_of, is_comparison, operand_due, own, reached, target_shape,
-};
+use st_sites::{Site, elements_of, operand_due, own, reached, target_shape};
 use st_tree::BinOp;
 use st_tree::tree::{Constant, Expression, Operation, Part, VarKind, Variable};
 use st_types::{Base, Due, Shape, UnitKind};

@@ -1,7 +1,7 @@
 -- Inputs by position and by name.
 use Rattle.std.proofs.Common.{◌≡◌, ℕ, zero, suc, List, [], ◌∷◌, Option, Some, None, refl}
 use Rattle.std.specs.List.{slice_get}
-use Rattle.st_names.specs.Tables.{first_of}
+use Rattle.st_types.specs.Tables.{first_of}
 use Rattle.st_types.specs.Inputs.{input_names}
 use Rattle.st_types.specs.OwnTypes.{nth_due}
 use Rattle.st_types.specs.Signatures.{Input, input_number}

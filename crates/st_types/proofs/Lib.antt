@@ -1,3 +1,5 @@
+pub mod Passing
+pub mod Positions
 pub mod Cases
 pub mod Entries
 pub mod Following

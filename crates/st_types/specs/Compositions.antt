@@ -11,6 +11,7 @@ use Rattle.st_tree.specs.declared.tree.declaration.Subrange.{Subrange}
 use Rattle.st_tree.specs.declared.tree.declaration.VarKind.{VarKind}
 use Rattle.st_tree.specs.declared.tree.declaration.VarKind.TheVariants as var_kinds
 use Rattle.st_tree.specs.declared.tree.unit.ChartElement.{ChartElement}
+use Rattle.st_tree.specs.Kinds.{is_constant}
 use Rattle.st_types.specs.Initials.{element_initial, first_values, initial_of, unit_element_initial, value_written, zero_of}
 use Rattle.st_types.specs.Names.{Declared, Declares, Named, chart_in, members_of, unit_at, variables_in}
 use Rattle.st_types.specs.Names as names
@@ -35,10 +36,6 @@ mutual
   pub data Members : Type 0 where
     none : Members
     member : List ℕ → VarKind → Composition → Members → Members
-
-abbrev pub is_constant : VarKind → Bool
-is_constant var_kinds.Constant = true
-is_constant _ = false
 
 -- what begins with a value that is written
 abbrev pub started : Option Initial → Composition → Composition

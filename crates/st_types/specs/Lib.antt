@@ -1,3 +1,5 @@
+pub mod NameTables
+pub mod Tables
 pub mod Compositions
 pub mod Initials
 pub mod Inputs

@@ -1,6 +1,6 @@
 -- What a unit stands for as a type, before the types that it names are known.
 use Rattle.std.specs.Prelude.{ℕ, zero, suc, ◌<◌, List, get_or, map, Option, Some, None}
-use Rattle.st_names.specs.Tables.{first_of}
+use Rattle.st_types.specs.Tables.{first_of}
 use Rattle.st_tree.specs.declared.tree.declaration.DeclaredType.TheVariants as declared_types
 use Rattle.st_tree.specs.declared.tree.declaration.Specification.{Specification}
 use Rattle.st_tree.specs.declared.tree.declaration.Specification.TheVariants as specifications

@@ -1,7 +1,8 @@
 -- Which type an expression has of itself, and which types operators and functions take (3.3.1, 2.5.1.5). Types never convert
 -- implicitly: a part without a type of its own, a number, takes the one that is due.
-use Rattle.std.specs.Prelude.{ℕ, zero, suc, Bool, true, false, ◌&&◌, ◌||◌, not, List, [], ◌∷◌, Option, Some, None, if◌then◌else◌}
+use Rattle.std.specs.Prelude.{ℕ, zero, suc, nat_lt, Bool, true, false, ◌&&◌, ◌||◌, not, List, [], ◌∷◌, Option, Some, None, if◌then◌else◌}
 use Rattle.std.specs.Option.{is_some}
+use Rattle.st_operators.specs.Operators.{is_bits, is_comparison, is_integer}
 use Rattle.st_values.specs.Types.{class_of, is_same}
 use Rattle.st_values.specs.declared.elem.Class.{Class}
 use Rattle.st_values.specs.declared.elem.Class.TheVariants as classes
@@ -18,61 +19,6 @@ use Rattle.st_types.specs.declared.symbol.Callee.{Callee}
 use Rattle.st_types.specs.declared.symbol.Callee.TheVariants as callees
 use Rattle.st_types.specs.declared.symbol.Due.{Due}
 use Rattle.st_types.specs.declared.symbol.Due.TheVariants as dues
-
--- ---- classes of types (table 10)
-
-abbrev pub is_integer_class : Class → Bool
-is_integer_class classes.Integer = true
-is_integer_class _ = false
-
-abbrev pub is_bits_class : Class → Bool
-is_bits_class classes.BitString = true
-is_bits_class _ = false
-
--- SINT to ULINT
-abbrev pub is_integer : Elem → Bool
-is_integer e = is_integer_class (class_of e)
-
--- BYTE, WORD, DWORD, LWORD
-abbrev pub is_bits : Elem → Bool
-is_bits e = is_bits_class (class_of e)
-
-abbrev pub is_boolean : Elem → Bool
-is_boolean e = is_same e elems.Bool
-
-abbrev pub is_duration : Elem → Bool
-is_duration e = is_same e elems.Time
-
--- ---- operators (table 55)
-
-abbrev pub is_comparison : BinOp → Bool
-is_comparison operators.Eq = true
-is_comparison operators.Ne = true
-is_comparison operators.Lt = true
-is_comparison operators.Gt = true
-is_comparison operators.Le = true
-is_comparison operators.Ge = true
-is_comparison _ = false
-
--- the operator takes operands of the type; a comparison takes any
-abbrev pub takes : BinOp → Elem → Bool
-takes operators.Add e = is_integer e || is_duration e
-takes operators.Sub e = is_integer e || is_duration e
-takes operators.Mul e = is_integer e
-takes operators.Div e = is_integer e
-takes operators.Mod e = is_integer e
-takes operators.And e = is_boolean e || is_bits e
-takes operators.Or e = is_boolean e || is_bits e
-takes operators.Xor e = is_boolean e || is_bits e
-takes _ e = true
-
--- `-` before an operand
-abbrev pub negates : Elem → Bool
-negates e = is_integer e || is_duration e
-
--- NOT before an operand
-abbrev pub complements : Elem → Bool
-complements e = is_boolean e || is_bits e
 
 -- ---- own types
 
@@ -107,6 +53,8 @@ abbrev pub compared_type : Option Elem → List (Option Elem) → Elem
 compared_type first [] = or_lint first
 compared_type first (second ∷ more) = or_lint (first_own (first ∷ second ∷ []))
 
+-- ---- standard functions: what they take and give (2.5.1.5)
+
 abbrev pub is_shift : StandardFunction → Bool
 is_shift functions.Shl = true
 is_shift functions.Shr = true
@@ -114,29 +62,7 @@ is_shift functions.Rol = true
 is_shift functions.Ror = true
 is_shift _ = false
 
-abbrev pub without_first : {A : Type 0} → List A → List A
-without_first [] = []
-without_first (x ∷ xs) = xs
-
-abbrev pub only_first : {A : Type 0} → List A → List A
-only_first [] = []
-only_first (x ∷ xs) = x ∷ []
-
--- of a standard function whose arguments have these
-abbrev pub standard_own : StandardFunction → List (Option Elem) → Option Elem
-standard_own functions.Sel arguments = first_own (without_first arguments)
-standard_own f arguments = if is_shift f then first_own (only_first arguments) else first_own arguments
-
--- of a call
-abbrev pub call_own : Callee → List (Option Elem) → Option Elem
-call_own (callees.Standard f) arguments = standard_own f arguments
-call_own (callees.Conversion x y) arguments = Some y
-call_own (callees.Own f) arguments = Some f.result
-call_own _ arguments = None
-
--- ---- calls (2.5.1.5)
-
--- how many arguments a standard function takes: at least
+-- how many arguments a function takes: at least
 abbrev pub least_arguments : StandardFunction → ℕ
 least_arguments functions.Abs = 1
 least_arguments functions.Limit = 3
@@ -152,6 +78,19 @@ most_arguments functions.Limit = Some 3
 most_arguments functions.Sel = Some 3
 most_arguments _ = Some 2
 
+abbrev pub is_at_most : ℕ → Option ℕ → Bool
+is_at_most n None = true
+is_at_most n (Some most) = nat_lt n (suc most)
+
+-- a function takes so many arguments
+abbrev pub takes_count : StandardFunction → ℕ → Bool
+takes_count f n = is_at_most (least_arguments f) (Some n) && is_at_most n (most_arguments f)
+
+-- a function gives values of the type
+abbrev pub function_gives : StandardFunction → Elem → Bool
+function_gives functions.Abs e = is_integer e
+function_gives f e = not (is_shift f) || is_bits e
+
 abbrev pub is_first : ℕ → Bool
 is_first zero = true
 is_first (suc n) = false
@@ -160,6 +99,39 @@ is_first (suc n) = false
 abbrev pub standard_due : StandardFunction → Due → ℕ → Due
 standard_due functions.Sel whole n = if is_first n then dues.Type elems.Bool else whole
 standard_due f whole n = if is_shift f && not (is_first n) then dues.Integer else whole
+
+-- the own type of an argument, the first or not, is that of the call
+abbrev pub types_call : StandardFunction → Bool → Bool
+types_call functions.Sel first = not first
+types_call f first = not (is_shift f) || first
+
+abbrev pub without_first : {A : Type 0} → List A → List A
+without_first [] = []
+without_first (x ∷ xs) = xs
+
+abbrev pub only_first : {A : Type 0} → List A → List A
+only_first [] = []
+only_first (x ∷ xs) = x ∷ []
+
+-- of arguments those that type a call, where the first does or not, and the others do or not
+abbrev pub typing : {A : Type 0} → Bool → Bool → List A → List A
+typing true true arguments = arguments
+typing true false arguments = only_first arguments
+typing false true arguments = without_first arguments
+typing false false arguments = []
+
+-- the own type of a call whose arguments have these
+abbrev pub standard_own : StandardFunction → List (Option Elem) → Option Elem
+standard_own f arguments = first_own (typing (types_call f true) (types_call f false) arguments)
+
+-- ---- calls
+
+-- the own type of a call
+abbrev pub call_own : Callee → List (Option Elem) → Option Elem
+call_own (callees.Standard f) arguments = standard_own f arguments
+call_own (callees.Conversion x y) arguments = Some y
+call_own (callees.Own f) arguments = Some f.result
+call_own _ arguments = None
 
 abbrev pub nth_due : List Input → ℕ → Due
 nth_due [] n = dues.Any
@@ -173,10 +145,9 @@ position_due (callees.Conversion x y) whole n = dues.Type x
 position_due (callees.Own f) whole n = nth_due f.inputs n
 position_due _ whole n = dues.Any
 
--- the function gives the type
+-- the callee gives values of the type
 abbrev pub gives : Callee → Elem → Bool
-gives (callees.Standard functions.Abs) e = is_integer e
-gives (callees.Standard f) e = not (is_shift f) || is_bits e
+gives (callees.Standard f) e = function_gives f e
 gives (callees.Conversion x y) e = is_same y e
 gives (callees.Own f) e = is_same f.result e
 gives _ e = true

@@ -10,6 +10,7 @@ use Rattle.st_tree.specs.declared.tree.declaration.VarKind.TheVariants as var_ki
 use Rattle.st_tree.specs.declared.tree.declaration.Subrange.{Subrange}
 use Rattle.st_tree.specs.declared.tree.unit.Function.{Function}
 use Rattle.st_tree.specs.declared.tree.unit.Unit.{Unit as Section}
+use Rattle.st_tree.specs.Kinds.{is_input}
 use Rattle.st_types.specs.Names.{Declared, Declares, Named, declared_named, is_action, is_step, members_of, unit_at, unit_named, units_of, variables_in, variables_of}
 use Rattle.st_types.specs.Names as names
 use Rattle.st_types.specs.Signatures.{Input, Signature, signature}
@@ -128,10 +129,6 @@ elem_due (Some e) = dues.Type e
 -- what is asked of what goes into a variable
 abbrev pub shape_due : Shape → Due
 shape_due s = if is_unknown s.base then dues.Any else if is_value s then elem_due (elem_of s) else dues.NoValue
-
-abbrev pub is_input : VarKind → Bool
-is_input var_kinds.Input = true
-is_input _ = false
 
 abbrev pub input_of : List Named → Declares → Declared → List Input
 input_of units unit v = if is_input v.kind then record { name = v.name.spelling; due = shape_due (variable_shape units unit v) } ∷ [] else []

@@ -4,8 +4,8 @@ ghost use Rattle.st_types.specs.OwnTypes.{nth_due};
 ghost use Rattle.st_types.specs.Signatures.{input_number};
 ghost use Rattle.st_types.specs.Inputs.{input};
 
+use crate::NameTable;
 use crate::symbol::{Due, Input};
-use st_names::NameTable;
 use std::alloc::{AllocError, Global};
 use std::marker::Model;
 

@@ -5,10 +5,10 @@ ghost use Rattle.st_types.specs.Inside.{declared_by, named_by};
 ghost use Rattle.st_types.specs.Links.{LeadsBelow, alias_link, array_link, link_at, name_link, optional_link, through, unit_link};
 ghost use Rattle.st_types.specs.Names.{type, unit_at};
 
+use crate::NameTable;
 use crate::base::Base;
 use crate::standard::{Standard, standard_of};
 use crate::unit::{NamedUnit, UnitKind};
-use st_names::NameTable;
 use st_tree::tree::{DeclaredType, Specification, TypeName};
 use std::alloc::{AllocError, Global};
 
@@ -29,7 +29,9 @@ pub fn links_of(
     units: &[NamedUnit],
     names: &NameTable,
 ) -> Result<Vec<Link>, AllocError>
-    ensures links { IfOk result (λ links. (i : ℕ) → link_at links.items i ≡ optional_link names.now i (unit_at (map named_by units.now) i)) }
+    ensures links { IfOk result
+        (λ links. (i : ℕ) → link_at links.items i
+        ≡ optional_link names.now i (unit_at (map named_by units.now) i)) }
     ensures len { IfOk result (λ links. length links.items ≡ length units.now) }
     ensures closed { IfOk result (λ links. All (LeadsBelow (length names.now)) links.items) }
 {

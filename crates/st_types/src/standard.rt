@@ -103,7 +103,8 @@ fn listed(rows: &[(Standard, &[u8])], name: &[u8]) -> Option<Standard>
 
 /// The conversion of this name, from one of these types to another.
 fn conversion_among(types: &[Elem], name: &[u8]) -> Option<Standard>
-    ensures { result ≡ entry_named (flat_map (λ x. flat_map (conversion x) types.now) types.now) name.now }
+    ensures { result ≡ entry_named (flat_map (λ x. flat_map (conversion x) types.now) types.now)
+        name.now }
 {
     for from in types {
         let found = conversion_from(*from, types, name);

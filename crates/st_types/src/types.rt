@@ -6,13 +6,13 @@ ghost use Rattle.st_types.specs.Links.{names_of};
 ghost use Rattle.st_types.specs.Names.{number_of, unit_at, units_of};
 ghost use Rattle.st_types.specs.Types.{name_stands_for, shape_of, type_at, type_named};
 
+use crate::NameTable;
 use crate::base::Base;
 use crate::link::links_of;
 use crate::standard::{Standard, standard_of};
 use crate::symbol::Shape;
 use crate::unit::{NamedUnit, UnitKind, units_of};
 use crate::walk::bases_of;
-use st_names::NameTable;
 use st_tree::tree::{Specification, TypeName, Unit};
 use std::alloc::{AllocError, Global};
 use std::marker::Model;

@@ -35,7 +35,8 @@ pub fn units_of<'a>(alloc: Global, text: &'a [Unit]) -> Result<Vec<NamedUnit<'a>
 
 /// Adds the units that one section of a text has.
 fn add_units<'a>(section: &'a Unit, units: &mut Vec<NamedUnit<'a>>) -> Result<(), AllocError>
-    ensures { OnOk result (map named_by units.new.items ≡ map named_by units.old.items ++ units_in section.now) }
+    ensures { OnOk result (map named_by units.new.items
+        ≡ map named_by units.old.items ++ units_in section.now) }
 {
     let (name, kind) = match section {
         Unit::Types(_, declarations) => return add_types(declarations.as_slice(), units),
@@ -52,7 +53,8 @@ fn add_types<'a>(
     declarations: &'a [TypeDeclaration],
     units: &mut Vec<NamedUnit<'a>>,
 ) -> Result<(), AllocError>
-    ensures { OnOk result (map named_by units.new.items ≡ map named_by units.old.items ++ map type_unit declarations.now) }
+    ensures { OnOk result (map named_by units.new.items
+        ≡ map named_by units.old.items ++ map type_unit declarations.now) }
 {
     for declaration in declarations {
         units.push(NamedUnit {

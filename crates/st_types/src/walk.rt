@@ -34,7 +34,8 @@ impl Mark {
 /// What each unit stands for as a type. Each link is followed once.
 pub fn bases_of(alloc: Global, links: &[Link]) -> Result<Vec<Base>, AllocError>
     requires { All (LeadsBelow (length links.now)) links.now }
-    ensures { IfOk result (λ bases. (i : ℕ) → base_at bases.items i ≡ link_within links.now (suc (length links.now)) i) }
+    ensures { IfOk result (λ bases. (i : ℕ) → base_at bases.items i
+        ≡ link_within links.now (suc (length links.now)) i) }
 {
     let mut marks = Vec::from_elem(alloc, Mark::New, links.len())?;
     let mut path = Vec::new(alloc);

@@ -17,4 +17,4 @@ pub use elem::{Class, Elem};
 pub use number::{digits_are_their_number, read_digits};
 pub use put::put_value;
 pub use read::{BadValue, read_value, text_is_read_back};
-pub use value::{Value, is_value, wrap};
+pub use value::{Value, is_value, truth, wrap};

@@ -26,7 +26,8 @@ pub struct BadValue;
 /// Where the text is nothing of the kind, or out of the type's range.
 #[tactic(auto, unfolding(crate::specs::Readings::reads))]
 pub fn read_value(elem: Elem, text: &[u8]) -> Result<Value, BadValue>
-    ensures { MatchResult result (λ value. reads elem text.now ≡ Some value) (λ _. reads elem text.now ≡ None) }
+    ensures { MatchResult result (λ value. reads elem text.now ≡ Some value)
+        (λ _. reads elem text.now ≡ None) }
 {
     match read_number_of(elem, text) {
         Some(number) => in_range(elem, number).ok_or(BadValue),

@@ -1,6 +1,6 @@
 //! Values of the elementary types.
 ghost use Rattle.std.specs.Prelude.{◌≡◌, ◌≢◌};
-ghost use Rattle.st_values.specs.Values.{is_value, residue, wrapped, IsValue};
+ghost use Rattle.st_values.specs.Values.{is_value, residue, truth, wrapped, IsOfType, IsValue};
 
 use crate::elem::Elem;
 
@@ -51,5 +51,16 @@ pub fn wrap(elem: Elem, number: i128) -> Value
             elem,
             bits: residue - modulus,
         }
+    }
+}
+
+/// TRUE or FALSE as a value.
+pub fn truth(is_true: bool) -> Value
+    ensures value { result ≡ truth is_true }
+    ensures typed { IsOfType Elem.Bool result }
+{
+    Value {
+        elem: Elem::Bool,
+        bits: if is_true { 1 } else { 0 },
     }
 }

@@ -76,7 +76,8 @@ pub fn read_words<'a, S: AsStr>(alloc: Global, words: &'a [S]) -> Result<Order<'
     ensures fault { IfErr result (IsFaultOf (map S.text words.entry.now)) }
 
     // Words that are in order are refused for want of memory alone.
-    ensures memory { IfErr result (λ error. AreInOrder (map S.text words.entry.now) → kind_of error ≡ ErrorKind.OutOfMemory) }
+    ensures memory { IfErr result
+        (λ error. AreInOrder (map S.text words.entry.now) → kind_of error ≡ ErrorKind.OutOfMemory) }
 {
     match read_order(alloc, words) {
         Ok((order, _)) => Ok(order),
@@ -86,11 +87,14 @@ pub fn read_words<'a, S: AsStr>(alloc: Global, words: &'a [S]) -> Result<Order<'
 
 /// The order that the words give, as `read_words` reads it, and what they say beside it.
 pub fn read_order<'a, S: AsStr>(alloc: Global, words: &'a [S]) -> Result<(Order<'a>, Manner), Error>
-    ensures order { IfOk result (λ given. IsOrder given.0 (chosen_by (map S.text words.entry.now))) }
-    ensures manner { IfOk result (λ given. IsManner given.1 (chosen_by (map S.text words.entry.now))) }
+    ensures order { IfOk result
+        (λ given. IsOrder given.0 (chosen_by (map S.text words.entry.now))) }
+    ensures manner { IfOk result
+        (λ given. IsManner given.1 (chosen_by (map S.text words.entry.now))) }
     ensures faultless { OnOk result (faults_of (map S.text words.entry.now) ≡ []) }
     ensures fault { IfErr result (IsFaultOf (map S.text words.entry.now)) }
-    ensures memory { IfErr result (λ error. AreInOrder (map S.text words.entry.now) → kind_of error ≡ ErrorKind.OutOfMemory) }
+    ensures memory { IfErr result
+        (λ error. AreInOrder (map S.text words.entry.now) → kind_of error ≡ ErrorKind.OutOfMemory) }
 {
     let mut command = stc_command(alloc)?;
     order_by(alloc, &mut command, words)
@@ -103,11 +107,14 @@ fn order_by<'a, S: AsStr>(
     words: &'a [S],
 ) -> Result<(Order<'a>, Manner), Error>
     requires { app_of command.old ≡ stc_app }
-    ensures order { IfOk result (λ given. IsOrder given.0 (chosen_by (map S.text words.entry.now))) }
-    ensures manner { IfOk result (λ given. IsManner given.1 (chosen_by (map S.text words.entry.now))) }
+    ensures order { IfOk result
+        (λ given. IsOrder given.0 (chosen_by (map S.text words.entry.now))) }
+    ensures manner { IfOk result
+        (λ given. IsManner given.1 (chosen_by (map S.text words.entry.now))) }
     ensures faultless { OnOk result (faults_of (map S.text words.entry.now) ≡ []) }
     ensures fault { IfErr result (IsFaultOf (map S.text words.entry.now)) }
-    ensures memory { IfErr result (λ error. AreInOrder (map S.text words.entry.now) → kind_of error ≡ ErrorKind.OutOfMemory) }
+    ensures memory { IfErr result
+        (λ error. AreInOrder (map S.text words.entry.now) → kind_of error ≡ ErrorKind.OutOfMemory) }
 {
     let matches = command.try_get_matches_from_mut(words)?;
     match order_in(&matches) {
@@ -143,7 +150,8 @@ fn with<'a>(
     subcommand: Result<Command<'a>, AllocError>,
 ) -> Result<Command<'a>, AllocError>
     requires { IfOk subcommand (λ it. (out-Command it).has_globals ≡ false) }
-    ensures { IfOk result (λ new. IsOkAnd subcommand.entry (λ it. app_of new ≡ with_subcommand (app_of command.entry) (app_of it).top)) }
+    ensures { IfOk result (λ new. IsOkAnd subcommand.entry
+        (λ it. app_of new ≡ with_subcommand (app_of command.entry) (app_of it).top)) }
 {
     command.subcommand(subcommand?)
 }
@@ -231,7 +239,8 @@ fn program_command<'a>(
 /// The option `--NAME VALUE`, which may be left out.
 fn option<'a>(alloc: Global, name: &'a str, value: &'a str) -> Arg<'a>
     ensures id { result.id ≡ name.entry }
-    ensures rule { rule_of result ≡ record (new_rule name.entry.now) { long = Some name.entry.now; value_names = 1 } }
+    ensures rule { rule_of result
+        ≡ record (new_rule name.entry.now) { long = Some name.entry.now; value_names = 1 } }
     ensures plain { IsPlainArg result }
     ensures local { result.global ≡ false }
 {

@@ -5,7 +5,7 @@ ghost use Rattle.st_compile.specs.Programs.{program_code, program_depth, program
 
 use crate::image::Image;
 use st_check::Program;
-use st_fused::Fused;
+use st_code::Fused;
 use st_layout::Layout;
 use st_machine::{Room, Units};
 use st_tree::Name;

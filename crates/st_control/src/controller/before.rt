@@ -21,7 +21,8 @@ impl<M: Memory> Controller<M> {
 
     /// What the newest command that isn't undone left, if there is one.
     pub fn newest(&self) -> Option<&Record>
-        ensures value { option_copied result ≡ slice_get self.now.records (length self.now.records - 1) }
+        ensures value { option_copied result
+            ≡ slice_get self.now.records (length self.now.records - 1) }
         ensures fits { IfSome result (λ newest. FitsRecord self.now.state newest.now) }
     {
         self.records.last()
@@ -36,7 +37,8 @@ impl<M: Memory> Controller<M> {
         saved: &Saved,
         renames: &[Rename],
     ) -> Result<M, AllocError>
-        requires { FitsSaved (leaves_of_program old.now) (leaves_of self.now.state) saved.now renames.now }
+        requires { FitsSaved (leaves_of_program old.now) (leaves_of self.now.state)
+            saved.now renames.now }
         ensures over { IfOk result (λ memory. M.IsOver (leaves_of_program old.now) memory) }
         ensures content { IfOk result (λ memory. M.content (leaves_of_program old.now) memory
             ≡ (changed_back self.now.state old.now saved.now renames.now).content) }

@@ -44,7 +44,9 @@ pub fn carried_values(
     requires count { length plan.now.sources ≡ length new.now }
     requires below { AreBelow plan.now.sources (length old.now) }
     requires values { length values.now ≡ length old.now }
-    ensures values { IfOk result (λ carried. carried.items ≡ map (moved_pair plan.now.sources values.now) (zip new.now plan.now.sources)) }
+    ensures values { IfOk result
+        (λ carried. carried.items
+        ≡ map (moved_pair plan.now.sources values.now) (zip new.now plan.now.sources)) }
     ensures sound { OnOk result (IsSound new.now) }
 {
     let mut carried = Vec::with_capacity(alloc, new.len() as usize)?;
@@ -60,7 +62,8 @@ fn carried_value(plan: &Plan, old: &Layout, new: &Layout, values: &[Value], leaf
     requires below { AreBelow plan.now.sources (length old.now) }
     requires values { length values.now ≡ length old.now }
     requires leaf { leaf < length new.now }
-    ensures { result ≡ moved_value plan.now.sources values.now (leaf_at new.now leaf) (number_at plan.now.sources leaf) }
+    ensures { result ≡ moved_value plan.now.sources values.now (leaf_at new.now leaf)
+        (number_at plan.now.sources leaf) }
 {
     match plan.source(leaf) {
         Some(source) => values[source as usize],

@@ -22,7 +22,8 @@ pub fn returned_values(
     requires count { length plan.now.targets ≡ length old.now }
     requires below { AreBelow plan.now.targets (length values.now) }
     requires holds { HoldsValues old.now plan.now.targets bytes.now }
-    ensures { IfOk result (λ returned. returned.items ≡ unmoved_values values.now old.now plan.now.targets bytes.now) }
+    ensures { IfOk result (λ returned. returned.items
+        ≡ unmoved_values values.now old.now plan.now.targets bytes.now) }
 {
     let mut returned = Vec::with_capacity(alloc, old.len() as usize)?;
     let mut start = 0;
@@ -52,7 +53,8 @@ pub fn returned_forces(
 ) -> Result<Vec<bool>, AllocError>
     requires count { length plan.now.targets ≡ length old.now }
     requires below { AreBelow plan.now.targets (length forced.now) }
-    ensures { IfOk result (λ returned. returned.items ≡ unmoved_forced forced.now 0 plan.now.targets numbers.now) }
+    ensures { IfOk result (λ returned. returned.items
+        ≡ unmoved_forced forced.now 0 plan.now.targets numbers.now) }
 {
     let mut returned = moved_forces(alloc, plan.targets(), forced)?;
     for number in numbers {

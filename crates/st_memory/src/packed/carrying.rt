@@ -48,7 +48,10 @@ pub fn carried_bytes(
     requires count { length plan.now.sources ≡ length new.now }
     requires below { AreBelow plan.now.sources (length old.now) }
     requires held { IsHeld old.now bytes.now }
-    ensures bytes { IfOk result (λ carried. carried.items ≡ encoded (map (moved_pair plan.now.sources (decoded old.now bytes.now)) (zip new.now plan.now.sources))) }
+    ensures bytes { IfOk result
+        (λ carried. carried.items
+        ≡ encoded (map (moved_pair plan.now.sources (decoded old.now bytes.now))
+        (zip new.now plan.now.sources))) }
     ensures sound { OnOk result (IsSound new.now) }
 {
     let mut carried = Vec::with_capacity(alloc, new.bytes() as usize)?;
@@ -75,7 +78,8 @@ pub fn dropped_bytes(
 ) -> Result<Vec<u8>, AllocError>
     requires count { length plan.now.targets ≡ length old.now }
     requires held { IsHeld old.now bytes.now }
-    ensures { IfOk result (λ dropped. dropped.items ≡ saved_bytes plan.now.targets (decoded old.now bytes.now)) }
+    ensures { IfOk result (λ dropped. dropped.items
+        ≡ saved_bytes plan.now.targets (decoded old.now bytes.now)) }
 {
     let mut dropped = Vec::new(alloc);
     let count = old.len();
@@ -98,7 +102,8 @@ pub fn dropped_marks(
 ) -> Result<Vec<u32>, AllocError>
     requires targets { length plan.now.targets ≡ length old.now }
     requires count { length marks.now ≡ mark_bytes (length old.now) }
-    ensures { IfOk result (λ numbers. numbers.items ≡ saved_forced 0 plan.now.targets (marked (length old.now) marks.now)) }
+    ensures { IfOk result (λ numbers. numbers.items
+        ≡ saved_forced 0 plan.now.targets (marked (length old.now) marks.now)) }
 {
     let mut numbers = Vec::new(alloc);
     for leaf in 0..old.len() {
@@ -115,7 +120,8 @@ fn drops_mark(plan: &Plan, old: &Layout, marks: &[u8], leaf: u32) -> bool
     requires target { leaf < length plan.now.targets }
     requires leaf { leaf < length old.now }
     requires count { length marks.now ≡ mark_bytes (length old.now) }
-    ensures { result ≡ (forced_at (marked (length old.now) marks.now) leaf && is_none (number_at plan.now.targets leaf)) }
+    ensures { result ≡ (forced_at (marked (length old.now) marks.now) leaf
+        && is_none (number_at plan.now.targets leaf)) }
 {
     is_marked(marks, leaf) && is_dropped(plan, leaf)
 }

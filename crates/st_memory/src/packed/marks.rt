@@ -50,7 +50,8 @@ fn copy_marks(to: &mut [u8], marks: &[u8], run: Run)
     requires to_fits { run.first + run.count < 2 ^ 32 }
     requires from_fits { run.to + run.count < 2 ^ 32 }
     ensures count { length to.new ≡ length to.old }
-    ensures run { (k : ℕ) → k < run.count → mark_at to.new (run.first + k) ≡ mark_at marks.now (run.to + k) }
+    ensures run { (k : ℕ) → k < run.count
+        → mark_at to.new (run.first + k) ≡ mark_at marks.now (run.to + k) }
     ensures before { (i : ℕ) → i < run.first → mark_at to.new i ≡ mark_at to.old i }
     ensures behind { (i : ℕ) → run.first + run.count ≤ i → mark_at to.new i ≡ mark_at to.old i }
 {

@@ -28,7 +28,9 @@ pub fn set_value_at(bytes: &mut [u8], layout: &Layout, leaf: u32, value: Value)
     requires bytes { length bytes.old ≡ total_width layout.now }
     requires below { leaf < length layout.now }
     requires value { IsValueAt layout.now leaf value }
-    ensures { let start = offset_of layout.now leaf in bytes.new ≡ take start bytes.old ++ (value_bytes value ++ drop (start + width_of value.elem) bytes.old) }
+    ensures { let start = offset_of layout.now leaf in
+        bytes.new ≡ take start bytes.old ++ (value_bytes value
+        ++ drop (start + width_of value.elem) bytes.old) }
 {
     let start = layout.offset(leaf) as usize;
     put_value(&mut bytes[start..], value);
@@ -45,7 +47,8 @@ pub fn push_run(
     requires held { IsHeld layout.now bytes.now }
     requires order { first ≤ end }
     requires within { end ≤ length layout.now }
-    ensures { OnOk result (to.new.items ≡ to.old.items ++ encoded (take (end - first) (drop first (decoded layout.now bytes.now)))) }
+    ensures { OnOk result (to.new.items ≡ to.old.items
+        ++ encoded (take (end - first) (drop first (decoded layout.now bytes.now)))) }
 {
     let span = span_of(layout, first, end);
     let run = &bytes[span.start as usize..span.end as usize];
@@ -61,7 +64,8 @@ pub fn push_kept(
 ) -> Result<(), AllocError>
     requires held { IsHeld layout.now bytes.now }
     requires within { run.to + run.count ≤ length layout.now }
-    ensures { OnOk result (to.new.items ≡ to.old.items ++ encoded (take run.count (drop run.to (decoded layout.now bytes.now)))) }
+    ensures { OnOk result (to.new.items ≡ to.old.items
+        ++ encoded (take run.count (drop run.to (decoded layout.now bytes.now)))) }
 {
     let _count = layout.len();
     push_run(to, bytes, layout, run.to, run.to + run.count)

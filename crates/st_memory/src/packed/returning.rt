@@ -25,7 +25,8 @@ pub fn returned_bytes(
     requires below { AreBelow plan.now.targets (length new.now) }
     requires held { IsHeld new.now bytes.now }
     requires holds { HoldsValues old.now plan.now.targets saved.now }
-    ensures { IfOk result (λ returned. returned.items ≡ encoded (unmoved_values (decoded new.now bytes.now) old.now plan.now.targets saved.now)) }
+    ensures { IfOk result (λ returned. returned.items
+        ≡ encoded (unmoved_values (decoded new.now bytes.now) old.now plan.now.targets saved.now)) }
 {
     let mut returned = Vec::with_capacity(alloc, old.bytes() as usize)?;
     let count = old.len();
@@ -57,7 +58,9 @@ pub fn returned_marks(
     requires targets { length plan.now.targets ≡ length old.now }
     requires below { AreBelow plan.now.targets (length new.now) }
     requires count { length marks.now ≡ mark_bytes (length new.now) }
-    ensures marks { IfOk result (λ returned. marked (length old.now) returned.items ≡ unmoved_forced (marked (length new.now) marks.now) 0 plan.now.targets numbers.now) }
+    ensures marks { IfOk result
+        (λ returned. marked (length old.now) returned.items
+        ≡ unmoved_forced (marked (length new.now) marks.now) 0 plan.now.targets numbers.now) }
     ensures count { IfOk result (λ returned. length returned.items ≡ mark_bytes (length old.now)) }
 {
     let mut returned = moved_marks(alloc, plan.targets(), new, marks)?;

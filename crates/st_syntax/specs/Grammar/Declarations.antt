@@ -12,8 +12,8 @@ use Rattle.st_tree.specs.declared.tree.declaration.VarKind.TheVariants as var_ki
 use Rattle.st_parser.specs.Names.{ArrayElement, Constant, Declaration, Identifier, Initial, Position, SignedInteger, Specification, Subrange, TypeName, VarBlock, VarKind}
 use Rattle.st_parser.specs.Grammar.Lists.{IsMany, IsListed}
 use Rattle.st_parser.specs.Grammar.Tokens.{identifier_of, Tok}
-use Rattle.st_expressions.specs.Grammar.{IsConstant, IsSignedInteger}
-use Rattle.st_statements.specs.Grammar.Charts.{IsName}
+use Rattle.st_parser.specs.Grammar.Expressions.{IsConstant, IsSignedInteger}
+use Rattle.st_syntax.specs.Grammar.Charts.{IsName}
 
 abbrev pub subrange_of : SignedInteger → SignedInteger → Subrange
 subrange_of x y = record { lower = x; upper = y }

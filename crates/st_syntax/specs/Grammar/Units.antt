@@ -11,8 +11,8 @@ use Rattle.st_parser.specs.Names as names
 use Rattle.st_parser.specs.Names.{Body, ChartElement, Declaration, DeclaredType, Function, Identifier, Position, Pou, Specification, Statement, TypeDeclaration, VarBlock}
 use Rattle.st_parser.specs.Grammar.Lists.{IsMany}
 use Rattle.st_parser.specs.Grammar.Tokens.{identifier_of, Tok}
-use Rattle.st_statements.specs.Grammar.Charts.{IsChart}
-use Rattle.st_statements.specs.Grammar.Statements.{IsStatements}
+use Rattle.st_syntax.specs.Grammar.Charts.{IsChart}
+use Rattle.st_syntax.specs.Grammar.Statements.{IsStatements}
 use Rattle.st_syntax.specs.Grammar.Declarations.{IsSpecification, IsInitialized, IsMember, IsVarBlock}
 
 abbrev pub type_of : Identifier → DeclaredType → TypeDeclaration

@@ -11,7 +11,7 @@ use Rattle.st_tree.specs.declared.tree.declaration.VarKind.TheVariants as var_ki
 use Rattle.st_parser.specs.Names.{ArrayElement, Constant, Declaration, Initial, Kind, Position, Specification, Subrange, TypeName, VarBlock, VarKind}
 use Rattle.st_parser.specs.Grammar.Tokens.{kind, next}
 use Rattle.st_parser.specs.Reader.Parsers.{Parser, ◌>>=◌, ◌>>◌, pure, refuse, bump, peek, here, is_symbol, is_keyword, is_word, expect_symbol, expect_keyword, open_level, identifier, identifier_before, number, many, listed}
-use Rattle.st_expressions.specs.Reader.{constant, signed_integer}
+use Rattle.st_parser.specs.Reader.Expressions.{constant, signed_integer}
 use Rattle.st_syntax.specs.Grammar.Declarations.{subrange_of, declaration_of, block_of}
 
 -- how many levels may be opened in brackets, where 64 may be open

@@ -11,8 +11,8 @@ use Rattle.st_parser.specs.Names as names
 use Rattle.st_parser.specs.Names.{Body, Declaration, DeclaredType, Keyword, Kind, Pou, TypeDeclaration}
 use Rattle.st_parser.specs.Grammar.Tokens.{kind, next}
 use Rattle.st_parser.specs.Reader.Parsers.{Parser, ◌>>=◌, ◌>>◌, pure, refuse, bump, peek, is_keyword, is_word, expect_symbol, expect_keyword, identifier, identifier_before, many, leading}
-use Rattle.st_statements.specs.Reader.Charts.{begins_element, chart}
-use Rattle.st_statements.specs.Reader.Statements.{statements}
+use Rattle.st_syntax.specs.Reader.Charts.{begins_element, chart}
+use Rattle.st_syntax.specs.Reader.Statements.{statements}
 use Rattle.st_syntax.specs.Grammar.Units.{type_of, function_of, pou_of}
 use Rattle.st_syntax.specs.Reader.Declarations.{typed, member, variables}
 

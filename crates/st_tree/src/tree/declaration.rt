@@ -1,4 +1,7 @@
 //! Declarations of variables and types (2.3.3, 2.4.3).
+ghost use Rattle.std.specs.Prelude.{◌≡◌};
+ghost use Rattle.st_tree.specs.Kinds.{is_constant, is_input, is_output};
+
 use crate::boxed::Boxed;
 use crate::list::List;
 use crate::tree::constant::{Constant, SignedInteger};
@@ -70,6 +73,26 @@ pub enum VarKind {
     Input,
     /// `VAR_OUTPUT`
     Output,
+}
+
+impl VarKind {
+    pub fn is_input(self) -> bool
+        ensures { result ≡ is_input self }
+    {
+        matches!(self, VarKind::Input)
+    }
+
+    pub fn is_output(self) -> bool
+        ensures { result ≡ is_output self }
+    {
+        matches!(self, VarKind::Output)
+    }
+
+    pub fn is_constant(self) -> bool
+        ensures { result ≡ is_constant self }
+    {
+        matches!(self, VarKind::Constant)
+    }
 }
 
 /// A block of declarations, from VAR, VAR_INPUT or VAR_OUTPUT to END_VAR.

@@ -1,7 +1,7 @@
 use Rattle.std.proofs.Common.{◌≡◌, ◌∙◌, ap, arith, length, rules, w64}
 use Rattle.std.proofs.lemmas.Int.{to_z-of_z}
 use Rattle.std.proofs.lemmas.Slice.Zip.{AllZip-long}
-use Rattle.st_blocks.specs.Cells.{IsOfType}
+use Rattle.st_values.specs.Values.{IsOfType}
 use Rattle.st_meaning.specs.Charts.{moved_on, names_on}
 use Rattle.st_meaning.specs.Sketches.{chart_size}
 use Rattle.st_meaning.specs.Statements.{stretch}

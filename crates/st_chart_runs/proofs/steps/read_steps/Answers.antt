@@ -13,8 +13,8 @@ loop-i-preserved c =
     let steps = c.loop-i.steps in
     let rest = c.loop-i.rest.now in
     let h : i < length pulses = c.loop-i-test.true in
-    let own = c.split_at.ensures.front ∙ ap (λ n. take n rest) c.leaves_of_step.ensures in
-    let others = c.split_at.ensures.back ∙ ap (λ n. drop n rest) c.leaves_of_step.ensures in
+    let own = c.split_at.ensures.front ∙ ap (λ n. take n rest) c.leaves_of_step.ensures.count in
+    let others = c.split_at.ensures.back ∙ ap (λ n. drop n rest) c.leaves_of_step.ensures.count in
     let long : length steps ≡ length pulses = omega (arith, c.loop-i.auto.steps, c.requires.count) in
     record {
       typed = subst (λ (vs : Values). AreFirst (steps_types (drop (i + 1) pulses)) vs) (sym others) (step_there pulses i _ rest h c.loop-i.invariant.typed).others;

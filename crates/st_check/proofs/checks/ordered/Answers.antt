@@ -1,6 +1,6 @@
 use Rattle.std.proofs.Common.{rules, sym, ◌∙◌, ◌<◌, length, subst, All, IsSome}
 use Rattle.std.proofs.lemmas.Result.{err_from_is_err_and}
-use Rattle.st_order.specs.Graphs.{AreCyclic}
+use Rattle.st_references.specs.Graphs.{AreCyclic}
 use Rattle.st_types.specs.Names.{units_of}
 use Rattle.st_check.specs.Recursions.{memory}
 use Rattle.st_check.proofs.Cyclic.{cyclic_are_units}

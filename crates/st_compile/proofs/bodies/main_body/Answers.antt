@@ -6,7 +6,7 @@ use Rattle.st_meaning.specs.Typing.{body_in}
 use Rattle.st_meaning.specs.Units.{statements_of}
 use Rattle.st_places.specs.Parts.{whole_in}
 use Rattle.st_types.specs.Inside.{named_by}
-use Rattle.st_bodies.specs.Depths.{declared_depth}
+use Rattle.st_code.specs.Depths.{declared_depth}
 use Rattle.st_check.specs.Programs.{text_of}
 use Rattle.st_types.specs.Names.{units_of}
 use Rattle.st_compile.specs.Programs.{program_code, program_depth, unit_code}

@@ -1,5 +1,5 @@
 use Rattle.std.proofs.Common.{◌≡◌, take}
-use Rattle.st_bodies.specs.Depths.{most}
+use Rattle.st_code.specs.Depths.{most}
 use Rattle.st_check.specs.Programs.{text_of}
 use Rattle.st_types.specs.Names.{units_of}
 use Rattle.st_compile.specs.Programs.{numbered, taken}

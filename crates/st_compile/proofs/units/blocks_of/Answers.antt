@@ -1,6 +1,6 @@
 use Rattle.std.proofs.Common.{◌≡◌, ◌∙◌, ◌+◌, rules, ◌≤◌, ap, arith, length}
 use Rattle.std.specs.Prelude.{slice_index_or}
-use Rattle.st_calls.proofs.Levels.{level_limit}
+use Rattle.st_compile.proofs.LevelLemmas.{level_limit}
 use Rattle.st_check.specs.Programs.{order_of, text_of}
 use Rattle.st_types.specs.Inside.{named_by}
 use Rattle.st_types.specs.Names.{units_of}

@@ -1,5 +1,5 @@
 use Rattle.std.proofs.Common.{◌+◌, ◌++◌, codes, length, subst, sym}
-use Rattle.st_sizes.specs.Sizes.{IsSize}
+use Rattle.st_leaves.specs.Sizes.{IsSize}
 use Rattle.st_leaves.specs.Leaves.{choices}
 use Rattle.st_leaves.proofs.SizesOf.{sizes_copied}
 use Rattle.st_leaves.proofs.SubscriptTexts.{brackets}

@@ -1,7 +1,7 @@
 use Rattle.std.proofs.Common.{[], ◌∷◌, ap, arith, subst, ◌∙◌}
 use Rattle.std.specs.List.{fold}
 use Rattle.std.proofs.lemmas.List.{take_all}
-use Rattle.st_sizes.specs.Sizes.{AreChoices, pairs}
+use Rattle.st_leaves.specs.Sizes.{AreChoices, pairs}
 use Rattle.st_leaves.proofs.SubscriptTexts.{all_chosen, one_more, with_subscript}
 use Rattle.st_leaves.proofs.array.element_texts.Goals as goal
 

@@ -1,6 +1,6 @@
 use Rattle.std.proofs.Common.{[], ◌∷◌, take}
 use Rattle.std.specs.List.{fold}
-use Rattle.st_sizes.specs.Sizes.{AreChoices}
+use Rattle.st_leaves.specs.Sizes.{AreChoices}
 use Rattle.st_leaves.proofs.SubscriptTexts.{with_subscript}
 use Rattle.st_leaves.proofs.array.element_texts.Given as goal
 

@@ -1,4 +1,4 @@
-use Rattle.st_leaves.specs.Steps.{state_leaves}
+use Rattle.st_leaves.specs.Charts.{state_leaves}
 use Rattle.st_leaves.proofs.ChartSizes.{step_sized}
 use Rattle.st_leaves.proofs.chart.step_size.Goals as goal
 

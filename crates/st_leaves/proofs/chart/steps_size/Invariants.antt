@@ -1,6 +1,6 @@
 use Rattle.std.proofs.Common.{take}
 use Rattle.std.specs.List.{flat_map}
-use Rattle.st_sizes.specs.Sizes.{IsSize}
+use Rattle.st_leaves.specs.Sizes.{IsSize}
 use Rattle.st_types.specs.Names.{steps_in}
 use Rattle.st_leaves.specs.Charts.{step_leaves}
 use Rattle.st_leaves.specs.Limits.{sizes_of}

@@ -1,5 +1,5 @@
 use Rattle.std.proofs.Common.{[], ◌∷◌, subst}
-use Rattle.st_sizes.specs.Sizes.{IsSize}
+use Rattle.st_leaves.specs.Sizes.{IsSize}
 use Rattle.st_leaves.specs.Limits.{sizes_of}
 use Rattle.st_leaves.proofs.SizesOf.{one_named}
 use Rattle.st_leaves.proofs.size.named_leaf_size.Goals as goal

@@ -1,5 +1,5 @@
 use Rattle.std.proofs.Common.{map, take}
-use Rattle.st_sizes.specs.Sizes.{IsSize}
+use Rattle.st_leaves.specs.Sizes.{IsSize}
 use Rattle.st_types.specs.Pins.{seen}
 use Rattle.st_leaves.specs.Charts.{named}
 use Rattle.st_leaves.specs.Limits.{sizes_of}

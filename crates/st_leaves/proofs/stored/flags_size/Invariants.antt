@@ -1,5 +1,5 @@
 use Rattle.std.proofs.Common.{take}
-use Rattle.st_sizes.specs.Sizes.{IsSize}
+use Rattle.st_leaves.specs.Sizes.{IsSize}
 use Rattle.st_leaves.specs.Charts.{spelled, stored_leaves}
 use Rattle.st_leaves.specs.Limits.{sizes_of}
 use Rattle.st_leaves.proofs.stored.flags_size.Given as goal

@@ -2,7 +2,7 @@ use Rattle.std.proofs.Common.{ap, sym, ◌∙◌}
 use Rattle.std.specs.List.{list_any}
 use Rattle.std.specs.Option.{is_some}
 use Rattle.st_values.specs.Words.{is_word}
-use Rattle.st_names.specs.Tables.{first_of}
+use Rattle.st_types.specs.Tables.{first_of}
 use Rattle.st_leaves.specs.Charts.{spelled}
 use Rattle.st_leaves.proofs.NamesOnce.{found, kept_more, left_out}
 use Rattle.st_leaves.proofs.stored.words_among.Goals.{then-is_some+in_ok-push, else-is_some}

@@ -2,7 +2,7 @@ use Rattle.std.proofs.Common.{◌≡◌, ◌++◌, codes, take}
 use Rattle.std.specs.Fmt.{signed_decimal}
 use Rattle.std.specs.List.{flat_map}
 use Rattle.std.specs.String.{string_bytes}
-use Rattle.st_sizes.specs.Subscripts.{value_of}
+use Rattle.st_leaves.specs.Subscripts.{value_of}
 use Rattle.st_listing.proofs.subscripts.put_others.Given as goal
 
 -- with the numbers so far

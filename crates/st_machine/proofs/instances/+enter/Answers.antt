@@ -6,7 +6,7 @@ use Rattle.st_memory.specs.Memory.{Content}
 use Rattle.st_meaning.specs.Operations.{stop}
 use Rattle.st_meaning.specs.Statements.{faulted}
 use Rattle.st_chart_runs.specs.Views.{room_of}
-use Rattle.st_fused.specs.Fused.{is_own}
+use Rattle.st_code.specs.Fused.{is_own}
 use Rattle.st_code.specs.Beside.{line_at}
 use Rattle.st_code.specs.Code.{Line}
 use Rattle.st_code.specs.Machine.{act}

@@ -1,6 +1,6 @@
 use Rattle.std.proofs.Common.{◌≡◌, ◌∙◌, ap, min}
-use Rattle.st_program_sizes.specs.Sized.{size_at}
-use Rattle.st_sizes.specs.declared.size.Size.{Size}
+use Rattle.st_check.specs.Sized.{size_at}
+use Rattle.st_leaves.specs.declared.limited.Size.{Size}
 use Rattle.st_places.proofs.Counts.{elementary_counted, standard_counted, unit_counted, unit_is, unknown_counted}
 use Rattle.st_places.proofs.count.leaves_of.Goals as goal
 

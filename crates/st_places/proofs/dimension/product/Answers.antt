@@ -1,6 +1,6 @@
 use Rattle.std.proofs.Common.{◌≡◌, ◌*◌, ◌∙◌, ap, arith}
 use Rattle.std.specs.Prelude.{min}
-use Rattle.st_sizes.proofs.Products.{capped, stopped}
+use Rattle.st_leaves.proofs.Products.{capped, stopped}
 use Rattle.st_places.proofs.dimension.product.Goals as goal
 
 pub returns : goal.returns

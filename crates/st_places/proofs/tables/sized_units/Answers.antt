@@ -1,6 +1,6 @@
 use Rattle.std.proofs.Common.{List, subst, sym}
-use Rattle.st_program_sizes.specs.Sized.{IsSized}
-use Rattle.st_sizes.specs.declared.size.Size.{Size}
+use Rattle.st_check.specs.Sized.{IsSized}
+use Rattle.st_leaves.specs.declared.limited.Size.{Size}
 use Rattle.st_types.specs.Names.{units_of}
 use Rattle.st_types.specs.Types.{type_at}
 use Rattle.st_places.proofs.tables.sized_units.Goals as goal

@@ -2,8 +2,8 @@ use Rattle.std.proofs.Common.{◌≡◌, ◌∙◌, List, Some, refl, subst, sym
 use Rattle.st_places.specs.Members.{AreElements}
 use Rattle.st_places.specs.Parts.{inside}
 use Rattle.st_leaves.specs.Places.{count}
-use Rattle.st_program_sizes.specs.Sized.{IsSized}
-use Rattle.st_program_sizes.proofs.Parts.{elements_sized}
+use Rattle.st_check.specs.Sized.{IsSized}
+use Rattle.st_check.proofs.Parts.{elements_sized}
 use Rattle.st_types.specs.Names.{Named, units_of}
 use Rattle.st_types.specs.Types.{Elements, elements_in}
 use Rattle.st_types.specs.declared.base.Base.TheVariants as bases

@@ -10,10 +10,10 @@ use Rattle.st_refusals.proofs.table.explanation_in.Goals as goal
 
 -- a row of a table
 abbrev Row : Type 0
-Row = ℕ × Bor (List ℕ) × Bor (List ℕ)
+Row = ℕ × Bor (List ℕ) × Bor (List ℕ) × Bor (List ℕ)
 
 abbrev meaning_in : Row → Meaning
-meaning_in row = meaning row.0 row.1.now row.2.now
+meaning_in row = meaning row.0 row.1.now row.2.now row.3.now
 
 -- what the row that was found means
 abbrev seen : Option (Bor Row) → Option Meaning

@@ -1,17 +1,16 @@
-use Rattle.std.proofs.Common.{◌≡◌, ◌++◌, drop, map}
-use Rattle.st_renumbered.specs.Expressions.{turned_argument, turned_expression, turned_operation, turned_part}
+use Rattle.st_renumbered.specs.Expressions.{renumbered_argument, renumbered_expression, renumbered_operation, renumbered_part}
+use Rattle.st_renumbered.specs.Turns.{turned_number}
+use Rattle.st_renumbered.proofs.Loops.{AreDone}
 use Rattle.st_renumbered.proofs.expression.+turned.Given as goal
 
--- with what is left they become what all give
-
 abbrev pub invariant-turned_operations-operations : goal.invariant-turned_operations-operations
-invariant-turned_operations-operations l = l.turned ++ map (turned_operation l.turn.start) (drop l.operation-index l.operations) ≡ map (turned_operation l.turn.start) l.operations
+invariant-turned_operations-operations l = AreDone (renumbered_operation (turned_number l.turn.start)) l.turned l.operation-index l.operations
 
 abbrev pub invariant-turned_parts-parts : goal.invariant-turned_parts-parts
-invariant-turned_parts-parts l = l.turned ++ map (turned_part l.turn.start) (drop l.part-index l.parts) ≡ map (turned_part l.turn.start) l.parts
+invariant-turned_parts-parts l = AreDone (renumbered_part (turned_number l.turn.start)) l.turned l.part-index l.parts
 
 abbrev pub invariant-turned_subscripts-subscripts : goal.invariant-turned_subscripts-subscripts
-invariant-turned_subscripts-subscripts l = l.turned ++ map (turned_expression l.turn.start) (drop l.subscript-index l.subscripts) ≡ map (turned_expression l.turn.start) l.subscripts
+invariant-turned_subscripts-subscripts l = AreDone (renumbered_expression (turned_number l.turn.start)) l.turned l.subscript-index l.subscripts
 
 abbrev pub invariant-turned_arguments-arguments : goal.invariant-turned_arguments-arguments
-invariant-turned_arguments-arguments l = l.turned ++ map (turned_argument l.turn.start) (drop l.argument-index l.arguments) ≡ map (turned_argument l.turn.start) l.arguments
+invariant-turned_arguments-arguments l = AreDone (renumbered_argument (turned_number l.turn.start)) l.turned l.argument-index l.arguments

@@ -1,14 +1,13 @@
-use Rattle.std.proofs.Common.{◌≡◌, ◌++◌, drop, map}
-use Rattle.st_renumbered.specs.Statements.{turned_element, turned_part, turned_statement}
+use Rattle.st_renumbered.specs.Statements.{renumbered_element, renumbered_part, renumbered_statement}
+use Rattle.st_renumbered.specs.Turns.{turned_number}
+use Rattle.st_renumbered.proofs.Loops.{AreDone}
 use Rattle.st_renumbered.proofs.statement.+turned.Given as goal
 
--- with what is left they become what all give
-
 abbrev pub invariant-turned_statements-statements : goal.invariant-turned_statements-statements
-invariant-turned_statements-statements l = l.turned ++ map (turned_statement l.turn.start) (drop l.statement-index l.statements) ≡ map (turned_statement l.turn.start) l.statements
+invariant-turned_statements-statements l = AreDone (renumbered_statement (turned_number l.turn.start)) l.turned l.statement-index l.statements
 
 abbrev pub invariant-turned_parts-parts : goal.invariant-turned_parts-parts
-invariant-turned_parts-parts l = l.turned ++ map (turned_part l.turn.start) (drop l.part-index l.parts) ≡ map (turned_part l.turn.start) l.parts
+invariant-turned_parts-parts l = AreDone (renumbered_part (turned_number l.turn.start)) l.turned l.part-index l.parts
 
 abbrev pub invariant-turned_cases-cases : goal.invariant-turned_cases-cases
-invariant-turned_cases-cases l = l.turned ++ map (turned_element l.turn.start) (drop l.case-index l.cases) ≡ map (turned_element l.turn.start) l.cases
+invariant-turned_cases-cases l = AreDone (renumbered_element (turned_number l.turn.start)) l.turned l.case-index l.cases

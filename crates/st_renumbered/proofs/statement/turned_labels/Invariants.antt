@@ -1,7 +1,7 @@
-use Rattle.std.proofs.Common.{◌≡◌, ◌++◌, drop, map}
-use Rattle.st_renumbered.specs.Statements.{turned_label}
+use Rattle.st_renumbered.specs.Statements.{renumbered_label}
+use Rattle.st_renumbered.specs.Turns.{turned_number}
+use Rattle.st_renumbered.proofs.Loops.{AreDone}
 use Rattle.st_renumbered.proofs.statement.turned_labels.Given as goal
 
--- with what is left they become what all give
 abbrev pub invariant-loop-label : goal.invariant-loop-label
-invariant-loop-label l = l.turned ++ map (turned_label l.turn.start) (drop l.label-index l.labels) ≡ map (turned_label l.turn.start) l.labels
+invariant-loop-label l = AreDone (renumbered_label (turned_number l.turn.start)) l.turned l.label-index l.labels

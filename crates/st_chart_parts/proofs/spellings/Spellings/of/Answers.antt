@@ -1,5 +1,5 @@
 use Rattle.std.proofs.Common.{ap, sym, ◌∙◌}
-use Rattle.st_names.specs.Tables.{first_of}
+use Rattle.st_types.specs.Tables.{first_of}
 use Rattle.st_chart_parts.proofs.DeclaredNames.{found_nowhere, found_there}
 use Rattle.st_chart_parts.proofs.spellings.Spellings.of.Goals as goal
 

@@ -1,7 +1,7 @@
 use Rattle.std.proofs.Common.{ap, arith, ◌∙◌, ◌≡◌}
 use Rattle.std.proofs.lemmas.List.{take_all}
 use Rattle.std.specs.Prelude.{max}
-use Rattle.st_bodies.specs.Depths.{most}
+use Rattle.st_code.specs.Depths.{most}
 use Rattle.st_compile.specs.Programs.{greatest_depth, program_depth, program_rooms, stacks_in}
 use Rattle.st_compile.proofs.Greatest.{most_more}
 use Rattle.st_compile.proofs.image.Image.depth.Goals as goal

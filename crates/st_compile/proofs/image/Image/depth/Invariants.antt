@@ -1,6 +1,6 @@
 use Rattle.std.proofs.Common.{◌≡◌, take}
 use Rattle.std.specs.Prelude.{max}
-use Rattle.st_bodies.specs.Depths.{most}
+use Rattle.st_code.specs.Depths.{most}
 use Rattle.st_compile.specs.Programs.{program_depth, stacks_in}
 use Rattle.st_compile.proofs.image.Image.depth.Given as goal
 

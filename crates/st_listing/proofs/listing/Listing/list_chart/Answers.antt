@@ -16,7 +16,7 @@ list_stored-requires c = record {
 
 pub returns-clause-listed : goal.returns-clause-listed
 returns-clause-listed c =
-    chart_listed c.args.of.now c.args.chart.now (sym c.is_there.ensures ∙ c.if-not-is_there.false) c.args.self.now c.put_kept.new.self c.list_steps.new.self c.list_stored.new.self c.truth.result c.truth.ensures c.in_ok-put_kept.ensures
+    chart_listed c.args.of.now c.args.chart.now (sym c.is_there.ensures ∙ c.if-not-is_there.false) c.args.self.now c.put_kept.new.self c.list_steps.new.self c.list_stored.new.self c.truth.result c.truth.ensures.value c.in_ok-put_kept.ensures
     (c.in_ok-list_steps.ensures.listed ∙ ap (λ steps. listed c.put_kept.new.self (all_steps_in c.args.of.now 1 steps)) c.steps.ensures)
     (c.in_ok-list_stored.ensures.listed ∙ ap (λ names. listed c.list_steps.new.self (flat_map (stored_in c.args.of.now) names)) c.stored.ensures)
 

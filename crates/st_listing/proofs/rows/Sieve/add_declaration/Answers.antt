@@ -1,5 +1,5 @@
 use Rattle.std.proofs.Common.{◌∙◌, ap, sym}
-use Rattle.st_program_sizes.specs.Sized.{type_leaves}
+use Rattle.st_check.specs.Sized.{type_leaves}
 use Rattle.st_types.specs.Names.{units_of}
 use Rattle.st_listing.proofs.DeclaredNames.{same_constants, same_empties}
 use Rattle.st_listing.proofs.rows.Sieve.add_declaration.Goals as goal

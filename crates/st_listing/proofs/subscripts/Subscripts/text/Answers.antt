@@ -1,7 +1,7 @@
 use Rattle.std.proofs.Common.{IfOk, List, ◌≡◌, map, subst}
 use Rattle.std.specs.String.{string_bytes}
-use Rattle.st_sizes.specs.Subscripts.{value_of}
-use Rattle.st_sizes.specs.declared.subrange.Number.{Number}
+use Rattle.st_leaves.specs.Subscripts.{value_of}
+use Rattle.st_leaves.specs.declared.subrange.Number.{Number}
 use Rattle.st_leaves.specs.Paths.{index, selector_text}
 use Rattle.st_listing.proofs.Choices.{text_of_choice}
 use Rattle.st_listing.proofs.subscripts.Subscripts.text.Goals as goal

@@ -6,7 +6,7 @@ use Rattle.st_leaves.specs.LeavesIn.{elements_in, plain, subscript_lists}
 use Rattle.st_listing.specs.Listings.{AreWays, listed, outside}
 use Rattle.st_listing.specs.Members.{declared_of}
 use Rattle.st_listing.specs.Walks.{declared_leaves, member_leaves, part_leaves, started_value, unit_leaves, units_in}
-use Rattle.st_types.specs.Compositions.{is_constant}
+use Rattle.st_tree.specs.Kinds.{is_constant}
 use Rattle.st_types.specs.Names.{Declared}
 use Rattle.st_types.specs.declared.base.Base.TheVariants as bases
 use Rattle.st_listing.proofs.ChartListings.{no_chart}

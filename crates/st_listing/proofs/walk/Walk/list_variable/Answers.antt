@@ -1,7 +1,6 @@
 use Rattle.std.proofs.Common.{◌≡◌, ◌∙◌, ap, false, subst}
-use Rattle.st_types.specs.Compositions.{is_constant}
 use Rattle.st_types.specs.Names.{Declared}
-use Rattle.st_listing.specs.Kinds.{is_input}
+use Rattle.st_tree.specs.Kinds.{is_input, is_constant}
 use Rattle.st_listing.specs.Walks.{units_in}
 use Rattle.st_listing.proofs.Variables.{variable_listed, variable_ways}
 use Rattle.st_listing.proofs.walk.Walk.list_variable.Goals as goal

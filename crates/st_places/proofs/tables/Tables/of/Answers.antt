@@ -1,7 +1,7 @@
 use Rattle.std.proofs.Common.{List, subst, sym, ◌∙◌, ◌≡◌}
 use Rattle.st_check.specs.Programs.{text_of}
 use Rattle.st_check.proofs.ElementaryFunctions.{elementary_functions}
-use Rattle.st_order.specs.Graphs.{IsOrder}
+use Rattle.st_references.specs.Graphs.{IsOrder}
 use Rattle.st_references.specs.References.{graph_of}
 use Rattle.st_tree.specs.declared.tree.unit.Unit.{Unit as Section}
 use Rattle.st_types.specs.Names.{units_of}

@@ -6,7 +6,7 @@ use Rattle.st_places.specs.Charts.{HasElements}
 use Rattle.st_places.specs.Members.{AreElements, HasNames, is_small_type}
 use Rattle.st_places.specs.Parts.{chart_at, own_names_at}
 use Rattle.st_places.specs.declared.unit.UnitParts.{UnitParts}
-use Rattle.st_program_sizes.specs.Sized.{IsSized}
+use Rattle.st_check.specs.Sized.{IsSized}
 use Rattle.st_scopes.specs.Declarations.{seen}
 use Rattle.st_scopes.specs.declared.declaration.Declared.{Declared as Row}
 use Rattle.st_types.specs.Inside.{named_by}

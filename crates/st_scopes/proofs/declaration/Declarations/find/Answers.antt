@@ -1,7 +1,7 @@
 use Rattle.std.proofs.Common.{◌≡◌, ℕ, List, sym, ◌∙◌, ap}
 use Rattle.std.specs.List.{slice_get}
 use Rattle.std.specs.Option.{option_and_then, option_map}
-use Rattle.st_names.specs.Tables.{first_of}
+use Rattle.st_types.specs.Tables.{first_of}
 use Rattle.st_scopes.specs.Declarations.{names_seen, seen}
 use Rattle.st_types.specs.Names.{declared_named}
 use Rattle.st_scopes.proofs.DeclaredNames.{named_at}

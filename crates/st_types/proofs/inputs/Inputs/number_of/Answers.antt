@@ -1,5 +1,5 @@
 use Rattle.std.proofs.Common.{ℕ, List, ◌∙◌, ap}
-use Rattle.st_names.specs.Tables.{first_of}
+use Rattle.st_types.specs.Tables.{first_of}
 use Rattle.st_types.proofs.InputTables.{input_in}
 use Rattle.st_types.proofs.inputs.Inputs.number_of.Goals as goal
 

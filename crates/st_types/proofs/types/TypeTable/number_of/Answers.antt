@@ -1,5 +1,5 @@
 use Rattle.std.proofs.Common.{ℕ, List, ◌∙◌, ap}
-use Rattle.st_names.specs.Tables.{first_of}
+use Rattle.st_types.specs.Tables.{first_of}
 use Rattle.st_types.specs.Inside.{units_seen}
 use Rattle.st_types.proofs.TypeTables.{number_in}
 use Rattle.st_types.proofs.types.TypeTable.number_of.Goals as goal

@@ -1,5 +1,0 @@
-use Rattle.st_calls.proofs.Checked.{checked_calls_are_those_of_their_bodies}
-use Rattle.st_calls.proofs.laws.checked_calls_are_those_of_their_bodies.Goals as goal
-
-pub returns : goal.returns
-returns c = checked_calls_are_those_of_their_bodies

@@ -1,5 +1,0 @@
-use Rattle.st_calls.proofs.Checked.{checked_functions_call_below}
-use Rattle.st_calls.proofs.laws.checked_functions_call_below.Goals as goal
-
-pub returns : goal.returns
-returns c = checked_functions_call_below

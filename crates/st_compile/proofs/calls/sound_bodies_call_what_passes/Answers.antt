@@ -1,0 +1,5 @@
+use Rattle.st_compile.proofs.Passing.{sound_bodies_call_what_passes}
+use Rattle.st_compile.proofs.calls.sound_bodies_call_what_passes.Goals as goal
+
+pub returns : goal.returns
+returns c = sound_bodies_call_what_passes

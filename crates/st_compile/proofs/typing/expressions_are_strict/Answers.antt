@@ -1,0 +1,5 @@
+use Rattle.st_compile.proofs.Expressions.{expression_fits}
+use Rattle.st_compile.proofs.typing.expressions_are_strict.Goals as goal
+
+pub returns : goal.returns
+returns c = λ scope w x at e ties h. (expression_fits scope w ties x at e h).term

@@ -1,4 +1,0 @@
-pub mod Aliases
-pub mod Known
-pub mod Lookups
-pub mod Tables

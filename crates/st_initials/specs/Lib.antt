@@ -1,3 +1,0 @@
-pub mod Lists
-pub mod Runs
-pub mod Tables

@@ -1,9 +1,0 @@
-use Rattle.st_lengths.proofs.Folds.{chain_is}
-use Rattle.st_lengths.proofs.Totals.{none_more, short_units}
-use Rattle.st_lengths.proofs.laws.parts_are_shorter.Goals as goal
-
-pub returns-clause-each : goal.returns-clause-each
-returns-clause-each c = none_more
-
-pub returns-clause-units : goal.returns-clause-units
-returns-clause-units c = short_units

@@ -1,5 +1,0 @@
-use Rattle.st_order.proofs.Returning.{IsSwept}
-use Rattle.st_order.proofs.cycles.cyclic_rows.Given as goal
-
-abbrev pub invariant-rows : goal.invariant-rows
-invariant-rows l = IsSwept l.graph l.order l.place l.seen.items l.found.items

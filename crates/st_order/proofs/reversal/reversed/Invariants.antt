@@ -1,5 +1,0 @@
-use Rattle.st_order.proofs.Reversing.{IsReversedBelow}
-use Rattle.st_order.proofs.reversal.reversed.Given as goal
-
-abbrev pub invariant-rows : goal.invariant-rows
-invariant-rows l = IsReversedBelow l.graph l.reversal.items l.row

@@ -1,9 +1,0 @@
-use Rattle.std.proofs.Common.{List, subst, sym}
-use Rattle.st_sizes.specs.declared.size.Size.{Size}
-use Rattle.st_types.specs.Names.{units_of}
-use Rattle.st_program_sizes.specs.Sized.{AreSized}
-use Rattle.st_program_sizes.proofs.program.is_too_large.Goals as goal
-
-pub unit_size-requires-clause-sized : goal.unit_size-requires-clause-sized
-unit_size-requires-clause-sized c =
-    subst (λ (sizes : List Size). AreSized (units_of c.args.tables.now) sizes c.args.unit) (sym c.deref.ensures.value) (λ i refers. c.in_ok-sizes.ensures i)

@@ -1,6 +1,0 @@
-use Rattle.std.proofs.Common.{refl}
-use Rattle.st_sizes.proofs.Counts.{below_all}
-use Rattle.st_sizes.proofs.size.Size.below.Goals as goal
-
-pub returns : goal.returns
-returns c xs s = below_all c.args.self _ c.args.bytes xs refl refl (c.longest_below.ensures xs s) s

@@ -1,3 +1,0 @@
-pub mod ChartsExact
-pub mod ReaderLemmas
-pub mod Statements

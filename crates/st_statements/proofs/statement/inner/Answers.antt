@@ -1,5 +1,0 @@
-use Rattle.st_statements.proofs.ReaderLemmas.{deeper_expression}
-use Rattle.st_statements.proofs.statement.inner.Goals as goal
-
-pub returns : goal.returns
-returns c = rw (deeper_expression c.args.depth_left c.requires) c.expression.ensures

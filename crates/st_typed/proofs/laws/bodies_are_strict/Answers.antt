@@ -1,7 +1,0 @@
-use Rattle.std.specs.Prelude.{false, []}
-use Rattle.st_check_statements.specs.Statements.{around}
-use Rattle.st_typed.proofs.Statements.{body_strict}
-use Rattle.st_typed.proofs.laws.bodies_are_strict.Goals as goal
-
-pub returns : goal.returns
-returns c = λ scope w body ties h. body_strict scope w ties body (around false []) h
