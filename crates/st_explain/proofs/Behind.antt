@@ -8,8 +8,8 @@ use Rattle.st_faults.specs.Faults.{fault}
 use Rattle.st_faults.specs.declared.fault.Fault.{Fault}
 use Rattle.st_check.specs.Faults.{IsFirst}
 use Rattle.st_check.specs.Laws.{FirstIsOne}
-use Rattle.st_renumbered.specs.Turns.{number_before, position_before}
-use Rattle.st_renumbered.specs.Units.{turned_units}
+use Rattle.st_explain.specs.Turns.{number_before, position_before}
+use Rattle.st_explain.specs.Units.{turned_units}
 use Rattle.st_explain.specs.Collections.{HasNoNext, IsNext}
 use Rattle.st_explain.specs.Findings.{Finds, fault_found}
 use Rattle.st_explain.specs.declared.finding.Finding.{Finding}

@@ -1,4 +1,5 @@
 mod Behind
+mod Loops
 mod Ordered
 mod Passing
 mod Telling

@@ -2,7 +2,7 @@
 use Rattle.std.proofs.Common.{◌≡◌, ℕ, ◌+◌, ◌<◌, List, [], ◌∷◌, ◌++◌, length, get_or, take, refl, sym, subst}
 use Rattle.std.proofs.lemmas.List.{take_more}
 use Rattle.st_faults.specs.declared.fault.Fault.{Fault}
-use Rattle.st_positions.specs.declared.lexeme.Lexeme.{Lexeme}
+use Rattle.st_messages.specs.declared.lexeme.Lexeme.{Lexeme}
 use Rattle.st_explain.specs.Messages.{AreTold, IsToldAt, more, none}
 
 module _ (file text : List ℕ) (lexemes : List Lexeme) where

@@ -5,8 +5,8 @@ use Rattle.st_tree.specs.declared.tree.unit.Unit.{Unit as Section}
 use Rattle.st_faults.specs.Faults.{fault}
 use Rattle.st_faults.specs.declared.fault.Fault.{Fault}
 use Rattle.st_check.specs.Faults.{IsFault, IsFirst}
-use Rattle.st_renumbered.specs.Turns.{number_before, position_before}
-use Rattle.st_renumbered.specs.Units.{turned_units}
+use Rattle.st_explain.specs.Turns.{number_before, position_before}
+use Rattle.st_explain.specs.Units.{turned_units}
 
 -- a fault of a text whose tokens are numbered from this one on, as one of the text
 abbrev pub fault_before : ℕ → Fault → Fault

@@ -7,9 +7,9 @@ use Rattle.st_tokens.specs.Text.{Tokens}
 use Rattle.st_tokens.specs.declared.fault.SyntaxFault.{SyntaxFault}
 use Rattle.st_tokens.specs.declared.fault.SyntaxFault.TheVariants as syntax_faults
 use Rattle.st_syntax.specs.Grammar.Texts.{Explains as ExplainsSyntax, IsTextOf}
-use Rattle.st_positions.specs.Lexemes.{AreLexemes}
-use Rattle.st_positions.specs.declared.lexeme.Lexeme.{Lexeme}
-use Rattle.st_messages.specs.Places.{IsTold, heading}
+use Rattle.st_messages.specs.Lexemes.{AreLexemes}
+use Rattle.st_messages.specs.declared.lexeme.Lexeme.{Lexeme}
+use Rattle.st_messages.specs.Headings.{IsTold, heading}
 use Rattle.st_messages.specs.declared.form.Code.{Code}
 use Rattle.st_check.specs.Faults.{HasNoProgram, IsAccepted, IsFirst}
 use Rattle.st_explain.specs.Collections.{AreInOrder, AreLater}

@@ -3,7 +3,7 @@ use Rattle.std.specs.Prelude.{ℕ, List, slice_index_or}
 use Rattle.st_faults.specs.declared.fault.Rule.{Rule}
 use Rattle.st_faults.specs.Faults.{number_of}
 use Rattle.st_messages.specs.declared.form.Code.{Code}
-use Rattle.st_positions.specs.declared.lexeme.Lexeme.{Lexeme}
+use Rattle.st_messages.specs.declared.lexeme.Lexeme.{Lexeme}
 
 -- the place of the token of this number; at the start of the text where there is none
 abbrev pub start_at : List Lexeme → ℕ → ℕ

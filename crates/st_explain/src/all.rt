@@ -4,9 +4,10 @@ ghost use Rattle.st_explain.specs.Collections.{AreLater, HasNoNext, IsNext};
 ghost use Rattle.st_faults.specs.declared.fault.Fault.{Fault as Found};
 
 use crate::finding::first_finding;
+use crate::turn::Turn;
+use crate::unit::turned_units;
 use st_check::text_has_one_answer;
 use st_faults::Fault;
-use st_renumbered::{Turn, turned_units};
 use st_scopes::Tables;
 use st_tree::tree::Unit;
 use std::alloc::{AllocError, Global};

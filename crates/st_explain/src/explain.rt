@@ -3,7 +3,7 @@ ghost use Rattle.std.specs.Prelude.{◌≡◌, ◌≤◌, [], IfOk, OnOk};
 ghost use Rattle.std.specs.String.{string_bytes};
 ghost use Rattle.st_explain.specs.Messages.{Explains, ExplainsAll, ExplainsFirst, IsMessage, IsToldAt, TellsFault, TellsFaults, TellsFrom, TellsNoProgram, TellsSyntax, TellsUnits, syntax_number};
 ghost use Rattle.st_explain.specs.Places.{code_of, start_at};
-ghost use Rattle.st_messages.specs.Places.{IsTold};
+ghost use Rattle.st_messages.specs.Headings.{IsTold};
 ghost use Rattle.st_syntax.specs.Grammar.Texts.{Explains as ExplainsSyntax, IsTextOf};
 ghost use Rattle.st_tokens.specs.Text.{HasTokens, Tokens};
 
@@ -12,8 +12,7 @@ use crate::finding::{Finding, first_finding};
 use st_check::text_has_one_answer;
 use st_faults::Fault;
 use st_leaves::Size;
-use st_messages::{Code, Lexed, Span, Words, push_diagnosis, push_heading};
-use st_positions::{Lexeme, Place, lexemes};
+use st_messages::{Code, Lexed, Lexeme, Place, Span, Words, lexemes, push_diagnosis, push_heading};
 use st_rule_messages::{explain_no_program, explain_rule, explain_size};
 use st_scopes::Tables;
 use st_syntax::parse;

@@ -1,1 +1,3 @@
+pub mod Causes
 pub mod Faults
+pub mod Meanings

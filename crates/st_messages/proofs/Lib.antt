@@ -1,0 +1,3 @@
+mod Lexing
+mod ReplacementRows
+mod Skips

@@ -1,1 +1,5 @@
+pub mod Headings
+pub mod Lexemes
 pub mod Places
+pub mod Replacements
+pub mod Skips

@@ -1,40 +1,33 @@
--- Where a message says that something stands, and how that is written.
-use Rattle.std.specs.Prelude.{ℕ, List, ◌≡◌, ◌++◌, codes, length, min, take}
-use Rattle.std.specs.Fmt.{decimal}
-use Rattle.std.specs.Char.{encode_utf8}
-use Rattle.st_positions.specs.declared.place.Place.{Place}
-use Rattle.st_positions.specs.Places.{column_after, line_after}
-use Rattle.st_messages.specs.declared.form.Code.{Code}
+-- Where things stand in a text.
+use Rattle.std.specs.Prelude.{ℕ, ◌+◌, ◌==◌, if◌then◌else◌, List, [], ◌∷◌}
+use Rattle.std.specs.Int.{is_in_range}
+use Rattle.std.specs.List.{sum_by}
 
--- `FILE:LINE:COLUMN: error: `
-abbrev pub place_text : List ℕ → Place → List ℕ
-place_text file place = file ++ codes ":" ++ decimal place.line ++ codes ":" ++ decimal place.column ++ codes ": error: "
+-- a line ends after its line feed
+abbrev pub line_end : ℕ → ℕ
+line_end b = if b == 10 then 1 else 0
 
--- a letter, and a number behind it
-abbrev pub code_text : Code → List ℕ
-code_text code = encode_utf8 code.letter ++ decimal code.number
+-- a character of UTF-8 begins with the byte that doesn't continue one
+abbrev pub character_begin : ℕ → ℕ
+character_begin b = if is_in_range 0x80 0xBF b then 0 else 1
 
--- `FILE:LINE:COLUMN: error: C4: `
-abbrev pub heading : List ℕ → Place → Code → List ℕ
-heading file place code = place_text file place ++ (code_text code ++ codes ": ")
+-- what follows the last line feed, where `line` is the last line so far
+abbrev pub line_from : List ℕ → List ℕ → List ℕ
+line_from line [] = line
+line_from line (b ∷ bs) = if b == 10 then line_from bs bs else line_from line bs
 
--- a line that says more
-abbrev pub note_line : List ℕ → List ℕ
-note_line note = codes "  note: " ++ (note ++ codes "\n")
+-- what follows the last line feed
+abbrev pub last_line : List ℕ → List ℕ
+last_line before = line_from before before
 
--- a line that says what to do
-abbrev pub help_line : List ℕ → List ℕ
-help_line help = codes "  help: " ++ (help ++ codes "\n")
+-- the line of what follows these bytes, from 1: one more than the line feeds among them
+abbrev pub line_after : List ℕ → ℕ
+line_after before = 1 + sum_by line_end before
 
--- what stands before the bytes from here on; behind the end nothing more does
-abbrev pub before : List ℕ → ℕ → List ℕ
-before text start = take (min start (length text)) text
+-- one more than the characters of a line
+abbrev pub column_in : List ℕ → ℕ
+column_in line = 1 + sum_by character_begin line
 
--- where these bytes stand in a text
-abbrev pub place_at : List ℕ → ℕ → Place
-place_at text start = record { line = line_after (before text start); column = column_after (before text start) }
-
--- a message got the heading of what stands here and a title in a line, and then more
-abbrev pub IsTold : List ℕ → List ℕ → List ℕ → List ℕ → ℕ → Code → List ℕ → Type 0
-IsTold old new file text start code title =
-    (more : List ℕ) × (new ≡ old ++ (heading file (place_at text start) code ++ (title ++ (codes "\n" ++ more))))
+-- the column of what follows these bytes, from 1: one more than the characters behind the last line feed
+abbrev pub column_after : List ℕ → ℕ
+column_after before = column_in (last_line before)

@@ -1,11 +1,11 @@
 //! The lines of a message.
 ghost use Rattle.std.specs.Prelude.{◌≡◌, ◌++◌, [], OnOk};
 ghost use Rattle.std.specs.String.{string_bytes};
-ghost use Rattle.st_messages.specs.Places.{IsTold, code_text, heading, help_line, note_line, place_text};
+ghost use Rattle.st_messages.specs.Headings.{IsTold, code_text, heading, help_line, note_line, place_text};
 
+use crate::place::{Place, place_after};
 use crate::shown::push_shown;
 use crate::source::{Span, push_source};
-use st_positions::{Place, place_after};
 use std::alloc::{AllocError, Global};
 
 /// What is said of a fault: what is wrong, and lines that say more.

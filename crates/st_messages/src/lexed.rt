@@ -1,7 +1,7 @@
 //! A text with its lexemes.
 
+use crate::lexeme::Lexeme;
 use crate::shown::push_shown;
-use st_positions::Lexeme;
 use std::alloc::AllocError;
 
 /// A text with its lexemes.

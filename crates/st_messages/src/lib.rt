@@ -1,17 +1,27 @@
-//! How messages to people look: a heading that editors find, the line of a text with a caret under what is meant, notes and help, and
-//! which name is near another. It knows no rule of the language.
+//! How messages to people look: a heading that editors find, the line of a text with a caret under what is meant, notes and help. It
+//! finds which bytes of a text are a token and where a place stands, which name is near another, and what to write in the place of what
+//! the standard, its other editions or other languages have and this language hasn't. It knows no rule of the language.
 #![tactic(auto)]
 
 mod form;
+mod left_out_names;
 mod lexed;
+mod lexeme;
 mod nearest;
+mod other_words;
+mod place;
 mod shown;
+mod skip;
 mod source;
 
 pub use form::{
     Code, Words, push_code, push_diagnosis, push_heading, push_help, push_note, push_quoted,
 };
+pub use left_out_names::{FUNCTION_NAMES, TYPE_NAMES, function_left_out, type_left_out};
 pub use lexed::Lexed;
+pub use lexeme::{Lexeme, lexemes};
 pub use nearest::Nearest;
+pub use other_words::{Row, left_out, other_word};
+pub use place::{Place, last_line, place_after};
 pub use shown::push_shown;
 pub use source::{Span, push_line, push_source};

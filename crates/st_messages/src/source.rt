@@ -1,8 +1,8 @@
 //! A line of a text, with a caret under what is meant.
 ghost use Rattle.std.specs.Prelude.{◌≡◌, ◌≤◌, length};
 
+use crate::place::last_line;
 use crate::shown::push_shown;
-use st_positions::last_line;
 use std::alloc::{AllocError, Global};
 
 /// The most bytes of a line that are shown.

@@ -5,8 +5,7 @@
 #![tactic(auto)]
 
 use st_explain::explain_text;
-use st_faults::Rule;
-use st_refusals::{Cause, EXAMPLES, Example, Explanation, Family, explanation_of};
+use st_faults::{Cause, EXAMPLES, Example, Explanation, Family, Rule, explanation_of};
 use std::io;
 
 /// What stands before the message that is shown.

@@ -1,6 +1,6 @@
 //! Where a fault ended a scan.
+use st_faults::{Family, explanation_of};
 use st_messages::{push_help, push_line, push_note, push_shown};
-use st_refusals::{Family, explanation_of};
 use st_session::control::{RunFault, RunFaultKind};
 use std::alloc::{AllocError, Global};
 

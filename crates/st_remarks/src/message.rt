@@ -1,7 +1,6 @@
 //! What messages on a session begin with, and what several of them say.
 use crate::words::Spot;
-use st_messages::{Code, Span, push_heading, push_quoted, push_shown, push_source};
-use st_positions::place_after;
+use st_messages::{Code, Span, place_after, push_heading, push_quoted, push_shown, push_source};
 use st_values::{Value, is_value, put_value};
 use std::alloc::{AllocError, Global};
 

@@ -8,9 +8,9 @@ use crate::near::{Meant, meant_by};
 use crate::part::lost_rename;
 use crate::usage::{COMMANDS, Complaint, complaint_of};
 use crate::words::{Spot, first_word, second_word};
+use st_faults::{Family, explanation_of};
 use st_memory::Memory;
 use st_messages::{Nearest, push_help, push_note, push_quoted, push_shown};
-use st_refusals::{Family, explanation_of};
 use st_session::control::{
     Controller, HALTED, IS_FORCED, MOMENT_PAST, NO_SUCH_LINE, NO_SUCH_PATH, NOT_AN_INPUT,
     NOT_FORCED, NOT_OF_TYPE, NOT_OPEN, NOT_PAIRED, Status,

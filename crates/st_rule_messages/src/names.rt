@@ -1,7 +1,9 @@
 //! What is said of a name that isn't there, or is there already.
 
-use st_foreign::{FUNCTION_NAMES, TYPE_NAMES, function_left_out, type_left_out};
-use st_messages::{Lexed, Nearest, Words, push_quoted, push_shown};
+use st_messages::{
+    FUNCTION_NAMES, Lexed, Nearest, TYPE_NAMES, Words, function_left_out, push_quoted, push_shown,
+    type_left_out,
+};
 use st_scopes::{Scope, Tables};
 use st_sites::{Site, reached};
 use st_tree::tree::{Body, ChartElement, Expression, VarKind, Variable};

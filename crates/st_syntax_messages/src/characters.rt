@@ -1,8 +1,7 @@
 //! What is said of bytes that are no token.
 
 use crate::reading::bytes_of;
-use st_messages::{Words, push_quoted};
-use st_positions::Lexeme;
+use st_messages::{Lexeme, Words, push_quoted};
 use std::alloc::{AllocError, Global};
 
 /// What is said of a lexeme that is no token.

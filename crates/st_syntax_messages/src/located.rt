@@ -3,8 +3,7 @@
 use crate::characters::explain_characters;
 use crate::reading::{Reading, bytes_of};
 use crate::tokens::{explain_depth, explain_end, explain_token};
-use st_messages::{Span, Words};
-use st_positions::{Lexeme, lexemes};
+use st_messages::{Lexeme, Span, Words, lexemes};
 use st_syntax::parse;
 use st_tokens::{SyntaxFault, tokens};
 use std::alloc::{AllocError, Global};

@@ -1,6 +1,6 @@
 //! A text with its lexemes and tokens.
 
-use st_positions::Lexeme;
+use st_messages::Lexeme;
 use st_tokens::{Keyword, Kind, Symbol, Token};
 
 /// A text that has tokens, with them and with the lexemes that they are.

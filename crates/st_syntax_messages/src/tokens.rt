@@ -4,8 +4,7 @@ use crate::characters::is_left_out;
 use crate::open::{Closing, Open, closes, open_before, written};
 use crate::probe::{MAX_PROBED_BYTES, is_allowed, push_allowed};
 use crate::reading::Reading;
-use st_foreign::{Row, left_out, other_word};
-use st_messages::{Words, push_quoted, push_shown};
+use st_messages::{Row, Words, left_out, other_word, push_quoted, push_shown};
 use st_tokens::{Keyword, Kind, Symbol};
 use std::alloc::{AllocError, Global};
 

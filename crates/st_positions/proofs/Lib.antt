@@ -1,2 +1,0 @@
-mod Lexing
-mod Skips

@@ -1,3 +1,0 @@
-pub mod Lexemes
-pub mod Places
-pub mod Skips

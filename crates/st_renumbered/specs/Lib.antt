@@ -1,4 +1,0 @@
-pub mod Expressions
-pub mod Statements
-pub mod Turns
-pub mod Units
