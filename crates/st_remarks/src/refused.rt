@@ -1,6 +1,6 @@
 //! Why a line of a session is refused, and what to do.
 use crate::culprit::{Subject, subject_of};
-use crate::kinds::values_of;
+use crate::kinds::push_values;
 use crate::message::{
     Spotted, begin, push_naming, push_question, push_rest, push_value, show_line,
 };
@@ -194,7 +194,7 @@ fn tell_type<M: Memory>(
     push_shown(message, elem.name())?;
     show_line(alloc, message, place)?;
     message.push_str("  help: write ")?;
-    message.push_str(values_of(elem))?;
+    push_values(alloc, message, elem)?;
     message.push_str(", without blanks\n")
 }
 
