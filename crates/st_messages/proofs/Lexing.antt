@@ -6,13 +6,13 @@ use Rattle.st_tokens.specs.declared.token.Kind.{Kind}
 use Rattle.st_tokens.specs.declared.token.Token.{Token}
 use Rattle.st_tokens.specs.Characters.{is_blank, line_end}
 use Rattle.st_tokens.specs.Scanning.{symbol_at, token_at}
-use Rattle.st_tokens.specs.Text.{HasTokens, token}
+use Rattle.st_tokens.specs.Text.{BeginsComment, HasTokens, token}
 use Rattle.st_tokens.proofs.Cases.{by_test}
 use Rattle.st_tokens.proofs.Comments.{comment_found, comment_of}
 use Rattle.st_tokens.proofs.Longest.{token_found}
 use Rattle.st_tokens.proofs.Reading.{Reads, blank_step, comment_step, mark_first, no_mark, no_token, one_list, open_comment, reads_end, stuck, token_step}
 use Rattle.st_messages.specs.declared.lexeme.Lexeme.{Lexeme}
-use Rattle.st_messages.specs.Lexemes.{AreLexemes, HasLexemes, blank, comment, done, lexeme, next}
+use Rattle.st_messages.specs.Lexemes.{AreLexemes, ArePieces, HasLexemes, HasPieces, behind_blank, behind_comment, blank, comment, done, lexeme, next, nothing, piece, unclosed}
 use Rattle.st_messages.specs.Skips.{after_comment, after_token}
 use Rattle.st_messages.proofs.Skips.{NoHash, comment_behind, no_comment_behind, token_behind}
 
@@ -104,3 +104,33 @@ sees_end text found ts s d =
     subst (λ us. HasLexemes (length text) 1 text us found) (sym same)
     (subst (λ us. HasLexemes (length text) 1 text us found) (append-nil s.tokens)
     (subst (λ ls. HasLexemes (length text) 1 text (s.tokens ++ []) ls) (append-nil found) (s.forth [] [] done)))
+
+-- ---- a text that may have no tokens
+
+-- the lexemes found are pieces of the text, and then those that are left are
+abbrev pub Finds : (text : List ℕ) (found : List Lexeme) (rest : List ℕ) → Type 0
+Finds text found rest = (ls : List Lexeme) → HasPieces (length text) rest ls → ArePieces text (found ++ ls)
+
+pub finds_all : (text : List ℕ) (found : List Lexeme) → Finds text found [] → ArePieces text found
+finds_all text found f = subst (ArePieces text) (append-nil found) (f [] nothing)
+
+module _ (text rest : List ℕ) (found : List Lexeme) (f : Finds text found rest) where
+  pub finds_blank : 1 ≤ length rest → is_blank (get_or rest 0 0) ≡ true → Finds text found (drop 1 rest)
+  finds_blank h b = λ ls d. f ls (subst (λ zs. HasPieces (length text) zs ls) (sym (first_byte rest h)) (behind_blank b d))
+
+  pub finds_comment : (remaining : List ℕ) → begins_with (codes "(*") rest ≡ true → after_comment (drop 2 rest) ≡ Some remaining → Finds text found remaining
+  finds_comment remaining m e = λ ls d. f ls (subst (λ zs. HasPieces (length text) zs ls) (sym (mark_first rest m)) (behind_comment e d))
+
+  pub finds_open : begins_with (codes "(*") rest ≡ true → after_comment (drop 2 rest) ≡ None → ArePieces text (found ++ lexeme (length text) rest [] ∷ [])
+  finds_open m e = f (lexeme (length text) rest [] ∷ [])
+      (subst (λ zs. HasPieces (length text) zs (lexeme (length text) zs [] ∷ [])) (sym (mark_first rest m)) (unclosed e))
+
+  pub finds_token : 1 ≤ length rest → is_blank (get_or rest 0 0) ≡ false → begins_with (codes "(*") rest ≡ false
+      → Finds text (found ++ lexeme (length text) rest (after_token rest) ∷ []) (after_token rest)
+  finds_token h b m = λ ls d.
+      let first = first_byte rest h in
+      let no : BeginsComment (get_or rest 0 0 ∷ drop 1 rest) → ⊥ = subst (λ zs. BeginsComment zs → ⊥) first (no_mark rest m) in
+      let d' : HasPieces (length text) (after_token (get_or rest 0 0 ∷ drop 1 rest)) ls = subst (λ zs. HasPieces (length text) (after_token zs) ls) first d in
+      let l : Lexeme = lexeme (length text) rest (after_token rest) in
+      subst (ArePieces text) (sym (append_assoc found (l ∷ []) ls)) (f (l ∷ ls)
+      (subst (λ zs. HasPieces (length text) zs (lexeme (length text) zs (after_token zs) ∷ ls)) (sym first) (piece b no d')))

@@ -1,3 +1,4 @@
 mod Lexing
+pub mod Lines
 mod ReplacementRows
 mod Skips

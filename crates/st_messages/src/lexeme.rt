@@ -1,6 +1,6 @@
 //! The lexemes of a text: what stands between blanks and comments.
 ghost use Rattle.std.specs.Prelude.{◌≡◌, ◌≤◌, All, IfOk, length};
-ghost use Rattle.st_messages.specs.Lexemes.{AreLexemes, IsWithin, lexeme};
+ghost use Rattle.st_messages.specs.Lexemes.{AreLexemes, ArePieces, IsWithin, lexeme};
 ghost use Rattle.st_tokens.specs.Characters.{is_blank};
 ghost use Rattle.st_tokens.specs.Text.{HasTokens, Tokens};
 
@@ -27,6 +27,7 @@ fn is_blank(byte: u8) -> bool
 /// The lexemes of a text, in order. Of a text that has tokens, these are its tokens.
 pub fn lexemes(alloc: Global, text: &[u8]) -> Result<Vec<Lexeme>, AllocError>
     ensures within { IfOk result (λ found. All (IsWithin text.now) found.items) }
+    ensures pieces { IfOk result (λ found. ArePieces text.now found.items) }
     ensures tokens { IfOk result (λ found. (ts : Tokens) → HasTokens 1 text.now ts
         → AreLexemes text.now ts found.items) }
 {

@@ -22,6 +22,6 @@ pub use lexed::Lexed;
 pub use lexeme::{Lexeme, lexemes};
 pub use nearest::Nearest;
 pub use other_words::{Row, left_out, other_word};
-pub use place::{Place, last_line, place_after};
+pub use place::{Place, last_line, line_span, place_after};
 pub use shown::push_shown;
 pub use source::{Span, push_line, push_source};

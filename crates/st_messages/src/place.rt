@@ -1,6 +1,8 @@
 //! Lines and columns.
-ghost use Rattle.std.specs.Prelude.{◌≡◌, ◌≤◌};
-ghost use Rattle.st_messages.specs.Places.{character_begin, column_after, column_in, last_line, line_after, line_end};
+ghost use Rattle.std.specs.Prelude.{◌≡◌, ◌≤◌, drop, length};
+ghost use Rattle.st_messages.specs.Places.{EndsLine, HasLine, IsLine, character_begin, column_after, column_in, last_line, line_after, line_end};
+
+use crate::source::Span;
 
 /// Where something stands in a text.
 #[derive(Clone, Copy, Debug, PartialEq, Eq)]
@@ -39,6 +41,30 @@ fn line_end(byte: u8) -> usize
     ensures small { result ≤ 1 }
 {
     usize::from(byte == b'\n')
+}
+
+/// What stands on a line, without its line feed. Where no line has this number, it is the nearest one.
+pub fn line_span(text: &[u8], line: usize) -> Span
+    ensures within { result.end ≤ length text.now }
+    ensures order { result.start ≤ result.end }
+    ensures is { HasLine text.now line → IsLine text.now line result.start result.end }
+    ensures ends { EndsLine (drop result.end text.now) }
+{
+    let mut start: usize = 0;
+    let mut current: usize = 1;
+    for (at, byte) in text.iter().enumerate() {
+        if *byte == b'\n' {
+            if current >= line {
+                return Span { start, end: at };
+            }
+            start = at + 1;
+            current += 1;
+        }
+    }
+    Span {
+        start,
+        end: text.len(),
+    }
 }
 
 /// What follows the last line feed.
