@@ -158,13 +158,17 @@ fn is_itself(elem: Elem, cell: i64) -> bool
 fn near_next(count: Count) -> Option<i64>
     ensures { result ≡ next_of count.counter count.last count.step }
 {
-    let next = count.counter.checked_add(count.step)?;
-    let is_within = if count.step >= 0 {
-        next <= count.last
+    if count.step >= 0 {
+        match count.counter.checked_add(count.step) {
+            Some(next) if next <= count.last => Some(next),
+            _ => None,
+        }
     } else {
-        count.last <= next
-    };
-    if is_within { Some(next) } else { None }
+        match count.counter.checked_add(count.step) {
+            Some(next) if count.last <= next => Some(next),
+            _ => None,
+        }
+    }
 }
 
 /// The same of numbers that need not fit into 64 bits with their sign.
