@@ -1,9 +1,13 @@
 //! Where a text isn't in the grammar.
+ghost use Rattle.std.specs.Prelude.{◌≡◌, ◌⊎◌, ◌↔◌, ◌<◌, ◌≤◌, All, IfOk, IsTrue, drop, false, true};
+ghost use Rattle.st_messages.specs.Lexemes.{ArePieces, IsWithin};
+ghost use Rattle.st_messages.specs.Places.{EndsLine, HasLine, line_at};
+ghost use Rattle.st_syntax_messages.specs.Located.{IsOutsideAt, IsRead, IsUnknownAt, bytes_of};
 
 use crate::characters::explain_characters;
 use crate::reading::{Reading, bytes_of};
 use crate::tokens::{explain_depth, explain_end, explain_token};
-use st_messages::{Lexeme, Span, Words, lexemes};
+use st_messages::{Lexeme, Span, Words, lexemes, line_span};
 use st_syntax::parse;
 use st_tokens::{SyntaxFault, tokens};
 use std::alloc::{AllocError, Global};
@@ -23,31 +27,80 @@ pub fn explain_syntax(
     text: &[u8],
     number: u8,
     line: u32,
-) -> Result<Located, AllocError> {
+) -> Result<Located, AllocError>
+    ensures long { number ≡ 4 → IfOk result (λ l. l.span.start ≡ 0) }
+
+    // Else it stands on that line, where the text has one.
+    ensures line { number < 4 → HasLine text.now line
+        → IfOk result (λ l. line_at text.now l.span.start ≡ line) }
+    ensures unknown { number ≡ 1 → IfOk result (λ l. IsUnknownAt text.now line l.span.start) }
+    ensures outside { number < 4 → IfOk result (λ l. IsOutsideAt text.now l.span.start) }
+{
     if number == 4 {
         return too_long(alloc);
     }
     let found = lexemes(alloc, text)?;
-    let (first, count) = on_line(text, &found, line);
     if number == 1 {
-        return at_characters(alloc, text, &found, first);
+        at_characters(alloc, text, &found, line)
+    } else {
+        at_fault(alloc, text, &found, number, line)
     }
-    let at = number_at_fault(alloc, text, &found, first, count, line)?;
+}
+
+/// What is said of a text whose tokens aren't in the grammar.
+fn at_fault(
+    alloc: Global,
+    text: &[u8],
+    found: &[Lexeme],
+    number: u8,
+    line: u32,
+) -> Result<Located, AllocError>
+    requires within { All (IsWithin text.now) found.now }
+    requires pieces { ArePieces text.now found.now }
+    ensures line { HasLine text.now line
+        → IfOk result (λ l. line_at text.now l.span.start ≡ line) }
+    ensures outside { IfOk result (λ l. IsOutsideAt text.now l.span.start) }
+{
+    let (first, count) = on_line(text, found, line);
+    let at = number_at_fault(alloc, text, found, first, count, line)?;
     match tokens(alloc, text) {
         Ok(tokens) => {
             let reading = Reading {
                 text,
-                lexemes: &found,
+                lexemes: found,
                 tokens: &tokens,
             };
-            at_token(alloc, &reading, number, at)
+            let located = at_token(alloc, &reading, number, at)?;
+            Ok(Located {
+                span: span_on(located.span, line_span(text, line as usize)),
+                words: located.words,
+            })
         }
-        Err(_) => at_characters(alloc, text, &found, first),
+        Err(_) => at_characters(alloc, text, found, line),
+    }
+}
+
+/// A span that begins on a line, or the end of the line.
+fn span_on(span: Span, line: Span) -> Span
+    requires { line.start ≤ line.end }
+    ensures least { line.start ≤ result.start }
+    ensures most { result.start ≤ line.end }
+    ensures either { (result.start ≡ span.start) ⊎ (result.start ≡ line.end) }
+{
+    if line.start <= span.start && span.start <= line.end {
+        span
+    } else {
+        Span {
+            start: line.end,
+            end: line.end,
+        }
     }
 }
 
 /// What is said of a text that is too long.
-fn too_long(alloc: Global) -> Result<Located, AllocError> {
+fn too_long(alloc: Global) -> Result<Located, AllocError>
+    ensures { IfOk result (λ l. l.span.start ≡ 0) }
+{
     let mut words = Words::new(alloc);
     words
         .title
@@ -95,7 +148,9 @@ fn feeds_in(bytes: &[u8]) -> u32 {
 }
 
 /// The span of a lexeme.
-fn span_of(lexeme: Lexeme) -> Span {
+fn span_of(lexeme: Lexeme) -> Span
+    ensures { result.start ≡ lexeme.start }
+{
     Span {
         start: lexeme.start,
         end: lexeme.end,
@@ -103,24 +158,35 @@ fn span_of(lexeme: Lexeme) -> Span {
 }
 
 /// The place behind the last byte of a text. A line feed at its end belongs to the line that it ends.
-fn end_of(text: &[u8]) -> Span {
-    let end = match text {
-        [start @ .., b'\r', b'\n'] => start.len(),
-        [start @ .., b'\n'] => start.len(),
-        _ => text.len(),
+fn end_of(text: &[u8]) -> Span
+    ensures { EndsLine (drop result.start text.now) }
+{
+    let end = if text.ends_with(b"\r\n") {
+        text.len() - 2
+    } else if text.ends_with(b"\n") {
+        text.len() - 1
+    } else {
+        text.len()
     };
     Span { start: end, end }
 }
 
-/// What is said of the first lexeme from this number on that is no token.
+/// What is said of the first lexeme that is no token, of those that begin on a line.
 fn at_characters(
     alloc: Global,
     text: &[u8],
     found: &[Lexeme],
-    first: usize,
-) -> Result<Located, AllocError> {
-    for (number, lexeme) in found.iter().enumerate() {
-        if number >= first && !is_token(alloc, bytes_of(text, *lexeme))? {
+    line: u32,
+) -> Result<Located, AllocError>
+    requires within { All (IsWithin text.now) found.now }
+    requires pieces { ArePieces text.now found.now }
+    ensures line { HasLine text.now line
+        → IfOk result (λ l. line_at text.now l.span.start ≡ line) }
+    ensures unknown { IfOk result (λ l. IsUnknownAt text.now line l.span.start) }
+{
+    let here = line_span(text, line as usize);
+    for lexeme in found {
+        if is_unknown_on(alloc, text, *lexeme, here)? {
             let words = explain_characters(alloc, text, *lexeme)?;
             return Ok(Located {
                 span: span_of(*lexeme),
@@ -132,14 +198,33 @@ fn at_characters(
     words
         .title
         .push_str("no word, number or symbol of the language begins here")?;
-    Ok(Located {
-        span: end_of(text),
-        words,
-    })
+    let span = Span {
+        start: here.end,
+        end: here.end,
+    };
+    Ok(Located { span, words })
+}
+
+/// Whether a lexeme begins on a line and is no token.
+fn is_unknown_on(alloc: Global, text: &[u8], lexeme: Lexeme, line: Span) -> Result<bool, AllocError>
+    requires { IsWithin text.now lexeme }
+    ensures least { IfOk result (λ is. is ≡ true → line.start ≤ lexeme.start) }
+    ensures most { IfOk result (λ is. is ≡ true → lexeme.start ≤ line.end) }
+    ensures unknown { IfOk result (λ is. is ≡ true → IsRead (bytes_of text.now lexeme) → ⊥) }
+    ensures read { IfOk result (λ is. is ≡ false → line.start ≤ lexeme.start
+        → lexeme.start ≤ line.end → IsRead (bytes_of text.now lexeme)) }
+{
+    if lexeme.start < line.start || line.end < lexeme.start {
+        return Ok(false);
+    }
+    let is_read = is_token(alloc, bytes_of(text, lexeme))?;
+    Ok(!is_read)
 }
 
 /// Whether these bytes are a token.
-fn is_token(alloc: Global, bytes: &[u8]) -> Result<bool, AllocError> {
+fn is_token(alloc: Global, bytes: &[u8]) -> Result<bool, AllocError>
+    ensures { IfOk result (λ is. IsTrue is ↔ IsRead bytes.now) }
+{
     match tokens(alloc, bytes) {
         Ok(_tokens) => Ok(true),
         Err(SyntaxFault::Memory) => Err(AllocError),
@@ -201,7 +286,10 @@ fn at_token(
     reading: &Reading<'_>,
     refusal: u8,
     number: Option<usize>,
-) -> Result<Located, AllocError> {
+) -> Result<Located, AllocError>
+    requires { ArePieces reading.now.text.now reading.now.lexemes.now }
+    ensures { IfOk result (λ l. IsOutsideAt reading.now.text.now l.span.start) }
+{
     let Some(number) = number else {
         return Ok(Located {
             span: end_of(reading.text),

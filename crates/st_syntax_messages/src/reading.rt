@@ -1,4 +1,7 @@
 //! A text with its lexemes and tokens.
+ghost use Rattle.std.specs.Prelude.{◌≡◌};
+ghost use Rattle.st_messages.specs.Lexemes.{IsWithin};
+ghost use Rattle.st_syntax_messages.specs.Located.{bytes_of};
 
 use st_messages::Lexeme;
 use st_tokens::{Keyword, Kind, Symbol, Token};
@@ -12,7 +15,9 @@ pub struct Reading<'a> {
 }
 
 /// The bytes of a lexeme.
-pub fn bytes_of(text: &[u8], lexeme: Lexeme) -> &[u8] {
+pub fn bytes_of(text: &[u8], lexeme: Lexeme) -> &[u8]
+    ensures { IsWithin text.now lexeme → result.now ≡ bytes_of text.now lexeme }
+{
     match text.get(lexeme.start..lexeme.end) {
         Some(bytes) => bytes,
         None => b"",
