@@ -2,5 +2,6 @@ mod Behind
 mod Loops
 mod Ordered
 mod Passing
+mod Syntax
 mod Telling
 mod Told

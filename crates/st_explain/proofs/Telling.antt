@@ -149,13 +149,13 @@ message_of_units most file text main us message one read only t = record {
 
 -- the text is no units, or memory ran out while it was read, and then there is no message
 pub message_unread : {A E : Type 0} (bytes : A → List ℕ) (result : Result A E) (Tells : List Section → Fault → List ℕ → Type 0) (file text main : List ℕ) (fault : SyntaxFault)
-    → IfOk result (λ m. TellsSyntax file text (bytes m)) → OnOk result (1 ≤ syntax_number fault) → ((us : List Section) → IsRead text us → fault ≡ syntax_faults.Memory)
+    → IfOk result (λ m. TellsSyntax file text fault (bytes m)) → OnOk result (1 ≤ syntax_number fault) → ((us : List Section) → IsRead text us → fault ≡ syntax_faults.Memory)
     → IfOk result (λ m. IsMessage Tells file text main (bytes m))
 message_unread bytes (Ok m) Tells file text main fault told read only = record {
   accepted = λ us number r v. absurd (never us r);
   fault = λ us f r v. absurd (never us r);
   no_program = λ us r v. absurd (never us r);
-  unread = λ none. told;
+  unread = λ none. (fault, told);
 } where
   never : (us : List Section) → IsRead text us → ⊥
   never us r = let k : 1 ≤ syntax_number syntax_faults.Memory = subst (λ x. 1 ≤ syntax_number x) (only us r) read in omega (arith, k)

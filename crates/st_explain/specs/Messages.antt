@@ -9,8 +9,10 @@ use Rattle.st_tokens.specs.declared.fault.SyntaxFault.TheVariants as syntax_faul
 use Rattle.st_syntax.specs.Grammar.Texts.{Explains as ExplainsSyntax, IsTextOf}
 use Rattle.st_messages.specs.Lexemes.{AreLexemes}
 use Rattle.st_messages.specs.declared.lexeme.Lexeme.{Lexeme}
-use Rattle.st_messages.specs.Headings.{IsTold, heading}
+use Rattle.st_messages.specs.Headings.{IsTold, heading, place_at}
+use Rattle.st_messages.specs.Places.{HasLine}
 use Rattle.st_messages.specs.declared.form.Code.{Code}
+use Rattle.st_syntax_messages.specs.Located.{IsOutsideAt, IsUnknownAt}
 use Rattle.st_check.specs.Faults.{HasNoProgram, IsAccepted, IsFirst}
 use Rattle.st_explain.specs.Collections.{AreInOrder, AreLater}
 use Rattle.st_explain.specs.Places.{code_of, start_at}
@@ -57,14 +59,31 @@ syntax_number syntax_faults.TooLong = 4
 abbrev pub syntax_code : SyntaxFault → Code
 syntax_code fault = record { letter = 83; number = syntax_number fault }
 
--- the message is that on a fault of which this is so, at some place of the text
-pub record TellsSyntax (file text message : List ℕ) : Type 0 where
-  pub fault : SyntaxFault
+-- the line that a refusal names; a text that is too long is refused on its first one
+abbrev pub syntax_line : SyntaxFault → ℕ
+syntax_line syntax_faults.Memory = 0
+syntax_line (syntax_faults.NoToken line) = line
+syntax_line (syntax_faults.NotInGrammar line) = line
+syntax_line (syntax_faults.TooDeep line) = line
+syntax_line syntax_faults.TooLong = 1
+
+-- what stands where a refusal is told of
+abbrev pub IsSyntaxPlace : SyntaxFault → List ℕ → ℕ → Type 0
+IsSyntaxPlace syntax_faults.Memory text start = Unit {0}
+IsSyntaxPlace (syntax_faults.NoToken line) text start = IsUnknownAt text line start
+IsSyntaxPlace (syntax_faults.NotInGrammar line) text start = IsOutsideAt text start
+IsSyntaxPlace (syntax_faults.TooDeep line) text start = IsOutsideAt text start
+IsSyntaxPlace syntax_faults.TooLong text start = start ≡ 0
+
+-- the message is that on this fault, of which this is so: on the line that it names, where the text has one
+pub record TellsSyntax (file text : List ℕ) (fault : SyntaxFault) (message : List ℕ) : Type 0 where
   pub read : 1 ≤ syntax_number fault
   pub is : ExplainsSyntax fault text
   pub start : ℕ
   pub title : List ℕ
   pub told : IsTold [] message file text start (syntax_code fault) title
+  pub line : HasLine text (syntax_line fault) → (place_at text start).line ≡ syntax_line fault
+  pub place : IsSyntaxPlace fault text start
 
 -- ---- all faults
 
@@ -104,7 +123,8 @@ pub record IsMessage (Tells : List Section → Fault → List ℕ → Type 0) (f
   -- at the token of the first fault: its line, its column and the number of the rule
   pub fault : (us : List Section) (f : Fault) → IsRead text us → IsFirst us main f → Tells us f message
   pub no_program : (us : List Section) → IsRead text us → HasNoProgram us main → TellsNoProgram file message
-  pub unread : IsUnread text → TellsSyntax file text message
+  -- on the fault that was found
+  pub unread : IsUnread text → (fault : SyntaxFault) × TellsSyntax file text fault message
 
 -- on the first fault alone
 abbrev pub ExplainsFirst : (file text main message : List ℕ) → Type 0

@@ -1,7 +1,7 @@
 //! The message on a text.
 ghost use Rattle.std.specs.Prelude.{◌≡◌, ◌≤◌, [], IfOk, OnOk};
 ghost use Rattle.std.specs.String.{string_bytes};
-ghost use Rattle.st_explain.specs.Messages.{Explains, ExplainsAll, ExplainsFirst, IsMessage, IsToldAt, TellsFault, TellsFaults, TellsFrom, TellsNoProgram, TellsSyntax, TellsUnits, syntax_number};
+ghost use Rattle.st_explain.specs.Messages.{Explains, ExplainsAll, ExplainsFirst, IsMessage, IsToldAt, TellsFault, TellsFaults, TellsFrom, TellsNoProgram, TellsSyntax, TellsUnits, syntax_line, syntax_number};
 ghost use Rattle.st_explain.specs.Places.{code_of, start_at};
 ghost use Rattle.st_messages.specs.Headings.{IsTold};
 ghost use Rattle.st_syntax.specs.Grammar.Texts.{Explains as ExplainsSyntax, IsTextOf};
@@ -94,7 +94,7 @@ fn explain_grammar(
     fault: SyntaxFault,
 ) -> Result<String, AllocError>
     ensures told { ExplainsSyntax fault text.now
-        → IfOk result (λ m. TellsSyntax file.now text.now (string_bytes m)) }
+        → IfOk result (λ m. TellsSyntax file.now text.now fault (string_bytes m)) }
     ensures read { OnOk result (1 ≤ syntax_number fault) }
 {
     let (number, line) = number_and_line(fault)?;
@@ -119,6 +119,7 @@ fn explain_grammar(
 /// The number of a refusal and its line. A text that is too long is refused on its first line.
 fn number_and_line(fault: SyntaxFault) -> Result<(u8, u32), AllocError>
     ensures number { IfOk result (λ found. found.0 ≡ syntax_number fault) }
+    ensures line { IfOk result (λ found. found.1 ≡ syntax_line fault) }
     ensures read { OnOk result (1 ≤ syntax_number fault) }
 {
     match fault {
