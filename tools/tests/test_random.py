@@ -4,9 +4,11 @@ import importlib.machinery
 import importlib.util
 import random
 import sys
+import tempfile
 import unittest
 from pathlib import Path
 from types import ModuleType
+from typing import Any
 
 sys.dont_write_bytecode = True
 TOOLS = Path(__file__).resolve().parent.parent
@@ -52,26 +54,39 @@ class RunsAreJudged(unittest.TestCase):
         self.refuser = tool("refuse-allocations")
         self.part = self.refuser.trial(Path("st_cases"), "--without-memory=load", 2)
 
-    def run_line(self, first: int, refused: int, counted: int, failed: int = 0) -> str:
-        """The line of a run that refused so many allocations, of which the trial counted so many."""
+    def counting_run(self, first: int, refused: int, counted: int, failed: int = 0) -> Any:
+        """A run that refused so many allocations, of which the trial counted so many."""
         ended = f"{failed} load: refused {counted} times, {counted} in a row|{1 - failed} passed, {failed} failed|"
-        return f"run {first} {refused} {ended}"
+        return self.refuser.Run(first, refused, ended)
 
     def test_refusals_are_counted(self) -> None:
-        runs = [self.run_line(1, 2, 2), self.run_line(2, 1, 0)]
-        self.assertEqual(self.refuser.judged(self.part, [*runs, "end"], ""), self.refuser.Result(3, 1, []))
+        runs = [self.counting_run(1, 2, 2), self.counting_run(2, 1, 0)]
+        self.assertEqual(self.refuser.judged(self.part, runs), self.refuser.Result(3, 1, []))
 
     def test_what_is_refused_without_need_is_a_fault(self) -> None:
-        runs = [self.run_line(1, 1, 2)]
-        self.assertEqual(self.refuser.judged(self.part, [*runs, "end"], "").faults, runs)
-
-    def test_runs_that_end_early_are_a_fault(self) -> None:
-        self.assertEqual(len(self.refuser.judged(self.part, [self.run_line(1, 2, 2)], "no gdb").faults), 1)
+        self.assertEqual(len(self.refuser.judged(self.part, [self.counting_run(1, 2, 2), self.counting_run(2, 1, 2)]).faults), 1)
 
     def test_another_answer_is_a_fault_and_so_is_none(self) -> None:
-        runs = [self.run_line(1, 2, 2), self.run_line(2, 1, 1, 1)]
-        self.assertEqual(self.refuser.judged(self.part, [*runs, "end"], "").faults, runs[1:])
-        self.assertEqual(len(self.refuser.judged(self.part, [], "no gdb").faults), 2)
+        self.assertEqual(len(self.refuser.judged(self.part, [self.counting_run(1, 2, 2), self.counting_run(2, 1, 1, 1)]).faults), 1)
+        self.assertEqual(len(self.refuser.judged(self.part, []).faults), 2)
+
+
+class AllocationsAreRefused(unittest.TestCase):
+    """Over a program that isn't ours: `sort` finds no memory."""
+
+    def setUp(self) -> None:
+        self.refuser = tool("refuse-allocations")
+        self.folder = tempfile.TemporaryDirectory()
+        self.addCleanup(self.folder.cleanup)
+        self.library = self.refuser.compiled(Path(self.folder.name))
+
+    def refused_sort(self, first: int, row: int, from_read: bool) -> Any:
+        part = self.refuser.Part("sort", Path("/usr/bin/sort"), "", ".*", row, from_read)
+        return self.refuser.run_once(part, self.library, first)
+
+    def test_one_is_refused_and_then_none(self) -> None:
+        self.assertEqual(self.refused_sort(1, 1, False).refused, 1)
+        self.assertEqual(self.refused_sort(1_000_000, 1, False), self.refuser.Run(1_000_000, 0, "0 "))
 
 
 if __name__ == "__main__":
