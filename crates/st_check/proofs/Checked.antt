@@ -5,19 +5,20 @@ use Rattle.st_faults.specs.declared.fault.Rule.TheVariants as rules
 use Rattle.st_tree.specs.declared.tree.unit.Unit.{Unit as Section}
 use Rattle.st_types.specs.Names.{Named, unit_at, units_of}
 use Rattle.st_types.proofs.Units.{there}
-use Rattle.st_check.specs.Answers.{Explains, answer_to}
+use Rattle.st_check.specs.Answers.{Explains, answer_of, answer_to}
 use Rattle.st_check.specs.Answers as answers
 use Rattle.st_check.specs.Faults.{IsAccepted, program_named}
 use Rattle.st_check.specs.Programs.{IsOrdered, IsProgram}
-use Rattle.st_check.specs.Recursions.{ExplainsUnits}
+use Rattle.st_check.specs.Recursions.{IsOfUnits}
+use Rattle.st_check.specs.declared.faults.Unordered.{Unordered}
 use Rattle.st_check.specs.declared.fault.CheckFault.{CheckFault}
 use Rattle.st_check.specs.declared.fault.CheckFault.TheVariants as check_faults
 use Rattle.st_check.proofs.Named.{program_is_program, program_is_unit}
 use Rattle.st_check.proofs.Passing.{accepted, explains_all, is_large as large_of, missing, ordered_has_none, too_large}
 
 module _ (text seen : List Section) (main : List ℕ) where
-  pub explains : (e : CheckFault) → seen ≡ text → ExplainsUnits seen e → Explains text main e
-  explains e same w = explains_all text main e (subst (λ t. ExplainsUnits t e) same w)
+  pub explains : (u : Unordered) → seen ≡ text → IsOfUnits seen u → Explains text main (answer_of u)
+  explains u same w = explains_all text main u (subst (λ t. IsOfUnits t u) same w)
 
   module _ (order : List ℕ) (same : seen ≡ text) (w : IsOrdered seen order) where
     ordered : IsOrdered text order

@@ -3,10 +3,10 @@ use Rattle.std.proofs.Common.{◌≡◌, ℕ, zero, suc, ◌<◌, List, [], ◌�
 use Rattle.std.specs.List.{All, Contains}
 use Rattle.std.proofs.lemmas.List.{length-map}
 use Rattle.std.proofs.lemmas.List.Elements.{All-from_get_or, Contains-append_left, Contains-append_right, Contains-append_cases, Contains-get_or}
-use Rattle.st_faults.specs.Faults.{IsFirstOf, fault, offer_all}
+use Rattle.st_faults.specs.Faults.{First, fault, none_from, offer_all}
 use Rattle.st_faults.specs.declared.fault.Fault.{Fault}
 use Rattle.st_faults.specs.declared.fault.Rule.TheVariants as rules
-use Rattle.st_faults.proofs.Least.{first_kept, none_kept, offer_append}
+use Rattle.st_faults.proofs.Least.{first_kept_from, none_kept_from, offer_append}
 use Rattle.st_tree.specs.declared.tree.unit.Unit.{Unit as Section}
 use Rattle.st_types.specs.Names.{Named, unit_at, units_of}
 use Rattle.st_types.proofs.Units.{there}
@@ -16,7 +16,7 @@ use Rattle.st_references.proofs.Listed.{Contains-cons_cases, Contains-head}
 use Rattle.st_references.specs.References.{graph_of, references}
 use Rattle.st_check_units.specs.Units.{node_faults}
 use Rattle.st_check.specs.Faults.{IsUnitFault, listed, recursion}
-use Rattle.st_check.specs.Recursions.{IsFirstOfUnits, recursion_of, recursions}
+use Rattle.st_check.specs.Recursions.{AreUnitFaults, HasUnitFault, IsFirstOfUnits, recursion_of, recursions}
 
 nothing : {A : Type 0} (x : A) → Contains [] x → ⊥
 nothing x h = omega (arith, h.1)
@@ -82,18 +82,11 @@ fault_is_offered text numbers f cyclic (recursion {i = i} {u = u} is r) =
     Contains-append_right (node_faults (units_of text)) (recursions (units_of text) numbers) (fault u.name.position rules.Recursion)
     (recursions_have (units_of text) numbers i u ((cyclic i).1 r) is)
 
--- what is kept is the first of them
-pub kept_is_first : (text : List Section) (numbers : List ℕ) (f : Fault) → AreAllCyclic text numbers → offer_all None (all_faults text numbers) ≡ Some f → IsFirstOfUnits text f
-kept_is_first text numbers f cyclic kept =
-    let w : IsFirstOf (all_faults text numbers) f = first_kept (all_faults text numbers) f kept in record {
-      there = offered_is_fault text numbers f cyclic w.there;
-      first = λ g h. w.first g (fault_is_offered text numbers g cyclic h);
-    }
-
--- where nothing is kept there is none
-pub none_is_none : (text : List Section) (numbers : List ℕ) → AreAllCyclic text numbers → offer_all None (all_faults text numbers) ≡ None → (f : Fault) → IsUnitFault text f → ⊥
-none_is_none text numbers cyclic kept f h =
-    nothing f (subst (λ fs. Contains fs f) (none_kept (all_faults text numbers) kept) (fault_is_offered text numbers f cyclic h))
+pub are_unit_faults : (text : List Section) (numbers : List ℕ) → AreAllCyclic text numbers → AreUnitFaults text (all_faults text numbers)
+are_unit_faults text numbers cyclic = record {
+  are = λ f h. offered_is_fault text numbers f cyclic h;
+  all = λ f h. fault_is_offered text numbers f cyclic h;
+}
 
 -- ---- the numbers that an order refuses
 
@@ -109,16 +102,16 @@ first_row : (numbers : List ℕ) → (numbers ≡ [] → ⊥) → (i : ℕ) × C
 first_row [] some = absurd (some refl)
 first_row (i ∷ is) some = (i, Contains-head i is)
 
--- one of them is kept
-pub some_is_kept : (text : List Section) (numbers : List ℕ) → AreCyclic (graph_of (units_of text)) numbers → offer_all None (all_faults text numbers) ≡ None → ⊥
-some_is_kept text numbers w kept =
+-- one of them has a fault
+pub cyclic_has_fault : (text : List Section) (numbers : List ℕ) → AreCyclic (graph_of (units_of text)) numbers → HasUnitFault text
+cyclic_has_fault text numbers w =
     let row : (i : ℕ) × Contains numbers i = first_row numbers w.some in
     let returns : Reaches (graph_of (units_of text)) row.0 row.0 = (w.cyclic row.0).0 row.1 in
     let unit : (u : Named) × (unit_at (units_of text) row.0 ≡ Some u) = there (units_of text) row.0 (reaching (units_of text) row.0 row.0 returns) in
-    none_is_none text numbers (cyclic_are_all text numbers w) kept (fault unit.0.name.position rules.Recursion) (recursion unit.1 returns)
+    (fault unit.0.name.position rules.Recursion, recursion unit.1 returns)
 
 -- the faults of the units and then these
-pub all_offered : (text : List Section) (numbers : List ℕ) (o o2 : Option Fault) → o ≡ offer_all None (node_faults (units_of text))
-    → o2 ≡ offer_all o (recursions (units_of text) numbers) → o2 ≡ offer_all None (all_faults text numbers)
-all_offered text numbers o o2 a b =
-    b ∙ ap (λ p. offer_all p (recursions (units_of text) numbers)) a ∙ sym (offer_append None (node_faults (units_of text)) (recursions (units_of text) numbers))
+pub all_offered : (text : List Section) (numbers : List ℕ) (start o o2 : First) → o ≡ offer_all start (node_faults (units_of text))
+    → o2 ≡ offer_all o (recursions (units_of text) numbers) → o2 ≡ offer_all start (all_faults text numbers)
+all_offered text numbers start o o2 a b =
+    b ∙ ap (λ p. offer_all p (recursions (units_of text) numbers)) a ∙ sym (offer_append start (node_faults (units_of text)) (recursions (units_of text) numbers))

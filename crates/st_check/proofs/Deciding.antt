@@ -1,7 +1,7 @@
 -- Each text has an answer: whether a unit reaches itself can be decided.
 use Rattle.std.proofs.Common.{◌≡◌, ℕ, zero, suc, ◌<◌, List, [], ◌∷◌, length, Bool, true, false, Option, Some, None, refl, sym, subst, arith, ◌⊎◌, inl, inr}
 use Rattle.std.specs.List.{Contains}
-use Rattle.st_faults.specs.Faults.{fault, offer_all}
+use Rattle.st_faults.specs.Faults.{First, fault, none_from, offer_all}
 use Rattle.st_faults.specs.declared.fault.Fault.{Fault}
 use Rattle.st_faults.specs.declared.fault.Rule.TheVariants as rules
 use Rattle.st_tree.specs.declared.tree.unit.Unit.{Unit as Section}
@@ -13,7 +13,9 @@ use Rattle.st_references.proofs.Listed.{Contains-cons_cases, Contains-head, Cont
 use Rattle.st_references.specs.References.{graph_of}
 use Rattle.st_check.specs.Faults.{HasNoProgram, IsAccepted, IsFirst, IsUnitFault, program_named}
 use Rattle.st_check.specs.Laws.{IsDecided}
-use Rattle.st_check.proofs.Cyclic.{AreAllCyclic, all_faults, kept_is_first, none_is_none}
+use Rattle.st_check.specs.Recursions.{OffersUnitFaults}
+use Rattle.st_check.proofs.Cyclic.{AreAllCyclic, all_faults, are_unit_faults}
+use Rattle.st_check.proofs.Kept.{first_of_units, has_none}
 use Rattle.st_check.proofs.Named.{program_is_unit}
 use Rattle.st_check.proofs.Passing.{accepted, first_of_all, is_large, missing, too_large}
 
@@ -158,11 +160,12 @@ by_name text main clean (Some number) is =
     let unit : (u : Named) × (unit_at (units_of text) number ≡ Some u) = there (units_of text) number (program_is_unit (units_of text) main number is) in
     by_size text main clean number unit.0 is unit.1 (is_large text unit.0) refl
 
-by_fault : (text : List Section) (main : List ℕ) (numbers : List ℕ) → AreAllCyclic text numbers → (kept : Option Fault) → offer_all None (all_faults text numbers) ≡ kept → Answer text main
-by_fault text main numbers cyclic None kept = by_name text main (none_is_none text numbers cyclic kept) (program_named (units_of text) main) refl
-by_fault text main numbers cyclic (Some f) kept = inr (inl (f, first_of_all text main f (kept_is_first text numbers f cyclic kept)))
+by_fault : (text : List Section) (main : List ℕ) (new : First) → OffersUnitFaults text (none_from 0) new → (kept : Option Fault) → new.kept ≡ kept → Answer text main
+by_fault text main new w None is = by_name text main (has_none text new w is) (program_named (units_of text) main) refl
+by_fault text main new w (Some f) is = inr (inl (f, first_of_all text main f (first_of_units text new w f is)))
 
 pub is_decided : IsDecided
 is_decided text main =
     let cyclic : (numbers : List ℕ) × AreAllCyclic text numbers = cyclic_units text in
-    by_fault text main cyclic.0 cyclic.1 (offer_all None (all_faults text cyclic.0)) refl
+    let new : First = offer_all (none_from 0) (all_faults text cyclic.0) in
+    by_fault text main new (all_faults text cyclic.0, are_unit_faults text cyclic.0 cyclic.1, refl) new.kept refl

@@ -11,14 +11,14 @@ use Rattle.st_references.proofs.Orders.{none_reaches_itself}
 use Rattle.st_references.specs.References.{graph_of}
 use Rattle.st_leaves.specs.Leaves.{leaves_of}
 use Rattle.st_leaves.specs.Limits.{is_too_large}
-use Rattle.st_check.specs.Answers.{Explains}
+use Rattle.st_check.specs.Answers.{Explains, answer_of}
 use Rattle.st_check.specs.Answers as answers
 use Rattle.st_check.specs.Faults.{HasNoProgram, IsAccepted, IsFault, IsFirst, IsUnitFault, listed, program_named, recursion, size, unit}
 use Rattle.st_check.specs.Laws.{HasNoRecursion}
 use Rattle.st_check.specs.Programs.{IsOrdered}
-use Rattle.st_check.specs.Recursions.{ExplainsUnits, IsFirstOfUnits}
-use Rattle.st_check.specs.Recursions as units_refused
-use Rattle.st_check.specs.declared.fault.CheckFault.{CheckFault}
+use Rattle.st_check.specs.Recursions.{IsFirstOfUnits, IsOfUnits}
+use Rattle.st_check.specs.declared.faults.Unordered.{Unordered}
+use Rattle.st_check.specs.declared.faults.Unordered.TheVariants as unordered
 
 -- the first fault of the units is the first of all
 pub first_of_all : (text : List Section) (main : List ℕ) (f : Fault) → IsFirstOfUnits text f → IsFirst text main f
@@ -27,9 +27,9 @@ first_of_all text main f w = record { there = unit w.there; first = λ g h. by_k
   by_kind g (unit h) = w.first g h
   by_kind g (size none same found large) = absurd (none f w.there)
 
-pub explains_all : (text : List Section) (main : List ℕ) (e : CheckFault) → ExplainsUnits text e → Explains text main e
-explains_all text main e units_refused.memory = answers.memory
-explains_all text main e (units_refused.first {f = f} w) = answers.fault (first_of_all text main f w)
+pub explains_all : (text : List Section) (main : List ℕ) (u : Unordered) → IsOfUnits text u → Explains text main (answer_of u)
+explains_all text main unordered.Memory w = answers.memory
+explains_all text main (unordered.Fault f) w = answers.fault (first_of_all text main f w)
 
 -- a text in order has no fault in its units
 pub ordered_has_none : (text : List Section) (order : List ℕ) → IsOrdered text order → (f : Fault) → IsUnitFault text f → ⊥

@@ -7,6 +7,8 @@ use Rattle.st_faults.specs.declared.fault.Rule.TheVariants as rules
 use Rattle.st_check.specs.Faults.{HasNoProgram, IsFirst}
 use Rattle.st_check.specs.declared.fault.CheckFault.{CheckFault}
 use Rattle.st_check.specs.declared.fault.CheckFault.TheVariants as check_faults
+use Rattle.st_check.specs.declared.faults.Unordered.{Unordered}
+use Rattle.st_check.specs.declared.faults.Unordered.TheVariants as unordered
 
 -- a rule that is broken, at a line. C10 has no line.
 abbrev pub answer_by : Rule → ℕ → CheckFault
@@ -23,6 +25,11 @@ answer_by rules.NoProgram line = check_faults.NoProgram
 
 abbrev pub answer_to : Fault → CheckFault
 answer_to f = answer_by f.rule f.position.line
+
+-- what is answered where units have no order
+abbrev pub answer_of : Unordered → CheckFault
+answer_of unordered.Memory = check_faults.Memory
+answer_of (unordered.Fault f) = answer_to f
 
 -- the rule of an answer
 abbrev pub rule_of : CheckFault → Option Rule

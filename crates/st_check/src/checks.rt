@@ -1,19 +1,16 @@
 //! The check of a text.
-ghost use Rattle.std.specs.Prelude.{◌≡◌, ◌<◌, All, IfErr, IfOk, length};
+ghost use Rattle.std.specs.Prelude.{◌≡◌, IfErr, IfOk};
 ghost use Rattle.st_check.specs.Answers.{Explains};
 ghost use Rattle.st_check.specs.Faults.{IsAccepted, is_main, program_named};
-ghost use Rattle.st_check.specs.Programs.{IsChecked, IsOrdered, IsProgram, main_of, text_of};
-ghost use Rattle.st_check.specs.Recursions.{ExplainsUnits, recursions};
-ghost use Rattle.st_faults.specs.Faults.{offer_all};
+ghost use Rattle.st_check.specs.Programs.{IsChecked, IsProgram, main_of, text_of};
 ghost use Rattle.st_types.specs.Inside.{named_by};
 ghost use Rattle.st_types.specs.Names.{units_of};
 
 use crate::fault::CheckFault;
+use crate::faults::ordered;
 use crate::is_too_large;
 use crate::program::Program;
-use st_check_units::check_units;
-use st_faults::{Fault, FirstFault, Rule};
-use st_references::{OrderFault, order, references};
+use st_faults::{Fault, Rule};
 use st_scopes::Tables;
 use st_tree::tree::Unit;
 use st_types::{NamedUnit, UnitKind, is_same_name};
@@ -53,43 +50,8 @@ fn checked(alloc: Global, text: &[Unit], main: &[u8]) -> Result<(usize, Vec<usiz
     Ok((number, order))
 }
 
-/// The units in an order in which each stands after all that it contains and calls, where none of them has a fault.
-fn ordered(alloc: Global, tables: &Tables<'_>) -> Result<Vec<usize>, CheckFault>
-    ensures order { IfOk result (λ order. IsOrdered tables.now order.items) }
-    ensures fault { IfErr result (ExplainsUnits tables.now) }
-{
-    let mut first = FirstFault::new();
-    check_units(alloc, tables, &mut first)?;
-    let graph = references(alloc, tables)?;
-    match order(alloc, &graph) {
-        Ok(order) => match first.get() {
-            None => Ok(order),
-            Some(fault) => Err(CheckFault::of(fault)),
-        },
-        Err(OrderFault::Cyclic(numbers)) => {
-            offer_recursions(tables, &numbers, &mut first);
-            Err(CheckFault::of(first.get().unwrap()))
-        }
-        Err(OrderFault::Memory) => Err(CheckFault::Memory),
-    }
-}
-
-/// Offers that each of the units of these numbers contains or calls itself.
-#[tactic(auto, unfolding(st_faults::specs::Faults::offer_all))]
-fn offer_recursions(tables: &Tables<'_>, numbers: &[usize], first: &mut FirstFault)
-    requires { All (λ number. number < length (units_of tables.now)) numbers.now }
-    ensures { first.new ≡ offer_all first.old (recursions (units_of tables.now) numbers.now) }
-{
-    for number in numbers {
-        let position = tables.unit(*number).name.position;
-        // Typing rests on this rule wherever a place is due, as in its case `place`, and in `own_block`: what a type is made
-        // of is found step by step.
-        first.offer(position, Rule::Recursion);
-    }
-}
-
 /// The number of the first program of this name, ignoring case.
-fn program_named(tables: &Tables<'_>, name: &[u8]) -> Option<usize>
+pub fn program_named(tables: &Tables<'_>, name: &[u8]) -> Option<usize>
     ensures { result ≡ program_named (units_of tables.now) name.now }
 {
     let units = tables.units();

@@ -1,8 +1,9 @@
 //! Why a text is no program.
 ghost use Rattle.std.specs.Prelude.{◌≡◌};
-ghost use Rattle.st_check.specs.Answers.{answer_to, line_of, rule_of};
+ghost use Rattle.st_check.specs.Answers.{answer_of, answer_to, line_of, rule_of};
 ghost use Rattle.st_check.specs.declared.fault.CheckFault.TheVariants.{Memory};
 
+use crate::faults::Unordered;
 use st_faults::{Fault, Rule};
 use std::alloc::AllocError;
 use thiserror::Error;
@@ -110,5 +111,16 @@ impl From<AllocError> for CheckFault {
 
     fn from(_: AllocError) -> CheckFault {
         CheckFault::Memory
+    }
+}
+
+impl From<Unordered> for CheckFault {
+    ghost from_gives = { λ unordered fault. fault ≡ answer_of unordered };
+
+    fn from(unordered: Unordered) -> CheckFault {
+        match unordered {
+            Unordered::Memory => CheckFault::Memory,
+            Unordered::Fault(fault) => CheckFault::of(fault),
+        }
     }
 }

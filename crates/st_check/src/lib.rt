@@ -4,14 +4,16 @@
 
 mod checks;
 mod fault;
+mod faults;
 mod laws;
 mod program;
 mod sizes;
 mod types;
 mod units;
 
-pub use checks::check;
+pub use checks::{check, program_named};
 pub use fault::CheckFault;
+pub use faults::{Unordered, fault_from, ordered};
 pub use laws::{
     checked_program_has_distinct_names, checked_program_has_elementary_functions,
     checked_program_has_no_recursion, checked_program_has_sound_leaves, checked_program_is_small,

@@ -17,7 +17,7 @@ use Rattle.st_tree.specs.declared.tree.expression.Part.TheVariants as part_kinds
 use Rattle.st_tree.specs.declared.tree.expression.Part as the_part
 use Rattle.st_tree.specs.declared.tree.expression.Variable.{Variable}
 use Rattle.st_tree.specs.declared.tree.position.Position.{Position}
-use Rattle.st_faults.specs.Faults.{fault, offer_all, when}
+use Rattle.st_faults.specs.Faults.{First, fault, offer_all, when}
 use Rattle.st_faults.specs.declared.fault.Fault.{Fault}
 use Rattle.st_faults.specs.declared.fault.Rule.{Rule}
 use Rattle.st_faults.specs.declared.fault.Rule.TheVariants as broken_rules
@@ -47,7 +47,7 @@ due_parts x (dues.Type e) = sym (append-nil (x.faults_at x.position e))
 due_parts x dues.Integer = refl
 due_parts x dues.NoValue = refl
 
-pub due_done : (scope : Scope) (x : Expression) (due : Due) (position : Position) (e : Option Elem) (fits : Bool) (o o1 o2 : Option Fault)
+pub due_done : (scope : Scope) (x : Expression) (due : Due) (position : Position) (e : Option Elem) (fits : Bool) (o o1 o2 : First)
     → position ≡ position_of x → e ≡ due_elem (known scope x) due → o1 ≡ offer_all o (faults_due (known scope x) position e) → fits ≡ meets (known scope x) due
     → o2 ≡ offer_all o1 (when (not fits) (fault position broken_rules.TypeMismatch)) → o2 ≡ offer_all o (faults_as (known scope x) due)
 due_done scope x due position e fits o o1 o2 begins taken a met c =
@@ -57,7 +57,7 @@ due_done scope x due position e fits o o1 o2 begins taken a met c =
     ∙ ap (λ p. offer_all o (faults_due (known scope x) p (due_elem (known scope x) due) ++ when (not (meets (known scope x) due)) (fault p broken_rules.TypeMismatch))) (begins ∙ sym (position_known scope x))
     ∙ sym (ap (offer_all o) (due_parts (known scope x) due))
 
-pub here_done : (scope : Scope) (x : Expression) (due : Option Elem) (position : Position) (o o1 : Option Fault)
+pub here_done : (scope : Scope) (x : Expression) (due : Option Elem) (position : Position) (o o1 : First)
     → position ≡ position_of x → o1 ≡ offer_all o (faults_due (known scope x) position due) → o1 ≡ offer_all o (faults_here (known scope x) due)
 here_done scope x due position o o1 begins a = a ∙ ap (λ p. offer_all o (faults_due (known scope x) p due)) (begins ∙ sym (position_known scope x))
 
@@ -70,7 +70,7 @@ value_parts : (v : VariableKnown) (at : Position) (t : Option Elem) → faults_d
 value_parts v at None = refl
 value_parts v at (Some e) = refl
 
-pub variable_done : (scope : Scope) (e : Expression) (v : Variable) (w : Route) (at : Position) (t : Option Elem) (o o1 o2 : Option Fault)
+pub variable_done : (scope : Scope) (e : Expression) (v : Variable) (w : Route) (at : Position) (t : Option Elem) (o o1 o2 : First)
     → e ≡ expressions.Variable v → w ≡ VariableKnown.reached (known_variable scope v)
     → o1 ≡ offer_all o (VariableKnown.faults (known_variable scope v)) → o2 ≡ offer_all o1 (shape_misfit w.shape at t)
     → o2 ≡ offer_all o (faults_due (known scope e) at t)
@@ -83,7 +83,7 @@ variable_done scope e v w at t o o1 o2 is reached a b =
 known_subscripts : (scope : Scope) (position : Position) (xs : List Expression) → known_part scope (part_kinds.Subscripts position xs) ≡ subscripts position (known_expressions scope xs)
 known_subscripts scope position xs = search (rules, the_part.the_lemmas)
 
-pub subscripts_done : (scope : Scope) (part : Part) (w : Route) (position : Position) (xs ys : List Expression) (n : ℕ) (o o1 o2 : Option Fault)
+pub subscripts_done : (scope : Scope) (part : Part) (w : Route) (position : Position) (xs ys : List Expression) (n : ℕ) (o o1 o2 : First)
     → part ≡ part_kinds.Subscripts position xs → n ≡ length xs → ys ≡ xs
     → o1 ≡ offer_all o (count_faults scope w.shape position n)
     → o2 ≡ offer_all o1 (subscripts_faults (known_expressions scope ys)) → o2 ≡ offer_all o (part_faults scope w (known_part scope part))
@@ -104,7 +104,7 @@ target_parts v faults s kept = faults ++ whole_faults s v.name.position ++ when 
 abbrev kept_by : Scope → List (List ℕ) → Variable → Bool → Bool → Bool
 kept_by scope counters v through whole = is_fixed (scope.variable v.name.spelling) || through || (whole && list_any (is_word v.name.spelling) counters)
 
-pub target_done : (scope : Scope) (counters : List (List ℕ)) (v : Variable) (w : Route) (kept : Bool) (o o1 o2 o3 : Option Fault)
+pub target_done : (scope : Scope) (counters : List (List ℕ)) (v : Variable) (w : Route) (kept : Bool) (o o1 o2 o3 : First)
     → w ≡ VariableKnown.reached (known_variable scope v) → o1 ≡ offer_all o (VariableKnown.faults (known_variable scope v))
     → o2 ≡ offer_all o1 (whole_faults w.shape v.name.position) → kept ≡ is_kept scope counters v w
     → o3 ≡ offer_all o2 (when kept (fault v.name.position broken_rules.NotAssignable)) → o3 ≡ offer_all o (target_faults counters (known_variable scope v))
@@ -135,7 +135,7 @@ not_parts : (position : Position) (x : Known) (at : Position) (t : Option Elem)
 not_parts position x at None = sym (append-nil (x.faults_open x.position))
 not_parts position x at (Some e) = refl
 
-pub negate_done : (scope : Scope) (e x y : Expression) (position at : Position) (t : Option Elem) (b : Bool) (o o1 o2 : Option Fault)
+pub negate_done : (scope : Scope) (e x y : Expression) (position at : Position) (t : Option Elem) (b : Bool) (o o1 o2 : First)
     → e ≡ expressions.Negate position x → y ≡ x → o1 ≡ offer_all o (faults_here (known scope y) t) → b ≡ negates_due t
     → o2 ≡ offer_all o1 (when (not b) (fault at broken_rules.TypeMismatch)) → o2 ≡ offer_all o (faults_due (known scope e) at t)
 negate_done scope e x y position at t b o o1 o2 is same a takes c =
@@ -145,7 +145,7 @@ negate_done scope e x y position at t b o o1 o2 is same a takes c =
     ∙ sym (ap (λ z. offer_all o (faults_due (known scope z) at t)) is ∙ ap (λ k. offer_all o (faults_due k at t)) (known_negate scope position x)
     ∙ ap (offer_all o) (negate_parts position (known scope x) at t))
 
-pub not_done : (scope : Scope) (e x y : Expression) (position at : Position) (t : Option Elem) (b : Bool) (o o1 o2 : Option Fault)
+pub not_done : (scope : Scope) (e x y : Expression) (position at : Position) (t : Option Elem) (b : Bool) (o o1 o2 : First)
     → e ≡ expressions.Not position x → y ≡ x → o1 ≡ offer_all o (faults_here (known scope y) t) → b ≡ complements_due t
     → o2 ≡ offer_all o1 (when (not b) (fault at broken_rules.TypeMismatch)) → o2 ≡ offer_all o (faults_due (known scope e) at t)
 not_done scope e x y position at t b o o1 o2 is same a takes c =
@@ -194,7 +194,7 @@ abbrev chain_found : Scope → Expression → List Operation → Position → Op
 chain_found scope x ls at t w =
     chain_parts (known scope x) (known_operations scope ls) at w (further_type (operators_of (known_operations scope ls)) w) (fits_chain (operators_of (known_operations scope ls)) t)
 
-pub chain_done : (scope : Scope) (e x y z : Expression) (ls ms : List Operation) (position at : Position) (t w further : Option Elem) (b : Bool) (o o1 o2 o3 : Option Fault)
+pub chain_done : (scope : Scope) (e x y z : Expression) (ls ms : List Operation) (position at : Position) (t w further : Option Elem) (b : Bool) (o o1 o2 o3 : First)
     → e ≡ expressions.Chain position x ls → y ≡ x → z ≡ x → ms ≡ ls → w ≡ chain_type (known scope y) (known_operations scope ms) t → further ≡ further_type (operators_in ms) w
     → o1 ≡ offer_all o (faults_here (known scope z) w) → o2 ≡ offer_all o1 (operands_from (known_operations scope ms) w further)
     → b ≡ fits_chain (operators_in ms) t → o3 ≡ offer_all o2 (when (not b) (fault at broken_rules.TypeMismatch))
@@ -223,7 +223,7 @@ called_parts : (callee : Callee) (c : CallKnown) (at : Position) (t : Option Ele
 called_parts callee c at None = refl
 called_parts callee c at (Some e) = refl
 
-pub call_done : (scope : Scope) (c : Call) (spelling : List ℕ) (callee : Callee) (arguments : List Argument) (rule : Option Rule) (fits : Bool) (at : Position) (t : Option Elem) (o o1 o2 o3 : Option Fault)
+pub call_done : (scope : Scope) (c : Call) (spelling : List ℕ) (callee : Callee) (arguments : List Argument) (rule : Option Rule) (fits : Bool) (at : Position) (t : Option Elem) (o o1 o2 o3 : First)
     → spelling ≡ c.name.spelling → callee ≡ scope.callee spelling → arguments ≡ c.arguments → rule ≡ rule_of callee arguments
     → o1 ≡ offer_all o (broken c.name.position rule) → o2 ≡ offer_all o1 (arguments_faults callee (elem_due t) 0 (known_arguments scope arguments))
     → fits ≡ fits_by callee t rule → o3 ≡ offer_all o2 (when (not fits) (fault at broken_rules.TypeMismatch))

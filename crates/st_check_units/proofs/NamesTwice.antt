@@ -1,10 +1,10 @@
 -- Names that stand twice.
-use Rattle.std.proofs.Common.{◌≡◌, ℕ, ◌+◌, ◌<◌, suc, Bool, true, false, cond, not, ◌||◌, List, [], ◌∷◌, ◌++◌, Option, Some, None, length, get_or, drop, is_some, position, refl, ap, sym, ◌∙◌, ltb, append_assoc, arith}
+use Rattle.std.proofs.Common.{◌≡◌, ℕ, ◌+◌, ◌<◌, suc, Bool, true, false, cond, not, ◌||◌, List, [], ◌∷◌, ◌++◌, Some, None, length, get_or, drop, is_some, position, refl, ap, sym, ◌∙◌, ltb, append_assoc, arith}
 use Rattle.std.proofs.lemmas.Bool.Decides.{nat_tests}
 use Rattle.std.specs.List.{flat_map, list_any, position_or_len}
 use Rattle.std.proofs.lemmas.List.{append-nil, map-append}
 use Rattle.st_tree.specs.declared.tree.position.Identifier.{Identifier}
-use Rattle.st_faults.specs.Faults.{fault, offer_all, when}
+use Rattle.st_faults.specs.Faults.{First, fault, offer_all, when}
 use Rattle.st_faults.specs.declared.fault.Fault.{Fault}
 use Rattle.st_faults.specs.declared.fault.Rule.TheVariants as rules
 use Rattle.st_check_units.specs.Repeats.{is_there, repeated, spellings}
@@ -39,7 +39,7 @@ repeated-append others (n ∷ ns) ms =
 
 module _ {A : Type 0} (k : A → List Identifier) (xs : List A) (i : ℕ) (x : A) (lt : i < length xs) (is : x ≡ get_or xs i x) (ns : List Identifier) (same : ns ≡ k x) where
   -- what is left to be offered, after one item more
-  pub repeated_turn : (others others2 : List (List ℕ)) (o o2 r : Option Fault) → o2 ≡ offer_all o (repeated others ns) → others2 ≡ others ++ spellings ns
+  pub repeated_turn : (others others2 : List (List ℕ)) (o o2 r : First) → o2 ≡ offer_all o (repeated others ns) → others2 ≡ others ++ spellings ns
       → offer_all o (repeated others (flat_map k (drop i xs))) ≡ r → offer_all o2 (repeated others2 (flat_map k (drop (i + 1) xs))) ≡ r
   repeated_turn others others2 o o2 r e s h =
       offered o o2 r (repeated others ns) (repeated others2 (flat_map k (drop (i + 1) xs))) (repeated others (flat_map k (drop i xs))) e

@@ -1,5 +1,5 @@
 -- The units of a text, one after the other.
-use Rattle.std.proofs.Common.{◌≡◌, ℕ, zero, suc, ◌<◌, ◌≤◌, List, [], ◌∷◌, ◌++◌, map, length, get_or, drop, Option, Some, ap, sym, ◌∙◌, arith}
+use Rattle.std.proofs.Common.{◌≡◌, ℕ, zero, suc, ◌<◌, ◌≤◌, List, [], ◌∷◌, ◌++◌, map, length, get_or, drop, Some, ap, sym, ◌∙◌, arith}
 use Rattle.std.specs.List.{flat_map}
 use Rattle.std.proofs.lemmas.List.{drop_all}
 use Rattle.std.proofs.lemmas.List.Folds.{flat_map-map}
@@ -7,7 +7,7 @@ use Rattle.st_tree.specs.declared.tree.declaration.VarBlock.{VarBlock}
 use Rattle.st_tree.specs.declared.tree.unit.ChartElement.{ChartElement}
 use Rattle.st_tree.specs.declared.tree.unit.Pou.{Pou}
 use Rattle.st_tree.specs.declared.tree.unit.Unit.{Unit as Section}
-use Rattle.st_faults.specs.Faults.{offer_all}
+use Rattle.st_faults.specs.Faults.{First, offer_all}
 use Rattle.st_faults.specs.declared.fault.Fault.{Fault}
 use Rattle.st_types.specs.Names.{Declares, Named, chart_of, unit_at, units_of}
 use Rattle.st_types.specs.Scopes.{Scope, optional_scope, scope_at, scope_of}
@@ -21,7 +21,7 @@ use Rattle.st_faults.proofs.Offers.{both, three}
 
 -- ---- a function block or program
 
-pub pou_done : (units : List Named) (scope : Scope) (unit : Declares) (pou : Pou) (variables : List VarBlock) (elements : List ChartElement) (seen seen2 : List (List ℕ)) (o o1 o2 o3 o4 : Option Fault)
+pub pou_done : (units : List Named) (scope : Scope) (unit : Declares) (pou : Pou) (variables : List VarBlock) (elements : List ChartElement) (seen seen2 : List (List ℕ)) (o o1 o2 o3 o4 : First)
     → variables ≡ pou.variables → elements ≡ chart_of pou.body → seen ≡ []
     → o1 ≡ offer_all o (repeated seen (variable_names variables)) → seen2 ≡ seen ++ spellings (variable_names variables) → o2 ≡ offer_all o1 (repeated seen2 (chart_names elements))
     → o3 ≡ offer_all o2 (flat_map (block_faults units unit) variables) → o4 ≡ offer_all o3 (body_of_faults scope pou.name pou.body) → o4 ≡ offer_all o (pou_faults units scope unit pou)
@@ -50,12 +50,12 @@ scope_is text units i u place same lt is at =
 abbrev pub unit_at_faults : List Section → NamedUnit → List Fault
 unit_at_faults text u = unit_faults (units_of text) (scope_of (units_of text) (declared_by u.kind)) u.name.now (declared_by u.kind)
 
-pub unit_done : (text : List Section) (units : List NamedUnit) (i : ℕ) (u : NamedUnit) (place : List Section × ℕ) (o o2 : Option Fault) → map named_by units ≡ units_of text → i < length units → u ≡ get_or units i u → place ≡ (text, i)
+pub unit_done : (text : List Section) (units : List NamedUnit) (i : ℕ) (u : NamedUnit) (place : List Section × ℕ) (o o2 : First) → map named_by units ≡ units_of text → i < length units → u ≡ get_or units i u → place ≡ (text, i)
     → o2 ≡ offer_all o (unit_faults (units_of text) (scope_at place) u.name.now (declared_by u.kind)) → o2 ≡ offer_all o (unit_at_faults text u)
 unit_done text units i u place o o2 same lt is at e =
     e ∙ ap (λ scope. offer_all o (unit_faults (units_of text) scope u.name.now (declared_by u.kind))) (scope_is text units i u place same lt is at)
 
-pub units_done : (text : List Section) (units : List NamedUnit) (i : ℕ) (o o2 : Option Fault) → map named_by units ≡ units_of text → length units ≤ i
+pub units_done : (text : List Section) (units : List NamedUnit) (i : ℕ) (o o2 : First) → map named_by units ≡ units_of text → length units ≤ i
     → offer_all o2 (flat_map (unit_at_faults text) (drop i units)) ≡ offer_all o (flat_map (unit_at_faults text) units) → o2 ≡ offer_all o (units_faults (units_of text))
 unfolding offer_all
 units_done text units i o o2 same le h =

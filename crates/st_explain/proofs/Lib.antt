@@ -1,5 +1,3 @@
-mod Behind
-mod Loops
 mod Ordered
 mod Passing
 mod Syntax

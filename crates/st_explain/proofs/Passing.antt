@@ -28,12 +28,5 @@ module _ (text : List Section) (main order : List ℕ) (w : IsOrdered text order
   pub finds_size : (u : Named) → unit_at (units_of text) number ≡ Some u → is_large text u ≡ true → IsFirst text main (fault u.name.position rules.LimitPassed)
   finds_size u there large = too_large text main (ordered_has_none text order w) number u is there large
 
-  -- each fault stands at its name
-  pub finds_only : (u : Named) → unit_at (units_of text) number ≡ Some u → (f : Fault) → IsFault text main f → f.position.number ≡ u.name.position.number
-  finds_only u there f (unit h) = absurd (ordered_has_none text order w f h)
-  finds_only u there f (size {i = i} {u = v} none same is_there large) =
-      let numbers : Some i ≡ Some number = sym same ∙ is in
-      let e : i ≡ number = cc in
-      let units : Some v ≡ Some u = sym is_there ∙ ap (unit_at (units_of text)) e ∙ there in
-      let same_unit : v ≡ u = cc in
-      ap (λ (x : Named). x.name.position.number) same_unit
+  pub finds_only : (f : Fault) → IsUnitFault text f → ⊥
+  finds_only f h = ordered_has_none text order w f h

@@ -1,5 +1,5 @@
 -- The message on a text, where it is known what was found in it.
-use Rattle.std.proofs.Common.{◌≡◌, ℕ, ◌<◌, ◌≤◌, ◌^◌, List, [], ◌∷◌, ◌++◌, append_assoc, length, Some, None, refl, sym, ap, ◌∙◌, subst, inr, arith}
+use Rattle.std.proofs.Common.{◌≡◌, ℕ, ◌+◌, ◌<◌, ◌≤◌, ◌^◌, List, [], ◌∷◌, ◌++◌, append_assoc, length, Some, None, refl, sym, ap, ◌∙◌, subst, arith}
 use Rattle.std.specs.Prelude.{IfOk, Ok, OnOk, Err, Result}
 use Rattle.std.specs.List.{All}
 use Rattle.std.proofs.lemmas.List.Elements.{All-nil}
@@ -12,9 +12,10 @@ use Rattle.st_syntax.specs.Grammar.Texts.{IsTextOf}
 use Rattle.st_messages.specs.Lexemes.{AreLexemes}
 use Rattle.st_messages.specs.declared.lexeme.Lexeme.{Lexeme}
 use Rattle.st_messages.specs.Headings.{IsTold}
-use Rattle.st_check.specs.Faults.{HasNoProgram, IsAccepted, IsFirst}
+use Rattle.st_check.specs.Faults.{HasNoProgram, IsAccepted, IsFirst, IsUnitFault}
+use Rattle.st_check.specs.Recursions.{HasNoneFrom}
 use Rattle.st_check.specs.Laws.{FirstIsOne}
-use Rattle.st_explain.specs.Collections.{AreAllAt, AreLater, AreNext, HasNoneBehind, last_number}
+use Rattle.st_explain.specs.Collections.{AreLater, AreNext, last_number}
 use Rattle.st_explain.specs.Findings.{Finds}
 use Rattle.st_explain.specs.declared.finding.Finding.{Finding}
 use Rattle.st_explain.specs.Messages.{AreTold, ExplainsFirst, IsMessage, IsRead, IsToldAt, TellsFault, TellsFaults, TellsFrom, TellsNoProgram, TellsSyntax, TellsUnits, more, none, syntax_number}
@@ -56,10 +57,10 @@ head_same : (file text : List ℕ) (lexemes : List Lexeme) (f g : Fault) (fs : L
     → AreTold file text lexemes (g ∷ fs) old new → AreTold file text lexemes (f ∷ fs) old new
 head_same file text lexemes f g fs old new same (more {mid = mid} t w) = more (told_same file text lexemes f g old mid same t) w
 
-module _ (most : ℕ) (file text main : List ℕ) (us : List Section) where
+module _ (most : ℕ) (file text : List ℕ) (us : List Section) where
   -- two faults at one token that break one rule are told alike, with those behind them
   pub from_same : (f g : Fault) (message : List ℕ) → (g.position.number ≡ f.position.number) × (g.rule ≡ f.rule)
-      → TellsFrom most file text main us g message → TellsFrom most file text main us f message
+      → TellsFrom most file text us g message → TellsFrom most file text us f message
   from_same f g message same t = record {
     later = t.later;
     told = record {
@@ -70,33 +71,33 @@ module _ (most : ℕ) (file text main : List ℕ) (us : List Section) where
     };
     order = (subst (λ n. All (λ h. n < h.position.number) t.later) same.0 t.order.0, t.order.1);
     are = record {
-      next = subst (λ n. AreNext us main n t.later) same.0 t.are.next;
+      next = subst (λ n. AreNext us n t.later) same.0 t.are.next;
       few = t.are.few;
-      all = λ below. subst (λ n. HasNoneBehind us main (last_number n t.later)) same.0 (t.are.all below);
+      all = λ below. subst (λ n. HasNoneFrom (last_number n t.later + 1) us) same.0 (t.are.all below);
     };
   }
 
   -- one fault, where no token has another
-  pub from_alone : (f : Fault) (message : List ℕ) → 1 ≤ most → AreAllAt us main f.position.number → TellsFault file text f message → TellsFrom most file text main us f message
+  pub from_alone : (f : Fault) (message : List ℕ) → 1 ≤ most → ((g : Fault) → IsUnitFault us g → ⊥) → TellsFault file text f message → TellsFrom most file text us f message
   from_alone f message one only t = record {
     later = [];
     told = record { tokens = t.tokens; lexemes = t.lexemes; are = t.are; told = more t.told none };
     order = (All-nil (λ g. f.position.number < g.position.number), tt);
-    are = record { next = tt; few = omega (arith, one); all = λ below. inr only };
+    are = record { next = tt; few = omega (arith, one); all = λ below g h le. only g h };
   }
 
-  pub from_faults : (f : Fault) (fs : List Fault) (message : List ℕ) → (later : List Fault) × (fs ≡ f ∷ later) × AreLater us main most f later
-      → TellsFaults file text fs message → TellsFrom most file text main us f message
+  pub from_faults : (f : Fault) (fs : List Fault) (message : List ℕ) → (later : List Fault) × (fs ≡ f ∷ later) × AreLater us most f later
+      → TellsFaults file text fs message → TellsFrom most file text us f message
   from_faults f fs message w t = record {
     later = w.0;
     told = subst (λ xs. TellsFaults file text xs message) w.1 t;
-    order = next_in_order us main f.position.number w.0 w.2.next;
+    order = next_in_order us f.position.number w.0 w.2.next;
     are = w.2;
   }
 
 -- of one fault at most the first one is told
-pub first_alone : (file text main : List ℕ) (us : List Section) (f : Fault) (message : List ℕ) → TellsFrom 1 file text main us f message → TellsFault file text f message
-first_alone file text main us f message t = alone t.later t.are.few t.told where
+pub first_alone : (file text : List ℕ) (us : List Section) (f : Fault) (message : List ℕ) → TellsFrom 1 file text us f message → TellsFault file text f message
+first_alone file text us f message t = alone t.later t.are.few t.told where
   alone : (later : List Fault) → length (f ∷ later) ≤ 1 → TellsFaults file text (f ∷ later) message → TellsFault file text f message
   alone [] few w = record { tokens = w.tokens; lexemes = w.lexemes; are = w.are; told = told_alone file text w.lexemes f [] message w.told }
   alone (g ∷ gs) few w = absurd (omega (arith, few))
@@ -115,6 +116,10 @@ headed head title line rest a b c d e e1 e2 e3 e4 e5 = (
 
 pub finds_in : (tables us : List Section) (main : List ℕ) (x y : Finding) → tables ≡ us → x ≡ y → Finds tables main x → Finds us main y
 finds_in tables us main x y same is w = subst (λ f. Finds us main f) is (subst (λ t. Finds t main x) same w)
+
+pub later_in : (tables us : List Section) (most : ℕ) (f : Fault) (fs : List Fault) → tables ≡ us → (later : List Fault) × (fs ≡ f ∷ later) × AreLater tables most f later
+    → (later : List Fault) × (fs ≡ f ∷ later) × AreLater us most f later
+later_in tables us most f fs same w = (w.0, w.1, subst (λ t. AreLater t most f w.0) same w.2)
 
 -- ---- the message on a text
 
@@ -137,15 +142,15 @@ module _ (Tells : Fault → List ℕ → Type 0) (file : List ℕ) (us : List Se
 
 -- the text is these units and no others
 pub message_of_units : (most : ℕ) (file text main : List ℕ) (us : List Section) (message : List ℕ) → FirstIsOne → IsRead text us → ((vs : List Section) → IsRead text vs → us ≡ vs)
-    → TellsUnits (TellsFrom most file text main us) file us main message → IsMessage (TellsFrom most file text main) file text main message
+    → TellsUnits (TellsFrom most file text us) file us main message → IsMessage (TellsFrom most file text) file text main message
 message_of_units most file text main us message one read only t = record {
-  accepted = λ vs number r v. units_accepted (TellsFrom most file text main vs) file vs main message number v (told vs r);
-  fault = λ vs f r v. units_fault (TellsFrom most file text main vs) file vs main message one (λ f g. from_same most file text main vs f g message) f v (told vs r);
-  no_program = λ vs r v. units_no_program (TellsFrom most file text main vs) file vs main message v (told vs r);
+  accepted = λ vs number r v. units_accepted (TellsFrom most file text vs) file vs main message number v (told vs r);
+  fault = λ vs f r v. units_fault (TellsFrom most file text vs) file vs main message one (λ f g. from_same most file text vs f g message) f v (told vs r);
+  no_program = λ vs r v. units_no_program (TellsFrom most file text vs) file vs main message v (told vs r);
   unread = λ never. absurd (never us read);
 } where
-  told : (vs : List Section) → IsRead text vs → TellsUnits (TellsFrom most file text main vs) file vs main message
-  told vs r = subst (λ xs. TellsUnits (TellsFrom most file text main xs) file xs main message) (only vs r) t
+  told : (vs : List Section) → IsRead text vs → TellsUnits (TellsFrom most file text vs) file vs main message
+  told vs r = subst (λ xs. TellsUnits (TellsFrom most file text xs) file xs main message) (only vs r) t
 
 -- the text is no units, or memory ran out while it was read, and then there is no message
 pub message_unread : {A E : Type 0} (bytes : A → List ℕ) (result : Result A E) (Tells : List Section → Fault → List ℕ → Type 0) (file text main : List ℕ) (fault : SyntaxFault)
@@ -162,10 +167,10 @@ message_unread bytes (Ok m) Tells file text main fault told read only = record {
 message_unread bytes (Err e) Tells file text main fault told read only = tt
 
 -- on the first fault alone
-pub message_on_first : (file text main message : List ℕ) → IsMessage (TellsFrom 1 file text main) file text main message → ExplainsFirst file text main message
+pub message_on_first : (file text main message : List ℕ) → IsMessage (TellsFrom 1 file text) file text main message → ExplainsFirst file text main message
 message_on_first file text main message w = record {
   accepted = w.accepted;
-  fault = λ us f r v. first_alone file text main us f message (w.fault us f r v);
+  fault = λ us f r v. first_alone file text us f message (w.fault us f r v);
   no_program = w.no_program;
   unread = w.unread;
 }

@@ -101,11 +101,11 @@ pub record TellsFaults (file text : List ℕ) (fs : List Fault) (message : List 
   pub told : AreTold file text lexemes fs [] message
 
 -- it is that on a fault, and those on the faults behind it, each at a later token than the one before: on all of them, or on so many with the first
-pub record TellsFrom (most : ℕ) (file text main : List ℕ) (us : List Section) (f : Fault) (message : List ℕ) : Type 0 where
+pub record TellsFrom (most : ℕ) (file text : List ℕ) (us : List Section) (f : Fault) (message : List ℕ) : Type 0 where
   pub later : List Fault
   pub told : TellsFaults file text (f ∷ later) message
   pub order : AreInOrder (f ∷ later)
-  pub are : AreLater us main most f later
+  pub are : AreLater us most f later
 
 -- ---- a text that is units
 
@@ -132,7 +132,7 @@ ExplainsFirst file text main message = IsMessage (λ us f m. TellsFault file tex
 
 -- on all faults, a hundred at most
 abbrev pub ExplainsAll : (file text main message : List ℕ) → Type 0
-ExplainsAll file text main message = IsMessage (TellsFrom 100 file text main) file text main message
+ExplainsAll file text main message = IsMessage (TellsFrom 100 file text) file text main message
 
 -- on all, or on the first
 abbrev pub Explains : Bool → (file text main message : List ℕ) → Type 0

@@ -37,8 +37,7 @@ pub fn explain_text(
 /// The messages on all faults of a text of this file, in the order of the text, at most a hundred. The first one is that of
 /// `explain_text`. Where the text isn't in the grammar, or is no such program, or one that is too large, it is the only one.
 ///
-/// Each later fault is the first one that the rules find where the tokens are numbered from behind the fault before it. That numbers of
-/// tokens change nothing else of a fault is only tested.
+/// Each later fault is the first one of the units behind the token of the fault before it.
 pub fn explain_all(
     alloc: Global,
     file: &str,
@@ -77,7 +76,7 @@ fn explain_most(
 ) -> Result<String, AllocError>
     requires { 1 ≤ most }
     ensures { IfOk result (λ m. IsMessage
-        (TellsFrom most file.now text.now main.now) file.now text.now main.now (string_bytes m)) }
+        (TellsFrom most file.now text.now) file.now text.now main.now (string_bytes m)) }
 {
     text_has_one_answer();
     match parse(alloc, text) {
@@ -143,7 +142,7 @@ fn explain_units(
     requires text { IsTextOf text.now units.now }
     requires most { 1 ≤ most }
     ensures { IfOk result (λ m. TellsUnits
-        (TellsFrom most file.now text.now main.now units.now) file.now units.now main.now (string_bytes m)) }
+        (TellsFrom most file.now text.now units.now) file.now units.now main.now (string_bytes m)) }
 {
     let tables = Tables::new(alloc, units)?;
     match first_finding(alloc, &tables, main)? {
@@ -151,7 +150,7 @@ fn explain_units(
         Finding::NoProgram => no_program_message(alloc, file, &tables, main),
         Finding::TooLarge(fault, size) => size_message(alloc, file, text, fault, size),
         Finding::Fault(first) => {
-            let faults = faults_from(alloc, units, main, first, most)?;
+            let faults = faults_from(alloc, &tables, first, most)?;
             faults_message(alloc, file, text, &tables, &faults)
         }
     }

@@ -1,5 +1,5 @@
 -- Faults, and the first of some.
-use Rattle.std.specs.Prelude.{◌≡◌, ℕ, Bool, false, ◌&&◌, ◌||◌, ◌==◌, nat_lt, if◌then◌else◌, List, [], ◌∷◌, Option, Some, None}
+use Rattle.std.specs.Prelude.{◌≡◌, ◌≤◌, ℕ, Bool, false, ◌&&◌, ◌||◌, ◌==◌, nat_lt, if◌then◌else◌, List, [], ◌∷◌, Option, Some, None}
 use Rattle.std.specs.List.{Contains}
 use Rattle.st_tree.specs.declared.tree.position.Position.{Position}
 use Rattle.st_faults.specs.declared.fault.Fault.{Fault}
@@ -34,18 +34,32 @@ abbrev pub earlier : Option Fault → Fault → Option Fault
 earlier None f = Some f
 earlier (Some g) f = if is_before f g then Some f else Some g
 
--- the first fault so far, and more
-unfoldable pub offer_all : Option Fault → List Fault → Option Fault
-offer_all first [] = first
-offer_all first (f ∷ fs) = offer_all (earlier first f) fs
+-- what was kept of the faults that were offered: the first of those at tokens from this one on
+pub record First : Type 0 where
+  pub start : ℕ
+  pub kept : Option Fault
 
--- the fault is among these, and none of them comes before it
-pub record IsFirstOf (fs : List Fault) (f : Fault) : Type 0 where
+-- nothing was offered yet
+abbrev pub none_from : ℕ → First
+none_from start = record { start = start; kept = None }
+
+-- one more fault, which counts where its token doesn't stand before the start
+unfoldable pub with_fault : First → Fault → First
+with_fault first f = if nat_lt f.position.number first.start then first else record { start = first.start; kept = earlier first.kept f }
+
+-- what was kept so far, and more is offered
+unfoldable pub offer_all : First → List Fault → First
+offer_all first [] = first
+offer_all first (f ∷ fs) = offer_all (with_fault first f) fs
+
+-- the fault is among these, at a token from this one on, and none of those comes before it
+pub record IsFirstFrom (start : ℕ) (fs : List Fault) (f : Fault) : Type 0 where
   pub there : Contains fs f
-  pub first : (g : Fault) → Contains fs g → is_before g f ≡ false
+  pub behind : start ≤ f.position.number
+  pub first : (g : Fault) → Contains fs g → start ≤ g.position.number → is_before g f ≡ false
 
 abbrev pub KeepsFirstFault : Type 0
-KeepsFirstFault = (fs : List Fault) (f : Fault) → offer_all None fs ≡ Some f → IsFirstOf fs f
+KeepsFirstFault = (start : ℕ) (fs : List Fault) (f : Fault) → (offer_all (none_from start) fs).kept ≡ Some f → IsFirstFrom start fs f
 
 abbrev pub KeepsAnyFault : Type 0
-KeepsAnyFault = (fs : List Fault) → offer_all None fs ≡ None → fs ≡ []
+KeepsAnyFault = (start : ℕ) (fs : List Fault) (f : Fault) → (offer_all (none_from start) fs).kept ≡ None → Contains fs f → start ≤ f.position.number → ⊥

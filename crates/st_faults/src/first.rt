@@ -1,51 +1,62 @@
 //! The first of some faults.
-ghost use Rattle.std.specs.Prelude.{◌≡◌, ◌∷◌, [], None};
-ghost use Rattle.st_faults.specs.Faults.{fault, offer_all, when};
+ghost use Rattle.std.specs.Prelude.{◌≡◌, ◌∷◌, []};
+ghost use Rattle.st_faults.specs.Faults.{fault, none_from, offer_all, when};
 
 use crate::fault::{Fault, Rule};
 use st_tree::tree::Position;
 use std::marker::Model;
 
-/// The first of the faults that were offered.
+/// The first of the faults that were offered, among those at tokens from one on.
 #[derive(Clone, Copy, Debug, PartialEq, Eq)]
 pub struct FirstFault {
+    /// The number of the token from which on a fault counts.
+    start: u64,
     fault: Option<Fault>,
 }
 
 impl Model for FirstFault {
-    ghost use Rattle.std.specs.Prelude.{Option};
-    ghost use Rattle.st_faults.specs.declared.fault.Fault.{Fault};
+    ghost use Rattle.st_faults.specs.Faults.{First};
     ghost use Rattle.std.proofs.Common.{refl};
 
-    ghost Value = { Option Fault };
+    ghost Value = { First };
 
-    ghost view = { λ first. first.fault };
+    ghost view = { λ first. record { start = first.start; kept = first.fault } };
 
-    ghost inverse = { λ fault. record { fault = fault } };
+    ghost inverse = { λ first. record { start = first.start; fault = first.kept } };
 
     ghost inverse_ok = { λ first ok. refl };
 }
 
 impl FirstFault {
-    /// Nothing was offered yet.
+    /// Nothing was offered yet, and faults at all tokens count.
     pub fn new() -> FirstFault
-        ensures { result ≡ None }
+        ensures { result ≡ none_from 0 }
     {
-        FirstFault { fault: None }
+        FirstFault::from(0)
     }
 
-    /// The first of the faults that were offered.
+    /// Nothing was offered yet, and faults count at tokens from the one of this number on.
+    pub fn from(start: u64) -> FirstFault
+        ensures { result ≡ none_from start }
+    {
+        FirstFault { start, fault: None }
+    }
+
+    /// The first of the faults that were offered, among those that count.
     pub fn get(self) -> Option<Fault>
-        ensures { result ≡ self }
+        ensures { result ≡ self.kept }
     {
         self.fault
     }
 
     /// Offers a fault.
-    #[tactic(auto, unfolding(crate::specs::Faults::offer_all))]
+    #[tactic(auto, unfolding(crate::specs::Faults::offer_all, crate::specs::Faults::with_fault))]
     pub fn offer(&mut self, position: Position, rule: Rule)
         ensures { self.new ≡ offer_all self.old (fault position rule ∷ []) }
     {
+        if u64::from(position.number) < self.start {
+            return;
+        }
         let fault = Fault { position, rule };
         match self.fault {
             None => self.fault = Some(fault),

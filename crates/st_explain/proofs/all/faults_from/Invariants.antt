@@ -4,7 +4,7 @@ use Rattle.st_explain.proofs.all.faults_from.Given as goal
 
 abbrev pub invariant-later : goal.invariant-later
 invariant-later l = record {
-  from : AreFrom l.units l.main l.fn.first l.faults.items l.last;
+  from : AreFrom l.tables l.fn.first l.faults.items l.last;
   few : length l.faults.items ≤ l.most;
 }
 

@@ -9,8 +9,8 @@ pub returns-in-Ok : goal.returns-in-Ok
 returns-in-Ok c =
     let units = c.deref.result.now in
     in_ok c.explain_units.result
-    (λ m. TellsUnits (TellsFrom c.args.most c.args.file.now c.args.text.now c.args.main.now units) c.args.file.now units c.args.main.now (string_bytes m))
-    (λ m. IsMessage (TellsFrom c.args.most c.args.file.now c.args.text.now c.args.main.now) c.args.file.now c.args.text.now c.args.main.now (string_bytes m))
+    (λ m. TellsUnits (TellsFrom c.args.most c.args.file.now c.args.text.now units) c.args.file.now units c.args.main.now (string_bytes m))
+    (λ m. IsMessage (TellsFrom c.args.most c.args.file.now c.args.text.now) c.args.file.now c.args.text.now c.args.main.now (string_bytes m))
     c.explain_units.ensures
     (λ m t. message_of_units c.args.most c.args.file.now c.args.text.now c.args.main.now units (string_bytes m) c.text_has_one_answer.ensures.token
     (is_read c.args.text.now units (subst (λ us. IsTextOf c.args.text.now us) (sym c.deref.ensures.value) c.in-Ok.ensures.found) (λ h. let e = c.in-Ok.ensures.long h in cc))
@@ -18,5 +18,5 @@ returns-in-Ok c =
 
 pub returns-in-Err : goal.returns-in-Err
 returns-in-Err c =
-    message_unread string_bytes c.explain_grammar.result (TellsFrom c.args.most c.args.file.now c.args.text.now c.args.main.now) c.args.file.now c.args.text.now c.args.main.now c.in-Err.fault
+    message_unread string_bytes c.explain_grammar.result (TellsFrom c.args.most c.args.file.now c.args.text.now) c.args.file.now c.args.text.now c.args.main.now c.in-Err.fault
     (c.explain_grammar.ensures.told c.in-Err.ensures.fault) c.explain_grammar.ensures.read (λ us r. c.in-Err.ensures.only us r.short r.is)

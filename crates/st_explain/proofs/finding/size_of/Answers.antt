@@ -10,8 +10,7 @@ pub returns-then-branch : goal.returns-then-branch
 returns-then-branch c = (
   finds_size c.args.tables.now c.args.main.now c.args.order.now c.requires c.in-Some.number (sym c.program_named.ensures ∙ c.in-Some.is)
       (named_by c.unit.result) (sym c.unit.ensures) (sym (c.in_ok-is_too_large.ensures (named_by c.unit.result) (sym c.unit.ensures)) ∙ c.if-branch.true),
-  finds_only c.args.tables.now c.args.main.now c.args.order.now c.requires c.in-Some.number (sym c.program_named.ensures ∙ c.in-Some.is)
-      (named_by c.unit.result) (sym c.unit.ensures),
+  finds_only c.args.tables.now c.args.main.now c.args.order.now c.requires c.in-Some.number (sym c.program_named.ensures ∙ c.in-Some.is),
 )
 
 pub returns : goal.returns

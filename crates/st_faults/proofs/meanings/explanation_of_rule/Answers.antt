@@ -1,5 +1,4 @@
-use Rattle.std.proofs.Common.{sym, subst, ap, ◌∙◌}
-use Rattle.std.specs.Prelude.{option_map}
+use Rattle.std.proofs.Common.{ap, ◌∙◌}
 use Rattle.st_faults.specs.Faults.{number_of as rule_number}
 use Rattle.st_faults.specs.Meanings.{meaning_at, meaning_of}
 use Rattle.st_faults.specs.declared.explanation.Family.TheVariants.{Check}

@@ -2,7 +2,7 @@ use Rattle.std.proofs.Common.{◌≡◌, drop}
 use Rattle.st_faults.specs.Faults.{offer_all}
 use Rattle.st_types.specs.Names.{units_of}
 use Rattle.st_check.specs.Recursions.{recursions}
-use Rattle.st_explain.proofs.finding.offer_recursions.Given as goal
+use Rattle.st_check.proofs.faults.offer_recursions.Given as goal
 
 -- what is left gives what all give
 abbrev pub invariant-loop-number : goal.invariant-loop-number
