@@ -3,10 +3,10 @@ use Rattle.std.proofs.Common.{◌≡◌, ℕ, zero, suc, ◌<◌, List, [], ◌�
 use Rattle.std.specs.List.{All, Contains}
 use Rattle.std.proofs.lemmas.List.{length-map}
 use Rattle.std.proofs.lemmas.List.Elements.{All-from_get_or, Contains-append_left, Contains-append_right, Contains-append_cases, Contains-get_or}
-use Rattle.st_faults.specs.Faults.{First, fault, none_from, offer_all}
+use Rattle.st_faults.specs.Faults.{First, fault, offer_all}
 use Rattle.st_faults.specs.declared.fault.Fault.{Fault}
 use Rattle.st_faults.specs.declared.fault.Rule.TheVariants as rules
-use Rattle.st_faults.proofs.Least.{first_kept_from, none_kept_from, offer_append}
+use Rattle.st_faults.proofs.Least.{offer_append}
 use Rattle.st_tree.specs.declared.tree.unit.Unit.{Unit as Section}
 use Rattle.st_types.specs.Names.{Named, unit_at, units_of}
 use Rattle.st_types.proofs.Units.{there}
@@ -16,7 +16,7 @@ use Rattle.st_references.proofs.Listed.{Contains-cons_cases, Contains-head}
 use Rattle.st_references.specs.References.{graph_of, references}
 use Rattle.st_check_units.specs.Units.{node_faults}
 use Rattle.st_check.specs.Faults.{IsUnitFault, listed, recursion}
-use Rattle.st_check.specs.Recursions.{AreUnitFaults, HasUnitFault, IsFirstOfUnits, recursion_of, recursions}
+use Rattle.st_check.specs.Recursions.{AreUnitFaults, HasUnitFault, recursion_of, recursions}
 
 nothing : {A : Type 0} (x : A) → Contains [] x → ⊥
 nothing x h = omega (arith, h.1)

@@ -1,5 +1,5 @@
 -- What is kept of the faults of the units.
-use Rattle.std.proofs.Common.{◌≡◌, ℕ, ◌≤◌, List, [], ◌∷◌, Option, Some, None, refl, ap, sym, ◌∙◌, subst, arith, IsSome, append-nil}
+use Rattle.std.proofs.Common.{◌≡◌, ℕ, List, [], ◌∷◌, Option, Some, None, refl, ap, sym, ◌∙◌, subst, arith, IsSome, append-nil}
 use Rattle.std.specs.List.{Contains}
 use Rattle.std.specs.Prelude.{MatchOption}
 use Rattle.st_faults.specs.Faults.{First, none_from, offer_all}
@@ -12,7 +12,7 @@ use Rattle.st_references.specs.References.{graph_of}
 use Rattle.st_check_units.specs.Units.{node_faults}
 use Rattle.st_check.specs.Faults.{IsUnitFault, listed}
 use Rattle.st_check.specs.Programs.{IsOrdered}
-use Rattle.st_check.specs.Recursions.{AreUnitFaults, HasNoneFrom, HasUnitFault, IsFirstOfUnits, IsFirstOfUnitsFrom, OffersUnitFaults, recursions}
+use Rattle.st_check.specs.Recursions.{HasNoneFrom, HasUnitFault, IsFirstOfUnits, IsFirstOfUnitsFrom, OffersUnitFaults, recursions}
 use Rattle.st_check.proofs.Cyclic.{AreAllCyclic, all_faults, all_offered, are_unit_faults, cyclic_are_all}
 
 -- ---- what is offered
@@ -50,6 +50,10 @@ module _ (text : List Section) (start : ℕ) (new : First) (w : OffersUnitFaults
 
   pub none_from_there : new.kept ≡ None → HasNoneFrom start text
   none_from_there is f h le = none_kept_from start w.0 f (kept ∙ is) (w.1.all f h) le
+
+  pub kept_from : (o : Option Fault) → o ≡ new.kept → MatchOption o (HasNoneFrom start text) (IsFirstOfUnitsFrom start text)
+  kept_from None e = none_from_there (sym e)
+  kept_from (Some f) e = first_from f (sym e)
 
 first_of : {A : Type 0} (xs : List A) → ((x : A) → Contains xs x → ⊥) → xs ≡ []
 first_of [] none = refl
