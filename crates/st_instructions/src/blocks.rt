@@ -1,10 +1,10 @@
 //! Invocations of standard function blocks.
-ghost use Rattle.std.specs.Prelude.{◌≡◌, ◌≤◌, ℕ, ℤ, length, IsTrue, List};
+ghost use Rattle.std.specs.Prelude.{◌≡◌, ◌≤◌, length, IsTrue};
 ghost use Rattle.st_blocks.specs.Cells.{types_of};
-ghost use Rattle.st_code.specs.Machine.{act, has_leaves};
+ghost use Rattle.st_code.specs.Machine.{has_leaves};
 ghost use Rattle.st_code.specs.declared.instr.Instr.{Instr};
 ghost use Rattle.st_chart_runs.specs.Views.{setting_at};
-ghost use Rattle.st_instructions.specs.Moves.{environment_at, moved};
+ghost use Rattle.st_instructions.specs.Moves.{Writes, environment_at};
 ghost use Rattle.st_meaning.specs.Statements.{block_done};
 
 use crate::cells::NO_VALUE;
@@ -28,8 +28,11 @@ pub fn invoke<M: Memory>(
     requires few { length (M.content layout.now memory.old).values ≤ 65536 }
     requires ready { IsTrue (has_leaves (M.content layout.now memory.old).values block leaf) }
     ensures over { M.IsOver layout.now memory.new }
-    ensures forced { (M.content layout.now memory.new).forced ≡ (M.content layout.now memory.old).forced }
-    ensures does { (room line place left : ℕ) (stack : List ℤ) → act (environment_at now (M.content layout.now memory.old).forced) room (Instr.Invoke block leaf) line place stack (M.content layout.now memory.old).values left ≡ moved result line place stack (M.content layout.now memory.new).values left }
+    ensures forced { (M.content layout.now memory.new).forced
+        ≡ (M.content layout.now memory.old).forced }
+    ensures does { Writes (environment_at now (M.content layout.now memory.old).forced)
+        (Instr.Invoke block leaf) result (M.content layout.now memory.old).values
+        (M.content layout.now memory.new).values }
 {
     let mut cells = [NO_VALUE; MAX_BLOCK_LEAVES];
     do_block(
@@ -57,8 +60,11 @@ fn do_block<M: Memory>(
     requires leaves { IsTrue (has_leaves (M.content layout.now memory.old).values block leaf) }
     requires cells { length cells.old ≡ length (types_of block) }
     ensures over { M.IsOver layout.now memory.new }
-    ensures values { (M.content layout.now memory.new).values ≡ block_done (setting_at now (M.content layout.now memory.old).forced) block leaf (M.content layout.now memory.old).values }
-    ensures forced { (M.content layout.now memory.new).forced ≡ (M.content layout.now memory.old).forced }
+    ensures values { (M.content layout.now memory.new).values
+        ≡ block_done (setting_at now (M.content layout.now memory.old).forced) block leaf
+        (M.content layout.now memory.old).values }
+    ensures forced { (M.content layout.now memory.new).forced
+        ≡ (M.content layout.now memory.old).forced }
 {
     load_values(memory, layout, leaf, cells);
     block_step(block, cells, now);

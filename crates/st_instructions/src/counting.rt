@@ -1,10 +1,10 @@
 //! The instructions that count steps, and those of FOR.
-ghost use Rattle.std.specs.Prelude.{◌≡◌, ◌∷◌, ◌^◌, ◌+ℤ◌, ◌≤ℤ◌, ◌<ℤ◌, ℕ, ℤ, neg_ℤ, pos, true, IsTrue, List};
+ghost use Rattle.std.specs.Prelude.{◌≡◌, ◌∷◌, ◌^◌, ◌+ℤ◌, ◌≤ℤ◌, ◌<ℤ◌, ℤ, neg_ℤ, pos, true, IsTrue, List};
 ghost use Rattle.st_code.specs.declared.instr.Instr.{Instr};
 ghost use Rattle.st_meaning.specs.Statements.{goes_on};
 ghost use Rattle.st_instructions.specs.Ready.{can_begin, can_go_next, can_test, has_three, next_cell, next_of};
-ghost use Rattle.st_instructions.specs.Moves.{Counts, DoesWith, environment_at, moved};
-ghost use Rattle.st_code.specs.Machine.{act, number_in};
+ghost use Rattle.st_instructions.specs.Moves.{Counts, DoesFrom, GivesFrom};
+ghost use Rattle.st_code.specs.Machine.{number_in};
 
 use crate::cells::{cell_of, number_in};
 use crate::leaves::store;
@@ -53,7 +53,8 @@ pub(crate) struct Count {
 #[inline(always)]
 pub(crate) fn count_on(stack: &Stack) -> Count
     requires { IsTrue (has_three stack.now.0) }
-    ensures cells { (rest : List ℤ) × (stack.now.0 ≡ result.step ∷ result.last ∷ result.counter ∷ rest) }
+    ensures cells { (rest : List ℤ)
+        × (stack.now.0 ≡ result.step ∷ result.last ∷ result.counter ∷ rest) }
 {
     Count {
         step: stack.pick(0),
@@ -66,7 +67,8 @@ pub(crate) fn count_on(stack: &Stack) -> Count
 #[inline]
 pub(crate) fn set_counter(stack: &mut Stack, cell: i64)
     requires { IsTrue (has_three stack.old.0) }
-    ensures cells { (step last counter : ℤ) (rest : List ℤ) → stack.old.0 ≡ step ∷ last ∷ counter ∷ rest → stack.new.0 ≡ step ∷ last ∷ cell ∷ rest }
+    ensures cells { (step last counter : ℤ) (rest : List ℤ) →
+        stack.old.0 ≡ step ∷ last ∷ counter ∷ rest → stack.new.0 ≡ step ∷ last ∷ cell ∷ rest }
     ensures room { stack.new.1 ≡ stack.old.1 }
 {
     let step = stack.pop();
@@ -80,7 +82,9 @@ pub(crate) fn set_counter(stack: &mut Stack, cell: i64)
 /// Whether the counter of a FOR hasn't passed its last value.
 #[inline(always)]
 pub(crate) fn count_goes_on(elem: Elem, count: Count) -> bool
-    ensures { result ≡ goes_on (number_in elem count.counter) (number_in elem count.last) (number_in elem count.step) }
+    ensures { result
+        ≡ goes_on (number_in elem count.counter) (number_in elem count.last)
+        (number_in elem count.step) }
 {
     if !is_signed(elem) || count.step >= 0 {
         !is_less(elem, count.last, count.counter)
@@ -194,10 +198,14 @@ pub fn begin<M: Memory>(
     leaf: u32,
 ) -> Move
     requires over { M.IsOver layout.now memory.old }
-    requires ready { IsTrue (can_begin elem leaf stack.old.0 (M.content layout.now memory.old).values) }
+    requires ready { IsTrue
+        (can_begin elem leaf stack.old.0 (M.content layout.now memory.old).values) }
     ensures over { M.IsOver layout.now memory.new }
-    ensures forced { (M.content layout.now memory.new).forced ≡ (M.content layout.now memory.old).forced }
-    ensures does { DoesWith (M.content layout.now memory.old).forced (Instr.Begin elem leaf) result stack.old.1 stack.old.0 stack.new.0 (M.content layout.now memory.old).values (M.content layout.now memory.new).values }
+    ensures forced { (M.content layout.now memory.new).forced
+        ≡ (M.content layout.now memory.old).forced }
+    ensures does { DoesFrom (Instr.Begin elem leaf) result
+        (M.content layout.now memory.old) stack.old
+        (M.content layout.now memory.new) stack.new }
     ensures room { stack.new.1 ≡ stack.old.1 }
 {
     let step = stack.pop();
@@ -221,10 +229,14 @@ pub fn test<M: Memory>(
     distance: usize,
 ) -> Move
     requires over { M.IsOver layout.now memory.old }
-    requires ready { IsTrue (can_test elem leaf stack.old.0 (M.content layout.now memory.old).values) }
+    requires ready { IsTrue
+        (can_test elem leaf stack.old.0 (M.content layout.now memory.old).values) }
     ensures over { M.IsOver layout.now memory.new }
-    ensures forced { (M.content layout.now memory.new).forced ≡ (M.content layout.now memory.old).forced }
-    ensures does { DoesWith (M.content layout.now memory.old).forced (Instr.Test elem leaf distance) result stack.old.1 stack.old.0 stack.new.0 (M.content layout.now memory.old).values (M.content layout.now memory.new).values }
+    ensures forced { (M.content layout.now memory.new).forced
+        ≡ (M.content layout.now memory.old).forced }
+    ensures does { DoesFrom (Instr.Test elem leaf distance) result
+        (M.content layout.now memory.old) stack.old
+        (M.content layout.now memory.new) stack.new }
     ensures room { stack.new.1 ≡ stack.old.1 }
 {
     let count = count_on(stack);
@@ -247,10 +259,14 @@ pub fn go_next<M: Memory>(
     distance: usize,
 ) -> Move
     requires over { M.IsOver layout.now memory.old }
-    requires ready { IsTrue (can_go_next elem leaf stack.old.0 (M.content layout.now memory.old).values left.old) }
+    requires ready { IsTrue
+        (can_go_next elem leaf stack.old.0 (M.content layout.now memory.old).values left.old) }
     ensures over { M.IsOver layout.now memory.new }
-    ensures forced { (M.content layout.now memory.new).forced ≡ (M.content layout.now memory.old).forced }
-    ensures does { (moment : ℤ) (line place : ℕ) → act (environment_at moment (M.content layout.now memory.old).forced) stack.old.1 (Instr.Next elem leaf distance) line place stack.old.0 (M.content layout.now memory.old).values left.old ≡ moved result line place stack.new.0 (M.content layout.now memory.new).values left.new }
+    ensures forced { (M.content layout.now memory.new).forced
+        ≡ (M.content layout.now memory.old).forced }
+    ensures does { (moment : ℤ) → GivesFrom (Instr.Next elem leaf distance) moment result
+        (M.content layout.now memory.old) stack.old left.old
+        (M.content layout.now memory.new) stack.new left.new }
     ensures room { stack.new.1 ≡ stack.old.1 }
 {
     if *left == 0 {

@@ -94,7 +94,8 @@ fn push_sum(stack: &mut Stack, more: u64, distance: u64)
 #[inline(always)]
 pub fn index(stack: &mut Stack, elem: Elem, last: u16, stride: u32, low: i64) -> Move
     requires { IsTrue (can_index elem last stride low stack.old.0) }
-    ensures does { Does (Instr.Index elem last stride low) result stack.old.1 stack.old.0 stack.new.0 }
+    ensures does { Does (Instr.Index elem last stride low) result
+        stack.old.1 stack.old.0 stack.new.0 }
     ensures room { stack.new.1 ≡ stack.old.1 }
 {
     let subscript = stack.pop();
@@ -110,7 +111,8 @@ pub fn index(stack: &mut Stack, elem: Elem, last: u16, stride: u32, low: i64) ->
 /// Does `IndexBelow`.
 pub fn index_below(stack: &mut Stack, elem: Elem, last: u16, stride: u32, low: i64) -> Move
     requires { IsTrue (can_index_below elem last stride low stack.old.0) }
-    ensures does { Does (Instr.IndexBelow elem last stride low) result stack.old.1 stack.old.0 stack.new.0 }
+    ensures does { Does (Instr.IndexBelow elem last stride low) result
+        stack.old.1 stack.old.0 stack.new.0 }
     ensures room { stack.new.1 ≡ stack.old.1 }
 {
     let more = distance_in(stack.pop());

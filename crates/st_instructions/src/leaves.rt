@@ -15,7 +15,8 @@ use st_values::Elem;
 pub fn load<M: Memory>(memory: &M, layout: &Layout, leaf: u32) -> i64
     requires over { M.IsOver layout.now memory.now }
     requires below { leaf < length (M.content layout.now memory.now).values }
-    ensures { result ≡ cell_of (get_or (M.content layout.now memory.now).values leaf no_value).bits }
+    ensures { result
+        ≡ cell_of (get_or (M.content layout.now memory.now).values leaf no_value).bits }
 {
     cell(memory.get(layout, leaf))
 }
@@ -25,7 +26,8 @@ pub fn load<M: Memory>(memory: &M, layout: &Layout, leaf: u32) -> i64
 pub fn load_as<M: Memory>(memory: &M, layout: &Layout, elem: Elem, leaf: u32) -> i64
     requires over { M.IsOver layout.now memory.now }
     requires below { leaf < length layout.now }
-    ensures { result ≡ cell_of (get_or (M.content layout.now memory.now).values leaf no_value).bits }
+    ensures { result
+        ≡ cell_of (get_or (M.content layout.now memory.now).values leaf no_value).bits }
 {
     if layout.elem(leaf) == elem {
         let value = memory.get(layout, leaf);
@@ -41,7 +43,8 @@ pub fn load_as<M: Memory>(memory: &M, layout: &Layout, elem: Elem, leaf: u32) ->
 fn load_any<M: Memory>(memory: &M, layout: &Layout, leaf: u32) -> i64
     requires over { M.IsOver layout.now memory.now }
     requires below { leaf < length layout.now }
-    ensures { result ≡ cell_of (get_or (M.content layout.now memory.now).values leaf no_value).bits }
+    ensures { result
+        ≡ cell_of (get_or (M.content layout.now memory.now).values leaf no_value).bits }
 {
     load(memory, layout, leaf)
 }
@@ -53,8 +56,11 @@ pub fn store<M: Memory>(memory: &mut M, layout: &Layout, elem: Elem, leaf: u32, 
     requires leaf { IsTrue (has_leaf (M.content layout.now memory.old).values elem leaf) }
     requires cell { IsTrue (is_cell_of elem cell) }
     ensures over { M.IsOver layout.now memory.new }
-    ensures values { (M.content layout.now memory.new).values ≡ stored_to (M.content layout.now memory.old).forced (M.content layout.now memory.old).values (value_in elem cell) (Some leaf) }
-    ensures forced { (M.content layout.now memory.new).forced ≡ (M.content layout.now memory.old).forced }
+    ensures values { (M.content layout.now memory.new).values
+        ≡ stored_to (M.content layout.now memory.old).forced
+        (M.content layout.now memory.old).values (value_in elem cell) (Some leaf) }
+    ensures forced { (M.content layout.now memory.new).forced
+        ≡ (M.content layout.now memory.old).forced }
 {
     store_value(memory, layout, leaf, value_in(elem, cell));
 }

@@ -1,8 +1,7 @@
 //! Doing an instruction of a function, over its variables.
-ghost use Rattle.std.specs.Prelude.{◌≡◌, [], pos, ℕ, IsTrue};
+ghost use Rattle.std.specs.Prelude.{◌≡◌, [], pos, IsTrue};
 ghost use Rattle.std.specs.List.{All};
-ghost use Rattle.st_code.specs.Machine.{act};
-ghost use Rattle.st_instructions.specs.Moves.{environment_at, moved};
+ghost use Rattle.st_instructions.specs.Moves.{Gives, environment_at};
 ghost use Rattle.st_instructions.specs.Ready.{is_ready};
 ghost use Rattle.st_values.specs.Values.{IsValue};
 
@@ -24,7 +23,8 @@ pub fn perform(instr: &Instr, variables: &mut [Value], stack: &mut Stack, left: 
     requires values { All IsValue variables.old }
     requires ready { IsTrue (is_ready stack.old.1 instr.now stack.old.0 variables.old left.old) }
     ensures values { All IsValue variables.new }
-    ensures does { (line place : ℕ) → act (environment_at (pos 0) []) stack.old.1 instr.now line place stack.old.0 variables.old left.old ≡ moved result line place stack.new.0 variables.new left.new }
+    ensures does { Gives (environment_at (pos 0) []) stack.old.1 instr.now result
+        stack.old.0 variables.old left.old stack.new.0 variables.new left.new }
     ensures room { stack.new.1 ≡ stack.old.1 }
 {
     match *instr {

@@ -1,9 +1,8 @@
 //! Doing an instruction.
-ghost use Rattle.std.specs.Prelude.{◌≡◌, ◌≤◌, ℕ, length, IsTrue};
-ghost use Rattle.st_code.specs.Machine.{act};
+ghost use Rattle.std.specs.Prelude.{◌≡◌, ◌≤◌, length};
 ghost use Rattle.st_code.specs.Fused.{is_own};
-ghost use Rattle.st_instructions.specs.Ready.{is_ready};
-ghost use Rattle.st_instructions.specs.Moves.{environment_at, moved};
+ghost use Rattle.st_instructions.specs.Ready.{IsReadyFrom};
+ghost use Rattle.st_instructions.specs.Moves.{GivesFrom};
 
 use crate::blocks::invoke;
 use crate::counting::{begin, go_back, go_next, step, test};
@@ -42,10 +41,13 @@ pub fn perform<M: Memory>(
 ) -> Move
     requires over { M.IsOver layout.now memory.old }
     requires few { length (M.content layout.now memory.old).values ≤ 65536 }
-    requires ready { IsTrue (is_ready stack.old.1 instr.now stack.old.0 (M.content layout.now memory.old).values left.old) }
+    requires ready { IsReadyFrom instr.now (M.content layout.now memory.old) stack.old left.old }
     ensures over { M.IsOver layout.now memory.new }
-    ensures forced { (M.content layout.now memory.new).forced ≡ (M.content layout.now memory.old).forced }
-    ensures does { (line place : ℕ) → act (environment_at now (M.content layout.now memory.old).forced) stack.old.1 instr.now line place stack.old.0 (M.content layout.now memory.old).values left.old ≡ moved result line place stack.new.0 (M.content layout.now memory.new).values left.new }
+    ensures forced { (M.content layout.now memory.new).forced
+        ≡ (M.content layout.now memory.old).forced }
+    ensures does { GivesFrom instr.now now result
+        (M.content layout.now memory.old) stack.old left.old
+        (M.content layout.now memory.new) stack.new left.new }
     ensures room { stack.new.1 ≡ stack.old.1 }
 {
     match *instr {

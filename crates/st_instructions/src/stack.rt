@@ -18,7 +18,8 @@ impl Model for Stack {
 
     ghost Value = { List ℤ × ℕ };
 
-    ghost view = { λ stack. (reverse (take stack.top stack.cells.items), length stack.cells.items) };
+    ghost view = { λ stack.
+        (reverse (take stack.top stack.cells.items), length stack.cells.items) };
 
     ghost invariant = { λ stack. stack.top ≤ length stack.cells.items };
 }

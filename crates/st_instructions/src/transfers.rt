@@ -3,7 +3,7 @@ ghost use Rattle.std.specs.Prelude.{◌≡◌, ◌≤◌, ◌<◌, ◌+◌, leng
 ghost use Rattle.st_code.specs.Machine.{distance_in};
 ghost use Rattle.st_code.specs.declared.instr.Instr.{Instr};
 ghost use Rattle.st_instructions.specs.Ready.{can_put, can_put_at, finds};
-ghost use Rattle.st_instructions.specs.Moves.{DoesWith};
+ghost use Rattle.st_instructions.specs.Moves.{DoesFrom};
 
 use crate::distances::distance_in;
 use crate::leaves::{load, store};
@@ -29,7 +29,9 @@ pub fn get<M: Memory>(memory: &M, layout: &Layout, stack: &mut Stack, leaf: u32)
     requires over { M.IsOver layout.now memory.now }
     requires there { leaf < length (M.content layout.now memory.now).values }
     requires spare { length stack.old.0 < stack.old.1 }
-    ensures does { DoesWith (M.content layout.now memory.now).forced (Instr.Get leaf) result stack.old.1 stack.old.0 stack.new.0 (M.content layout.now memory.now).values (M.content layout.now memory.now).values }
+    ensures does { DoesFrom (Instr.Get leaf) result
+        (M.content layout.now memory.now) stack.old
+        (M.content layout.now memory.now) stack.new }
     ensures room { stack.new.1 ≡ stack.old.1 }
 {
     stack.push(load(memory, layout, leaf));
@@ -42,7 +44,9 @@ pub fn get_at<M: Memory>(memory: &M, layout: &Layout, stack: &mut Stack, leaf: u
     requires over { M.IsOver layout.now memory.now }
     requires few { length (M.content layout.now memory.now).values ≤ 65536 }
     requires ready { IsTrue (finds leaf stack.old.0 (M.content layout.now memory.now).values) }
-    ensures does { DoesWith (M.content layout.now memory.now).forced (Instr.GetAt leaf) result stack.old.1 stack.old.0 stack.new.0 (M.content layout.now memory.now).values (M.content layout.now memory.now).values }
+    ensures does { DoesFrom (Instr.GetAt leaf) result
+        (M.content layout.now memory.now) stack.old
+        (M.content layout.now memory.now) stack.new }
     ensures room { stack.new.1 ≡ stack.old.1 }
 {
     let at = leaf_behind(leaf, stack.pop());
@@ -60,10 +64,14 @@ pub fn put<M: Memory>(
     leaf: u32,
 ) -> Move
     requires over { M.IsOver layout.now memory.old }
-    requires ready { IsTrue (can_put elem leaf stack.old.0 (M.content layout.now memory.old).values) }
+    requires ready { IsTrue
+        (can_put elem leaf stack.old.0 (M.content layout.now memory.old).values) }
     ensures over { M.IsOver layout.now memory.new }
-    ensures forced { (M.content layout.now memory.new).forced ≡ (M.content layout.now memory.old).forced }
-    ensures does { DoesWith (M.content layout.now memory.old).forced (Instr.Put elem leaf) result stack.old.1 stack.old.0 stack.new.0 (M.content layout.now memory.old).values (M.content layout.now memory.new).values }
+    ensures forced { (M.content layout.now memory.new).forced
+        ≡ (M.content layout.now memory.old).forced }
+    ensures does { DoesFrom (Instr.Put elem leaf) result
+        (M.content layout.now memory.old) stack.old
+        (M.content layout.now memory.new) stack.new }
     ensures room { stack.new.1 ≡ stack.old.1 }
 {
     let cell = stack.pop();
@@ -82,10 +90,14 @@ pub fn put_at<M: Memory>(
 ) -> Move
     requires over { M.IsOver layout.now memory.old }
     requires few { length (M.content layout.now memory.old).values ≤ 65536 }
-    requires ready { IsTrue (can_put_at elem leaf stack.old.0 (M.content layout.now memory.old).values) }
+    requires ready { IsTrue
+        (can_put_at elem leaf stack.old.0 (M.content layout.now memory.old).values) }
     ensures over { M.IsOver layout.now memory.new }
-    ensures forced { (M.content layout.now memory.new).forced ≡ (M.content layout.now memory.old).forced }
-    ensures does { DoesWith (M.content layout.now memory.old).forced (Instr.PutAt elem leaf) result stack.old.1 stack.old.0 stack.new.0 (M.content layout.now memory.old).values (M.content layout.now memory.new).values }
+    ensures forced { (M.content layout.now memory.new).forced
+        ≡ (M.content layout.now memory.old).forced }
+    ensures does { DoesFrom (Instr.PutAt elem leaf) result
+        (M.content layout.now memory.old) stack.old
+        (M.content layout.now memory.new) stack.new }
     ensures room { stack.new.1 ≡ stack.old.1 }
 {
     let at = leaf_behind(leaf, stack.pop());

@@ -1,11 +1,11 @@
 //! The instructions that read the variables of a function and store into them. None of these is forced, and none measures time.
-ghost use Rattle.std.specs.Prelude.{◌≡◌, ◌<◌, ◌+◌, ◌^◌, [], get_or, length, pos, ℕ, ℤ, IsTrue, List, Some};
+ghost use Rattle.std.specs.Prelude.{◌≡◌, ◌<◌, ◌+◌, ◌^◌, [], get_or, length, pos, ℤ, IsTrue, Some};
 ghost use Rattle.std.specs.List.{All};
 ghost use Rattle.st_code.specs.Code.{cell_of};
-ghost use Rattle.st_code.specs.Machine.{act, distance_in, has_leaf, has_leaves, is_cell_of, value_in};
+ghost use Rattle.st_code.specs.Machine.{distance_in, has_leaf, has_leaves, is_cell_of, value_in};
 ghost use Rattle.st_code.specs.declared.instr.Instr.{Instr};
 ghost use Rattle.st_instructions.specs.Ready.{can_begin, can_go_next, can_put, can_put_at, can_test, finds};
-ghost use Rattle.st_instructions.specs.Moves.{DoesWith, environment_at, moved};
+ghost use Rattle.st_instructions.specs.Moves.{DoesWith, Gives, Writes, environment_at};
 ghost use Rattle.st_meaning.specs.Meaning.{no_value, stored_to};
 ghost use Rattle.st_values.specs.Values.{IsValue};
 
@@ -57,7 +57,8 @@ pub(crate) fn get(variables: &[Value], stack: &mut Stack, leaf: u32) -> Move
     requires values { All IsValue variables.now }
     requires there { leaf < length variables.now }
     requires spare { length stack.old.0 < stack.old.1 }
-    ensures does { DoesWith [] (Instr.Get leaf) result stack.old.1 stack.old.0 stack.new.0 variables.now variables.now }
+    ensures does { DoesWith [] (Instr.Get leaf) result
+        stack.old.1 stack.old.0 stack.new.0 variables.now variables.now }
     ensures room { stack.new.1 ≡ stack.old.1 }
 {
     stack.push(load(variables, leaf as usize));
@@ -69,7 +70,8 @@ pub(crate) fn get(variables: &[Value], stack: &mut Stack, leaf: u32) -> Move
 pub(crate) fn get_at(variables: &[Value], stack: &mut Stack, leaf: u32) -> Move
     requires values { All IsValue variables.now }
     requires ready { IsTrue (finds leaf stack.old.0 variables.now) }
-    ensures does { DoesWith [] (Instr.GetAt leaf) result stack.old.1 stack.old.0 stack.new.0 variables.now variables.now }
+    ensures does { DoesWith [] (Instr.GetAt leaf) result
+        stack.old.1 stack.old.0 stack.new.0 variables.now variables.now }
     ensures room { stack.new.1 ≡ stack.old.1 }
 {
     let _many = variables.len();
@@ -84,7 +86,8 @@ pub(crate) fn put(variables: &mut [Value], stack: &mut Stack, elem: Elem, leaf: 
     requires values { All IsValue variables.old }
     requires ready { IsTrue (can_put elem leaf stack.old.0 variables.old) }
     ensures values { All IsValue variables.new }
-    ensures does { DoesWith [] (Instr.Put elem leaf) result stack.old.1 stack.old.0 stack.new.0 variables.old variables.new }
+    ensures does { DoesWith [] (Instr.Put elem leaf) result
+        stack.old.1 stack.old.0 stack.new.0 variables.old variables.new }
     ensures room { stack.new.1 ≡ stack.old.1 }
 {
     let cell = stack.pop();
@@ -98,7 +101,8 @@ pub(crate) fn put_at(variables: &mut [Value], stack: &mut Stack, elem: Elem, lea
     requires values { All IsValue variables.old }
     requires ready { IsTrue (can_put_at elem leaf stack.old.0 variables.old) }
     ensures values { All IsValue variables.new }
-    ensures does { DoesWith [] (Instr.PutAt elem leaf) result stack.old.1 stack.old.0 stack.new.0 variables.old variables.new }
+    ensures does { DoesWith [] (Instr.PutAt elem leaf) result
+        stack.old.1 stack.old.0 stack.new.0 variables.old variables.new }
     ensures room { stack.new.1 ≡ stack.old.1 }
 {
     let _many = variables.len();
@@ -113,7 +117,8 @@ pub(crate) fn begin(variables: &mut [Value], stack: &mut Stack, elem: Elem, leaf
     requires values { All IsValue variables.old }
     requires ready { IsTrue (can_begin elem leaf stack.old.0 variables.old) }
     ensures values { All IsValue variables.new }
-    ensures does { DoesWith [] (Instr.Begin elem leaf) result stack.old.1 stack.old.0 stack.new.0 variables.old variables.new }
+    ensures does { DoesWith [] (Instr.Begin elem leaf) result
+        stack.old.1 stack.old.0 stack.new.0 variables.old variables.new }
     ensures room { stack.new.1 ≡ stack.old.1 }
 {
     let step = stack.pop();
@@ -137,7 +142,8 @@ pub(crate) fn test(
     requires values { All IsValue variables.old }
     requires ready { IsTrue (can_test elem leaf stack.old.0 variables.old) }
     ensures values { All IsValue variables.new }
-    ensures does { DoesWith [] (Instr.Test elem leaf distance) result stack.old.1 stack.old.0 stack.new.0 variables.old variables.new }
+    ensures does { DoesWith [] (Instr.Test elem leaf distance) result
+        stack.old.1 stack.old.0 stack.new.0 variables.old variables.new }
     ensures room { stack.new.1 ≡ stack.old.1 }
 {
     let count = count_on(stack);
@@ -160,7 +166,9 @@ pub(crate) fn go_next(
     requires values { All IsValue variables.old }
     requires ready { IsTrue (can_go_next elem leaf stack.old.0 variables.old left.old) }
     ensures values { All IsValue variables.new }
-    ensures does { (moment : ℤ) (line place : ℕ) → act (environment_at moment []) stack.old.1 (Instr.Next elem leaf distance) line place stack.old.0 variables.old left.old ≡ moved result line place stack.new.0 variables.new left.new }
+    ensures does { (moment : ℤ) →
+        Gives (environment_at moment []) stack.old.1 (Instr.Next elem leaf distance) result
+        stack.old.0 variables.old left.old stack.new.0 variables.new left.new }
     ensures room { stack.new.1 ≡ stack.old.1 }
 {
     if *left == 0 {
@@ -183,7 +191,8 @@ pub(crate) fn invoke(variables: &mut [Value], block: StandardBlock, leaf: u32) -
     requires values { All IsValue variables.old }
     requires ready { IsTrue (has_leaves variables.old block leaf) }
     ensures values { All IsValue variables.new }
-    ensures does { (room line place left : ℕ) (stack : List ℤ) → act (environment_at (pos 0) []) room (Instr.Invoke block leaf) line place stack variables.old left ≡ moved result line place stack variables.new left }
+    ensures does { Writes (environment_at (pos 0) []) (Instr.Invoke block leaf) result
+        variables.old variables.new }
 {
     let first = leaf as usize;
     block_step(block, &mut variables[first..first + leaf_count(block)], 0);

@@ -1,6 +1,6 @@
 -- The charts of a text, by the numbers of the units, and which of them code is about.
 use Rattle.std.specs.Option.{is_some}
-use Rattle.std.specs.Prelude.{◌≡◌, ◌≢◌, ℕ, Bool, true, false, ℤ, List, [], ◌∷◌, drop, get_or, IsTrue, Option, Some}
+use Rattle.std.specs.Prelude.{◌≡◌, ◌≢◌, ℕ, ◌+◌, Bool, true, false, ℤ, List, [], ◌∷◌, drop, get_or, IsTrue, Option, Some}
 use Rattle.std.specs.List.{All}
 use Rattle.st_memory.specs.Memory.{Content}
 use Rattle.st_meaning.specs.Sketches.{Sketch}
@@ -9,7 +9,7 @@ use Rattle.st_chart_runs.specs.Charts.{ChartsFit, chart_at}
 use Rattle.st_chart_runs.specs.declared.workspace.ChartRoom.{ChartRoom}
 use Rattle.st_code.specs.Charts.{ChartTest, ChartsWhere}
 use Rattle.st_code.specs.Code.{Line}
-use Rattle.st_code.specs.Machine.{Environment, act, stuck}
+use Rattle.st_code.specs.Machine.{Environment, act, goes, state, stuck}
 use Rattle.st_code.specs.declared.instr.Instr.{Instr}
 use Rattle.st_code.specs.Fused.{is_of_chart}
 use Rattle.st_chart_runs.specs.Views.{setting_at}
@@ -44,3 +44,8 @@ pub record ChartWork (i : Instr) (charts : List (Option SketchView)) (room : Cha
   pub place : ℕ
   pub left : ℕ
   pub free : act env stack.1 i line place stack.0 content.values left ≢ stuck
+
+-- whichever run that is, the instruction leads to the next one, and leaves this content and this stack
+abbrev pub ChartWorkLeaves : Instr → List (Option SketchView) → ChartRoom → (moment : ℤ) → Content → List ℤ × ℕ → Content → List ℤ × ℕ → Type 0
+ChartWorkLeaves i charts room moment content stack new others = (work : ChartWork i charts room moment content stack)
+    → act work.env stack.1 i work.line work.place stack.0 content.values work.left ≡ goes (state (work.place + 1) others.0 new.values work.left)

@@ -29,7 +29,10 @@ pub(crate) fn call(
     limit: u32,
 ) -> Result<u32, Halt>
     requires may { CallOf number inputs below functions.now (rooms_of levels.old) stack.old }
-    ensures gives { (called : CallOf number inputs below functions.now (rooms_of levels.old) stack.old) → GivesAs (given_by called.said number inputs stack.old.0 limit) (drop (inputs + below) stack.old.0) stack.new.0 result }
+    ensures gives { (called : CallOf number inputs below functions.now (rooms_of levels.old)
+        stack.old)
+        → GivesAs (given_by called.said number inputs stack.old.0 limit)
+        (drop (inputs + below) stack.old.0) stack.new.0 result }
     ensures steps { IfOk result (λ left. left ≤ limit) }
     ensures room { stack.new.1 ≡ stack.old.1 }
     ensures rooms { rooms_of levels.new ≡ rooms_of levels.old }
@@ -69,7 +72,8 @@ pub(crate) fn call(
 fn set_variables(function: &Function, cells: &[i64], variables: &mut [Value])
     requires cells { IsTrue (are_cells_in function.now.inputs cells.now) }
     requires room { length variables.old ≡ length function.now.starts }
-    ensures { variables.new ≡ begun_by function.now.starts (values_in function.now.inputs cells.now) }
+    ensures { variables.new
+        ≡ begun_by function.now.starts (values_in function.now.inputs cells.now) }
 {
     let inputs = function.inputs();
     let starts = function.starts();

@@ -2,8 +2,8 @@
 ghost use Rattle.std.specs.Prelude.{◌≡◌, ◌≤◌, ◌+◌, ◌++◌, drop, false, get_or, length, map, Some, IsTrue};
 ghost use Rattle.st_chart_runs.specs.Charts.{chart_at};
 ghost use Rattle.st_chart_runs.specs.Views.{room_of};
-ghost use Rattle.st_code.specs.Machine.{act, goes, state, truth_of};
-ghost use Rattle.st_machine.specs.Charts.{ChartWork, is_known, on_among};
+ghost use Rattle.st_code.specs.Machine.{truth_of};
+ghost use Rattle.st_machine.specs.Charts.{ChartWork, ChartWorkLeaves, is_known, on_among};
 
 use st_chart_runs::{Workspace, invoke_chart, is_asked, set_times};
 use st_code::Instr;
@@ -41,10 +41,14 @@ pub(crate) fn do_chart<M: Memory>(
     now: i64,
 )
     requires over { M.IsOver layout.now memory.old }
-    requires work { ChartWork instr.now charts.now (room_of workspace.old) now (M.content layout.now memory.old) stack.old }
+    requires work { ChartWork instr.now charts.now (room_of workspace.old) now
+        (M.content layout.now memory.old) stack.old }
     ensures over { M.IsOver layout.now memory.new }
-    ensures forced { (M.content layout.now memory.new).forced ≡ (M.content layout.now memory.old).forced }
-    ensures does { (work : ChartWork instr.now charts.now (room_of workspace.old) now (M.content layout.now memory.old) stack.old) → act work.env stack.old.1 instr.now work.line work.place stack.old.0 (M.content layout.now memory.old).values work.left ≡ goes (state (work.place + 1) stack.new.0 (M.content layout.now memory.new).values work.left) }
+    ensures forced { (M.content layout.now memory.new).forced
+        ≡ (M.content layout.now memory.old).forced }
+    ensures does { ChartWorkLeaves instr.now charts.now (room_of workspace.old) now
+        (M.content layout.now memory.old) stack.old
+        (M.content layout.now memory.new) stack.new }
     ensures stack { stack.new.1 ≡ stack.old.1 }
     ensures room { room_of workspace.new ≡ room_of workspace.old }
 {
@@ -70,8 +74,13 @@ pub(crate) fn do_chart<M: Memory>(
 /// Takes the conditions away, and puts which names of a chart are on: those of its actions, and above them those that are variables.
 fn put_names(sketch: &Sketch, on: &[bool], stack: &mut Stack)
     requires names { length sketch.now.variables ≡ length on.now }
-    requires room { length (on_among sketch.now.variables on.now) + (length sketch.now.actions + length (drop (length sketch.now.passages) stack.old.0)) ≤ stack.old.1 }
-    ensures cells { stack.new.0 ≡ map truth_of (on_among sketch.now.variables on.now) ++ (map truth_of (map (λ n. get_or on.now n false) sketch.now.actions) ++ drop (length sketch.now.passages) stack.old.0) }
+    requires room { length (on_among sketch.now.variables on.now)
+        + (length sketch.now.actions + length (drop (length sketch.now.passages) stack.old.0))
+        ≤ stack.old.1 }
+    ensures cells { stack.new.0
+        ≡ map truth_of (on_among sketch.now.variables on.now)
+        ++ (map truth_of (map (λ n. get_or on.now n false) sketch.now.actions)
+        ++ drop (length sketch.now.passages) stack.old.0) }
     ensures room { stack.new.1 ≡ stack.old.1 }
 {
     stack.lower(sketch.transitions());
@@ -89,7 +98,8 @@ fn is_on(on: &[bool], number: usize) -> bool
 /// Puts for each action whether its name is on, the first one on top.
 fn put_actions(actions: &[u32], on: &[bool], stack: &mut Stack)
     requires { length actions.now + length stack.old.0 ≤ stack.old.1 }
-    ensures cells { stack.new.0 ≡ map truth_of (map (λ n. get_or on.now n false) actions.now) ++ stack.old.0 }
+    ensures cells { stack.new.0
+        ≡ map truth_of (map (λ n. get_or on.now n false) actions.now) ++ stack.old.0 }
     ensures room { stack.new.1 ≡ stack.old.1 }
 {
     let mut place = actions.len();

@@ -23,13 +23,23 @@ impl Model for Function {
 
     ghost Value = { FunctionView };
 
-    ghost view = { λ f. record { code = f.code; level = f.level; inputs = f.inputs.items; starts = f.starts.items } };
+    ghost view = { λ f. record {
+      code = f.code;
+      level = f.level;
+      inputs = f.inputs.items;
+      starts = f.starts.items;
+    } };
 }
 
 impl Function {
     /// A function of this level.
     pub fn new(code: Code, level: usize, inputs: Vec<Elem>, starts: Vec<Start>) -> Function
-        ensures { result ≡ record { code = code; level = level; inputs = inputs.items; starts = starts.items } }
+        ensures { result ≡ record {
+          code = code;
+          level = level;
+          inputs = inputs.items;
+          starts = starts.items;
+        } }
     {
         Function {
             code,

@@ -2,12 +2,10 @@
 ghost use Rattle.std.specs.Prelude.{◌≡◌, ◌≤◌, ◌<◌, is_some, length, IfErr, IfOk, IsTrue, None};
 ghost use Rattle.st_code.specs.Beside.{line_at};
 ghost use Rattle.st_code.specs.Relative.{code_from};
-ghost use Rattle.st_code.specs.Machine.{act};
-ghost use Rattle.st_machine.specs.Blocks.{Entrance, LeavesAs, Run, UnitWork, made_by};
+ghost use Rattle.st_machine.specs.Blocks.{Entrance, LeavesAs, Run, UnitWork, UnitWorkLeaves, made_by};
 ghost use Rattle.st_chart_runs.specs.Views.{room_of};
 ghost use Rattle.st_chart_runs.specs.Charts.{ChartsFit};
-ghost use Rattle.st_machine.specs.Levels.{environment_with, rooms_for, rooms_of};
-ghost use Rattle.st_machine.specs.Running.{followed};
+ghost use Rattle.st_machine.specs.Levels.{rooms_for, rooms_of};
 
 use crate::calls::call;
 use crate::charts::do_chart;
@@ -43,8 +41,11 @@ pub(crate) fn enter<M: Memory>(
     requires may { Entrance number first units.now (rooms_of levels.old) layout.now }
     requires fit { ChartsFit units.now.charts (room_of work.old) }
     ensures over { M.IsOver layout.now memory.new }
-    ensures forced { (M.content layout.now memory.new).forced ≡ (M.content layout.now memory.old).forced }
-    ensures leaves { (entrance : Entrance number first units.now (rooms_of levels.old) layout.now) → LeavesAs (made_by entrance.said number first now (M.content layout.now memory.old) limit) (M.content layout.now memory.new).values result }
+    ensures forced { (M.content layout.now memory.new).forced
+        ≡ (M.content layout.now memory.old).forced }
+    ensures leaves { (entrance : Entrance number first units.now (rooms_of levels.old) layout.now)
+        → LeavesAs (made_by entrance.said number first now (M.content layout.now memory.old) limit)
+        (M.content layout.now memory.new).values result }
     ensures steps { IfOk result (λ left. left ≤ limit) }
     ensures rooms { rooms_of levels.new ≡ rooms_of levels.old }
     ensures charts { room_of work.new ≡ room_of work.old }
@@ -90,10 +91,14 @@ pub(crate) fn do_with_units<M: Memory>(
     limit: u32,
 ) -> Result<u32, Halt>
     requires over { M.IsOver layout.now memory.old }
-    requires may { UnitWork instr.now units.now (rooms_of levels.old) (room_of work.old) layout.now now (M.content layout.now memory.old) stack.old limit }
+    requires may { UnitWork instr.now units.now (rooms_of levels.old) (room_of work.old)
+        layout.now now (M.content layout.now memory.old) stack.old limit }
     ensures over { M.IsOver layout.now memory.new }
-    ensures forced { (M.content layout.now memory.new).forced ≡ (M.content layout.now memory.old).forced }
-    ensures does { (may : UnitWork instr.now units.now (rooms_of levels.old) (room_of work.old) layout.now now (M.content layout.now memory.old) stack.old limit) → act (environment_with may.said now (M.content layout.now memory.old).forced) stack.old.1 instr.now may.line may.place stack.old.0 (M.content layout.now memory.old).values limit ≡ followed result may.place stack.new.0 (M.content layout.now memory.new).values }
+    ensures forced { (M.content layout.now memory.new).forced
+        ≡ (M.content layout.now memory.old).forced }
+    ensures does { UnitWorkLeaves instr.now units.now (rooms_of levels.old) (room_of work.old)
+        layout.now now (M.content layout.now memory.old) stack.old limit
+        result (M.content layout.now memory.new) stack.new }
     ensures steps { IfOk result (λ left. left ≤ limit) }
     ensures unit { IfErr result (λ halt. IsTrue (is_some halt.unit)) }
     ensures room { stack.new.1 ≡ stack.old.1 }
@@ -134,10 +139,16 @@ pub(crate) fn run_body<M: Memory>(
 ) -> Result<u32, Halt>
     requires over { M.IsOver layout.now memory.old }
     requires first { first ≤ 65536 }
-    requires runs { Run (code_from first code.now) units.now (rooms_for stack.old.1 levels.old (room_of work.old)) layout.now now (M.content layout.now memory.old) limit }
+    requires runs { Run (code_from first code.now) units.now
+        (rooms_for stack.old.1 levels.old (room_of work.old))
+        layout.now now (M.content layout.now memory.old) limit }
     ensures over { M.IsOver layout.now memory.new }
-    ensures forced { (M.content layout.now memory.new).forced ≡ (M.content layout.now memory.old).forced }
-    ensures ends { (run : Run (code_from first code.now) units.now (rooms_for stack.old.1 levels.old (room_of work.old)) layout.now now (M.content layout.now memory.old) limit) → LeavesAs run.outcome (M.content layout.now memory.new).values result }
+    ensures forced { (M.content layout.now memory.new).forced
+        ≡ (M.content layout.now memory.old).forced }
+    ensures ends { (run : Run (code_from first code.now) units.now
+        (rooms_for stack.old.1 levels.old (room_of work.old))
+        layout.now now (M.content layout.now memory.old) limit)
+        → LeavesAs run.outcome (M.content layout.now memory.new).values result }
     ensures steps { IfOk result (λ left. left ≤ limit) }
     ensures room { stack.new.1 ≡ stack.old.1 }
     ensures rooms { rooms_of levels.new ≡ rooms_of levels.old }

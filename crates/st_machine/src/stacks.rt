@@ -47,7 +47,11 @@ impl Model for Stacks {
 
     ghost Value = { Rooms };
 
-    ghost view = { λ stacks. record { own = stacks.own.1; levels = rooms_of stacks.levels.items; charts = room_of stacks.workspace } };
+    ghost view = { λ stacks. record {
+      own = stacks.own.1;
+      levels = rooms_of stacks.levels.items;
+      charts = room_of stacks.workspace;
+    } };
 }
 
 impl Stacks {
@@ -58,7 +62,8 @@ impl Stacks {
         levels: &[Room],
         charts: ChartRoom,
     ) -> Result<Stacks, AllocError>
-        ensures { IfOk result (λ stacks. stacks ≡ record { own = own; levels = levels.now; charts = charts }) }
+        ensures { IfOk result
+            (λ stacks. stacks ≡ record { own = own; levels = levels.now; charts = charts }) }
     {
         let own = Stack::with_room(alloc, own)?;
         let levels = levels_of(alloc, levels)?;

@@ -21,13 +21,21 @@ impl Model for Units {
 
     ghost Value = { UnitsView };
 
-    ghost view = { λ units. record { blocks = units.blocks.items; functions = units.functions.items; charts = units.charts.items } };
+    ghost view = { λ units. record {
+      blocks = units.blocks.items;
+      functions = units.functions.items;
+      charts = units.charts.items;
+    } };
 }
 
 impl Units {
     /// These blocks, functions and charts.
     pub fn new(blocks: Vec<Block>, functions: Vec<Function>, charts: Vec<Option<Sketch>>) -> Units
-        ensures { result ≡ record { blocks = blocks.items; functions = functions.items; charts = charts.items } }
+        ensures { result ≡ record {
+          blocks = blocks.items;
+          functions = functions.items;
+          charts = charts.items;
+        } }
     {
         Units {
             blocks,
