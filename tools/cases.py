@@ -48,11 +48,21 @@ class Case:
     parts: list[Part]
 
 
+def written_out(text: str, words: Words) -> str:
+    """A text with all that stands in braces written out: what is repeated, as often as a number or the value of a word says, and words."""
+
+    def repeated(found: re.Match[str]) -> str:
+        count = words.get(found[1], found[1])
+        return "".join(found[3].replace("@", str(it + 1)) for it in range(int(count))) if count.isdigit() else found[0]
+
+    text = re.sub(r"\{([^{}*]*)\*(\n?)([^{}]*)\}\2", repeated, text)  # a line feed behind the star goes with the one behind the brace
+    return re.sub(r"\{([^{}]*)\}", lambda it: words.get(it[1], it[0]), text)
+
+
 def case_of(name: str, place: str, lines: list[str], words: Words) -> Case:
-    """The case with these lines, each word of which that stands in braces has a value."""
+    """The case with these lines, in which the words have values."""
     text, parts = list[str](), list[Part]()
-    for line in lines:
-        line = re.sub(r"\{([^{}]*)\}", lambda it: words.get(it[1], it[0]), line)
+    for line in written_out("\n".join([*lines, ""]), words).split("\n"):
         if line.startswith("-- "):
             parts.append(Part(line[3:]))
         elif parts:

@@ -39,6 +39,23 @@ refused O3
 -- each type above
 SINT 128
 INT  32768
+
+== a repetition
+PROGRAM Main VAR A{2*, A@} : INT; END_VAR
+A1 := {3*(}1{3*)};
+{count*
+A@ := 1;
+}
+END_PROGRAM
+-- session
+{2*
+> scan @
+ok
+}
+> status{1* }
+-- each count
+0
+2
 """
 
 
@@ -53,8 +70,8 @@ class CasesAreRead(unittest.TestCase):
         self.folder.cleanup()
 
     def test_blocks_are_cases_and_so_are_rows(self) -> None:
-        self.assertEqual([it.name for it in self.cases], ["a sum of two", "each bound", "each bound"])
-        self.assertEqual([it.place for it in self.cases], ["sums.cases:3", "sums.cases:22", "sums.cases:23"])
+        self.assertEqual([it.name for it in self.cases], ["a sum of two", *["each bound"] * 2, *["a repetition"] * 2])
+        self.assertEqual([it.place for it in self.cases], [f"sums.cases:{it}" for it in (3, 22, 23, 39, 40)])
 
     def test_columns_are_scans_and_what_they_show(self) -> None:
         session, layout = self.cases[0].parts
@@ -66,6 +83,12 @@ class CasesAreRead(unittest.TestCase):
     def test_words_in_braces_have_the_values_of_the_row(self) -> None:
         self.assertEqual(self.cases[2].text, "PROGRAM Main VAR A : INT; END_VAR END_PROGRAM\n")
         self.assertEqual(self.cases[2].parts[0].typed, ["write Main.A 32768"])
+
+    def test_what_is_repeated_stands_so_often_with_its_number(self) -> None:
+        none, twice = self.cases[3:]
+        self.assertEqual(none.text, "PROGRAM Main VAR A, A1, A2 : INT; END_VAR\nA1 := (((1)));\nEND_PROGRAM\n")
+        self.assertEqual(twice.text, none.text.replace("END_P", "A1 := 1;\nA2 := 1;\nEND_P"))
+        self.assertEqual((twice.parts[0].typed, twice.parts[0].wanted), (["scan 1", "scan 2", "status "], ["ok", "ok"]))
 
     def program(self, script: str) -> Program:
         file = Path(self.folder.name) / "program"
