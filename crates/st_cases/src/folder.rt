@@ -1,7 +1,8 @@
 //! The files of a folder, and the cases of each.
 use crate::blocks::{Block, blocks_of};
+use crate::case::Case;
 use crate::tally::Tally;
-use std::fs::{read, read_dir};
+use std::fs::{read_dir, read_to_string};
 use std::io;
 
 /// Runs the cases of a folder's files, names those that fail, and says how many each file has.
@@ -33,7 +34,7 @@ fn case_files(rt: &HostRuntime, folder: &str) -> io::Result<Vec<String>> {
 
 /// Runs the cases of a file, and names those that fail.
 fn run_file(rt: &HostRuntime, path: &str) -> io::Result<Tally> {
-    let file = read(rt, path)?;
+    let file = read_to_string(rt, path)?;
     let mut all = Tally::default();
     for block in &blocks_of(rt.alloc(), &file)? {
         all.add(run_block(rt, path, block)?);
@@ -43,12 +44,14 @@ fn run_file(rt: &HostRuntime, path: &str) -> io::Result<Tally> {
 
 /// Runs the cases of a block, and names those that fail.
 fn run_block(rt: &HostRuntime, path: &str, block: &Block<'_>) -> io::Result<Tally> {
-    let name = String::from_utf8_lossy(rt.alloc(), block.name)?;
+    let name = block.name;
     let mut tally = Tally::default();
-    for case in &block.cases(rt.alloc())? {
-        let line = case.line;
+    for row in &block.rows {
+        let lines = block.case(rt.alloc(), *row)?;
+        let failure = Case::new(rt.alloc(), &lines)?.failure(rt.alloc())?;
+        let line = row.line;
         let place = format!(in rt.alloc(); "{path}:{line}: {name}")?;
-        tally.count(rt, &place, case.failure(rt.alloc())?)?;
+        tally.count(rt, &place, failure)?;
     }
     Ok(tally)
 }

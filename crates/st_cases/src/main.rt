@@ -8,11 +8,11 @@
 #![tactic(auto)]
 
 mod blocks;
+mod braces;
 mod case;
 mod folder;
 mod made;
 mod tally;
-mod texts;
 mod trials;
 mod ways;
 mod without_memory;

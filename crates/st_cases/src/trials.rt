@@ -2,7 +2,7 @@
 ghost use Rattle.std.specs.Prelude.{◌≡◌, IfOk, IsNone};
 ghost use Rattle.std.specs.List.{All};
 
-use crate::ways::{LARGE_PIECE, Told, Typed, check, converse, lay_out, run};
+use crate::ways::{LARGE_PIECE, Question, Told, Typed, ask, converse, run};
 use st_memory::{Cells, Packed};
 use st_session::{ACCEPTED, LINE_REFUSED, NO_PROGRAM};
 use std::alloc::{AllocError, Global};
@@ -29,7 +29,7 @@ pub fn session_failure(
     alloc: Global,
     text: &[u8],
     typed: Typed<'_>,
-    written: &[u8],
+    replies: &str,
 ) -> Result<Option<String>, AllocError> {
     let ways = [
         ("run", run(alloc, text, typed, LARGE_PIECE)?),
@@ -37,7 +37,8 @@ pub fn session_failure(
         ("over Cells", converse::<Cells>(alloc, text, typed)?),
         ("over Packed", converse::<Packed>(alloc, text, typed)?),
     ];
-    let status = status_of(written);
+    let status = status_of(replies);
+    let written = replies.as_bytes();
     first_failure(alloc, &ways, Wanted { status, written })
 }
 
@@ -47,40 +48,34 @@ pub fn layout_failure(
     text: &[u8],
     written: &[u8],
 ) -> Result<Option<String>, AllocError> {
-    let ways = [("layout", lay_out(alloc, text)?)];
+    let ways = [("layout", ask(alloc, Question::Layout, text)?)];
     let status = ACCEPTED;
     first_failure(alloc, &ways, Wanted { status, written })
 }
 
-/// How a text fails to be accepted, or nothing where it is: by its check, by its layout, and by its load over each kind of memory.
-pub fn accepted_failure(alloc: Global, text: &[u8]) -> Result<Option<String>, AllocError> {
+/// How a check of a text fails to answer this, `ok` or `refused ..`, or nothing where it does. So has the text to be taken or refused by
+/// its layout, and by its load over each kind of memory.
+pub fn check_failure(
+    alloc: Global,
+    text: &[u8],
+    answer: &str,
+) -> Result<Option<String>, AllocError> {
     let ways = [
-        ("check", check(alloc, text)?),
-        ("layout", as_checked(lay_out(alloc, text)?)?),
+        ("check", ask(alloc, Question::Check, text)?),
+        ("layout", as_checked(ask(alloc, Question::Layout, text)?)?),
         ("run", as_checked(run(alloc, text, SILENCE, LARGE_PIECE)?)?),
         (
             "over Cells",
             as_checked(converse::<Cells>(alloc, text, SILENCE)?)?,
         ),
+        (
+            "over Packed",
+            as_checked(converse::<Packed>(alloc, text, SILENCE)?)?,
+        ),
     ];
-    let (status, written) = (ACCEPTED, OK);
-    first_failure(alloc, &ways, Wanted { status, written })
-}
-
-/// How a text fails to be refused so, or nothing where it is: by its check, by its layout, and by its load over each kind of memory.
-pub fn refused_failure(
-    alloc: Global,
-    text: &[u8],
-    written: &[u8],
-) -> Result<Option<String>, AllocError> {
-    let ways = [
-        ("check", check(alloc, text)?),
-        ("layout", lay_out(alloc, text)?),
-        ("run", run(alloc, text, SILENCE, LARGE_PIECE)?),
-        ("over Cells", converse::<Cells>(alloc, text, SILENCE)?),
-        ("over Packed", converse::<Packed>(alloc, text, SILENCE)?),
-    ];
-    let status = NO_PROGRAM;
+    let answer = format!(in alloc; "{answer}\n")?;
+    let written = answer.as_bytes();
+    let status = if written == OK { ACCEPTED } else { NO_PROGRAM };
     first_failure(alloc, &ways, Wanted { status, written })
 }
 
@@ -131,29 +126,26 @@ fn difference(alloc: Global, told: &Told, wanted: Wanted<'_>) -> Result<Option<S
 
 /// The first line that differs.
 fn first_line(alloc: Global, written: &[u8], wanted: &[u8]) -> Result<String, AllocError> {
-    let mut lines = written.split(|byte| *byte == b'\n');
+    let written = String::from_utf8_lossy(alloc, written)?;
+    let wanted = String::from_utf8_lossy(alloc, wanted)?;
+    let mut lines = written.split('\n');
     let mut number: usize = 0;
-    for due in wanted.split(|byte| *byte == b'\n') {
+    for due in wanted.split('\n') {
         number = number.saturating_add(1);
-        let came = lines.next().unwrap_or(b"");
+        let came = lines.next().unwrap_or("");
         if came != due {
-            let came = String::from_utf8_lossy(alloc, came)?;
-            let due = String::from_utf8_lossy(alloc, due)?;
             return format!(in alloc; "line {number} is '{came}', not '{due}'");
         }
     }
     format!(in alloc; "there are more than {number} lines")
 }
 
-/// The status of a session with these replies.
-fn status_of(replies: &[u8]) -> u8 {
-    let is_refused = replies
-        .split(|byte| *byte == b'\n')
-        .any(|reply| is_refusal(reply));
-    if is_refused { LINE_REFUSED } else { ACCEPTED }
-}
-
-/// Tests whether a reply tells of a line that is refused, or of a scan that a fault ended.
-fn is_refusal(reply: &[u8]) -> bool {
-    reply.starts_with(b"refused") || reply.starts_with(b"fault")
+/// The status of a session with these replies: some line is refused, or a fault ends some scan, or neither.
+fn status_of(replies: &str) -> u8 {
+    for reply in replies.split('\n') {
+        if reply.starts_with("refused") || reply.starts_with("fault") {
+            return LINE_REFUSED;
+        }
+    }
+    ACCEPTED
 }

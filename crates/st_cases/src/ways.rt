@@ -1,5 +1,5 @@
 //! The ways in which a text is used: what each writes, and its status.
-ghost use Rattle.std.specs.Prelude.{◌<◌};
+ghost use Rattle.std.specs.Prelude.{◌≡◌, ◌<◌, false};
 
 use st_memory::Memory;
 use st_session::control::{Controller, Refusal};
@@ -17,6 +17,10 @@ pub const LARGE_PIECE: usize = 4096;
 
 /// How many steps a scan may take where a session doesn't say it.
 pub const STEPS: u32 = 100_000;
+
+/// The program of most cases.
+pub const FIRST: &[u8] =
+    b"PROGRAM Main VAR A : INT := 3; B : BOOL; END_VAR A := A + 1; END_PROGRAM";
 
 /// The name of the program, as texts declare it.
 pub const MAIN: &[u8] = b"Main";
@@ -38,18 +42,30 @@ pub struct Typed<'a> {
     pub steps: u32,
 }
 
-/// Checks a text.
-pub fn check(alloc: Global, text: &[u8]) -> Result<Told, AllocError> {
-    let mut sheet = Sheet::new(alloc, LARGE_PIECE, ALL_GOOD);
-    let status = check_text(alloc, text, MAIN_RAISED, &mut sheet);
-    answer(alloc, status, &sheet)
+/// What is asked of a text.
+#[derive(Clone, Copy)]
+pub enum Question {
+    /// Whether it is accepted.
+    Check,
+    /// The leaves of its program.
+    Layout,
 }
 
-/// Lists the leaves of a text's program.
-pub fn lay_out(alloc: Global, text: &[u8]) -> Result<Told, AllocError> {
+/// Answers a question on a text by what it writes to a sink, and the status.
+pub fn answer<W: Sink>(alloc: Global, question: Question, text: &[u8], sink: &mut W) -> u8
+    requires { W.has_failed sink.old ≡ false }
+{
+    match question {
+        Question::Check => check_text(alloc, text, MAIN_RAISED, sink),
+        Question::Layout => layout_text(alloc, text, MAIN_RAISED, sink),
+    }
+}
+
+/// The answer to a question on a text.
+pub fn ask(alloc: Global, question: Question, text: &[u8]) -> Result<Told, AllocError> {
     let mut sheet = Sheet::new(alloc, LARGE_PIECE, ALL_GOOD);
-    let status = layout_text(alloc, text, MAIN_RAISED, &mut sheet);
-    answer(alloc, status, &sheet)
+    let status = answer(alloc, question, text, &mut sheet);
+    written_on(alloc, status, &sheet)
 }
 
 /// Runs a session over a text as the program does it, by pieces of so many bytes.
@@ -59,7 +75,7 @@ pub fn run(alloc: Global, text: &[u8], typed: Typed<'_>, piece: usize) -> Result
     let mut source = Bytes::new(typed.lines, piece, ALL_GOOD);
     let mut sheet = Sheet::new(alloc, piece, ALL_GOOD);
     let status = run_text(alloc, text, MAIN, typed.steps, &mut source, &mut sheet);
-    answer(alloc, status, &sheet)
+    written_on(alloc, status, &sheet)
 }
 
 /// Runs a session over a text and a memory of this kind.
@@ -74,14 +90,14 @@ pub fn converse<M: Memory>(
             let mut source = Bytes::new(typed.lines, LARGE_PIECE, ALL_GOOD);
             let mut sheet = Sheet::new(alloc, LARGE_PIECE, ALL_GOOD);
             let outcome = session(alloc, &mut controller, &mut source, &mut sheet);
-            answer(alloc, status_of(outcome), &sheet)
+            written_on(alloc, status_of(outcome), &sheet)
         }
         Err(refusal) => refused(alloc, refusal),
     }
 }
 
 /// What was written on a sheet, with a status.
-fn answer(alloc: Global, status: u8, sheet: &Sheet) -> Result<Told, AllocError> {
+fn written_on(alloc: Global, status: u8, sheet: &Sheet) -> Result<Told, AllocError> {
     Ok(Told {
         status,
         written: Vec::from_slice(alloc, sheet.written())?,

@@ -1,6 +1,6 @@
 //! Trials in which memory may be refused: loads, online changes and their undo, sessions, checks and layouts.
 //!
-//! The names of trials are `load`, `check`, `layout`, `refused`, and for each scenario its own name and `by-session/` and its name.
+//! The names of trials are `check`, `layout`, `refused`, and for each scenario its own name and `by-session/` and its name.
 //! What is refused for want of memory has to leave all as it was, and is tried again until it is done; then it has to come out as
 //! without a refusal. A line says for each trial over both memories how many refusals there were, and the most in a row.
 //! `tools/refuse-allocations` refuses each allocation of a trial in turn.
@@ -17,8 +17,7 @@ mod whole_program;
 
 use crate::tally::Tally;
 use crate::without_memory::changes::{Means, scenario_comes_out};
-use crate::without_memory::checks::{checks, lays_out, refuses};
-use crate::without_memory::loads::loads;
+use crate::without_memory::checks::are_answered;
 use crate::without_memory::scenario::Scenario;
 use crate::without_memory::tries::Tries;
 use st_memory::{Cells, Packed};
@@ -26,6 +25,7 @@ use std::alloc::AllocError;
 use std::io;
 
 const SCENARIOS: &[Scenario] = &[
+    loads::LOAD,
     variables::EXTENDED,
     variables::DROPPED,
     variables::RENAMED,
@@ -41,37 +41,24 @@ pub fn run_trial(rt: &HostRuntime, name: &str) -> io::Result<Tally> {
     let mut tally = Tally::default();
     let holds = comes_out(&mut tries, name)?;
     tally.count_whether(rt, name, holds)?;
-    let (refused, in_a_row) = (tries.refused(), tries.most_in_a_row());
+    let (refused, in_a_row) = (tries.refused, tries.most_in_a_row);
     println!(rt; "{name}: refused {refused} times, {in_a_row} in a row")?;
     Ok(tally)
 }
 
 /// Whether a trial comes out in the end.
 fn comes_out(tries: &mut Tries, name: &str) -> Result<bool, AllocError> {
-    match name {
-        "load" => Ok(loads::<Cells>(tries)? && loads::<Packed>(tries)?),
-        "check" => checks(tries),
-        "layout" => lays_out(tries),
-        "refused" => refuses(tries),
-        other => match other.strip_prefix("by-session/") {
-            Some(name) => scenario_holds(tries, name, Means::Session),
-            None => scenario_holds(tries, other, Means::Calls),
-        },
+    let (means, called) = match name.strip_prefix("by-session/") {
+        Some(called) => (Means::Session, called),
+        None => (Means::Calls, name),
+    };
+    for scenario in SCENARIOS {
+        if scenario.name == called {
+            return Ok(
+                scenario_comes_out::<Cells>(tries, scenario, means)?
+                    && scenario_comes_out::<Packed>(tries, scenario, means)?,
+            );
+        }
     }
-}
-
-/// Whether the scenario of this name comes out over each memory.
-fn scenario_holds(tries: &mut Tries, name: &str, means: Means) -> Result<bool, AllocError> {
-    match scenario_of(name) {
-        Some(scenario) => Ok(
-            scenario_comes_out::<Cells>(tries, scenario, means)?
-                && scenario_comes_out::<Packed>(tries, scenario, means)?,
-        ),
-        None => Ok(false),
-    }
-}
-
-/// The scenario of this name.
-fn scenario_of(name: &str) -> Option<&'static Scenario> {
-    SCENARIOS.iter().find(|scenario| scenario.name == name)
+    are_answered(tries, name)
 }

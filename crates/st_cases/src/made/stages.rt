@@ -1,8 +1,6 @@
 //! A session with an online change and its undo, command by command, and what stands after each.
-use crate::texts::{FIRST, number_at};
-use crate::ways::{MAIN, STEPS};
 use st_memory::Memory;
-use st_session::control::{Controller, Refusal};
+use st_session::control::Controller;
 use std::alloc::{AllocError, Global};
 
 /// A change to the program with a variable before the others.
@@ -81,50 +79,46 @@ const STAGES: &[Stage] = &[
 /// The number of the last stage.
 pub const LAST: usize = 10;
 
-/// What is typed.
-pub fn session_lines(alloc: Global) -> Result<Vec<u8>, AllocError> {
-    let mut lines = Vec::new(alloc);
-    for stage in STAGES {
-        lines.extend_from_slice(stage.lines)?;
-    }
-    Ok(lines)
+/// What goes one way in a session.
+#[derive(Clone, Copy)]
+pub enum Side {
+    /// What is typed.
+    Typed,
+    /// What is replied.
+    Replied,
 }
 
-/// The replies up to a stage.
-pub fn replies_to(alloc: Global, last: usize) -> Result<Vec<u8>, AllocError> {
-    let mut replies = Vec::new(alloc);
+impl Stage {
+    /// What goes one way.
+    fn text(&self, side: Side) -> &'static [u8] {
+        match side {
+            Side::Typed => self.lines,
+            Side::Replied => self.reply,
+        }
+    }
+}
+
+/// What goes one way up to a stage.
+pub fn text_to(alloc: Global, side: Side, last: usize) -> Result<Vec<u8>, AllocError> {
+    let mut text = Vec::new(alloc);
     for stage in STAGES.iter().take(last.saturating_add(1)) {
-        replies.extend_from_slice(stage.reply)?;
+        text.extend_from_slice(stage.text(side))?;
     }
-    Ok(replies)
+    Ok(text)
 }
 
-/// The last stage whose lines end within so many bytes, and how many bytes of the next are left.
-pub fn stage_read(bytes: usize) -> (usize, usize) {
+/// The last stage up to which no more than so many bytes go one way, and how many are left for the next.
+pub fn stage_within(side: Side, bytes: usize) -> (usize, usize) {
     let mut rest = bytes;
     let mut last: usize = 0;
     for stage in STAGES.iter().skip(1) {
-        let Some(left) = rest.checked_sub(stage.lines.len()) else {
+        let Some(left) = rest.checked_sub(stage.text(side).len()) else {
             return (last, rest);
         };
         rest = left;
         last = last.saturating_add(1);
     }
     (last, rest)
-}
-
-/// The first stage whose reply isn't written whole by so many bytes.
-pub fn stage_replied(bytes: usize) -> usize {
-    let mut rest = bytes;
-    let mut last: usize = 0;
-    for stage in STAGES.iter().skip(1) {
-        last = last.saturating_add(1);
-        let Some(left) = rest.checked_sub(stage.reply.len()) else {
-            return last;
-        };
-        rest = left;
-    }
-    last
 }
 
 /// The stage after a line that was cut to so many bytes and lacks its line feed, and the reply to it.
@@ -144,18 +138,17 @@ pub fn stage_cut(stage: usize, bytes: usize) -> (usize, &'static [u8]) {
     }
 }
 
-/// The program as it is loaded.
-pub fn loaded<M: Memory>(alloc: Global) -> Result<Controller<M>, Refusal> {
-    Controller::load(alloc, FIRST, MAIN, STEPS)
-}
-
 /// Whether a controller stands as after a stage.
 pub fn stands_at<M: Memory>(controller: &Controller<M>, stage: usize) -> bool {
     let Some(stage) = STAGES.get(stage) else {
         return false;
     };
     let (a, has_n, undo) = stage.now;
-    number_at(controller, b"Main.A") == Some((a, false))
-        && number_at(controller, b"Main.N").is_some() == has_n
+    let Ok((value, is_forced)) = controller.get(b"Main.A") else {
+        return false;
+    };
+    value.bits == a
+        && !is_forced
+        && controller.get(b"Main.N").is_ok() == has_n
         && controller.status().undo == undo
 }

@@ -4,7 +4,7 @@ use crate::without_memory::scenario::{Change, Exchange, Scenario};
 use crate::without_memory::tries::{MOST_TRIES, Tries};
 use st_layout::Rename;
 use st_memory::Memory;
-use st_session::control::{Controller, Refusal};
+use st_session::control::{Controller, Counts, Refusal};
 use st_tree::List;
 use std::alloc::{AllocError, Global};
 
@@ -15,6 +15,21 @@ pub enum Means {
     Calls,
     /// By lines of a session.
     Session,
+}
+
+/// Whether changes are made, or undone.
+#[derive(Clone, Copy)]
+enum Turn {
+    Forth,
+    Back,
+}
+
+/// What is ordered.
+#[derive(Clone, Copy)]
+enum Order<'a> {
+    Change(&'a Change),
+    /// The undo of the newest command.
+    Undo,
 }
 
 /// Whether a scenario comes out.
@@ -39,77 +54,61 @@ fn is_played<M: Memory>(
     let paths = scenario.paths;
     Ok(
         replies(tries, controller, paths, scenario.before)?
-            && are_changed(tries, controller, scenario, means)?
+            && are_done(tries, controller, scenario, means, Turn::Forth)?
             && replies(tries, controller, paths, scenario.after)?
-            && are_undone(tries, controller, scenario, means)?
+            && are_done(tries, controller, scenario, means, Turn::Back)?
             && replies(tries, controller, paths, scenario.undone)?
-            && are_changed(tries, controller, scenario, means)?
+            && are_done(tries, controller, scenario, means, Turn::Forth)?
             && replies(tries, controller, paths, scenario.again)?,
     )
 }
 
-/// Whether the changes of a scenario come out, one by one.
-fn are_changed<M: Memory>(
+/// Whether the changes of a scenario, or their undo, come out one by one.
+fn are_done<M: Memory>(
     tries: &mut Tries,
     controller: &mut Controller<M>,
     scenario: &Scenario,
     means: Means,
+    turn: Turn,
 ) -> Result<bool, AllocError> {
     for change in scenario.changes {
-        if !is_changed(tries, controller, scenario.paths, change, means)? {
+        let order = match turn {
+            Turn::Forth => Order::Change(change),
+            Turn::Back => Order::Undo,
+        };
+        let is_done = match means {
+            Means::Calls => is_done_by_call(tries, controller, scenario.paths, order)?,
+            Means::Session => is_done_by_session(tries, controller, scenario.paths, order)?,
+        };
+        if !is_done {
             return Ok(false);
         }
     }
     Ok(true)
 }
 
-/// Whether their undo comes out.
-fn are_undone<M: Memory>(
-    tries: &mut Tries,
-    controller: &mut Controller<M>,
-    scenario: &Scenario,
-    means: Means,
-) -> Result<bool, AllocError> {
-    for _ in scenario.changes {
-        if !is_undone(tries, controller, scenario.paths, means)? {
-            return Ok(false);
-        }
-    }
-    Ok(true)
-}
-
-/// Whether a change comes out.
-fn is_changed<M: Memory>(
+/// Whether an order comes out by lines of a session.
+fn is_done_by_session<M: Memory>(
     tries: &mut Tries,
     controller: &mut Controller<M>,
     paths: &[&[u8]],
-    change: &Change,
-    means: Means,
+    order: Order<'_>,
 ) -> Result<bool, AllocError> {
-    match means {
-        Means::Calls => is_changed_by_calls(tries, controller, paths, change),
-        Means::Session => {
-            let lines = lines_of(tries.alloc(), change)?;
-            let exchange = Exchange {
-                lines: &lines,
-                replies: change.reply,
-            };
-            replies(tries, controller, paths, exchange)
-        }
-    }
-}
-
-/// Whether the newest command is undone.
-fn is_undone<M: Memory>(
-    tries: &mut Tries,
-    controller: &mut Controller<M>,
-    paths: &[&[u8]],
-    means: Means,
-) -> Result<bool, AllocError> {
-    match means {
-        Means::Calls => is_undone_by_calls(tries, controller, paths),
-        Means::Session => replies(tries, controller, paths, UNDO),
-    }
+    let Order::Change(change) = order else {
+        return replies(tries, controller, paths, UNDO);
+    };
+    let lines = lines_of(tries.alloc, change)?;
+    let Counts {
+        kept,
+        dropped,
+        fresh,
+    } = change.counts;
+    let reply = format!(in tries.alloc; "ok kept {kept} dropped {dropped} new {fresh}\n")?;
+    let exchange = Exchange {
+        lines: &lines,
+        replies: reply.as_bytes(),
+    };
+    replies(tries, controller, paths, exchange)
 }
 
 /// The line that undoes a command.
@@ -118,20 +117,19 @@ const UNDO: Exchange<'_> = Exchange {
     replies: b"ok\n",
 };
 
-/// Whether a change comes out by a call. Where it finds no memory, all has to be as before, and it is made again.
-fn is_changed_by_calls<M: Memory>(
+/// Whether an order comes out by a call. Where it finds no memory, all has to be as before, and it is given again.
+fn is_done_by_call<M: Memory>(
     tries: &mut Tries,
     controller: &mut Controller<M>,
     paths: &[&[u8]],
-    change: &Change,
+    order: Order<'_>,
 ) -> Result<bool, AllocError> {
-    let before = Picture::of(tries.alloc(), controller, paths)?;
+    let before = Picture::of(tries.alloc, controller, paths)?;
     for _ in 0..MOST_TRIES {
-        let renames = renames_of(tries.alloc(), change.renames)?;
-        match controller.change_named(tries.alloc(), change.text, renames) {
-            Ok(counts) => {
+        match call(tries.alloc, controller, order) {
+            Ok(comes_out) => {
                 tries.end_row();
-                return Ok((counts.kept, counts.dropped, counts.fresh) == change.counts);
+                return Ok(comes_out);
             }
             Err(Refusal::M) if before.is_of(controller, paths) => tries.count_refusal(),
             Err(_) => return Ok(false),
@@ -140,24 +138,22 @@ fn is_changed_by_calls<M: Memory>(
     Ok(false)
 }
 
-/// Whether the newest command is undone by a call. Where that finds no memory, all has to be as before, and it is undone again.
-fn is_undone_by_calls<M: Memory>(
-    tries: &mut Tries,
+/// Gives an order, and tells whether as many leaves are kept, dropped and added as have to be.
+fn call<M: Memory>(
+    alloc: Global,
     controller: &mut Controller<M>,
-    paths: &[&[u8]],
-) -> Result<bool, AllocError> {
-    let before = Picture::of(tries.alloc(), controller, paths)?;
-    for _ in 0..MOST_TRIES {
-        match controller.undo(tries.alloc()) {
-            Ok(()) => {
-                tries.end_row();
-                return Ok(true);
-            }
-            Err(Refusal::M) if before.is_of(controller, paths) => tries.count_refusal(),
-            Err(_) => return Ok(false),
+    order: Order<'_>,
+) -> Result<bool, Refusal> {
+    match order {
+        Order::Change(change) => {
+            let renames = renames_of(alloc, change.renames)?;
+            Ok(controller.change_named(alloc, change.text, renames)? == change.counts)
+        }
+        Order::Undo => {
+            controller.undo(alloc)?;
+            Ok(true)
         }
     }
-    Ok(false)
 }
 
 /// The renames of a change.

@@ -1,5 +1,6 @@
 //! A change of a chart.
 use crate::without_memory::scenario::{Change, Exchange, Scenario};
+use st_session::control::Counts;
 
 /// A chart that runs gets an initial step.
 pub const STEP_ADDED: Scenario = Scenario {
@@ -38,8 +39,11 @@ TRANSITION FROM S0 TO S1 := Go; END_TRANSITION
 TRANSITION FROM S1 TO S2 := Go; END_TRANSITION
 TRANSITION FROM S2 TO S1 := NOT Go; END_TRANSITION
 END_PROGRAM",
-        counts: (9, 0, 3),
-        reply: b"ok kept 9 dropped 0 new 3\n",
+        counts: Counts {
+            kept: 9,
+            dropped: 0,
+            fresh: 3,
+        },
     }],
     after: Exchange {
         lines: b"show Main.S0.X\nshow Main.S2.X\n",

@@ -1,8 +1,8 @@
 //! Checks and layouts of a text.
-use crate::ways::{LARGE_PIECE, MAIN};
+use crate::ways::{LARGE_PIECE, Question, answer};
 use crate::without_memory::tries::{MOST_TRIES, Tries};
-use st_session::{ToWriter, check_text, layout_text};
-use std::alloc::{AllocError, Global};
+use st_session::{ACCEPTED, NO_MEMORY, NO_PROGRAM, ToWriter};
+use std::alloc::AllocError;
 
 const TEXT: &[u8] = b"PROGRAM Main VAR_INPUT Go : BOOL; END_VAR VAR T1 : TP; END_VAR
 T1(IN := Go, PT := T#100ms); END_PROGRAM";
@@ -15,60 +15,72 @@ const LEAVES: &[u8] =
 const FAULTY: &[u8] = b"PROGRAM Main VAR_INPUT Go : BOOL; END_VAR VAR T1 : TP; END_VAR
 T1(IN := Go, PT := 100); END_PROGRAM";
 
-/// What is done with a text.
-#[derive(Clone, Copy)]
-enum Verb {
-    Check,
-    Layout,
+/// A question on a text, and the status and the text that answer it.
+struct Asked {
+    /// The trial of which it is.
+    trial: &'static str,
+    question: Question,
+    text: &'static [u8],
+    answer: (u8, &'static [u8]),
 }
 
-/// Whether the text is checked in the end.
-pub fn checks(tries: &mut Tries) -> Result<bool, AllocError> {
-    is_answered(tries, Verb::Check, TEXT, (0, b"ok\n"))
+/// The faulty text is refused for its fault, and never accepted.
+const ALL: &[Asked] = &[
+    Asked {
+        trial: "check",
+        question: Question::Check,
+        text: TEXT,
+        answer: (ACCEPTED, b"ok\n"),
+    },
+    Asked {
+        trial: "layout",
+        question: Question::Layout,
+        text: TEXT,
+        answer: (ACCEPTED, LEAVES),
+    },
+    Asked {
+        trial: "refused",
+        question: Question::Check,
+        text: FAULTY,
+        answer: (NO_PROGRAM, b"refused C3 line 2\n"),
+    },
+    Asked {
+        trial: "refused",
+        question: Question::Layout,
+        text: FAULTY,
+        answer: (NO_PROGRAM, b"refused C3 line 2\n"),
+    },
+];
+
+/// Whether all questions of a trial are answered in the end. There is one at least.
+pub fn are_answered(tries: &mut Tries, trial: &str) -> Result<bool, AllocError> {
+    let mut is_known = false;
+    for asked in ALL {
+        if asked.trial == trial {
+            is_known = true;
+            if !is_answered(tries, asked)? {
+                return Ok(false);
+            }
+        }
+    }
+    Ok(is_known)
 }
 
-/// Whether its leaves are listed in the end.
-pub fn lays_out(tries: &mut Tries) -> Result<bool, AllocError> {
-    is_answered(tries, Verb::Layout, TEXT, (0, LEAVES))
-}
-
-/// Whether the faulty text is refused for its fault in the end, and never accepted.
-pub fn refuses(tries: &mut Tries) -> Result<bool, AllocError> {
-    let wanted = (1, b"refused C3 line 2\n".as_slice());
-    Ok(
-        is_answered(tries, Verb::Check, FAULTY, wanted)?
-            && is_answered(tries, Verb::Layout, FAULTY, wanted)?,
-    )
-}
-
-/// Whether this status and this text are the answer. Where there is no memory for it, that is said, and it is asked for again.
-fn is_answered(
-    tries: &mut Tries,
-    verb: Verb,
-    text: &[u8],
-    wanted: (u8, &[u8]),
-) -> Result<bool, AllocError> {
-    let mut written = Vec::with_capacity(tries.alloc(), LARGE_PIECE)?;
+/// Whether a question is answered so. Where there is no memory for the answer, that is said, and it is asked again.
+fn is_answered(tries: &mut Tries, asked: &Asked) -> Result<bool, AllocError> {
+    let mut written = Vec::with_capacity(tries.alloc, LARGE_PIECE)?;
     for _ in 0..MOST_TRIES {
         written.clear();
-        let status = answer(tries.alloc(), verb, text, &mut written);
-        if (status, written.as_slice()) == wanted {
+        let mut sink = ToWriter::new(&mut written);
+        let status = answer(tries.alloc, asked.question, asked.text, &mut sink);
+        if (status, written.as_slice()) == asked.answer {
             tries.end_row();
             return Ok(true);
         }
-        if (status, written.as_slice()) != (5, b"refused M\n".as_slice()) {
+        if (status, written.as_slice()) != (NO_MEMORY, b"refused M\n".as_slice()) {
             return Ok(false);
         }
         tries.count_refusal();
     }
     Ok(false)
-}
-
-/// The status of what is done with a text. What is written goes behind `written`.
-fn answer(alloc: Global, verb: Verb, text: &[u8], written: &mut Vec<u8>) -> u8 {
-    let mut sink = ToWriter::new(written);
-    match verb {
-        Verb::Check => check_text(alloc, text, MAIN, &mut sink),
-        Verb::Layout => layout_text(alloc, text, MAIN, &mut sink),
-    }
 }

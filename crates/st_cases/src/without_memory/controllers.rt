@@ -35,29 +35,26 @@ impl Picture {
         })
     }
 
-    /// Whether a controller stands so.
+    /// Whether a controller stands so, and runs. No trial here is halted.
     pub fn is_of<M: Memory>(&self, controller: &Controller<M>, paths: &[&[u8]]) -> bool {
+        for (path, leaf) in paths.iter().zip(self.leaves.iter()) {
+            if controller.get(path) != *leaf {
+                return false;
+            }
+        }
         let report = controller.status();
-        both_run(report.status, self.report.status)
+        let both = (report.status, self.report.status);
+        matches!(both, (Status::Running, Status::Running))
             && report.now == self.report.now
             && report.forces == self.report.forces
             && report.undo == self.report.undo
-            && paths
-                .iter()
-                .zip(self.leaves.iter())
-                .all(|(path, leaf)| controller.get(path) == *leaf)
     }
-}
-
-/// Whether both run. No trial here is halted.
-fn both_run(left: Status, right: Status) -> bool {
-    matches!((left, right), (Status::Running, Status::Running))
 }
 
 /// The controller of a text. Where its load is refused for want of memory it is loaded again.
 pub fn loaded<M: Memory>(tries: &mut Tries, text: &[u8]) -> Option<Controller<M>> {
     for _ in 0..MOST_TRIES {
-        match Controller::load(tries.alloc(), text, MAIN, STEPS) {
+        match Controller::load(tries.alloc, text, MAIN, STEPS) {
             Ok(controller) => {
                 tries.end_row();
                 return Some(controller);
@@ -81,15 +78,15 @@ pub fn replies<M: Memory>(
         lines,
         replies: wanted,
     } = exchange;
-    let before = Picture::of(tries.alloc(), controller, paths)?;
-    let mut written = Vec::with_capacity(tries.alloc(), LARGE_PIECE)?;
+    let before = Picture::of(tries.alloc, controller, paths)?;
+    let mut written = Vec::with_capacity(tries.alloc, LARGE_PIECE)?;
     let mut source = Bytes::new(lines, LARGE_PIECE, ALL_GOOD);
     for _ in 0..MOST_TRIES {
         if source.failed() {
             return Ok(false);
         }
         let mut sink = ToWriter::new(&mut written);
-        let outcome = session(tries.alloc(), controller, &mut source, &mut sink);
+        let outcome = session(tries.alloc, controller, &mut source, &mut sink);
         if outcome != Outcome::Memory {
             tries.end_row();
             return Ok(written.as_slice() == wanted);

@@ -1,9 +1,17 @@
 //! The load of a chart, and what it then does.
-use crate::without_memory::controllers::{loaded, replies};
-use crate::without_memory::scenario::Exchange;
-use crate::without_memory::tries::Tries;
-use st_memory::Memory;
-use std::alloc::AllocError;
+use crate::without_memory::scenario::{Exchange, NOTHING, Scenario};
+
+/// The chart is loaded, and scanned.
+pub const LOAD: Scenario = Scenario {
+    name: "load",
+    text: CHART,
+    paths: &[],
+    before: SCANS,
+    changes: &[],
+    after: NOTHING,
+    undone: NOTHING,
+    again: NOTHING,
+};
 
 /// A chart whose names are stored, limited and delayed.
 const CHART: &[u8] = b"PROGRAM Main VAR A : BOOL; B : BOOL; C : BOOL; END_VAR
@@ -14,7 +22,7 @@ TRANSITION FROM S2 TO S1 := TRUE; END_TRANSITION
 END_PROGRAM";
 
 /// Its scans, and what they show.
-const SCANS: Exchange<'_> = Exchange {
+const SCANS: Exchange<'static> = Exchange {
     lines: b"scan 0\nshow Main.A\nshow Main.B\nshow Main.C
 scan 20\nshow Main.A\nshow Main.B\nshow Main.C
 scan 30\nshow Main.A\nshow Main.B\nshow Main.C
@@ -26,11 +34,3 @@ ok\nMain.A = FALSE\nMain.B = FALSE\nMain.C = FALSE
 ok\nMain.A = TRUE\nMain.B = TRUE\nMain.C = FALSE
 ",
 };
-
-/// Whether the chart is loaded, and runs.
-pub fn loads<M: Memory>(tries: &mut Tries) -> Result<bool, AllocError> {
-    match loaded::<M>(tries, CHART) {
-        Some(mut controller) => replies(tries, &mut controller, &[], SCANS),
-        None => Ok(false),
-    }
-}

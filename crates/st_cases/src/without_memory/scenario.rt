@@ -1,4 +1,5 @@
 //! Online changes, with what stands before them, after them and after their undo.
+use st_session::control::Counts;
 
 /// Lines of a session, and the replies. Memory is taken by the first command alone, if by any.
 #[derive(Clone, Copy)]
@@ -7,12 +8,17 @@ pub struct Exchange<'a> {
     pub replies: &'a [u8],
 }
 
-/// An online change to a text: its renames, how many leaves it keeps, drops and adds, and the reply of a session.
+/// Nothing is typed.
+pub const NOTHING: Exchange<'static> = Exchange {
+    lines: b"",
+    replies: b"",
+};
+
+/// An online change to a text: its renames, and how many leaves it keeps, drops and adds.
 pub struct Change {
     pub renames: &'static [(&'static [u8], &'static [u8])],
     pub text: &'static [u8],
-    pub counts: (u32, u32, u32),
-    pub reply: &'static [u8],
+    pub counts: Counts,
 }
 
 /// A program and its changes, which are made, undone and made again, and what is typed between.

@@ -1,5 +1,6 @@
 //! A change of a timer.
 use crate::without_memory::scenario::{Change, Exchange, Scenario};
+use st_session::control::Counts;
 
 /// A timer of another kind takes the place of one that runs.
 pub const TIMER: Scenario = Scenario {
@@ -22,8 +23,11 @@ pub const TIMER: Scenario = Scenario {
     changes: &[Change {
         renames: &[],
         text: b"PROGRAM Main VAR Go : BOOL := TRUE; T1 : TOF; END_VAR T1(IN := Go, PT := T#100ms); END_PROGRAM",
-        counts: (1, 6, 7),
-        reply: b"ok kept 1 dropped 6 new 7\n",
+        counts: Counts {
+            kept: 1,
+            dropped: 6,
+            fresh: 7,
+        },
     }],
     after: Exchange {
         lines: b"show Main.T1.ET\n",

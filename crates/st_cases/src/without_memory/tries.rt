@@ -7,10 +7,13 @@ pub const MOST_TRIES: u32 = 1000;
 /// Counts refusals for want of memory.
 #[derive(Drop)]
 pub struct Tries {
-    alloc: Global,
-    refused: u32,
+    /// The memory of the trials.
+    pub alloc: Global,
+    /// How many refusals there were.
+    pub refused: u32,
     in_a_row: u32,
-    most_in_a_row: u32,
+    /// The most refusals of which each was followed by the next.
+    pub most_in_a_row: u32,
 }
 
 impl Tries {
@@ -23,11 +26,6 @@ impl Tries {
         }
     }
 
-    /// The memory of the trials.
-    pub fn alloc(&self) -> Global {
-        self.alloc
-    }
-
     /// Counts a refusal.
     pub fn count_refusal(&mut self) {
         self.refused = self.refused.saturating_add(1);
@@ -38,15 +36,5 @@ impl Tries {
     /// Something was done.
     pub fn end_row(&mut self) {
         self.in_a_row = 0;
-    }
-
-    /// How many refusals there were.
-    pub fn refused(&self) -> u32 {
-        self.refused
-    }
-
-    /// The most refusals of which each was followed by the next.
-    pub fn most_in_a_row(&self) -> u32 {
-        self.most_in_a_row
     }
 }

@@ -1,6 +1,7 @@
 //! Changes of variables.
-use crate::texts::FIRST;
+use crate::ways::FIRST;
 use crate::without_memory::scenario::{Change, Exchange, Scenario};
+use st_session::control::Counts;
 
 /// A variable is added before another that was written.
 pub const EXTENDED: Scenario = Scenario {
@@ -14,8 +15,11 @@ pub const EXTENDED: Scenario = Scenario {
     changes: &[Change {
         renames: &[],
         text: b"PROGRAM Main VAR N : DINT; A : INT := 3; B : BOOL; END_VAR A := A + 1; END_PROGRAM",
-        counts: (2, 0, 1),
-        reply: b"ok kept 2 dropped 0 new 1\n",
+        counts: Counts {
+            kept: 2,
+            dropped: 0,
+            fresh: 1,
+        },
     }],
     after: Exchange {
         lines: b"show Main.A\nwrite Main.A 8\nundo\nshow Main.A\n",
@@ -44,14 +48,20 @@ pub const DROPPED: Scenario = Scenario {
         Change {
             renames: &[],
             text: b"PROGRAM Main VAR A : INT := 3; END_VAR A := A + 1; END_PROGRAM",
-            counts: (1, 1, 0),
-            reply: b"ok kept 1 dropped 1 new 0\n",
+            counts: Counts {
+                kept: 1,
+                dropped: 1,
+                fresh: 0,
+            },
         },
         Change {
             renames: &[],
             text: FIRST,
-            counts: (1, 0, 1),
-            reply: b"ok kept 1 dropped 0 new 1\n",
+            counts: Counts {
+                kept: 1,
+                dropped: 0,
+                fresh: 1,
+            },
         },
     ],
     after: Exchange {
@@ -80,8 +90,11 @@ pub const RENAMED: Scenario = Scenario {
     changes: &[Change {
         renames: &[(b"Main.A", b"Main.Count")],
         text: b"PROGRAM Main VAR Count : INT := 3; B : BOOL; END_VAR Count := Count + 1; END_PROGRAM",
-        counts: (2, 0, 0),
-        reply: b"ok kept 2 dropped 0 new 0\n",
+        counts: Counts {
+            kept: 2,
+            dropped: 0,
+            fresh: 0,
+        },
     }],
     after: Exchange {
         lines: b"show Main.Count\nshow Main.B\n",
@@ -109,8 +122,11 @@ pub const FORCED: Scenario = Scenario {
     changes: &[Change {
         renames: &[(b"Main.A", b"main.x")],
         text: b"PROGRAM Main VAR X : INT; B : BOOL; C : INT; D : TIME; END_VAR END_PROGRAM",
-        counts: (2, 1, 2),
-        reply: b"ok kept 2 dropped 1 new 2\n",
+        counts: Counts {
+            kept: 2,
+            dropped: 1,
+            fresh: 2,
+        },
     }],
     after: Exchange {
         lines: b"show Main.X\nshow Main.B\nshow Main.C\nshow Main.A\nstatus\n",

@@ -1,5 +1,6 @@
 //! A change of a program that has statements of all forms, invocations, calls of functions and a chart.
 use crate::without_memory::scenario::{Change, Exchange, Scenario};
+use st_session::control::Counts;
 
 /// The program becomes a chart, which keeps its input, its timer, its counter and an instance with a chart of its own.
 pub const PROGRAM: Scenario = Scenario {
@@ -28,8 +29,11 @@ pub const PROGRAM: Scenario = Scenario {
     changes: &[Change {
         renames: &[],
         text: CHANGED,
-        counts: (28, 17, 8),
-        reply: b"ok kept 28 dropped 17 new 8\n",
+        counts: Counts {
+            kept: 28,
+            dropped: 17,
+            fresh: 8,
+        },
     }],
     after: Exchange {
         lines: b"show Main.X\nshow Main.T1.ET\nshow Main.H.N\nshow Main.P.A\n",
