@@ -145,11 +145,14 @@ fn answer<R: Input + Print + Eprint + AllocGlobal>(
     manner: Manner,
     text: &[u8],
 ) -> u8
-    ensures check_status { order.entry.verb ≡ Verb.Check → result ≢ device_failed → result ≢ no_memory
+    ensures check_status { order.entry.verb ≡ Verb.Check →
+        result ≢ device_failed → result ≢ no_memory
         → EndsAsChecked text.now order.entry.main.now result }
-    ensures layout_status { order.entry.verb ≡ Verb.Layout → result ≢ device_failed → result ≢ no_memory
+    ensures layout_status { order.entry.verb ≡ Verb.Layout →
+        result ≢ device_failed → result ≢ no_memory
         → EndsAsLaidOut text.now order.entry.main.now result }
-    ensures run_status { order.entry.verb ≡ Verb.Run → result ≢ device_failed → result ≢ no_memory
+    ensures run_status { order.entry.verb ≡ Verb.Run →
+        result ≢ device_failed → result ≢ no_memory
         → EndsAsLoaded text.now order.entry.main.now order.entry.steps result }
 {
     let status = serve(rt, order, manner, text);
@@ -227,11 +230,14 @@ fn serve<R: Input + Print + Eprint + AllocGlobal>(
     manner: Manner,
     text: &[u8],
 ) -> u8
-    ensures check_status { order.entry.verb ≡ Verb.Check → result ≢ device_failed → result ≢ no_memory
+    ensures check_status { order.entry.verb ≡ Verb.Check →
+        result ≢ device_failed → result ≢ no_memory
         → EndsAsChecked text.now order.entry.main.now result }
-    ensures layout_status { order.entry.verb ≡ Verb.Layout → result ≢ device_failed → result ≢ no_memory
+    ensures layout_status { order.entry.verb ≡ Verb.Layout →
+        result ≢ device_failed → result ≢ no_memory
         → EndsAsLaidOut text.now order.entry.main.now result }
-    ensures run_status { order.entry.verb ≡ Verb.Run → result ≢ device_failed → result ≢ no_memory
+    ensures run_status { order.entry.verb ≡ Verb.Run →
+        result ≢ device_failed → result ≢ no_memory
         → EndsAsLoaded text.now order.entry.main.now order.entry.steps result }
 {
     if manner.quiet {
@@ -250,11 +256,14 @@ fn serve_observed<R: Input + Print + AllocGlobal, O: Observer>(
     text: &[u8],
     observer: &mut O,
 ) -> u8
-    ensures check_status { order.entry.verb ≡ Verb.Check → result ≢ device_failed → result ≢ no_memory
+    ensures check_status { order.entry.verb ≡ Verb.Check →
+        result ≢ device_failed → result ≢ no_memory
         → EndsAsChecked text.now order.entry.main.now result }
-    ensures layout_status { order.entry.verb ≡ Verb.Layout → result ≢ device_failed → result ≢ no_memory
+    ensures layout_status { order.entry.verb ≡ Verb.Layout →
+        result ≢ device_failed → result ≢ no_memory
         → EndsAsLaidOut text.now order.entry.main.now result }
-    ensures run_status { order.entry.verb ≡ Verb.Run → result ≢ device_failed → result ≢ no_memory
+    ensures run_status { order.entry.verb ≡ Verb.Run →
+        result ≢ device_failed → result ≢ no_memory
         → EndsAsLoaded text.now order.entry.main.now order.entry.steps result }
 {
     let mut source = FromReader::new(rt.reader());
@@ -279,7 +288,8 @@ pub fn obey_text<R: Source, W: Sink, O: Observer>(
     requires sink { W.has_failed sink.old ≡ false }
 
     // What the check answers is written, or a beginning of it where the device failed. Nothing is read.
-    ensures check_all { order.entry.verb ≡ Verb.Check → result ≢ device_failed → result ≢ no_memory
+    ensures check_all { order.entry.verb ≡ Verb.Check →
+        result ≢ device_failed → result ≢ no_memory
         → OfCheck text.now order.entry.main.now (TellsAll result (W.taken sink.old) (W.taken sink.new)) }
     ensures check_memory { order.entry.verb ≡ Verb.Check → result ≡ no_memory
         → Appends (W.taken sink.old) (W.taken sink.new) (ended (codes "refused M")) }
@@ -288,7 +298,8 @@ pub fn obey_text<R: Source, W: Sink, O: Observer>(
     ensures check_source { order.entry.verb ≡ Verb.Check → source.new ≡ source.old }
 
     // The lines of all leaves are written, or the refusal, or a beginning of that where the device failed. Nothing is read.
-    ensures layout_all { order.entry.verb ≡ Verb.Layout → result ≢ device_failed → result ≢ no_memory
+    ensures layout_all { order.entry.verb ≡ Verb.Layout →
+        result ≢ device_failed → result ≢ no_memory
         → OfLayout text.now order.entry.main.now (ListsAll result (W.taken sink.old) (W.taken sink.new)) }
     ensures layout_memory { order.entry.verb ≡ Verb.Layout → result ≡ no_memory
         → Appends (W.taken sink.old) (W.taken sink.new) (ended (codes "refused M")) }
@@ -297,7 +308,8 @@ pub fn obey_text<R: Source, W: Sink, O: Observer>(
     ensures layout_source { order.entry.verb ≡ Verb.Layout → source.new ≡ source.old }
 
     // The replies to all commands are written, or the refusal of the load, and then nothing is read.
-    ensures run_all { order.entry.verb ≡ Verb.Run → result ≢ device_failed → result ≢ no_memory
+    ensures run_all { order.entry.verb ≡ Verb.Run →
+        result ≢ device_failed → result ≢ no_memory
         → OnBytes (R.rest source.old) (λ bytes. OfLoad text.now order.entry.main.now order.entry.steps
         (WritesAll bytes result (W.taken sink.old) (W.taken sink.new))) }
     ensures run_refused { order.entry.verb ≡ Verb.Run → result ≡ no_program
