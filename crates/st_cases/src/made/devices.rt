@@ -1,4 +1,6 @@
 //! Sessions, checks and layouts over devices of all kinds, and over those that fail.
+ghost use Rattle.std.specs.Prelude.{◌<◌};
+
 use crate::tally::Tally;
 use crate::ways::{ALL_GOOD, FIRST, LARGE_PIECE, MAIN, Question, answer};
 use st_session::{
@@ -14,22 +16,15 @@ const REPLIES: &[u8] = b"ok\nMain.A = 5\nok\nMain.A = 3\n";
 pub fn run(rt: &HostRuntime, tally: &mut Tally) -> io::Result<()> {
     let alloc = rt.alloc();
     for piece in 1..7 {
-        let source = Bytes::new(SESSION, piece, ALL_GOOD);
-        let is_run = ends_so(alloc, MAIN, source, (ACCEPTED, REPLIES));
+        let is_run = ends_so(alloc, MAIN, piece, ALL_GOOD, (ACCEPTED, REPLIES));
         tally.count_whether(rt, "pieces of some bytes", is_run)?;
     }
     tally.count_whether(rt, "a reader and a writer", comes_by_readers(alloc))?;
-    let source = Bytes::new(SESSION, LARGE_PIECE, ALL_GOOD);
-    let is_refused = ends_so(
-        alloc,
-        b"Other",
-        source,
-        (NO_PROGRAM, b"refused C10 line 0\n"),
-    );
+    let refusal = (NO_PROGRAM, b"refused C10 line 0\n".as_slice());
+    let is_refused = ends_so(alloc, b"Other", LARGE_PIECE, ALL_GOOD, refusal);
     tally.count_whether(rt, "a program that isn't there", is_refused)?;
     // The first line is read with its line feed, and of the second a part.
-    let source = Bytes::new(SESSION, 20, 1);
-    let is_answered = ends_so(alloc, MAIN, source, (DEVICE_FAILED, b"ok\n"));
+    let is_answered = ends_so(alloc, MAIN, 20, 1, (DEVICE_FAILED, b"ok\n"));
     tally.count_whether(rt, "a source that fails", is_answered)?;
     for calls in 0..2 {
         let is_cut = is_cut_off(alloc, Question::Check, FIRST, calls);
@@ -44,9 +39,13 @@ pub fn run(rt: &HostRuntime, tally: &mut Tally) -> io::Result<()> {
     Ok(())
 }
 
-/// Whether the session over the program of a name ends with this status and these replies.
-fn ends_so(alloc: Global, program: &[u8], mut source: Bytes<'_>, end: (u8, &[u8])) -> bool {
-    let mut sink = Sheet::new(alloc, 3, ALL_GOOD);
+/// Whether the session over the program of a name ends with this status and these replies. Its source and its sink have pieces of so many
+/// bytes, and the source fails after so many of them.
+fn ends_so(alloc: Global, program: &[u8], piece: usize, reads: u64, end: (u8, &[u8])) -> bool
+    requires { 0 < piece }
+{
+    let mut source = Bytes::new(SESSION, piece, reads);
+    let mut sink = Sheet::new(alloc, piece, ALL_GOOD);
     let status = run_text(alloc, FIRST, program, 8, &mut source, &mut sink);
     (status, sink.written()) == end
 }

@@ -55,12 +55,27 @@ struct End<'a> {
     stage: usize,
 }
 
+/// What is typed in a session, by pieces of how many bytes it is read and its replies are written, and after how many of them each fails.
+#[derive(Clone, Copy)]
+struct Devices<'a> {
+    lines: &'a [u8],
+    read_by: usize,
+    reads: u64,
+    write_by: usize,
+    writes: u64,
+}
+
 /// Whether a session over these devices ends so.
-fn ends_so<M: Memory>(alloc: Global, mut source: Bytes<'_>, mut sink: Sheet, end: End<'_>) -> bool {
+fn ends_so<M: Memory>(alloc: Global, devices: Devices<'_>, end: End<'_>) -> bool
+    requires read_by { 0 < devices.read_by }
+    requires write_by { 0 < devices.write_by }
+{
     let loaded: Result<Controller<M>, Refusal> = Controller::load(alloc, FIRST, MAIN, STEPS);
     let Ok(mut controller) = loaded else {
         return false;
     };
+    let mut source = Bytes::new(devices.lines, devices.read_by, devices.reads);
+    let mut sink = Sheet::new(alloc, devices.write_by, devices.writes);
     let outcome = session(alloc, &mut controller, &mut source, &mut sink);
     outcome == end.outcome && sink.written() == end.replies && stands_at(&controller, end.stage)
 }
@@ -71,13 +86,19 @@ fn comes_in_pieces<M: Memory>(alloc: Global, piece: usize) -> Result<bool, Alloc
 {
     let lines = text_to(alloc, Side::Typed, LAST)?;
     let replies = text_to(alloc, Side::Replied, LAST)?;
-    let source = Bytes::new(&lines, piece, ALL_GOOD);
+    let devices = Devices {
+        lines: &lines,
+        read_by: piece,
+        reads: ALL_GOOD,
+        write_by: 1,
+        writes: ALL_GOOD,
+    };
     let end = End {
         outcome: Outcome::Refused,
         replies: &replies,
         stage: LAST,
     };
-    Ok(ends_so::<M>(alloc, source, Sheet::new(alloc, 1, ALL_GOOD), end))
+    Ok(ends_so::<M>(alloc, devices, end))
 }
 
 /// Whether the session ends with its source, by pieces of so many bytes, wherever that fails: what it read whole is done and answered.
@@ -88,13 +109,19 @@ fn each_read_fails<M: Memory>(alloc: Global, piece: usize) -> Result<bool, Alloc
     for calls in 0..lines.len().div_ceil(piece).saturating_add(1) {
         let (stage, _) = stage_within(Side::Typed, calls.saturating_mul(piece));
         let replies = text_to(alloc, Side::Replied, stage)?;
-        let source = Bytes::new(&lines, piece, calls as u64);
+        let devices = Devices {
+            lines: &lines,
+            read_by: piece,
+            reads: calls as u64,
+            write_by: 1,
+            writes: ALL_GOOD,
+        };
         let end = End {
             outcome: Outcome::Device,
             replies: &replies,
             stage,
         };
-        if !ends_so::<M>(alloc, source, Sheet::new(alloc, 1, ALL_GOOD), end) {
+        if !ends_so::<M>(alloc, devices, end) {
             return Ok(false);
         }
     }
@@ -116,13 +143,19 @@ fn ends_at_each_byte<M: Memory>(alloc: Global, piece: usize) -> Result<bool, All
         } else {
             Outcome::Clean
         };
-        let source = Bytes::new(&lines[..bytes], piece, ALL_GOOD);
+        let devices = Devices {
+            lines: &lines[..bytes],
+            read_by: piece,
+            reads: ALL_GOOD,
+            write_by: LARGE_PIECE,
+            writes: ALL_GOOD,
+        };
         let end = End {
             outcome,
             replies: &replies,
             stage,
         };
-        if !ends_so::<M>(alloc, source, Sheet::new(alloc, LARGE_PIECE, ALL_GOOD), end) {
+        if !ends_so::<M>(alloc, devices, end) {
             return Ok(false);
         }
     }
@@ -154,7 +187,12 @@ fn loses_its_sink<M: Memory>(alloc: Global, piece: usize, calls: usize) -> Resul
         replies: &replies,
         stage: replied.saturating_add(1),
     };
-    let source = Bytes::new(&lines, LARGE_PIECE, ALL_GOOD);
-    let sink = Sheet::new(alloc, piece, calls as u64);
-    Ok(ends_so::<M>(alloc, source, sink, end))
+    let devices = Devices {
+        lines: &lines,
+        read_by: LARGE_PIECE,
+        reads: ALL_GOOD,
+        write_by: piece,
+        writes: calls as u64,
+    };
+    Ok(ends_so::<M>(alloc, devices, end))
 }
