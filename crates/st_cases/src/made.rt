@@ -1,7 +1,8 @@
-//! Cases that are made by code: sessions in pieces, devices that fail, texts and lines that end early, and the plans of changes.
+//! Cases that are made by code: sessions in pieces, devices that fail, texts and lines that end early, the plans of changes and what they save.
 mod devices;
 mod ends;
 mod plans;
+mod saved;
 mod sessions;
 mod stages;
 
@@ -15,6 +16,7 @@ pub fn run_made(rt: &HostRuntime) -> io::Result<Tally> {
     sessions::run(rt, &mut tally)?;
     ends::run(rt, &mut tally)?;
     plans::run(rt, &mut tally)?;
+    saved::run(rt, &mut tally)?;
     tally.tell(rt, "made by code")?;
     Ok(tally)
 }

@@ -42,7 +42,7 @@ fn ranges(alloc: Global, old: &[u8], new: &[u8]) -> Result<u32, Refusal> {
 }
 
 /// The layout of a text.
-fn layout_of(alloc: Global, text: &[u8]) -> Result<Layout, Refusal> {
+pub fn layout_of(alloc: Global, text: &[u8]) -> Result<Layout, Refusal> {
     let program = check_program(alloc, text, MAIN)?;
     Ok(Layout::of(alloc, &program)?)
 }
