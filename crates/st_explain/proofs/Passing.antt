@@ -1,5 +1,5 @@
 -- What is found of the program of a text whose units have no fault.
-use Rattle.std.proofs.Common.{◌≡◌, ℕ, List, [], length, ◌∷◌, ◌<◌, true, false, Some, None, ap, sym, ◌∙◌}
+use Rattle.std.proofs.Common.{◌≡◌, ℕ, List, [], length, ◌∷◌, ◌<◌, true, false, Some, None}
 use Rattle.std.proofs.lemmas.List.Quantifiers.{position-Some}
 use Rattle.st_faults.specs.Faults.{fault}
 use Rattle.st_faults.specs.declared.fault.Fault.{Fault}
@@ -7,7 +7,7 @@ use Rattle.st_faults.specs.declared.fault.Rule.TheVariants as rules
 use Rattle.st_tree.specs.declared.tree.unit.Unit.{Unit as Section}
 use Rattle.st_types.specs.Names.{Named, unit_at, units_of}
 use Rattle.st_types.proofs.Units.{there}
-use Rattle.st_check.specs.Faults.{HasNoProgram, IsAccepted, IsFault, IsFirst, is_main, program_named, size, unit}
+use Rattle.st_check.specs.Faults.{HasNoProgram, IsAccepted, IsFirst, IsUnitFault, is_main, program_named}
 use Rattle.st_check.specs.Programs.{IsOrdered}
 use Rattle.st_check.proofs.Passing.{accepted, is_large, missing, ordered_has_none, too_large}
 

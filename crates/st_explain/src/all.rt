@@ -1,5 +1,6 @@
 //! The faults of a text that is in the grammar, one behind the other.
-ghost use Rattle.std.specs.Prelude.{◌≡◌, ◌∷◌, ◌≤◌, IfOk, List};
+ghost use Rattle.std.specs.Prelude.{◌≡◌, ◌∷◌, ◌+◌, ◌≤◌, IfOk, List, MatchOption};
+ghost use Rattle.st_check.specs.Recursions.{HasNoneFrom, IsFirstOfUnitsFrom};
 ghost use Rattle.st_explain.specs.Collections.{AreLater};
 ghost use Rattle.st_faults.specs.declared.fault.Fault.{Fault as Found};
 
@@ -27,12 +28,24 @@ pub fn faults_from(
     faults.push(first)?;
     let mut last = first;
     'later: while faults.len() < most {
-        let start = u64::from(last.position.number) + 1;
-        let Some(fault) = fault_from(alloc, tables, start)? else {
+        let Some(fault) = fault_behind(alloc, tables, last.position.number)? else {
             return Ok(faults);
         };
         faults.push(fault)?;
         last = fault;
     }
     Ok(faults)
+}
+
+/// The first fault of the units behind the token of this number.
+fn fault_behind(
+    alloc: Global,
+    tables: &Tables<'_>,
+    number: u32,
+) -> Result<Option<Fault>, AllocError>
+    ensures { IfOk result (λ behind. MatchOption behind
+        (HasNoneFrom (number + 1) tables.now) (IsFirstOfUnitsFrom (number + 1) tables.now)) }
+{
+    let start = u64::from(number) + 1;
+    fault_from(alloc, tables, start)
 }

@@ -1,5 +1,5 @@
 use Rattle.std.proofs.Common.{subst}
-use Rattle.st_explain.specs.Findings.{IsOfUnits}
+use Rattle.st_check.specs.Recursions.{IsOfUnits}
 use Rattle.st_check.proofs.Passing.{first_of_all}
 use Rattle.st_explain.proofs.finding.first_finding.Goals as goal
 
