@@ -13,6 +13,7 @@ use Rattle.st_parser.specs.Grammar.Lists.{IsMany, none, more, IsNext, comma, IsL
 use Rattle.st_parser.specs.Reader.Parsers as parser
 use Rattle.st_parser.specs.Reader.Parsers.{Refusal, Wrong, Deep, Outcome, Parser, ahead, and_then, many_from, many, is_symbol}
 use Rattle.st_parser.specs.Grammar.Tokens.{identifier_of, Tok, kind, next, position, same_symbol, same_keyword}
+use Rattle.st_parser.proofs.Local.{FirstOnly, Stays, Steady, by_kind, kind_first, place_first, stays_at_once, stays_bind, stays_expect, stays_many, stays_on, stays_one, stays_pure, stays_refuse, stays_token, steady_first}
 use Rattle.st_parser.proofs.Loops.{at_item, at_end, at_err, ahead_ok, ahead_err, ok_parts}
 use Rattle.st_parser.proofs.Levels.{At, past, Leads, leads, enters, full}
 
@@ -27,11 +28,13 @@ pub record Found {A : Type 0} (c : ℕ) (R : Relation A) (Q Q' : List Tok → Ty
   pub after : Q ts → Q' rest
   pub before : Q' rest → Q ts
 
--- Where pre holds: what P reads is found in R, P is too deep only where Q doesn't hold, and what is in R is read where Q holds and F of what follows.
+-- Where pre holds: what P reads is found in R, P is too deep only where Q doesn't hold, what is in R is read where Q holds and F of what follows,
+-- and what stands behind the first token that P leaves doesn't matter.
 pub record Exact {A : Type 0} (c : ℕ) (P : Parser A) (pre : List Tok → Type 0) (R : Relation A) (F : Option Kind → Type 0) (Q Q' : List Tok → Type 0) : Type 0 where
   pub reads : (ts : List Tok) (x : A) (rest : List Tok) → pre ts → P ts ≡ Ok (x, rest) → Found c R Q Q' ts x rest
-  pub deep : (ts : List Tok) → pre ts → P ts ≡ Err Deep → Q ts → ⊥
+  pub deep : (ts : List Tok) (at : Option Position) → pre ts → P ts ≡ Err (Deep at) → Q ts → ⊥
   pub read : (ts : List Tok) (x : A) (rest : List Tok) → pre ts → R ts x rest → F (kind rest) → Q ts → P ts ≡ Ok (x, rest)
+  pub local : (ts : List Tok) → pre ts → Stays P ts
 
 abbrev pub Always : List Tok → Type 0
 Always ts = Unit {0}
@@ -76,9 +79,9 @@ module _ {A B : Type 0} {c d : ℕ} {P : Parser A} {f : A → Parser B} {pre pre
     {F G : Option Kind → Type 0} {Q Q' Q'' : List Tok → Type 0} (a : Exact c P pre R F Q Q') (b : (x : A) → Exact d (f x) pre' (S x) G Q' Q'')
     (carry : (ts : List Tok) (x : A) (mid : List Tok) → pre ts → R ts x mid → pre' mid)
     (follow : (x : A) (mid rest : List Tok) (y : B) → S x mid y rest → G (kind rest) → F (kind mid)) where
-  bind_deep : (ts : List Tok) → pre ts → (P ts ≡ Err Deep) ⊎ ((z : A × List Tok) × (P ts ≡ Ok z) × (f z.0 z.1 ≡ Err Deep)) → Q ts → ⊥
-  bind_deep ts p (inl h) q = a.deep ts p h q
-  bind_deep ts p (inr z) q = let u = a.reads ts z.0.0 z.0.1 p z.1 in (b z.0.0).deep z.0.1 (carry ts z.0.0 z.0.1 p u.is) z.2 (u.after q)
+  bind_deep : (ts : List Tok) (at : Option Position) → pre ts → (P ts ≡ Err (Deep at)) ⊎ ((z : A × List Tok) × (P ts ≡ Ok z) × (f z.0 z.1 ≡ Err (Deep at))) → Q ts → ⊥
+  bind_deep ts at p (inl h) q = a.deep ts at p h q
+  bind_deep ts at p (inr z) q = let u = a.reads ts z.0.0 z.0.1 p z.1 in (b z.0.0).deep z.0.1 at (carry ts z.0.0 z.0.1 p u.is) z.2 (u.after q)
 
   bind_reads : (ts : List Tok) (y : B) (rest : List Tok) → pre ts → (z : A × List Tok) × (P ts ≡ Ok z) × (f z.0 z.1 ≡ Ok (y, rest)) → Found c (Then R S) Q Q'' ts y rest
   bind_reads ts y rest p z =
@@ -96,8 +99,9 @@ module _ {A B : Type 0} {c d : ℕ} {P : Parser A} {f : A → Parser B} {pre pre
   pub exact_bind_if : Exact c (λ ts. and_then (P ts) f) pre (Then R S) G Q Q''
   exact_bind_if = record {
     reads = λ ts y rest p h. bind_reads ts y rest p (bind_ok (P ts) f (y, rest) h);
-    deep = λ ts p h. bind_deep ts p (bind_err (P ts) f Deep h);
+    deep = λ ts at p h. bind_deep ts at p (bind_err (P ts) f (Deep at) h);
     read = λ ts y rest p d g q. bind_read p d g q;
+    local = λ ts p. stays_bind P f ts (a.local ts p) (λ x mid e. (b x).local mid (carry ts x mid p (a.reads ts x mid p e).is));
   }
 
 -- P, and then f
@@ -113,8 +117,9 @@ pub exact_as : {A : Type 0} {c : ℕ} {P : Parser A} {pre pre' : List Tok → Ty
     → Exact c P pre' R' F' Q Q'
 exact_as a premise to from follow = record {
   reads = λ ts x rest p h. let u = a.reads ts x rest (premise ts p) h in record { is = to ts x rest p u.is; takes = u.takes; after = u.after; before = u.before };
-  deep = λ ts p h. a.deep ts (premise ts p) h;
+  deep = λ ts at p h. a.deep ts at (premise ts p) h;
   read = λ ts x rest p d g q. a.read ts x rest (premise ts p) (from ts x rest p g d) (follow (kind rest) g) q;
+  local = λ ts p. a.local ts (premise ts p);
 }
 
 -- the same parser for a relation that says the same
@@ -128,7 +133,7 @@ pub made : {A : Type 0} {a : A} {ts : List Tok} {x : A} {rest : List Tok} → Is
 made done M m = m
 
 pub exact_pure : {A : Type 0} (a : A) (pre : List Tok → Type 0) (F : Option Kind → Type 0) (Q : List Tok → Type 0) → Exact 0 (parser.pure a) pre (IsPure a) F Q Q
-exact_pure {A} a pre F Q = record { reads = λ ts x rest p h. reads ts x rest h; deep = λ ts p h q. cc; read = λ ts x rest p d g q. read d } where
+exact_pure {A} a pre F Q = record { reads = λ ts x rest p h. reads ts x rest h; deep = λ ts at p h q. cc; read = λ ts x rest p d g q. read d; local = λ ts p. stays_pure a ts } where
   reads : (ts : List Tok) (x : A) (rest : List Tok) → ◌≡◌ {A = Outcome A} (Ok (a, ts)) (Ok (x, rest)) → Found 0 (IsPure a) Q Q ts x rest
   reads ts x rest h = let e = ok_parts h in
       subst (λ y. Found 0 (IsPure a) Q Q ts y rest) e.0 (subst (λ us. Found 0 (IsPure a) Q Q ts a us) e.1
@@ -154,6 +159,7 @@ exact_zero a = record {
   reads = λ ts x rest p h. let u = a.reads ts x rest p h in record { is = u.is; takes = omega (arith, u.takes); after = u.after; before = u.before };
   deep = a.deep;
   read = a.read;
+  local = a.local;
 }
 
 -- what can't be in the relation is refused
@@ -161,18 +167,26 @@ pub exact_refuse : {A : Type 0} (c : ℕ) (pre : List Tok → Type 0) (R : Relat
     → ((ts : List Tok) (x : A) (rest : List Tok) → pre ts → R ts x rest → ⊥) → Exact {A = A} c parser.refuse pre R F Q Q'
 exact_refuse c pre R F Q Q' never = record {
   reads = λ ts x rest p h. absurd (cc);
-  deep = λ ts p h q. cc;
+  deep = λ ts at p h q. cc;
   read = λ ts x rest p d g q. absurd (never ts x rest p d);
+  local = λ ts p. stays_refuse ts;
 }
 
--- by what a test of the tokens gives
-pub exact_on : {A T : Type 0} {c : ℕ} (g : List Tok → T) (f : T → Parser A) (pre : List Tok → Type 0) (R : Relation A) (F : Option Kind → Type 0) (Q Q' : List Tok → Type 0)
+-- by what a test of the tokens gives, which is steady
+pub exact_by : {A T : Type 0} {c : ℕ} (g : List Tok → T) (f : T → Parser A) (pre : List Tok → Type 0) → Steady g f pre
+    → (R : Relation A) (F : Option Kind → Type 0) (Q Q' : List Tok → Type 0)
     → ((t : T) → Exact c (f t) (λ ts. (g ts ≡ t) × pre ts) R F Q Q') → Exact c (λ ts. f (g ts) ts) pre R F Q Q'
-exact_on g f pre R F Q Q' a = record {
+exact_by g f pre steady R F Q Q' a = record {
   reads = λ ts x rest p h. (a (g ts)).reads ts x rest (refl, p) h;
-  deep = λ ts p h. (a (g ts)).deep ts (refl, p) h;
+  deep = λ ts at p h. (a (g ts)).deep ts at (refl, p) h;
   read = λ ts x rest p d e q. (a (g ts)).read ts x rest (refl, p) d e q;
+  local = λ ts p. stays_on g f pre steady ts p ((a (g ts)).local ts (refl, p));
 }
+
+-- by what a test of the first token gives
+pub exact_on : {A T : Type 0} {c : ℕ} (g : List Tok → T) → FirstOnly g → (f : T → Parser A) (pre : List Tok → Type 0) (R : Relation A) (F : Option Kind → Type 0) (Q Q' : List Tok → Type 0)
+    → ((t : T) → Exact c (f t) (λ ts. (g ts ≡ t) × pre ts) R F Q Q') → Exact c (λ ts. f (g ts) ts) pre R F Q Q'
+exact_on g looks f pre R F Q Q' a = exact_by g f pre (steady_first g f pre looks) R F Q Q' a
 
 -- ---- single tokens
 
@@ -191,18 +205,22 @@ module _ {A : Type 0} {d : ℕ} {f : Position → Parser A} (x : Kind) (pre : Li
       (λ p us y rest i h. let u = (b p).reads us y rest i h in
       record { is = u.is; takes = omega (arith, u.takes); after = λ q. u.after ((l p us).0 q); before = λ q. (l p us).1 (u.before q) })
 
-  token_deep : (ts : List Tok) → IsFirst x ts → pre ts → and_then (parser.bump ts) f ≡ Err Deep → Q ts → ⊥
-  token_deep = at_first x (λ ts. pre ts → and_then (parser.bump ts) f ≡ Err Deep → Q ts → ⊥) (λ p us i h q. (b p).deep us i h ((l p us).0 q))
+  token_deep : (ts : List Tok) → IsFirst x ts → (at : Option Position) → pre ts → and_then (parser.bump ts) f ≡ Err (Deep at) → Q ts → ⊥
+  token_deep = at_first x (λ ts. (at : Option Position) → pre ts → and_then (parser.bump ts) f ≡ Err (Deep at) → Q ts → ⊥) (λ p us at i h q. (b p).deep us at i h ((l p us).0 q))
 
   token_read : (ts : List Tok) → IsFirst x ts → (y : A) (rest : List Tok) → pre ts → R ts y rest → F (kind rest) → Q ts → and_then (parser.bump ts) f ≡ Ok (y, rest)
   token_read = at_first x (λ ts. (y : A) (rest : List Tok) → pre ts → R ts y rest → F (kind rest) → Q ts → and_then (parser.bump ts) f ≡ Ok (y, rest))
       (λ p us y rest i r g q. (b p).read us y rest i r g ((l p us).0 q))
 
+  token_local : (ts : List Tok) → IsFirst x ts → pre ts → Stays (λ us. and_then (parser.bump us) f) ts
+  token_local = at_first x (λ ts. pre ts → Stays (λ us. and_then (parser.bump us) f) ts) (λ p us i. stays_token f (p, x) us ((b p).local us i))
+
   pub exact_token_if : Exact 1 (λ ts. and_then (parser.bump ts) f) (λ ts. IsFirst x ts × pre ts) R F Q Q''
   exact_token_if = record {
     reads = λ ts y rest i h. token_reads ts i.0 y rest i.1 h;
-    deep = λ ts i h q. token_deep ts i.0 i.1 h q;
+    deep = λ ts at i h q. token_deep ts i.0 at i.1 h q;
     read = λ ts y rest i r g q. token_read ts i.0 y rest i.1 r g q;
+    local = λ ts i. token_local ts i.0 i.1;
   }
 
 pub exact_token : {A : Type 0} {d r : ℕ} {f : Position → Parser A} (x : Kind) → opens x ≡ 0 → {R : Relation A} {F : Option Kind → Type 0} {Q'' : List Tok → Type 0}
@@ -219,8 +237,9 @@ pub exact_enter : {A : Type 0} (d r : ℕ) (f : Position → Parser A) (x : Kind
 unfolding parser.enter
 exact_enter d zero f x opening {R} {F} b = record {
   reads = λ ts y rest i h. absurd (cc);
-  deep = λ ts i h q. at_first x (λ us. At zero us → ⊥) (full x opening) ts i q;
+  deep = λ ts at i h q. at_first x (λ us. At zero us → ⊥) (full x opening) ts i q;
   read = λ ts y rest i d g q. absurd (at_first x (λ us. At zero us → ⊥) (full x opening) ts i q);
+  local = λ ts i. stays_at_once _ ts refl (λ rest e. ap (λ (at : Option Position). Err (Deep at)) (place_first rest ts e));
 }
 exact_enter d (suc r) f x opening {R} {F} b = exact_as (exact_token_if x Always R F (At (suc r)) (At r) (At (suc r)) (enters x r opening) b) (λ ts i. (i, tt)) (λ ts y rest i d. d) (λ ts y rest i g d. d) (λ t g. g)
 
@@ -239,10 +258,10 @@ module _ (x : Kind) (test : Option Kind → Bool) (r : ℕ) (plain : opens x ≡
   expect_reads ts p rest true t h = expected ts p rest (only (kind ts) t) (rw t at h)
   expect_reads ts p rest false t h = let g = rw t at h in absurd (cc)
 
-  expect_deep : (ts : List Tok) (b : Bool) → test (kind ts) ≡ b → parser.expect test ts ≡ Err Deep → ⊥
+  expect_deep : (ts : List Tok) (at : Option Position) (b : Bool) → test (kind ts) ≡ b → parser.expect test ts ≡ Err (Deep at) → ⊥
   unfolding parser.expect
-  expect_deep ts true t h = let g = rw t at h in cc
-  expect_deep ts false t h = let g = rw t at h in cc
+  expect_deep ts at true t h = let g = rw t at h in cc
+  expect_deep ts at false t h = let g = rw t at h in cc
 
   expect_read : {ts rest : List Tok} {p : Position} → IsOne x ts p rest → parser.expect test ts ≡ Ok (p, rest)
   unfolding parser.expect
@@ -251,8 +270,9 @@ module _ (x : Kind) (test : Option Kind → Bool) (r : ℕ) (plain : opens x ≡
   pub exact_expect : Exact 1 (parser.expect test) Always (IsOne x) Any (At r) (At (past (closes x) r))
   exact_expect = record {
     reads = λ ts p rest u h. expect_reads ts p rest (test (kind ts)) refl h;
-    deep = λ ts u h q. expect_deep ts (test (kind ts)) refl h;
+    deep = λ ts at u h q. expect_deep ts at (test (kind ts)) refl h;
     read = λ ts p rest u d g q. expect_read d;
+    local = λ ts u. stays_expect test ts;
   }
 
 pub symbol_is : (x : Symbol) (t : Option Kind) → parser.is_symbol x t ≡ true → t ≡ Some (token_kinds.Symbol x)
@@ -291,7 +311,7 @@ module _ (x : Symbol) (r : ℕ) (opening : opens (token_kinds.Symbol x) ≡ 1) w
   open_not : {ts rest : List Tok} {p : Position} → parser.is_symbol x (kind ts) ≡ false → IsOne (token_kinds.Symbol x) ts p rest → ⊥
   open_not h one = let self = symbol_self x in cc
 
-  open_by : (b : Bool) → Exact 1 (λ ts. if b then parser.enter (suc r) ts else Err parser.Wrong) (λ ts. (parser.is_symbol x (kind ts) ≡ b) × Always ts) (IsOne (token_kinds.Symbol x)) Any (At (suc r)) (At r)
+  open_by : (b : Bool) → Exact 1 (λ ts. if b then parser.enter (suc r) ts else parser.refuse ts) (λ ts. (parser.is_symbol x (kind ts) ≡ b) × Always ts) (IsOne (token_kinds.Symbol x)) Any (At (suc r)) (At r)
   unfolding parser.enter
   open_by true = exact_under (exact_token_if (token_kinds.Symbol x) Always (IsOne (token_kinds.Symbol x)) Any (At (suc r)) (At r) (At r) (enters (token_kinds.Symbol x) r opening)
       (λ p. exact_iff (exact_pure p Always Any (At r)) (open_to p) (open_from p))) (λ ts h. (symbol_is x (kind ts) h.0, tt)) (λ t g. g)
@@ -299,11 +319,21 @@ module _ (x : Symbol) (r : ℕ) (opening : opens (token_kinds.Symbol x) ≡ 1) w
 
   pub exact_open_level : Exact 1 (parser.open_level x (suc r)) Always (IsOne (token_kinds.Symbol x)) Any (At (suc r)) (At r)
   unfolding parser.open_level
-  exact_open_level = exact_on (λ ts. parser.is_symbol x (kind ts)) (λ b ts. if b then parser.enter (suc r) ts else Err parser.Wrong) Always (IsOne (token_kinds.Symbol x)) Any (At (suc r)) (At r) open_by
+  exact_open_level = exact_on (λ ts. parser.is_symbol x (kind ts)) (by_kind (parser.is_symbol x)) (λ b ts. if b then parser.enter (suc r) ts else parser.refuse ts) Always (IsOne (token_kinds.Symbol x)) Any (At (suc r)) (At r) open_by
 
 pub exact_identifier : (r : ℕ) → Exact 1 parser.identifier Always IsWord Any (At r) (At r)
 unfolding parser.identifier
-exact_identifier r = record { reads = λ ts x rest u h. reads ts x rest h; deep = λ ts u h q. deep ts h; read = λ ts x rest u d g q. read d } where
+exact_identifier r = record {
+  reads = λ ts x rest u h. reads ts x rest h;
+  deep = λ ts at u h q. deep ts at h;
+  read = λ ts x rest u d g q. read d;
+  local = λ ts u. stays_on kind parser.identifier_by Always (steady_first kind parser.identifier_by Always kind_first) ts tt (local ts);
+} where
+  local : (ts : List Tok) → Stays (parser.identifier_by (kind ts)) ts
+  local ((p, token_kinds.Word n) ∷ ts) = stays_one (p, token_kinds.Word n) ts (identifier_of p n) (λ rest. refl)
+  local [] = stays_refuse []
+  local ((p, _) ∷ ts) = stays_refuse _
+
   reads : (ts : List Tok) (x : Identifier) (rest : List Tok) → parser.identifier_by (kind ts) ts ≡ Ok (x, rest) → Found 1 IsWord (At r) (At r) ts x rest
   reads ((p, token_kinds.Word n) ∷ ts) x rest h = let e = ok_parts h in
       subst (λ z. Found 1 IsWord (At r) (At r) ((p, token_kinds.Word n) ∷ ts) z rest) e.0
@@ -312,17 +342,27 @@ exact_identifier r = record { reads = λ ts x rest u h. reads ts x rest h; deep 
   reads [] x rest h = absurd (cc)
   reads ((p, _) ∷ ts) x rest h = absurd (cc)
 
-  deep : (ts : List Tok) → parser.identifier_by (kind ts) ts ≡ Err Deep → ⊥
-  deep ((p, token_kinds.Word n) ∷ ts) h = cc
-  deep [] h = cc
-  deep ((p, _) ∷ ts) h = cc
+  deep : (ts : List Tok) (at : Option Position) → parser.identifier_by (kind ts) ts ≡ Err (Deep at) → ⊥
+  deep ((p, token_kinds.Word n) ∷ ts) at h = cc
+  deep [] at h = cc
+  deep ((p, _) ∷ ts) at h = cc
 
   read : {ts rest : List Tok} {x : Identifier} → IsWord ts x rest → parser.identifier_by (kind ts) ts ≡ Ok (x, rest)
   read a_word = refl
 
 pub exact_number : (r : ℕ) → Exact 1 parser.number Always IsNumber Any (At r) (At r)
 unfolding parser.number
-exact_number r = record { reads = λ ts x rest u h. reads ts x rest h; deep = λ ts u h q. deep ts h; read = λ ts x rest u d g q. read d } where
+exact_number r = record {
+  reads = λ ts x rest u h. reads ts x rest h;
+  deep = λ ts at u h q. deep ts at h;
+  read = λ ts x rest u d g q. read d;
+  local = λ ts u. stays_on kind parser.number_by Always (steady_first kind parser.number_by Always kind_first) ts tt (local ts);
+} where
+  local : (ts : List Tok) → Stays (parser.number_by (kind ts)) ts
+  local ((p, token_kinds.Number n) ∷ ts) = stays_one (p, token_kinds.Number n) ts n (λ rest. refl)
+  local [] = stays_refuse []
+  local ((p, _) ∷ ts) = stays_refuse _
+
   reads : (ts : List Tok) (x : ℕ) (rest : List Tok) → parser.number_by (kind ts) ts ≡ Ok (x, rest) → Found 1 IsNumber (At r) (At r) ts x rest
   reads ((p, token_kinds.Number n) ∷ ts) x rest h = let e = ok_parts h in
       subst (λ z. Found 1 IsNumber (At r) (At r) ((p, token_kinds.Number n) ∷ ts) z rest) e.0
@@ -331,10 +371,10 @@ exact_number r = record { reads = λ ts x rest u h. reads ts x rest h; deep = λ
   reads [] x rest h = absurd (cc)
   reads ((p, _) ∷ ts) x rest h = absurd (cc)
 
-  deep : (ts : List Tok) → parser.number_by (kind ts) ts ≡ Err Deep → ⊥
-  deep ((p, token_kinds.Number n) ∷ ts) h = cc
-  deep [] h = cc
-  deep ((p, _) ∷ ts) h = cc
+  deep : (ts : List Tok) (at : Option Position) → parser.number_by (kind ts) ts ≡ Err (Deep at) → ⊥
+  deep ((p, token_kinds.Number n) ∷ ts) at h = cc
+  deep [] at h = cc
+  deep ((p, _) ∷ ts) at h = cc
 
   read : {ts rest : List Tok} {x : ℕ} → IsNumber ts x rest → parser.number_by (kind ts) ts ≡ Ok (x, rest)
   read a_number = refl
@@ -386,17 +426,17 @@ module _ {A : Type 0} (test : Option Kind → Bool) (item : Parser A) (R : Relat
   from_reads zero ts xs rest h = absurd (cc)
   from_reads (suc n) ts xs rest h = step_reads n ts (test (kind ts)) (item ts) xs rest refl refl h (λ mid ys g. from_reads n mid ys rest g)
 
-  step_deep : (n : ℕ) (ts : List Tok) (b : Bool) (o : Outcome A) → test (kind ts) ≡ b → item ts ≡ o → many_from test item (suc n) ts ≡ Err Deep
-      → ((mid : List Tok) → many_from test item n mid ≡ Err Deep → Q mid → ⊥) → Q ts → ⊥
-  step_deep n ts false o t i h ih q = let g = sym (at_end test item n ts t) ∙ h in cc
-  step_deep n ts true (Ok z) t i h ih q = ih z.1 (ahead_err z.0 _ Deep (sym (at_item test item n ts z.0 z.1 t i) ∙ h)) ((a.reads ts z.0 z.1 t i).after q)
-  step_deep n ts true (Err r) t i h ih q = let g : Err r ≡ Err Deep = sym (at_err test item n ts r t i) ∙ h in let e : r ≡ Deep = cc in
-      a.deep ts t (i ∙ ap Err e) q
+  step_deep : (n : ℕ) (ts : List Tok) (at : Option Position) (b : Bool) (o : Outcome A) → test (kind ts) ≡ b → item ts ≡ o → many_from test item (suc n) ts ≡ Err (Deep at)
+      → ((mid : List Tok) → many_from test item n mid ≡ Err (Deep at) → Q mid → ⊥) → Q ts → ⊥
+  step_deep n ts at false o t i h ih q = let g = sym (at_end test item n ts t) ∙ h in cc
+  step_deep n ts at true (Ok z) t i h ih q = ih z.1 (ahead_err z.0 _ (Deep at) (sym (at_item test item n ts z.0 z.1 t i) ∙ h)) ((a.reads ts z.0 z.1 t i).after q)
+  step_deep n ts at true (Err r) t i h ih q = let g : Err r ≡ Err (Deep at) = sym (at_err test item n ts r t i) ∙ h in let e : r ≡ Deep at = cc in
+      a.deep ts at t (i ∙ ap Err e) q
 
-  from_deep : (n : ℕ) (ts : List Tok) → many_from test item n ts ≡ Err Deep → Q ts → ⊥
+  from_deep : (n : ℕ) (ts : List Tok) (at : Option Position) → many_from test item n ts ≡ Err (Deep at) → Q ts → ⊥
   unfolding many_from
-  from_deep zero ts h q = cc
-  from_deep (suc n) ts h q = step_deep n ts (test (kind ts)) (item ts) refl refl h (λ mid g. from_deep n mid g) q
+  from_deep zero ts at h q = cc
+  from_deep (suc n) ts at h q = step_deep n ts at (test (kind ts)) (item ts) refl refl h (λ mid g. from_deep n mid at g) q
 
   next_follow : {mid rest : List Tok} {xs : List A} → IsMany R mid xs rest → Ends test F (kind rest) → F (kind mid)
   next_follow none e = e.1
@@ -415,8 +455,9 @@ module _ {A : Type 0} (test : Option Kind → Bool) (item : Parser A) (R : Relat
   unfolding many
   exact_many = record {
     reads = λ ts xs rest u h. from_reads (suc (length ts)) ts xs rest h;
-    deep = λ ts u h. from_deep (suc (length ts)) ts h;
+    deep = λ ts at u h. from_deep (suc (length ts)) ts at h;
     read = λ ts xs rest u d e q. from_read d (suc (length ts)) (omega arith) e q;
+    local = λ ts u. stays_many test item a.local (λ us x mid t i. let w = (a.reads us x mid t i).takes in omega (arith, w)) ts;
   }
 
 module _ {A : Type 0} (item : Parser A) (R : Relation A) (F : Option Kind → Type 0) (r : ℕ) (a : Exact 1 item Always R F (At r) (At r)) (comma_fits : F (Some (token_kinds.Symbol symbols.Comma))) where

@@ -1,6 +1,6 @@
 -- The reading functions of expressions read their grammar exactly.
 use Rattle.std.proofs.Common.{◌≡◌, ℕ, zero, suc, List, [], ◌∷◌, refl, sym, ap, subst, ◌∙◌, Bool, true, false, arith}
-use Rattle.std.specs.Prelude.{Option, Some, None}
+use Rattle.std.specs.Prelude.{Option, Some, None, Ok}
 use Rattle.st_tokens.specs.declared.keyword.Keyword.TheVariants as keywords
 use Rattle.st_tokens.specs.declared.symbol.Symbol.TheVariants as symbols
 use Rattle.st_tokens.specs.declared.token.Kind.TheVariants as token_kinds
@@ -12,13 +12,14 @@ use Rattle.st_parser.specs.Grammar.Expressions.{integer_of, typed_of, duration_o
 use Rattle.st_parser.specs.Grammar.Levels.{opens, closes}
 use Rattle.st_parser.specs.Grammar.Lists.{IsMany, none, more, IsNext, comma, IsListed, listed}
 use Rattle.st_parser.specs.Reader.Parsers as parser
-use Rattle.st_parser.specs.Reader.Parsers.{Parser, and_then}
+use Rattle.st_parser.specs.Reader.Parsers.{Deep, Parser, Wrong, and_then}
 use Rattle.st_parser.specs.Reader.Expressions as spec
 use Rattle.st_parser.specs.Reader.Expressions.{Inside, begins_part}
-use Rattle.st_parser.specs.Grammar.Tokens.{Tok, kind, next, position}
-use Rattle.st_parser.proofs.Exact.{Relation, Exact, Always, Any, Then, seq, IsOne, one, IsPure, done, IsWord, a_word, IsNumber, a_number, exact_bind, exact_bind_if, exact_as, exact_iff, exact_last, exact_under, exact_pure, made, exact_refuse, exact_on, IsFirst, exact_token, exact_token_if, exact_enter, AfterOpening, exact_symbol, symbol_is, Before, exact_identifier_before, exact_identifier, exact_number, exact_before, Ends, exact_many, exact_listed}
+use Rattle.st_parser.specs.Grammar.Tokens.{Tok, identifier_of, kind, next, position}
+use Rattle.st_parser.proofs.Exact.{Relation, Exact, Always, Any, Then, seq, IsOne, one, IsPure, done, IsWord, a_word, IsNumber, a_number, exact_bind, exact_bind_if, exact_as, exact_iff, exact_last, exact_under, exact_pure, made, exact_refuse, exact_by, exact_on, IsFirst, at_first, exact_token, exact_token_if, exact_enter, AfterOpening, exact_symbol, symbol_is, Before, exact_identifier_before, exact_identifier, exact_number, exact_before, Ends, exact_many, exact_listed}
 use Rattle.st_parser.proofs.Follows.{Stops, stops_less, stops_at, stops_part, stops_operator, precedence_is, begins_integer, integer_begins, begins_constant, constant_begins, primary_begins, argument_begins, part_begins, operation_begins, binary_word, Ending}
 use Rattle.st_parser.proofs.Levels.{At, past, Leads, leads}
+use Rattle.st_parser.proofs.Local.{Stays, Steady, by_kind, by_second, kind_first, position_first, steady_second, takes_read, takes_refused}
 use Rattle.st_parser.specs.Names.{Argument, BinOp, Call, Constant, Expression, Identifier, Kind, Operation, Part, Position, SignedInteger, Variable}
 
 -- ---- literals
@@ -55,7 +56,7 @@ module _ (r : ℕ) where
 
   pub signed_integer_exact : Exact 1 spec.signed_integer Always IsSignedInteger Any (At r) (At r)
   unfolding spec.signed_integer
-  signed_integer_exact = exact_on kind spec.integer_by Always IsSignedInteger Any (At r) (At r) integer_by
+  signed_integer_exact = exact_on kind kind_first spec.integer_by Always IsSignedInteger Any (At r) (At r) integer_by
 
   typed_to : (elem : _) (n : _) (p : Position) (ts : List Tok) (x : Constant) (rest : List Tok) → IsPure (typed_of p elem n) ts x rest → IsConstant ((p, token_kinds.Typed elem n) ∷ ts) x rest
   typed_to elem n p ts x rest d = made d (λ y us. IsConstant ((p, token_kinds.Typed elem n) ∷ ts) y us) typed
@@ -117,7 +118,7 @@ module _ (r : ℕ) where
 
   pub constant_exact : Exact 1 spec.constant Always IsConstant Any (At r) (At r)
   unfolding spec.constant
-  constant_exact = exact_on kind spec.constant_by Always IsConstant Any (At r) (At r) constant_by
+  constant_exact = exact_on kind kind_first spec.constant_by Always IsConstant Any (At r) (At r) constant_by
 
 -- ---- variables
 
@@ -171,7 +172,7 @@ module _ (r : ℕ) (i : Inside) (e : ExactInside r i) where
 
   part_exact : Exact 1 (spec.part_of r i) (λ ts. begins_part (kind ts) ≡ true) IsPart Any (At r) (At r)
   unfolding spec.part_of
-  part_exact = exact_on kind (spec.part_by r i) (λ ts. begins_part (kind ts) ≡ true) IsPart Any (At r) (At r) part_by
+  part_exact = exact_on kind kind_first (spec.part_by r i) (λ ts. begins_part (kind ts) ≡ true) IsPart Any (At r) (At r) part_by
 
 to_parts : {ts rest : List Tok} {xs : List Part} → IsMany IsPart ts xs rest → IsParts ts xs rest
 to_parts none = no_part
@@ -276,10 +277,28 @@ module _ (r : ℕ) (i : Inside) (e : ExactInside (suc r) i) where
   argument_by (Some (token_kinds.Word n)) (Some (token_kinds.Symbol symbols.Output)) = output_exact n
   argument_by t u = positional_exact t u refl
 
+  -- what begins with a word takes it
+  word_takes : (n : List ℕ) (p : Position) (us : List Tok) (u : Option Kind) (s : Stays (spec.argument_by i (Some (token_kinds.Word n)) u) ((p, token_kinds.Word n) ∷ us)) → s.taken ≡ [] → ⊥
+  unfolding spec.input spec.output spec.positional parser.identifier_before parser.identifier parser.expect
+  word_takes n p us (Some (token_kinds.Symbol symbols.Assign)) s nothing =
+      takes_refused (spec.input i) _ s nothing ((p, token_kinds.Word n) ∷ []) ((p, token_kinds.Word n) ∷ (p, token_kinds.Symbol symbols.Comma) ∷ []) (Wrong None) (Wrong (Some p)) refl refl refl refl (λ e. cc)
+  word_takes n p us (Some (token_kinds.Symbol symbols.Output)) s nothing =
+      takes_refused (spec.output i) _ s nothing ((p, token_kinds.Word n) ∷ []) ((p, token_kinds.Word n) ∷ (p, token_kinds.Symbol symbols.Comma) ∷ []) (Wrong None) (Wrong (Some p)) refl refl refl refl (λ e. cc)
+  word_takes n p us u s nothing =
+      let x : Expression = expressions.Variable (variable_of (identifier_of p n) []) in
+      let read : i.expression ((p, token_kinds.Word n) ∷ []) ≡ Ok (x, []) = e.0.read ((p, token_kinds.Word n) ∷ []) x [] tt
+      (alone (alone (alone (alone (alone (alone (alone (unary (primary (variable (named no_part))))))))))) tt tt in
+      takes_read (spec.positional i) _ s nothing ((p, token_kinds.Word n) ∷ []) (argument_kinds.Positional x) [] refl (rw read refl) (omega arith)
+
+  argument_steady : (t : Option Kind) → Steady (λ ts. kind (next ts)) (spec.argument_by i t) (λ ts. (kind ts ≡ t) × Always ts)
+  argument_steady (Some (token_kinds.Word n)) = steady_second (λ ts. kind (next ts)) (spec.argument_by i (Some (token_kinds.Word n))) (λ ts. (kind ts ≡ Some (token_kinds.Word n)) × Always ts) (by_second (λ u. u))
+      (λ ts p s nothing. at_first (token_kinds.Word n) (λ us. (u : Option Kind) (s : Stays (spec.argument_by i (Some (token_kinds.Word n)) u) us) → s.taken ≡ [] → ⊥) (word_takes n) ts p.0 (kind (next ts)) s nothing)
+  argument_steady _ = λ ts p s rest e. refl
+
   argument_exact : Exact 1 (spec.argument i) Always IsArgument Closes (At r) (At r)
   unfolding spec.argument
-  argument_exact = exact_on kind (λ t ts. spec.argument_by i t (kind (next ts)) ts) Always IsArgument Closes (At r) (At r)
-      (λ t. exact_on (λ ts. kind (next ts)) (spec.argument_by i t) (λ ts. (kind ts ≡ t) × Always ts) IsArgument Closes (At r) (At r) (λ u. argument_by t u))
+  argument_exact = exact_on kind kind_first (λ t ts. spec.argument_by i t (kind (next ts)) ts) Always IsArgument Closes (At r) (At r)
+      (λ t. exact_by (λ ts. kind (next ts)) (spec.argument_by i t) (λ ts. (kind ts ≡ t) × Always ts) (argument_steady t) IsArgument Closes (At r) (At r) (λ u. argument_by t u))
 
 to_arguments : {ts rest : List Tok} {xs : List Argument} → IsMany (IsNext IsArgument) ts xs rest → IsNextArguments ts xs rest
 to_arguments none = no_argument
@@ -319,7 +338,7 @@ module _ (r : ℕ) (i : Inside) (e : ExactInside (suc r) i) (p : Position) where
 
   arguments_exact : Exact 1 (spec.arguments i) Always IsRest Any (At r) (At (suc r))
   unfolding spec.arguments
-  arguments_exact = exact_on (λ ts. parser.is_symbol symbols.Close (kind ts)) (spec.arguments_by i) Always IsRest Any (At r) (At (suc r)) arguments_by
+  arguments_exact = exact_on (λ ts. parser.is_symbol symbols.Close (kind ts)) (by_kind (parser.is_symbol symbols.Close)) (spec.arguments_by i) Always IsRest Any (At r) (At (suc r)) arguments_by
 
 -- '(' arguments ')', and what is made of it
 abbrev Called : Identifier → Relation Call
@@ -414,6 +433,15 @@ is_number_is ((p, token_kinds.Number n) ∷ ts) h d = cc
 is_number_is [] h d = d
 is_number_is ((p, _) ∷ ts) h d = d
 
+-- a call takes its name
+call_takes : (r : ℕ) (i : Inside) (n : List ℕ) (p : Position) (us : List Tok) (s : Stays (spec.named_by r i true) ((p, token_kinds.Word n) ∷ us)) → s.taken ≡ [] → ⊥
+unfolding spec.call spec.arguments parser.identifier parser.enter
+call_takes zero i n p us s nothing =
+    takes_refused (spec.named_by zero i true) _ s nothing ((p, token_kinds.Word n) ∷ []) ((p, token_kinds.Word n) ∷ (p, token_kinds.Symbol symbols.Open) ∷ []) (Deep None) (Deep (Some p)) refl refl refl refl (λ e. cc)
+call_takes (suc r) i n p us s nothing =
+    takes_read (spec.named_by (suc r) i true) _ s nothing ((p, token_kinds.Word n) ∷ (p, token_kinds.Symbol symbols.Open) ∷ (p, token_kinds.Symbol symbols.Close) ∷ [])
+    (expressions.Call (call_of (identifier_of p n) [])) [] refl refl (omega arith)
+
 number_is : (ts : List Tok) → spec.is_number (kind ts) ≡ true → IsNumberFirst (kind ts)
 number_is ((p, token_kinds.Number n) ∷ ts) h = tt
 number_is [] h = absurd (cc)
@@ -430,9 +458,19 @@ module _ (r : ℕ) (i : Inside) (h : ExactInside r i) where
   named_by n false = exact_as (exact_last (variable_exact r i h) expressions.Variable) (λ ts p. tt) (λ ts x rest p d. variable_as ts x rest d)
       (λ ts x rest p g d. variable_back n ts x rest p.0 p.1 d) (λ t g. g)
 
+  named_takes : (n : List ℕ) (p : Position) (us : List Tok) (b : Bool) (s : Stays (spec.named_by r i b) ((p, token_kinds.Word n) ∷ us)) → s.taken ≡ [] → ⊥
+  unfolding spec.variable parser.identifier parser.many parser.many_from
+  named_takes n p us true s nothing = call_takes r i n p us s nothing
+  named_takes n p us false s nothing =
+      takes_read (spec.named_by r i false) _ s nothing ((p, token_kinds.Word n) ∷ []) (expressions.Variable (variable_of (identifier_of p n) [])) [] refl refl (omega arith)
+
+  named_steady : (n : List ℕ) → Steady (λ ts. parser.is_symbol symbols.Open (kind (next ts))) (spec.named_by r i) (IsFirst (token_kinds.Word n))
+  named_steady n = steady_second (λ ts. parser.is_symbol symbols.Open (kind (next ts))) (spec.named_by r i) (IsFirst (token_kinds.Word n)) (by_second (parser.is_symbol symbols.Open))
+      (λ ts p s nothing. at_first (token_kinds.Word n) (λ us. (b : Bool) (s : Stays (spec.named_by r i b) us) → s.taken ≡ [] → ⊥) (named_takes n) ts p (parser.is_symbol symbols.Open (kind (next ts))) s nothing)
+
   named_exact : (n : List ℕ) → Exact 1 (spec.named r i) (IsFirst (token_kinds.Word n)) IsPrimary (Stops 0) (At r) (At r)
   unfolding spec.named
-  named_exact n = exact_on (λ ts. parser.is_symbol symbols.Open (kind (next ts))) (spec.named_by r i) (IsFirst (token_kinds.Word n)) IsPrimary (Stops 0) (At r) (At r) (named_by n)
+  named_exact n = exact_by (λ ts. parser.is_symbol symbols.Open (kind (next ts))) (spec.named_by r i) (IsFirst (token_kinds.Word n)) (named_steady n) IsPrimary (Stops 0) (At r) (At r) (named_by n)
 
   literal_exact : (t : Option Kind) → is_literal_first t ≡ true → Exact 1 (λ ts. and_then (spec.constant ts) (λ x. parser.pure (expressions.Constant x))) (λ ts. (kind ts ≡ t) × Always ts) IsPrimary (Stops 0) (At r) (At r)
   literal_exact t l = exact_as (exact_last (constant_exact r) expressions.Constant) (λ ts p. tt) (λ ts x rest p d. constant_as ts x rest d)
@@ -445,7 +483,7 @@ module _ (r : ℕ) (i : Inside) (h : ExactInside r i) where
 
   primary_exact : Exact 1 (spec.primary r i) Always IsPrimary (Stops 0) (At r) (At r)
   unfolding spec.primary
-  primary_exact = exact_on kind (spec.primary_by r i) Always IsPrimary (Stops 0) (At r) (At r) primary_by
+  primary_exact = exact_on kind kind_first (spec.primary_by r i) Always IsPrimary (Stops 0) (At r) (At r) primary_by
 
   complement_to : (p : Position) (ts : List Tok) (x : Expression) (rest : List Tok) → Then IsPrimary (λ y. IsPure (expressions.Not p y)) ts x rest → IsUnary ((p, token_kinds.Keyword keywords.Not) ∷ ts) x rest
   complement_to p ts x rest (seq d m) = made m (λ y us. IsUnary ((p, token_kinds.Keyword keywords.Not) ∷ ts) y us) (complement d)
@@ -497,10 +535,25 @@ module _ (r : ℕ) (i : Inside) (h : ExactInside r i) where
   unary_by (Some (token_kinds.Symbol symbols.Minus)) u = minus_by u (spec.is_number u) refl
   unary_by t u = plain_exact t u refl
 
+  -- a '-' is taken
+  minus_takes : (p : Position) (us : List Tok) (b : Bool) (s : Stays (spec.minus_by r i b) ((p, token_kinds.Symbol symbols.Minus) ∷ us)) → s.taken ≡ [] → ⊥
+  unfolding spec.primary spec.negation spec.constant spec.signed_integer spec.signed parser.number
+  minus_takes p us true s nothing =
+      takes_read (spec.primary r i) _ s nothing ((p, token_kinds.Symbol symbols.Minus) ∷ (p, token_kinds.Number 0) ∷ []) (expressions.Constant (constants.Integer (integer_of p true 0))) [] refl refl (omega arith)
+  minus_takes p us false s nothing =
+      takes_refused (spec.negation r i) _ s nothing ((p, token_kinds.Symbol symbols.Minus) ∷ []) ((p, token_kinds.Symbol symbols.Minus) ∷ (p, token_kinds.Symbol symbols.Comma) ∷ []) (Wrong None) (Wrong (Some p)) refl refl refl refl (λ e. cc)
+
+  unary_steady : (t : Option Kind) → Steady (λ ts. kind (next ts)) (spec.unary_by r i t) (λ ts. (kind ts ≡ t) × Always ts)
+  unary_steady (Some (token_kinds.Keyword keywords.Not)) = λ ts p s rest e. refl
+  unary_steady (Some (token_kinds.Symbol symbols.Minus)) = steady_second (λ ts. kind (next ts)) (spec.unary_by r i (Some (token_kinds.Symbol symbols.Minus))) (λ ts. (kind ts ≡ Some (token_kinds.Symbol symbols.Minus)) × Always ts)
+      (by_second (λ u. u))
+      (λ ts p s nothing. at_first (token_kinds.Symbol symbols.Minus) (λ us. (b : Bool) (s : Stays (spec.minus_by r i b) us) → s.taken ≡ [] → ⊥) minus_takes ts p.0 (spec.is_number (kind (next ts))) s nothing)
+  unary_steady _ = λ ts p s rest e. refl
+
   unary_exact : Exact 1 (spec.unary r i) Always IsUnary (Stops 0) (At r) (At r)
   unfolding spec.unary
-  unary_exact = exact_on kind (λ t ts. spec.unary_by r i t (kind (next ts)) ts) Always IsUnary (Stops 0) (At r) (At r)
-      (λ t. exact_on (λ ts. kind (next ts)) (spec.unary_by r i t) (λ ts. (kind ts ≡ t) × Always ts) IsUnary (Stops 0) (At r) (At r) (λ u. unary_by t u))
+  unary_exact = exact_on kind kind_first (λ t ts. spec.unary_by r i t (kind (next ts)) ts) Always IsUnary (Stops 0) (At r) (At r)
+      (λ t. exact_by (λ ts. kind (next ts)) (spec.unary_by r i t) (λ ts. (kind ts ≡ t) × Always ts) (unary_steady t) IsUnary (Stops 0) (At r) (At r) (λ u. unary_by t u))
 
 -- ---- operators
 
@@ -568,18 +621,20 @@ module _ (r n : ℕ) (P : Parser Expression) (a : Exact 1 P Always (IsBinary n) 
         (λ ts p. (p.0, tt)) (λ t g. g)
     by false precedence = record {
       reads = λ ts x rest p h. absurd (let wrong = subst (λ u. spec.is_operator n u ≡ true) p.0 p.1 in cc);
-      deep = λ ts p h q. let wrong = subst (λ u. spec.is_operator n u ≡ true) p.0 p.1 in cc;
+      deep = λ ts at p h q. let wrong = subst (λ u. spec.is_operator n u ≡ true) p.0 p.1 in cc;
       read = λ ts x rest p d g q. absurd (let wrong = subst (λ u. spec.is_operator n u ≡ true) p.0 p.1 in cc);
+      local = λ ts p. absurd (let wrong = subst (λ u. spec.is_operator n u ≡ true) p.0 p.1 in cc);
     }
   operator_of_kind None = record {
     reads = λ ts x rest p h. absurd (let wrong = subst (λ u. spec.is_operator n u ≡ true) p.0 p.1 in cc);
-    deep = λ ts p h q. let wrong = subst (λ u. spec.is_operator n u ≡ true) p.0 p.1 in cc;
+    deep = λ ts at p h q. let wrong = subst (λ u. spec.is_operator n u ≡ true) p.0 p.1 in cc;
     read = λ ts x rest p d g q. absurd (let wrong = subst (λ u. spec.is_operator n u ≡ true) p.0 p.1 in cc);
+    local = λ ts p. absurd (let wrong = subst (λ u. spec.is_operator n u ≡ true) p.0 p.1 in cc);
   }
 
   operation_exact : Exact 1 (spec.operation P) (λ ts. spec.is_operator n (kind ts) ≡ true) (IsOperation n) (Stops n) (At r) (At r)
   unfolding spec.operation
-  operation_exact = exact_on kind (λ t ts. and_then (parser.bump ts) (λ p. spec.operation_by P p (spec.operator_at t))) (λ ts. spec.is_operator n (kind ts) ≡ true) (IsOperation n) (Stops n) (At r) (At r) operator_of_kind
+  operation_exact = exact_on kind kind_first (λ t ts. and_then (parser.bump ts) (λ p. spec.operation_by P p (spec.operator_at t))) (λ ts. spec.is_operator n (kind ts) ≡ true) (IsOperation n) (Stops n) (At r) (At r) operator_of_kind
 
   operator_stops : (t : Option Kind) → spec.is_operator n t ≡ true → Stops n t
   operator_stops (Some t) h = by (operator_of t) refl h where
@@ -622,7 +677,7 @@ unfolding spec.binary
 binary_exact r i h zero = exact_iff (unary_exact r i h) (λ ts x rest d. unary d) (λ ts x rest d. unary_back ts x rest d) where
   unary_back : (ts : List Tok) (x : Expression) (rest : List Tok) → IsBinary 0 ts x rest → IsUnary ts x rest
   unary_back ts x rest (unary d) = d
-binary_exact r i h (suc n) = exact_on position (λ p ts. and_then (spec.binary r i n ts) (λ x us. and_then (spec.operations (spec.binary r i n) n us) (λ ls. parser.pure (spec.chain p x ls)))) Always (IsBinary (suc n)) (Stops (suc n)) (At r) (At r)
+binary_exact r i h (suc n) = exact_on position position_first (λ p ts. and_then (spec.binary r i n ts) (λ x us. and_then (spec.operations (spec.binary r i n) n us) (λ ls. parser.pure (spec.chain p x ls)))) Always (IsBinary (suc n)) (Stops (suc n)) (At r) (At r)
     (λ p. level_exact r n (spec.binary r i n) (binary_exact r i h n) p)
 
 -- what stands in brackets is read exactly

@@ -3,6 +3,7 @@ pub mod Follows
 pub mod ReaderLemmas
 pub mod Exact
 pub mod Levels
+pub mod Local
 pub mod Loops
 pub mod ParserLemmas
 pub mod TokenLemmas

@@ -105,8 +105,8 @@ reads_alone found o r rest e h = subst (λ p. Reads p r rest) (ap (λ zs. ahead 
 -- a refusal that is passed on
 pub refuses_too : {A B : Type 0} (o : Outcome A) (p : Outcome B) (f : ReadFault) → ((r : Refusal) → o ≡ Err r → p ≡ Err r) → Refuses o f → Refuses p f
 refuses_too o p read_faults.Memory g h = tt
-refuses_too o p (read_faults.NotInGrammar line) g h = g Wrong h
-refuses_too o p (read_faults.TooDeep line) g h = g Deep h
+refuses_too o p (read_faults.NotInGrammar at) g h = g (Wrong at) h
+refuses_too o p (read_faults.TooDeep at) g h = g (Deep at) h
 
 module _ {A : Type 0} (test : Option Kind → Bool) (item : Parser A) (start : List Tok) where
   pub loop_end : (found : List A) (ts : List Tok) → Left test item [] start found ts → test (kind ts) ≡ false → many test item start ≡ Ok (found, ts)

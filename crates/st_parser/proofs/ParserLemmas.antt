@@ -2,11 +2,11 @@
 use Rattle.std.proofs.Common.{◌≡◌, ℕ, zero, suc, ◌<◌, true, List, [], ◌∷◌, length, refl, sym, subst, arith}
 use Rattle.std.specs.Prelude.{Result, Ok, Err, IfOk, IfErr}
 use Rattle.st_parser.specs.Names.{Position, ReadFault, Symbol}
-use Rattle.st_parser.specs.Grammar.Tokens.{Tok, kind, position, next}
+use Rattle.st_parser.specs.Grammar.Tokens.{Tok, kind, place, position, next}
 use Rattle.st_parser.proofs.Loops.{ok_parts, refused_read}
 use Rattle.st_parser.specs.Reader.Parsers.{IsFaultOf, Outcome, Deep, Parser, Takes, MayTake, is_symbol, enter, open_level, next_item}
 
-pub enter_none : (r : ℕ) (ts : List Tok) → r ≡ 0 → enter r ts ≡ Err Deep
+pub enter_none : (r : ℕ) (ts : List Tok) → r ≡ 0 → enter r ts ≡ Err (Deep (place ts))
 unfolding enter
 enter_none zero ts none = refl
 enter_none (suc r) ts none = absurd (omega arith)

@@ -1,6 +1,6 @@
 //! The tokens of a text that are still to be read.
 ghost use Rattle.std.specs.Prelude.{◌≡◌, ◌<◌, ◌-◌, ◌^◌, length, option_copied, IsSome};
-ghost use Rattle.st_parser.specs.Grammar.Tokens.{numbered, kind, line, position, next};
+ghost use Rattle.st_parser.specs.Grammar.Tokens.{numbered, kind, place, position, next};
 
 use crate::fault::ReadFault;
 use st_tokens::{Kind, Token};
@@ -72,21 +72,26 @@ impl<'a> Cursor<'a> {
         }
     }
 
-    /// The line of the first token.
-    pub fn line(&self) -> Option<u32>
-        ensures { result ≡ line self.now }
+    /// Where the first token stands, where there is one.
+    pub fn place(&self) -> Option<Position>
+        ensures { result ≡ place self.now }
     {
         match self.rest {
             [] => None,
-            [token, ..] => Some(token.line),
+            [token, ..] => Some(Position {
+                number: self.number,
+                line: token.line,
+            }),
         }
     }
 
     /// The fault that the grammar doesn't have the first token here, or that there is none.
     pub fn unexpected(&self) -> ReadFault
-        ensures { result ≡ ReadFault.NotInGrammar (line self.now) }
+        ensures { result ≡ ReadFault.NotInGrammar (place self.now) }
     {
-        ReadFault::NotInGrammar { line: self.line() }
+        ReadFault::NotInGrammar {
+            place: self.place(),
+        }
     }
 
     /// Takes the first token, and answers where it stands.

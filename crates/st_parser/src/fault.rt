@@ -1,9 +1,10 @@
 //! Why tokens aren't read.
 ghost use Rattle.std.specs.Prelude.{◌≡◌};
-ghost use Rattle.st_parser.specs.Grammar.Faults.{in_text};
+ghost use Rattle.st_parser.specs.Grammar.Faults.{in_text, line_or};
 ghost use Rattle.st_parser.specs.declared.fault.ReadFault.TheVariants.{Memory};
 
 use st_tokens::SyntaxFault;
+use st_tree::tree::Position;
 use std::alloc::{AllocError, AllocFailed};
 
 /// Why what is due isn't read from the next tokens.
@@ -11,10 +12,10 @@ use std::alloc::{AllocError, AllocFailed};
 pub enum ReadFault {
     /// Memory ran out.
     Memory,
-    /// The grammar doesn't have the next token here. It stands on this line, or there is none, since the text ends.
-    NotInGrammar { line: Option<u32> },
-    /// The next token opens a level inside as many as may be open. It stands on this line, or there is none.
-    TooDeep { line: Option<u32> },
+    /// The grammar doesn't have the next token, which stands here. Or there is none, since the text ends.
+    NotInGrammar { place: Option<Position> },
+    /// The next token, which stands here, opens a level inside as many as may be open. Or there is none.
+    TooDeep { place: Option<Position> },
 }
 
 impl ReadFault {
@@ -24,13 +25,23 @@ impl ReadFault {
     {
         match self {
             ReadFault::Memory => SyntaxFault::Memory,
-            ReadFault::NotInGrammar { line } => SyntaxFault::NotInGrammar {
-                line: line.unwrap_or(last_line),
+            ReadFault::NotInGrammar { place } => SyntaxFault::NotInGrammar {
+                line: line_or(last_line, place),
             },
-            ReadFault::TooDeep { line } => SyntaxFault::TooDeep {
-                line: line.unwrap_or(last_line),
+            ReadFault::TooDeep { place } => SyntaxFault::TooDeep {
+                line: line_or(last_line, place),
             },
         }
+    }
+}
+
+/// The line of a token, or the text's last line where there is no token.
+fn line_or(last_line: u32, place: Option<Position>) -> u32
+    ensures { result ≡ line_or last_line place }
+{
+    match place {
+        Some(position) => position.line,
+        None => last_line,
     }
 }
 

@@ -18,7 +18,9 @@ impl<'a> Cursor<'a> {
         ensures deeper { OnOk result (0 < depth_left) }
     {
         if depth_left == 0 {
-            return Err(ReadFault::TooDeep { line: self.line() });
+            return Err(ReadFault::TooDeep {
+                place: self.place(),
+            });
         }
         Ok(self.bump())
     }

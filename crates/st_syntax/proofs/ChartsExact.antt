@@ -1,5 +1,5 @@
 -- The reading functions of charts read their grammar exactly.
-use Rattle.std.proofs.Common.{◌≡◌, ℕ, zero, suc, ◌<◌, List, [], ◌∷◌, refl, sym, subst, ◌∙◌, Bool, true, false, arith}
+use Rattle.std.proofs.Common.{◌≡◌, ℕ, zero, suc, ◌<◌, List, [], ◌∷◌, refl, sym, subst, ◌∙◌, Bool, true, false, arith, if◌then◌else◌}
 use Rattle.std.specs.Prelude.{◌↔◌, Option, Some, None, Ok, Err}
 use Rattle.st_tokens.specs.declared.keyword.Keyword.TheVariants as keywords
 use Rattle.st_tokens.specs.declared.symbol.Symbol.TheVariants as symbols
@@ -12,6 +12,7 @@ use Rattle.st_parser.specs.Grammar.Tokens.{Tok, kind}
 use Rattle.st_parser.specs.Reader.Parsers as parser
 use Rattle.st_parser.specs.Reader.Parsers.{and_then, is_symbol, is_word, Deep}
 use Rattle.st_parser.proofs.Exact.{Relation, Found, Exact, Always, Any, Then, seq, IsOne, one, IsPure, done, IsWord, a_word, IsNumber, a_number, exact_bind, exact_as, exact_iff, exact_last, exact_under, exact_zero, exact_pure, made, exact_refuse, exact_on, IsFirst, exact_token, exact_token_if, symbol_is, exact_symbol, exact_keyword, exact_open_level, exact_identifier, Before, exact_identifier_before, exact_number, exact_before, Ends, exact_many, exact_listed}
+use Rattle.st_parser.proofs.Local.{Stays, by_kind, kind_first, stays_bump, stays_on, stays_one, stays_refuse, steady_first}
 use Rattle.st_parser.proofs.Levels.{At, enters, fits_from, within_from}
 use Rattle.st_parser.proofs.Loops.{ok_parts}
 use Rattle.st_parser.specs.Grammar.Expressions.{IsBinary, duration_of}
@@ -30,7 +31,17 @@ data IsDuration : List Tok → Duration → List Tok → Type 0 where
 
 duration_exact : (r : ℕ) → Exact 1 spec.duration Always IsDuration Any (At r) (At r)
 unfolding spec.duration
-duration_exact r = record { reads = λ ts x rest u h. reads ts x rest h; deep = λ ts u h q. deep ts h; read = λ ts x rest u d g q. read d } where
+duration_exact r = record {
+  reads = λ ts x rest u h. reads ts x rest h;
+  deep = λ ts at u h q. deep ts at h;
+  read = λ ts x rest u d g q. read d;
+  local = λ ts u. stays_on kind spec.duration_by Always (steady_first kind spec.duration_by Always kind_first) ts tt (local ts);
+} where
+  local : (ts : List Tok) → Stays (spec.duration_by (kind ts)) ts
+  local ((p, token_kinds.Duration d) ∷ ts) = stays_one (p, token_kinds.Duration d) ts (duration_of p d) (λ rest. refl)
+  local [] = stays_refuse []
+  local ((p, _) ∷ ts) = stays_refuse _
+
   reads : (ts : List Tok) (x : Duration) (rest : List Tok) → spec.duration_by (kind ts) ts ≡ Ok (x, rest) → Found 1 IsDuration (At r) (At r) ts x rest
   reads ((p, token_kinds.Duration d) ∷ ts) x rest h = let e = ok_parts h in
       subst (λ z. Found 1 IsDuration (At r) (At r) ((p, token_kinds.Duration d) ∷ ts) z rest) e.0
@@ -39,10 +50,10 @@ duration_exact r = record { reads = λ ts x rest u h. reads ts x rest h; deep = 
   reads [] x rest h = absurd (cc)
   reads ((p, _) ∷ ts) x rest h = absurd (cc)
 
-  deep : (ts : List Tok) → spec.duration_by (kind ts) ts ≡ Err Deep → ⊥
-  deep ((p, token_kinds.Duration d) ∷ ts) h = cc
-  deep [] h = cc
-  deep ((p, _) ∷ ts) h = cc
+  deep : (ts : List Tok) (at : Option Position) → spec.duration_by (kind ts) ts ≡ Err (Deep at) → ⊥
+  deep ((p, token_kinds.Duration d) ∷ ts) at h = cc
+  deep [] at h = cc
+  deep ((p, _) ∷ ts) at h = cc
 
   read : {ts rest : List Tok} {x : Duration} → IsDuration ts x rest → spec.duration_by (kind ts) ts ≡ Ok (x, rest)
   read a_duration = refl
@@ -130,7 +141,7 @@ module _ (r : ℕ) where
 
   time_exact : Exact 0 spec.time Always IsTime NoComma (At r) (At r)
   unfolding spec.time
-  time_exact = exact_on (λ ts. is_symbol symbols.Comma (kind ts)) spec.time_by Always IsTime NoComma (At r) (At r) time_by
+  time_exact = exact_on (λ ts. is_symbol symbols.Comma (kind ts)) (by_kind (is_symbol symbols.Comma)) spec.time_by Always IsTime NoComma (At r) (At r) time_by
 
   qualifier_exact : Exact 1 spec.qualifier Always IsQualifier NoComma (At r) (At r)
   unfolding spec.qualifier
@@ -142,7 +153,7 @@ module _ (r : ℕ) where
 
   qualified_exact : Exact 0 spec.qualified Always IsQualified OnlyClose (At r) (At r)
   unfolding spec.qualified
-  qualified_exact = exact_on (λ ts. is_symbol symbols.Close (kind ts)) spec.qualified_by Always IsQualified OnlyClose (At r) (At r) qualified_by
+  qualified_exact = exact_on (λ ts. is_symbol symbols.Close (kind ts)) (by_kind (is_symbol symbols.Close)) spec.qualified_by Always IsQualified OnlyClose (At r) (At r) qualified_by
 
   bracketed_exact : Exact 1 (spec.bracketed (suc r)) Always BracketedRule Any (At (suc r)) (At (suc r))
   unfolding spec.bracketed
@@ -215,7 +226,21 @@ data IsPriorityWord : List Tok → Position → List Tok → Type 0 where
 
 priority_word_exact : (r : ℕ) → Exact 1 spec.priority_word Always IsPriorityWord Any (At r) (At r)
 unfolding spec.priority_word
-priority_word_exact r = record { reads = λ ts x rest u h. reads ts x rest h; deep = λ ts u h q. deep ts h; read = λ ts x rest u d g q. read d } where
+priority_word_exact r = record {
+  reads = λ ts x rest u h. reads ts x rest h;
+  deep = λ ts at u h q. deep ts at h;
+  read = λ ts x rest u d g q. read d;
+  local = λ ts u. stays_on kind spec.priority_word_by Always (steady_first kind spec.priority_word_by Always kind_first) ts tt (local ts);
+} where
+  local_by : (b : Bool) (ts : List Tok) → Stays (λ us. if b then parser.bump us else parser.refuse us) ts
+  local_by true ts = stays_bump ts
+  local_by false ts = stays_refuse ts
+
+  local : (ts : List Tok) → Stays (spec.priority_word_by (kind ts)) ts
+  local ((p, token_kinds.Word n) ∷ ts) = local_by (is_priority n) ((p, token_kinds.Word n) ∷ ts)
+  local [] = stays_refuse []
+  local ((p, _) ∷ ts) = stays_refuse _
+
   reads_by : (p : Position) (n : List ℕ) (ts : List Tok) (x : Position) (rest : List Tok) (b : Bool) → is_priority n ≡ b → spec.priority_word_by (Some (token_kinds.Word n)) ((p, token_kinds.Word n) ∷ ts) ≡ Ok (x, rest)
       → Found 1 IsPriorityWord (At r) (At r) ((p, token_kinds.Word n) ∷ ts) x rest
   reads_by p n ts x rest true t h = let e = ok_parts (rw t at h) in
@@ -229,14 +254,14 @@ priority_word_exact r = record { reads = λ ts x rest u h. reads ts x rest h; de
   reads [] x rest h = absurd (cc)
   reads ((p, _) ∷ ts) x rest h = absurd (cc)
 
-  deep_by : (p : Position) (n : List ℕ) (ts : List Tok) (b : Bool) → is_priority n ≡ b → spec.priority_word_by (Some (token_kinds.Word n)) ((p, token_kinds.Word n) ∷ ts) ≡ Err Deep → ⊥
-  deep_by p n ts true t h = let g = rw t at h in cc
-  deep_by p n ts false t h = let g = rw t at h in cc
+  deep_by : (p : Position) (n : List ℕ) (ts : List Tok) (at : Option Position) (b : Bool) → is_priority n ≡ b → spec.priority_word_by (Some (token_kinds.Word n)) ((p, token_kinds.Word n) ∷ ts) ≡ Err (Deep at) → ⊥
+  deep_by p n ts at true t h = let g = rw t at h in cc
+  deep_by p n ts at false t h = let g = rw t at h in cc
 
-  deep : (ts : List Tok) → spec.priority_word_by (kind ts) ts ≡ Err Deep → ⊥
-  deep ((p, token_kinds.Word n) ∷ ts) h = deep_by p n ts (is_priority n) refl h
-  deep [] h = cc
-  deep ((p, _) ∷ ts) h = cc
+  deep : (ts : List Tok) (at : Option Position) → spec.priority_word_by (kind ts) ts ≡ Err (Deep at) → ⊥
+  deep ((p, token_kinds.Word n) ∷ ts) at h = deep_by p n ts at (is_priority n) refl h
+  deep [] at h = cc
+  deep ((p, _) ∷ ts) at h = cc
 
   read : {ts rest : List Tok} {x : Position} → IsPriorityWord ts x rest → spec.priority_word_by (kind ts) ts ≡ Ok (x, rest)
   read (the_word t) = rw t refl
@@ -341,7 +366,7 @@ module _ (r : ℕ) where
 
   optional_exact : Exact 0 spec.optional_name Always IsOptionalName NoWord (At r) (At r)
   unfolding spec.optional_name
-  optional_exact = exact_on (λ ts. is_word (kind ts)) spec.optional_by Always IsOptionalName NoWord (At r) (At r) optional_by
+  optional_exact = exact_on (λ ts. is_word (kind ts)) (by_kind is_word) spec.optional_by Always IsOptionalName NoWord (At r) (At r) optional_by
 
 module _ (r : ℕ) where
   priority_by : (b : Bool) → Exact 0 (spec.priority_by (suc r) b) (λ ts. (is_symbol symbols.Open (kind ts) ≡ b) × Always ts) IsPriority NoOpen (At (suc r)) (At (suc r))
@@ -355,7 +380,7 @@ module _ (r : ℕ) where
 
   priority_exact : Exact 0 (spec.priority (suc r)) Always IsPriority NoOpen (At (suc r)) (At (suc r))
   unfolding spec.priority
-  priority_exact = exact_on (λ ts. is_symbol symbols.Open (kind ts)) (spec.priority_by (suc r)) Always IsPriority NoOpen (At (suc r)) (At (suc r)) priority_by
+  priority_exact = exact_on (λ ts. is_symbol symbols.Open (kind ts)) (by_kind (is_symbol symbols.Open)) (spec.priority_by (suc r)) Always IsPriority NoOpen (At (suc r)) (At (suc r)) priority_by
 
   names_by : (b : Bool) → Exact 1 (spec.names_by (suc r) b) (λ ts. (is_symbol symbols.Open (kind ts) ≡ b) × Always ts) IsNames Any (At (suc r)) (At (suc r))
   unfolding parser.enter
@@ -366,7 +391,7 @@ module _ (r : ℕ) where
 
   names_exact : Exact 1 (spec.names (suc r)) Always IsNames Any (At (suc r)) (At (suc r))
   unfolding spec.names
-  names_exact = exact_on (λ ts. is_symbol symbols.Open (kind ts)) (spec.names_by (suc r)) Always IsNames Any (At (suc r)) (At (suc r)) names_by
+  names_exact = exact_on (λ ts. is_symbol symbols.Open (kind ts)) (by_kind (is_symbol symbols.Open)) (spec.names_by (suc r)) Always IsNames Any (At (suc r)) (At (suc r)) names_by
 
   connection_exact : Exact 1 (spec.connection (suc r)) Always IsConnection Any (At (suc r)) (At (suc r))
   unfolding spec.connection
@@ -405,7 +430,7 @@ module _ (r : ℕ) where
 
   element_exact : Exact 1 (spec.element (suc r)) Always IsElement Any (At (suc r)) (At (suc r))
   unfolding spec.element
-  element_exact = exact_on kind (spec.element_by (suc r)) Always IsElement Any (At (suc r)) (At (suc r)) element_by
+  element_exact = exact_on kind kind_first (spec.element_by (suc r)) Always IsElement Any (At (suc r)) (At (suc r)) element_by
 
   -- a chart is read exactly
   pub chart_exact : Exact 1 (spec.chart (suc r)) Always IsChart (Ends begins_element Any) (At (suc r)) (At (suc r))

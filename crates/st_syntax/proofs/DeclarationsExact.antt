@@ -1,9 +1,10 @@
 -- The reading functions of declarations read their grammar exactly.
-use Rattle.std.proofs.Common.{◌≡◌, ℕ, suc, List, [], ◌∷◌, refl, sym, ap, subst, ◌∙◌, Bool, true, false}
+use Rattle.std.proofs.Common.{◌≡◌, ℕ, suc, List, [], ◌∷◌, refl, sym, ap, subst, ◌∙◌, Bool, true, false, arith}
 use Rattle.std.specs.Prelude.{Option, Some, None}
 use Rattle.st_tokens.specs.declared.keyword.Keyword.TheVariants as keywords
 use Rattle.st_tokens.specs.declared.symbol.Symbol.TheVariants as symbols
 use Rattle.st_tokens.specs.declared.token.Kind.TheVariants as token_kinds
+use Rattle.st_tree.specs.declared.tree.constant.Constant.TheVariants as constants
 use Rattle.st_tree.specs.declared.tree.declaration.ArrayElement.TheVariants as array_elements
 use Rattle.st_tree.specs.declared.tree.declaration.Initial.TheVariants as initials
 use Rattle.st_tree.specs.declared.tree.declaration.Specification.TheVariants as specifications
@@ -13,10 +14,12 @@ use Rattle.st_parser.specs.Names.{ArrayElement, Constant, Declaration, Initial, 
 use Rattle.st_parser.specs.Grammar.Lists.{IsMany, none, more, IsListed, listed}
 use Rattle.st_parser.specs.Grammar.Tokens.{Tok, kind, next, position}
 use Rattle.st_parser.specs.Reader.Parsers as parser
-use Rattle.st_parser.specs.Reader.Parsers.{Parser, and_then, is_symbol, is_keyword, is_word}
-use Rattle.st_parser.proofs.Exact.{Relation, Exact, Always, Any, Then, seq, IsOne, one, IsPure, done, IsWord, a_word, IsNumber, a_number, exact_bind, exact_as, exact_iff, exact_last, exact_under, exact_zero, exact_pure, made, exact_refuse, exact_on, IsFirst, exact_token, symbol_is, keyword_is, exact_symbol, exact_keyword, exact_open_level, exact_identifier, Before, exact_identifier_before, exact_number, exact_before, Ends, exact_many, exact_listed}
+use Rattle.st_parser.specs.Reader.Expressions as expressions
+use Rattle.st_parser.specs.Reader.Parsers.{Parser, Wrong, and_then, is_symbol, is_keyword, is_word}
+use Rattle.st_parser.proofs.Exact.{Relation, Exact, Always, Any, Then, seq, IsOne, one, IsPure, done, IsWord, a_word, IsNumber, a_number, exact_bind, exact_as, exact_iff, exact_last, exact_under, exact_zero, exact_pure, made, exact_refuse, exact_by, exact_on, IsFirst, at_first, exact_token, symbol_is, keyword_is, exact_symbol, exact_keyword, exact_open_level, exact_identifier, Before, exact_identifier_before, exact_number, exact_before, Ends, exact_many, exact_listed}
 use Rattle.st_parser.proofs.Levels.{At}
-use Rattle.st_parser.specs.Grammar.Expressions.{IsSignedInteger, unsigned, IsConstant, integer}
+use Rattle.st_parser.proofs.Local.{Stays, Steady, by_kind, by_second, kind_first, position_first, steady_second, takes_read, takes_refused}
+use Rattle.st_parser.specs.Grammar.Expressions.{integer_of, IsSignedInteger, unsigned, IsConstant, integer}
 use Rattle.st_parser.proofs.Expressions.{constant_exact, signed_integer_exact}
 use Rattle.st_parser.proofs.Follows.{constant_begins, begins_constant}
 use Rattle.st_syntax.specs.Grammar.Charts.{IsName, name}
@@ -79,7 +82,7 @@ module _ (r : ℕ) where
 
   type_name_exact : Exact 1 spec.type_name Always IsTypeName Any (At r) (At r)
   unfolding spec.type_name
-  type_name_exact = exact_on kind spec.type_name_by Always IsTypeName Any (At r) (At r) type_name_by
+  type_name_exact = exact_on kind kind_first spec.type_name_by Always IsTypeName Any (At r) (At r) type_name_by
 
   subrange_exact : Exact 1 spec.subrange Always IsSubrange Any (At r) (At r)
   unfolding spec.subrange
@@ -100,7 +103,7 @@ module _ (r : ℕ) where
 
   pub specification_exact : Exact 1 (spec.specification r) Always IsSpecification Any (At (suc r)) (At (suc r))
   unfolding spec.specification
-  specification_exact = exact_on (λ ts. is_keyword keywords.Array (kind ts)) (spec.specification_by r) Always IsSpecification Any (At (suc r)) (At (suc r)) specification_by
+  specification_exact = exact_on (λ ts. is_keyword keywords.Array (kind ts)) (by_kind (is_keyword keywords.Array)) (spec.specification_by r) Always IsSpecification Any (At (suc r)) (At (suc r)) specification_by
 
 -- ---- initial values
 
@@ -198,7 +201,7 @@ module _ (r : ℕ) where
 
   value_exact : Exact 0 spec.repeated_value Always IsValue OnlyClose (At r) (At r)
   unfolding spec.repeated_value
-  value_exact = exact_on (λ ts. is_symbol symbols.Close (kind ts)) spec.repeated_by Always IsValue OnlyClose (At r) (At r) value_by
+  value_exact = exact_on (λ ts. is_symbol symbols.Close (kind ts)) (by_kind (is_symbol symbols.Close)) spec.repeated_by Always IsValue OnlyClose (At r) (At r) value_by
 
 module _ (r : ℕ) where
   repeated_rule : (p : Position) → Exact 1 (λ ts. and_then (parser.number ts) (λ m us. and_then (parser.open_level symbols.Open (suc r) us) (λ q vs. and_then (spec.repeated_value vs) (λ x ws. and_then (parser.expect_symbol symbols.Close ws)
@@ -208,7 +211,7 @@ module _ (r : ℕ) where
 
   repeated_exact : Exact 1 (spec.repeated (suc r)) (λ ts. is_repeated (kind ts) (kind (next ts)) ≡ true) IsArrayElement NoOpen (At (suc r)) (At (suc r))
   unfolding spec.repeated
-  repeated_exact = exact_on position (λ p ts. and_then (parser.number ts) (λ m us. and_then (parser.open_level symbols.Open (suc r) us) (λ q vs. and_then (spec.repeated_value vs) (λ x ws. and_then (parser.expect_symbol symbols.Close ws)
+  repeated_exact = exact_on position position_first (λ p ts. and_then (parser.number ts) (λ m us. and_then (parser.open_level symbols.Open (suc r) us) (λ q vs. and_then (spec.repeated_value vs) (λ x ws. and_then (parser.expect_symbol symbols.Close ws)
       (λ z. parser.pure (array_elements.Repeated p m x))))))
       (λ ts. is_repeated (kind ts) (kind (next ts)) ≡ true) IsArrayElement NoOpen (At (suc r)) (At (suc r))
       (λ p. exact_as (repeated_rule p) (λ ts h. tt) (λ ts x rest h d. repeated_to p ts x rest (sym h.0) d) (λ ts x rest h g d. repeated_from p ts x rest (sym h.0) h.1 g d) (λ t g. tt))
@@ -218,9 +221,25 @@ module _ (r : ℕ) where
   element_by true = exact_under repeated_exact (λ ts h. h.0) (λ t g. g)
   element_by false = exact_as (exact_last (constant_exact (suc r)) array_elements.Single) (λ ts h. tt) (λ ts x rest h d. single_to ts x rest d) (λ ts x rest h g d. single_from ts x rest h.0 d) (λ t g. tt)
 
+  -- what begins with a number takes it
+  number_takes : (m : ℕ) (p : Position) (us : List Tok) (b : Bool) (s : Stays (spec.element_by (suc r) b) ((p, token_kinds.Number m) ∷ us)) → s.taken ≡ [] → ⊥
+  unfolding spec.repeated spec.plain_element parser.number parser.open_level expressions.constant expressions.signed_integer
+  number_takes m p us true s nothing =
+      takes_refused (spec.repeated (suc r)) _ s nothing ((p, token_kinds.Number m) ∷ []) ((p, token_kinds.Number m) ∷ (p, token_kinds.Symbol symbols.Comma) ∷ []) (Wrong None) (Wrong (Some p)) refl refl refl refl (λ e. cc)
+  number_takes m p us false s nothing =
+      takes_read spec.plain_element _ s nothing ((p, token_kinds.Number m) ∷ []) (array_elements.Single (constants.Integer (integer_of p false m))) [] refl refl (omega arith)
+
+  element_steady : (t : Option Kind) → Steady (λ ts. is_repeated t (kind (next ts))) (spec.element_by (suc r)) (λ ts. (kind ts ≡ t) × Always ts)
+  element_steady (Some (token_kinds.Number m)) = steady_second (λ ts. is_repeated (Some (token_kinds.Number m)) (kind (next ts))) (spec.element_by (suc r)) (λ ts. (kind ts ≡ Some (token_kinds.Number m)) × Always ts)
+      (by_second (is_repeated (Some (token_kinds.Number m))))
+      (λ ts p s nothing. at_first (token_kinds.Number m) (λ us. (b : Bool) (s : Stays (spec.element_by (suc r) b) us) → s.taken ≡ [] → ⊥) (number_takes m) ts p.0 (is_repeated (Some (token_kinds.Number m)) (kind (next ts))) s nothing)
+  element_steady _ = λ ts p s rest e. refl
+
   element_exact : Exact 1 (spec.element (suc r)) Always IsArrayElement NoOpen (At (suc r)) (At (suc r))
   unfolding spec.element
-  element_exact = exact_on (λ ts. is_repeated (kind ts) (kind (next ts))) (spec.element_by (suc r)) Always IsArrayElement NoOpen (At (suc r)) (At (suc r)) element_by
+  element_exact = exact_on kind kind_first (λ t ts. spec.element_by (suc r) (is_repeated t (kind (next ts))) ts) Always IsArrayElement NoOpen (At (suc r)) (At (suc r))
+      (λ t. exact_by (λ ts. is_repeated t (kind (next ts))) (spec.element_by (suc r)) (λ ts. (kind ts ≡ t) × Always ts) (element_steady t) IsArrayElement NoOpen (At (suc r)) (At (suc r))
+      (λ b. exact_under (element_by b) (λ ts p. (subst (λ x. is_repeated x (kind (next ts)) ≡ b) (sym p.1.0) p.0, tt)) (λ u g. g)))
 
 module _ (r : ℕ) where
   initial_by : (b : Bool) → Exact 1 (spec.initial_by (suc r) b) (λ ts. (is_symbol symbols.OpenBracket (kind ts) ≡ b) × Always ts) IsInitial Any (At (suc (suc r))) (At (suc (suc r)))
@@ -233,7 +252,7 @@ module _ (r : ℕ) where
 
   initial_exact : Exact 1 (spec.initial (suc r)) Always IsInitial Any (At (suc (suc r))) (At (suc (suc r)))
   unfolding spec.initial
-  initial_exact = exact_on (λ ts. is_symbol symbols.OpenBracket (kind ts)) (spec.initial_by (suc r)) Always IsInitial Any (At (suc (suc r))) (At (suc (suc r))) initial_by
+  initial_exact = exact_on (λ ts. is_symbol symbols.OpenBracket (kind ts)) (by_kind (is_symbol symbols.OpenBracket)) (spec.initial_by (suc r)) Always IsInitial Any (At (suc (suc r))) (At (suc (suc r))) initial_by
 
   initialized_by : (b : Bool) → Exact 1 (spec.initialized_by (suc r) b) (λ ts. (is_symbol symbols.Assign (kind ts) ≡ b) × Always ts) IsInitialized Any (At (suc (suc r))) (At (suc (suc r)))
   initialized_by true = exact_under (exact_token (token_kinds.Symbol symbols.Assign) refl {R = IsInitialized} (λ p. exact_iff
@@ -244,7 +263,7 @@ module _ (r : ℕ) where
 
   pub initialized_exact : Exact 1 (spec.initialized (suc r)) Always IsInitialized Any (At (suc (suc r))) (At (suc (suc r)))
   unfolding spec.initialized
-  initialized_exact = exact_on (λ ts. is_symbol symbols.Assign (kind ts)) (spec.initialized_by (suc r)) Always IsInitialized Any (At (suc (suc r))) (At (suc (suc r))) initialized_by
+  initialized_exact = exact_on (λ ts. is_symbol symbols.Assign (kind ts)) (by_kind (is_symbol symbols.Assign)) (spec.initialized_by (suc r)) Always IsInitialized Any (At (suc (suc r))) (At (suc (suc r))) initialized_by
 
 -- ---- declarations
 
@@ -342,14 +361,15 @@ module _ (r : ℕ) where
   retention_of x _ h = absurd (cc)
 
   retention_by : (x : VarKind) (b : Bool) → Exact 0 (spec.retention_by x b) (λ ts. (is_retention (kind ts) ≡ b) × Always ts) (IsRetention x) EndsHead (At r) (At r)
-  retention_by x true = exact_under (exact_on kind (λ t ts. and_then (parser.bump ts) (λ q. parser.pure x)) (λ ts. (is_retention (kind ts) ≡ true) × Always ts) (IsRetention x) EndsHead (At r) (At r)
+  retention_by x true = exact_under (exact_on kind kind_first (λ t ts. and_then (parser.bump ts) (λ q. parser.pure x)) (λ ts. (is_retention (kind ts) ≡ true) × Always ts) (IsRetention x) EndsHead (At r) (At r)
       (λ t. retained_at t)) (λ ts h. h) (λ t g. g) where
         retained_by : (t : Option Kind) (b : Bool) → is_retention t ≡ b → Exact 0 (λ ts. and_then (parser.bump ts) (λ q. parser.pure x)) (λ ts. (kind ts ≡ t) × ((is_retention (kind ts) ≡ true) × Always ts)) (IsRetention x) EndsHead (At r) (At r)
         retained_by t true h = exact_under (retention_of x t h) (λ ts p. (p.0, tt)) (λ u g. g)
         retained_by t false h = record {
           reads = λ ts y rest p e. absurd (let wrong = sym p.1.0 ∙ (ap is_retention p.0 ∙ h) in cc);
-          deep = λ ts p e q. let wrong = sym p.1.0 ∙ (ap is_retention p.0 ∙ h) in cc;
+          deep = λ ts at p e q. let wrong = sym p.1.0 ∙ (ap is_retention p.0 ∙ h) in cc;
           read = λ ts y rest p d g q. absurd (let wrong = sym p.1.0 ∙ (ap is_retention p.0 ∙ h) in cc);
+          local = λ ts p. absurd (let wrong = sym p.1.0 ∙ (ap is_retention p.0 ∙ h) in cc);
         }
 
         retained_at : (t : Option Kind) → Exact 0 (λ ts. and_then (parser.bump ts) (λ q. parser.pure x)) (λ ts. (kind ts ≡ t) × ((is_retention (kind ts) ≡ true) × Always ts)) (IsRetention x) EndsHead (At r) (At r)
@@ -358,7 +378,7 @@ module _ (r : ℕ) where
 
   retention_exact : (x : VarKind) → Exact 0 (spec.retention x) Always (IsRetention x) EndsHead (At r) (At r)
   unfolding spec.retention
-  retention_exact x = exact_on (λ ts. is_retention (kind ts)) (spec.retention_by x) Always (IsRetention x) EndsHead (At r) (At r) (retention_by x)
+  retention_exact x = exact_on (λ ts. is_retention (kind ts)) (by_kind is_retention) (spec.retention_by x) Always (IsRetention x) EndsHead (At r) (At r) (retention_by x)
 
   internal_by : (b : Bool) → Exact 0 (spec.internal_by b) (λ ts. (is_keyword keywords.Constant (kind ts) ≡ b) × Always ts) IsInternal EndsHead (At r) (At r)
   internal_by true = exact_zero (exact_under (exact_token (token_kinds.Keyword keywords.Constant) refl {R = IsInternal} (λ p. exact_as (exact_pure var_kinds.Constant Always Any (At r)) (λ ts u. u)
@@ -367,7 +387,7 @@ module _ (r : ℕ) where
 
   internal_exact : Exact 0 spec.internal Always IsInternal EndsHead (At r) (At r)
   unfolding spec.internal
-  internal_exact = exact_on (λ ts. is_keyword keywords.Constant (kind ts)) spec.internal_by Always IsInternal EndsHead (At r) (At r) internal_by
+  internal_exact = exact_on (λ ts. is_keyword keywords.Constant (kind ts)) (by_kind (is_keyword keywords.Constant)) spec.internal_by Always IsInternal EndsHead (At r) (At r) internal_by
 
 abbrev BlockRule : Relation VarKind → Position → Relation VarBlock
 BlockRule R p = Then R (λ x. Then (IsMany IsDeclaration) (λ ds. Then (IsOne (token_kinds.Keyword keywords.EndVar)) (λ q. IsPure (block_of p x ds))))
@@ -418,7 +438,7 @@ module _ (r : ℕ) where
 
   var_block_exact : Exact 1 (spec.var_block (suc r)) Always IsVarBlock Any (At (suc (suc r))) (At (suc (suc r)))
   unfolding spec.var_block
-  var_block_exact = exact_on kind (spec.var_block_by (suc r)) Always IsVarBlock Any (At (suc (suc r))) (At (suc (suc r))) var_block_by
+  var_block_exact = exact_on kind kind_first (spec.var_block_by (suc r)) Always IsVarBlock Any (At (suc (suc r))) (At (suc (suc r))) var_block_by
 
   pub variables_exact : Exact 0 (spec.variables (suc r)) Always (IsMany IsVarBlock) (Ends begins_block Any) (At (suc (suc r))) (At (suc (suc r)))
   variables_exact = exact_many begins_block (spec.var_block (suc r)) IsVarBlock Any (At (suc (suc r))) (exact_under var_block_exact (λ ts h. tt) (λ t g. g)) block_begins (λ t h. tt)

@@ -1,6 +1,5 @@
 -- The tokens of expressions are at least as many as their length says.
-use Rattle.std.proofs.Common.{◌≡◌, ℕ, suc, ◌+◌, ◌≤◌, List, [], ◌∷◌, length, map, arith}
-use Rattle.st_tree.specs.declared.tree.expression.Argument.TheVariants as argument_kinds
+use Rattle.std.proofs.Common.{ℕ, suc, ◌+◌, ◌≤◌, List, ◌∷◌, length, map, arith}
 use Rattle.st_parser.specs.Grammar.Tokens.{Tok, identifier_of, position}
 use Rattle.st_parser.specs.Names.{Argument, Call, Constant, Expression, Operation, Part, SignedInteger, Variable}
 use Rattle.st_parser.specs.Grammar.Expressions.{call_of, operation_of, variable_of, IsSignedInteger, unsigned, plus, minus, IsConstant, integer, typed, duration, truth, falsehood, IsBinary, unary, alone, chain, IsOperations, no_operation, operations, IsOperation, operation, IsUnary, negation, complement, primary, IsPrimary, constant, variable, call, parenthesized, IsVariable, named, IsParts, no_part, parts, IsPart, field, subscripts, IsNextExpressions, no_expression, next_expressions, IsCall, called, IsArguments, no_arguments, arguments, IsNextArguments, no_argument, next_arguments, IsArgument, positional, input, output}

@@ -1,5 +1,5 @@
 -- The length of a node is told by its parts.
-use Rattle.std.proofs.Common.{rules, ◌≡◌, ℕ, ◌+◌, List, map, Option, Some, None}
+use Rattle.std.proofs.Common.{rules, ◌≡◌, ◌+◌, List, map}
 use Rattle.st_tree.specs.declared.tree.constant.Constant.{Constant}
 use Rattle.st_tree.specs.declared.tree.expression.Argument as the_argument
 use Rattle.st_tree.specs.declared.tree.expression.Argument.TheVariants as arguments

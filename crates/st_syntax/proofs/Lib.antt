@@ -1,6 +1,7 @@
 pub mod ChartsExact
 pub mod ReaderLemmas
 pub mod Statements
+pub mod Stopping
 pub mod Folds
 pub mod Totals
 pub mod DeclarationsExact

@@ -1,5 +1,5 @@
 -- The tokens of statements are at least as many as their length says.
-use Rattle.std.proofs.Common.{rules, ◌≡◌, ℕ, ◌+◌, ◌≤◌, List, [], ◌∷◌, length, map, Option, arith}
+use Rattle.std.proofs.Common.{rules, ◌≡◌, ◌+◌, ◌≤◌, List, ◌∷◌, length, map, Option, arith}
 use Rattle.st_tree.specs.declared.tree.statement.CaseStatement as the_case
 use Rattle.st_tree.specs.declared.tree.statement.IfStatement as the_if
 use Rattle.st_parser.specs.Grammar.Lists.{IsMany, none, more, IsNext, comma, IsListed, listed}

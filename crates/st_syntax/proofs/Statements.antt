@@ -12,9 +12,11 @@ use Rattle.st_parser.specs.Grammar.Levels.{opens, closes}
 use Rattle.st_parser.specs.Grammar.Lists.{IsMany, none, more, IsListed, listed}
 use Rattle.st_parser.specs.Grammar.Tokens.{Tok, kind, next}
 use Rattle.st_parser.specs.Reader.Parsers as parser
-use Rattle.st_parser.specs.Reader.Parsers.{Parser, and_then, is_symbol, is_keyword}
-use Rattle.st_parser.proofs.Exact.{Relation, Exact, Always, Any, Then, seq, IsOne, one, IsPure, done, IsWord, a_word, exact_bind, exact_as, exact_iff, exact_last, exact_under, exact_zero, exact_pure, made, exact_refuse, exact_on, IsFirst, at_first, exact_token, exact_enter, AfterOpening, symbol_is, keyword_is, exact_symbol, exact_keyword, Before, exact_identifier_before, exact_before, Ends, exact_many, exact_listed}
+use Rattle.st_parser.specs.Reader.Expressions as expressions
+use Rattle.st_parser.specs.Reader.Parsers.{Deep, Parser, Wrong, and_then, is_symbol, is_keyword}
+use Rattle.st_parser.proofs.Exact.{Relation, Exact, Always, Any, Then, seq, IsOne, one, IsPure, done, IsWord, a_word, exact_bind, exact_as, exact_iff, exact_last, exact_under, exact_zero, exact_pure, made, exact_refuse, exact_by, exact_on, IsFirst, at_first, exact_token, exact_enter, AfterOpening, symbol_is, keyword_is, exact_symbol, exact_keyword, Before, exact_identifier_before, exact_before, Ends, exact_many, exact_listed}
 use Rattle.st_parser.proofs.Levels.{At, past}
+use Rattle.st_parser.proofs.Local.{Stays, Steady, by_kind, by_second, kind_first, steady_second, takes_refused}
 use Rattle.st_parser.specs.Grammar.Expressions.{IsConstant, IsBinary, IsVariable, named as is_named, no_part, parts, field, subscripts, IsCall, called, no_arguments, arguments}
 use Rattle.st_parser.specs.Reader.Expressions.{inside_of}
 use Rattle.st_parser.proofs.Expressions.{constant_exact, variable_exact, call_exact, inside_exact, expression_exact}
@@ -68,7 +70,7 @@ module _ (r : ℕ) where
 
   pub label_exact : Exact 1 spec.label Always IsLabel NoRange (At r) (At r)
   unfolding spec.label
-  label_exact = exact_iff (exact_bind (constant_exact r) (λ x. exact_on (λ ts. is_symbol symbols.Range (kind ts)) (spec.label_by x) Always (IsTail x) NoRange (At r) (At r) (tail_by x)) (λ x mid rest y d g. tt)) label_to label_from
+  label_exact = exact_iff (exact_bind (constant_exact r) (λ x. exact_on (λ ts. is_symbol symbols.Range (kind ts)) (by_kind (is_symbol symbols.Range)) (spec.label_by x) Always (IsTail x) NoRange (At r) (At r) (tail_by x)) (λ x mid rest y d g. tt)) label_to label_from
 
 -- ---- statements without statements in them
 
@@ -134,6 +136,17 @@ exit_statement_from p ts x rest exit_statement = seq one done
 exit_statement_from p ts x rest (assignment d e) = elim d [ ]
 exit_statement_from p ts x rest (invocation d) = elim d [ ]
 
+-- a statement that begins with a word takes it
+word_takes : (r : ℕ) (n : List ℕ) (p : Position) (us : List Tok) (b : Bool) (s : Stays (spec.named_by r b) ((p, token_kinds.Word n) ∷ us)) → s.taken ≡ [] → ⊥
+unfolding spec.invocation spec.assignment spec.assigned expressions.call expressions.arguments expressions.variable parser.identifier parser.enter parser.expect parser.many parser.many_from
+word_takes zero n p us true s nothing =
+    takes_refused (spec.named_by zero true) _ s nothing ((p, token_kinds.Word n) ∷ []) ((p, token_kinds.Word n) ∷ (p, token_kinds.Symbol symbols.Open) ∷ []) (Deep None) (Deep (Some p)) refl refl refl refl (λ e. cc)
+word_takes (suc r) n p us true s nothing =
+    takes_refused (spec.named_by (suc r) true) _ s nothing ((p, token_kinds.Word n) ∷ (p, token_kinds.Symbol symbols.Open) ∷ (p, token_kinds.Symbol symbols.Close) ∷ [])
+    ((p, token_kinds.Word n) ∷ (p, token_kinds.Symbol symbols.Open) ∷ (p, token_kinds.Symbol symbols.Close) ∷ (p, token_kinds.Symbol symbols.Comma) ∷ []) (Wrong None) (Wrong (Some p)) refl refl refl refl (λ e. cc)
+word_takes r n p us false s nothing =
+    takes_refused (spec.named_by r false) _ s nothing ((p, token_kinds.Word n) ∷ []) ((p, token_kinds.Word n) ∷ (p, token_kinds.Symbol symbols.Comma) ∷ []) (Wrong None) (Wrong (Some p)) refl refl refl refl (λ e. cc)
+
 module _ (r : ℕ) where
   empty_exact : Exact 1 spec.empty (IsFirst (token_kinds.Symbol symbols.Semicolon)) IsStatement Any (At r) (At r)
   unfolding spec.empty
@@ -165,9 +178,13 @@ module _ (r : ℕ) where
       (λ ts p. tt) (λ ts x rest p d. assignment_to ts x rest d)
       (λ ts x rest p g d. at_first (token_kinds.Word n) (λ us. (x : Statement) (rest : List Tok) → is_symbol symbols.Open (kind (next us)) ≡ false → IsStatement us x rest → IsAssignment us x rest) (assignment_from n) ts p.1 x rest p.0 d) (λ t g. g)
 
+  named_steady : (n : List ℕ) → Steady (λ ts. is_symbol symbols.Open (kind (next ts))) (spec.named_by r) (IsFirst (token_kinds.Word n))
+  named_steady n = steady_second (λ ts. is_symbol symbols.Open (kind (next ts))) (spec.named_by r) (IsFirst (token_kinds.Word n)) (by_second (is_symbol symbols.Open))
+      (λ ts p s nothing. at_first (token_kinds.Word n) (λ us. (b : Bool) (s : Stays (spec.named_by r b) us) → s.taken ≡ [] → ⊥) (word_takes r n) ts p (is_symbol symbols.Open (kind (next ts))) s nothing)
+
   named_exact : (n : List ℕ) → Exact 1 (spec.named r) (IsFirst (token_kinds.Word n)) IsStatement Any (At r) (At r)
   unfolding spec.named
-  named_exact n = exact_on (λ ts. is_symbol symbols.Open (kind (next ts))) (spec.named_by r) (IsFirst (token_kinds.Word n)) IsStatement Any (At r) (At r) (named_by n)
+  named_exact n = exact_by (λ ts. is_symbol symbols.Open (kind (next ts))) (spec.named_by r) (IsFirst (token_kinds.Word n)) (named_steady n) IsStatement Any (At r) (At r) (named_by n)
 
 -- ---- parts of statements
 
@@ -346,7 +363,7 @@ module _ (r : ℕ) (d : Deeper) (e : ExactDeeper (suc r) d) where
 
   otherwise_exact : Exact 0 (spec.otherwise d) Always IsElse EndsElse (At r) (At r)
   unfolding spec.otherwise
-  otherwise_exact = exact_on (λ ts. is_keyword keywords.Else (kind ts)) (spec.otherwise_by d) Always IsElse EndsElse (At r) (At r) otherwise_by
+  otherwise_exact = exact_on (λ ts. is_keyword keywords.Else (kind ts)) (by_kind (is_keyword keywords.Else)) (spec.otherwise_by d) Always IsElse EndsElse (At r) (At r) otherwise_by
 
   closed_otherwise_exact : (x : Keyword) → EndsElse (Some (token_kinds.Keyword x)) → opens (token_kinds.Keyword x) ≡ 0
       → Exact 0 (spec.closed_otherwise d x) Always (Closed IsElse (token_kinds.Keyword x)) Any (At r) (At (past (closes (token_kinds.Keyword x)) r))
@@ -361,7 +378,7 @@ module _ (r : ℕ) (d : Deeper) (e : ExactDeeper (suc r) d) where
 
   step_exact : Exact 0 (spec.step d) Always IsBy EndsBy (At r) (At r)
   unfolding spec.step
-  step_exact = exact_on (λ ts. is_keyword keywords.By (kind ts)) (spec.step_by d) Always IsBy EndsBy (At r) (At r) step_by
+  step_exact = exact_on (λ ts. is_keyword keywords.By (kind ts)) (by_kind (is_keyword keywords.By)) (spec.step_by d) Always IsBy EndsBy (At r) (At r) step_by
 
   case_exact : Exact 1 (spec.case d) Always IsCase EndsBlock (At r) (At r)
   unfolding spec.case
@@ -603,7 +620,7 @@ module _ (r : ℕ) (d : Deeper) (e : ExactDeeper r d) where
 
   statement_exact : Exact 1 (spec.statement r d) Always IsStatement Any (At r) (At r)
   unfolding spec.statement
-  statement_exact = exact_on kind (spec.statement_by r d) Always IsStatement Any (At r) (At r) statement_by
+  statement_exact = exact_on kind kind_first (spec.statement_by r d) Always IsStatement Any (At r) (At r) statement_by
 
   block_exact : Exact 0 (spec.block r d) Always IsStatements EndsBlock (At r) (At r)
   block_exact = exact_iff (exact_many begins_statement (spec.statement r d) IsStatement Any (At r) (exact_under statement_exact (λ ts h. tt) (λ t g. g)) begins_is (λ t h. tt))

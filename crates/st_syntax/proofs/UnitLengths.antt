@@ -1,11 +1,10 @@
 -- The tokens of units are at least as many as their length says.
-use Rattle.std.proofs.Common.{◌≡◌, ℕ, ◌+◌, ◌*◌, ◌≤◌, List, [], ◌∷◌, length, map, Option, arith}
+use Rattle.std.proofs.Common.{ℕ, ◌+◌, ◌*◌, ◌≤◌, List, length, map, Option, arith}
 use Rattle.st_tree.specs.declared.tree.unit.ChartElement.TheVariants as chart_elements
 use Rattle.st_parser.specs.Grammar.Lists.{IsMany, none, more, IsNext, comma, IsListed, listed}
 use Rattle.st_parser.specs.Grammar.Tokens.{Tok}
 use Rattle.st_parser.specs.Names as names
 use Rattle.st_parser.specs.Names.{ActionQualifier, ArrayElement, Association, Body, ChartElement, Declaration, DeclaredType, Identifier, Initial, Position, Pou, SignedInteger, Specification, Step, Subrange, Transition, TypeDeclaration, TypeName, VarBlock, VarKind}
-use Rattle.st_parser.specs.Grammar.Expressions.{IsSignedInteger, unsigned, plus, minus}
 use Rattle.st_syntax.specs.Grammar.Charts.{IsQualifier, untimed, timed, IsAssociation, unqualified, qualified, IsStepRest, step_rest, IsOptionalName, no_name, a_name, IsPriority, no_priority, priority, IsName, name, IsNames, one_name, names as name_list, IsTransitionRest, transition_rest, IsElement, initial_step, plain_step, transition, action, IsChart, chart}
 use Rattle.st_syntax.specs.Lengths.{block_length, body_length, chart_length, declaration_length, total, text_length, unit_length, variables_length}
 use Rattle.st_syntax.specs.Grammar.Declarations.{IsTypeName, elementary, declared, IsSubrange, subrange, IsSpecification, simple, array, IsArrayElement, single, repeated_default, repeated, IsInitial, initial_constant, initial_array, IsInitialized, uninitialized, initialized, IsDeclaration, declaration, IsMember, member, IsRetention, unsaid, retained, not_retained, IsInternal, variable, constant, IsVarBlock, internal, input, output}

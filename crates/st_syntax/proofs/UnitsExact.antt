@@ -15,6 +15,7 @@ use Rattle.st_parser.specs.Grammar.Tokens.{Tok, kind}
 use Rattle.st_parser.specs.Reader.Parsers as parser
 use Rattle.st_parser.specs.Reader.Parsers.{and_then, is_keyword, is_word, Deep}
 use Rattle.st_parser.proofs.Exact.{Relation, Found, Exact, Always, Any, Then, seq, IsOne, one, IsPure, done, IsWord, a_word, exact_bind, exact_as, exact_iff, exact_last, exact_under, exact_zero, exact_pure, made, exact_refuse, exact_on, IsFirst, exact_token, keyword_is, exact_symbol, exact_keyword, exact_identifier, Before, exact_identifier_before, exact_before, Ends, exact_many}
+use Rattle.st_parser.proofs.Local.{Stays, by_kind, kind_first, stays_on, stays_one, stays_refuse, steady_first}
 use Rattle.st_parser.proofs.Levels.{At}
 use Rattle.st_parser.proofs.Loops.{ok_parts}
 use Rattle.st_syntax.specs.Grammar.Charts.{IsElement, initial_step, plain_step, transition, action, IsChart, chart}
@@ -100,7 +101,7 @@ module _ (r : ℕ) where
 
   declared_exact : Exact 1 (spec.declared (suc r)) Always IsDeclared Any (At (suc (suc r))) (At (suc (suc r)))
   unfolding spec.declared
-  declared_exact = exact_on (λ ts. is_keyword keywords.Struct (kind ts)) (spec.declared_by (suc r)) Always IsDeclared Any (At (suc (suc r))) (At (suc (suc r))) declared_by
+  declared_exact = exact_on (λ ts. is_keyword keywords.Struct (kind ts)) (by_kind (is_keyword keywords.Struct)) (spec.declared_by (suc r)) Always IsDeclared Any (At (suc (suc r))) (At (suc (suc r))) declared_by
 
   type_exact : Exact 1 (spec.type_declaration (suc r)) Always IsTypeDeclaration Any (At (suc (suc r))) (At (suc (suc r)))
   unfolding spec.type_declaration
@@ -120,7 +121,17 @@ data IsElementary : List Tok → Elem → List Tok → Type 0 where
 
 elementary_exact : (r : ℕ) → Exact 1 spec.elementary Always IsElementary Any (At r) (At r)
 unfolding spec.elementary
-elementary_exact r = record { reads = λ ts x rest t h. reads ts x rest h; deep = λ ts t h q. deep ts h; read = λ ts x rest t c g q. read c } where
+elementary_exact r = record {
+  reads = λ ts x rest t h. reads ts x rest h;
+  deep = λ ts at t h q. deep ts at h;
+  read = λ ts x rest t c g q. read c;
+  local = λ ts t. stays_on kind spec.elementary_by Always (steady_first kind spec.elementary_by Always kind_first) ts tt (local ts);
+} where
+  local : (ts : List Tok) → Stays (spec.elementary_by (kind ts)) ts
+  local ((p, token_kinds.Type e) ∷ ts) = stays_one (p, token_kinds.Type e) ts e (λ rest. refl)
+  local [] = stays_refuse []
+  local ((p, _) ∷ ts) = stays_refuse _
+
   reads : (ts : List Tok) (x : Elem) (rest : List Tok) → spec.elementary_by (kind ts) ts ≡ Ok (x, rest) → Found 1 IsElementary (At r) (At r) ts x rest
   reads ((p, token_kinds.Type e) ∷ ts) x rest h = let same = ok_parts h in
       subst (λ z. Found 1 IsElementary (At r) (At r) ((p, token_kinds.Type e) ∷ ts) z rest) same.0
@@ -129,10 +140,10 @@ elementary_exact r = record { reads = λ ts x rest t h. reads ts x rest h; deep 
   reads [] x rest h = absurd (cc)
   reads ((p, _) ∷ ts) x rest h = absurd (cc)
 
-  deep : (ts : List Tok) → spec.elementary_by (kind ts) ts ≡ Err Deep → ⊥
-  deep ((p, token_kinds.Type e) ∷ ts) h = cc
-  deep [] h = cc
-  deep ((p, _) ∷ ts) h = cc
+  deep : (ts : List Tok) (at : Option Position) → spec.elementary_by (kind ts) ts ≡ Err (Deep at) → ⊥
+  deep ((p, token_kinds.Type e) ∷ ts) at h = cc
+  deep [] at h = cc
+  deep ((p, _) ∷ ts) at h = cc
 
   read : {ts rest : List Tok} {x : Elem} → IsElementary ts x rest → spec.elementary_by (kind ts) ts ≡ Ok (x, rest)
   read an_elem = refl
@@ -213,7 +224,7 @@ module _ (r : ℕ) where
 
   body_exact : Exact 0 (spec.body (suc r)) Always IsBody EndsBody (At (suc (suc r))) (At (suc (suc r)))
   unfolding spec.body
-  body_exact = exact_on (λ ts. begins_element (kind ts)) (spec.body_by (suc r)) Always IsBody EndsBody (At (suc (suc r))) (At (suc (suc r))) body_by
+  body_exact = exact_on (λ ts. begins_element (kind ts)) (by_kind begins_element) (spec.body_by (suc r)) Always IsBody EndsBody (At (suc (suc r))) (At (suc (suc r))) body_by
 
 -- the first token of a chart's element begins no declarations
 element_no_block : (t : Option Kind) → begins_element t ≡ true → Ends begins_block Any t
@@ -290,7 +301,7 @@ module _ (r : ℕ) where
 
   unit_exact : Exact 1 (spec.unit_of (suc r)) Always IsUnit Any (At (suc (suc r))) (At (suc (suc r)))
   unfolding spec.unit_of
-  unit_exact = exact_on kind (spec.unit_by (suc r)) Always IsUnit Any (At (suc (suc r))) (At (suc (suc r))) unit_by
+  unit_exact = exact_on kind kind_first (spec.unit_by (suc r)) Always IsUnit Any (At (suc (suc r))) (At (suc (suc r))) unit_by
 
   -- units are read exactly
   pub units_exact : Exact 0 (spec.units (suc r)) Always (IsMany IsUnit) (Ends begins_unit Any) (At (suc (suc r))) (At (suc (suc r)))

@@ -1,5 +1,5 @@
 -- How many tokens of a text a tree stands for at least: what a list has more of makes the text longer.
-use Rattle.std.specs.Prelude.{ℕ, suc, ◌+◌, ◌*◌, ◌≤◌, ◌^◌, List, [], ◌∷◌, length, map, Option, Some, None}
+use Rattle.std.specs.Prelude.{ℕ, ◌+◌, ◌*◌, ◌≤◌, ◌^◌, List, [], ◌∷◌, length, map, Option, Some, None}
 use Rattle.st_tree.specs.declared.tree.declaration.Declaration.{Declaration}
 use Rattle.st_tree.specs.declared.tree.declaration.VarBlock.{VarBlock}
 use Rattle.st_tree.specs.declared.tree.expression.Argument.{Argument, fold-Argument}

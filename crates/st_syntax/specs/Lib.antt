@@ -1,4 +1,5 @@
 pub mod Grammar
 pub mod Reader
+pub mod Stops
 pub mod Laws
 pub mod Lengths

@@ -10,4 +10,5 @@ mod text;
 mod unit;
 
 pub use laws::parts_are_shorter;
-pub use text::{one_reading, parse};
+pub use st_parser::ReadFault;
+pub use text::{one_reading, parse, read_units};

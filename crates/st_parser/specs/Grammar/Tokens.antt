@@ -14,6 +14,11 @@ abbrev pub numbered : ℕ → List Token → List Tok
 numbered n [] = []
 numbered n (t ∷ ts) = (record { number = n; line = t.line }, t.kind) ∷ numbered (suc n) ts
 
+-- the first token
+abbrev pub first : List Tok → Option Tok
+first [] = None
+first (t ∷ ts) = Some t
+
 -- what the first token is
 abbrev pub kind : List Tok → Option Kind
 kind [] = None
@@ -24,10 +29,10 @@ abbrev pub position : List Tok → Position
 position [] = record { number = 0; line = 0 }
 position (t ∷ ts) = t.0
 
--- the line of the first token
-abbrev pub line : List Tok → Option ℕ
-line [] = None
-line (t ∷ ts) = Some t.0.line
+-- where the first token stands, where there is one
+abbrev pub place : List Tok → Option Position
+place [] = None
+place (t ∷ ts) = Some t.0
 
 -- the tokens after the first
 abbrev pub next : List Tok → List Tok

@@ -4,12 +4,17 @@ use Rattle.st_tokens.specs.declared.symbol.Symbol.TheVariants as symbols
 use Rattle.st_tokens.specs.declared.token.Kind.TheVariants as token_kinds
 use Rattle.st_parser.specs.Names.{Identifier, Keyword, Kind, Position, ReadFault, Symbol}
 use Rattle.st_parser.specs.declared.fault.ReadFault.TheVariants as read_faults
-use Rattle.st_parser.specs.Grammar.Tokens.{identifier_of, Tok, kind, position, next, same_symbol, same_keyword}
+use Rattle.st_parser.specs.Grammar.Tokens.{identifier_of, Tok, kind, place, position, next, same_symbol, same_keyword}
 
--- not in the grammar, or too deep
+-- Not in the grammar, or too deep: at the token that stands here, or at the end where there is none.
 pub data Refusal : Type 0 where
-  Wrong : Refusal
-  Deep : Refusal
+  Wrong : Option Position → Refusal
+  Deep : Option Position → Refusal
+
+-- where it stands
+abbrev pub place_of : Refusal → Option Position
+place_of (Wrong at) = at
+place_of (Deep at) = at
 
 -- what was read, and the tokens after it
 abbrev pub Outcome : Type 0 → Type 0
@@ -34,7 +39,7 @@ abbrev pub pure : {A : Type 0} → A → Parser A
 pure a = λ ts. Ok (a, ts)
 
 abbrev pub refuse : {A : Type 0} → Parser A
-refuse = λ ts. Err Wrong
+refuse = λ ts. Err (Wrong (place ts))
 
 -- the first token's position, and the tokens after it
 abbrev pub bump : Parser Position
@@ -68,7 +73,7 @@ is_word _ = false
 
 -- takes a token that passes the test
 unfoldable pub expect : (Option Kind → Bool) → Parser Position
-expect test = λ ts. if test (kind ts) then bump ts else Err Wrong
+expect test = λ ts. if test (kind ts) then bump ts else refuse ts
 
 abbrev pub expect_symbol : Symbol → Parser Position
 expect_symbol x = expect (is_symbol x)
@@ -78,12 +83,12 @@ expect_keyword x = expect (is_keyword x)
 
 -- takes a token that opens a level, where one more may be opened
 unfoldable pub enter : ℕ → Parser Position
-enter zero = λ ts. Err Deep
+enter zero = λ ts. Err (Deep (place ts))
 enter (suc depth_left) = bump
 
 -- takes this symbol, which opens a level
 unfoldable pub open_level : Symbol → ℕ → Parser Position
-open_level x depth_left = λ ts. if is_symbol x (kind ts) then enter depth_left ts else Err Wrong
+open_level x depth_left = λ ts. if is_symbol x (kind ts) then enter depth_left ts else refuse ts
 
 abbrev pub identifier_by : Option Kind → Parser Identifier
 identifier_by (Some (token_kinds.Word w)) = λ ts. Ok (identifier_of (position ts) w, next ts)
@@ -140,8 +145,8 @@ listed item = leading item (is_symbol symbols.Comma) (next_item item)
 -- memory may always run out
 abbrev pub Refuses : {A : Type 0} → Outcome A → ReadFault → Type 0
 Refuses o read_faults.Memory = Unit {0}
-Refuses o (read_faults.NotInGrammar line) = o ≡ Err Wrong
-Refuses o (read_faults.TooDeep line) = o ≡ Err Deep
+Refuses o (read_faults.NotInGrammar at) = o ≡ Err (Wrong at)
+Refuses o (read_faults.TooDeep at) = o ≡ Err (Deep at)
 
 -- why something wasn't read, or memory ran out since
 abbrev pub IsFaultOf : {A : Type 0} → Result A ReadFault → ReadFault → Type 0

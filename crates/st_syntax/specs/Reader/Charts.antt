@@ -1,12 +1,12 @@
 -- The reading of charts as functions: what each function that reads them answers.
-use Rattle.std.specs.Prelude.{ℕ, Bool, true, false, if◌then◌else◌, List, [], ◌∷◌, Option, Some, None, Ok, Err}
+use Rattle.std.specs.Prelude.{ℕ, Bool, true, false, if◌then◌else◌, List, [], ◌∷◌, Option, Some, None, Ok}
 use Rattle.st_tokens.specs.declared.keyword.Keyword.TheVariants as keywords
 use Rattle.st_tokens.specs.declared.symbol.Symbol.TheVariants as symbols
 use Rattle.st_tokens.specs.declared.token.Kind.TheVariants as token_kinds
 use Rattle.st_tree.specs.declared.tree.unit.ChartElement.TheVariants as chart_elements
 use Rattle.st_parser.specs.Names.{ActionQualifier, Association, ChartElement, Duration, Expression, Identifier, Kind, Position}
 use Rattle.st_parser.specs.Grammar.Tokens.{kind, next, position}
-use Rattle.st_parser.specs.Reader.Parsers.{Parser, ◌>>=◌, ◌>>◌, pure, refuse, bump, peek, is_symbol, is_word, expect_symbol, expect_keyword, open_level, enter, identifier, identifier_before, number, many, leading, listed, Wrong}
+use Rattle.st_parser.specs.Reader.Parsers.{Parser, ◌>>=◌, ◌>>◌, pure, refuse, bump, peek, is_symbol, is_word, expect_symbol, expect_keyword, open_level, enter, identifier, identifier_before, number, many, leading, listed}
 use Rattle.st_parser.specs.Grammar.Expressions.{duration_of}
 use Rattle.st_parser.specs.Reader.Expressions.{expression}
 use Rattle.st_syntax.specs.Grammar.Charts.{qualifier_of, association_of, step_of, transition_of, action_of, is_priority}
@@ -79,7 +79,7 @@ optional_name = do
   optional_by (is_word t)
 
 abbrev pub priority_word_by : Option Kind → Parser Position
-priority_word_by (Some (token_kinds.Word n)) = λ ts. if is_priority n then bump ts else Err Wrong
+priority_word_by (Some (token_kinds.Word n)) = λ ts. if is_priority n then bump ts else refuse ts
 priority_word_by _ = refuse
 
 -- PRIORITY

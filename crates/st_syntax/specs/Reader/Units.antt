@@ -1,5 +1,5 @@
 -- The reading of units as functions: what each function that reads them answers. In brackets `depth_left` more levels may be opened.
-use Rattle.std.specs.Prelude.{ℕ, suc, Bool, true, false, List, Option, Some, Ok}
+use Rattle.std.specs.Prelude.{ℕ, suc, Bool, true, false, List, [], ◌∷◌, Option, Some, Ok}
 use Rattle.st_tokens.specs.declared.keyword.Keyword.TheVariants as keywords
 use Rattle.st_tokens.specs.declared.symbol.Symbol.TheVariants as symbols
 use Rattle.st_tokens.specs.declared.token.Kind.TheVariants as token_kinds
@@ -9,12 +9,12 @@ use Rattle.st_tree.specs.declared.tree.unit.Body.TheVariants as bodies
 use Rattle.st_tree.specs.declared.tree.unit.Unit.TheVariants as unit_kinds
 use Rattle.st_parser.specs.Names as names
 use Rattle.st_parser.specs.Names.{Body, Declaration, DeclaredType, Keyword, Kind, Pou, TypeDeclaration}
-use Rattle.st_parser.specs.Grammar.Tokens.{kind, next}
-use Rattle.st_parser.specs.Reader.Parsers.{Parser, ◌>>=◌, ◌>>◌, pure, refuse, bump, peek, is_keyword, is_word, expect_symbol, expect_keyword, identifier, identifier_before, many, leading}
+use Rattle.st_parser.specs.Grammar.Tokens.{Tok, kind, next}
+use Rattle.st_parser.specs.Reader.Parsers.{Outcome, Parser, ◌>>=◌, ◌>>◌, pure, refuse, bump, peek, is_keyword, is_word, expect_symbol, expect_keyword, identifier, identifier_before, many, leading}
 use Rattle.st_syntax.specs.Reader.Charts.{begins_element, chart}
 use Rattle.st_syntax.specs.Reader.Statements.{statements}
 use Rattle.st_syntax.specs.Grammar.Units.{type_of, function_of, pou_of}
-use Rattle.st_syntax.specs.Reader.Declarations.{typed, member, variables}
+use Rattle.st_syntax.specs.Reader.Declarations.{in_brackets, typed, member, variables}
 
 unfoldable pub derived : ℕ → Parser DeclaredType
 derived depth_left = do
@@ -133,3 +133,14 @@ unit_of depth_left = peek >>= unit_by depth_left
 
 abbrev pub units : ℕ → Parser (List names.Unit)
 units depth_left = many begins_unit (unit_of depth_left)
+
+-- no token is left
+abbrev pub ended : {A : Type 0} → A → List Tok → Outcome A
+ended x [] = Ok (x, [])
+ended x (t ∷ ts) = refuse (t ∷ ts)
+
+-- { unit }, up to the last token
+unfoldable pub whole : Parser (List names.Unit)
+whole = do
+  us ← units in_brackets
+  ended us

@@ -1,4 +1,3 @@
-use Rattle.st_syntax.proofs.Folds.{chain_is}
 use Rattle.st_syntax.proofs.Totals.{none_more, short_units}
 use Rattle.st_syntax.proofs.laws.parts_are_shorter.Goals as goal
 
