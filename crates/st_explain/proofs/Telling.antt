@@ -20,7 +20,8 @@ use Rattle.st_explain.specs.Findings.{Finds}
 use Rattle.st_explain.specs.declared.finding.Finding.{Finding}
 use Rattle.st_explain.specs.Messages.{AreTold, ExplainsFirst, IsMessage, IsRead, IsToldAt, TellsFault, TellsFaults, TellsFrom, TellsNoProgram, TellsSyntax, TellsUnits, more, none, syntax_number}
 use Rattle.st_explain.specs.Messages as says
-use Rattle.st_explain.specs.Places.{code_of, start_at}
+use Rattle.st_syntax_messages.specs.Stopped.{start_at}
+use Rattle.st_explain.specs.Places.{code_of}
 use Rattle.st_explain.proofs.Ordered.{next_in_order}
 use Rattle.st_explain.proofs.Told.{told_alone}
 

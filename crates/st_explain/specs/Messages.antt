@@ -12,10 +12,11 @@ use Rattle.st_messages.specs.declared.lexeme.Lexeme.{Lexeme}
 use Rattle.st_messages.specs.Headings.{IsTold, heading, place_at}
 use Rattle.st_messages.specs.Places.{HasLine}
 use Rattle.st_messages.specs.declared.form.Code.{Code}
-use Rattle.st_syntax_messages.specs.Located.{IsOutsideAt, IsUnknownAt}
+use Rattle.st_syntax_messages.specs.Located.{IsUnknownAt}
+use Rattle.st_syntax_messages.specs.Stopped.{IsOutsideAt, IsTooDeepAt, start_at}
 use Rattle.st_check.specs.Faults.{HasNoProgram, IsAccepted, IsFirst}
 use Rattle.st_explain.specs.Collections.{AreInOrder, AreLater}
-use Rattle.st_explain.specs.Places.{code_of, start_at}
+use Rattle.st_explain.specs.Places.{code_of}
 
 -- the text is these units, and isn't too long
 pub record IsRead (text : List ℕ) (us : List Section) : Type 0 where
@@ -71,8 +72,8 @@ syntax_line syntax_faults.TooLong = 1
 abbrev pub IsSyntaxPlace : SyntaxFault → List ℕ → ℕ → Type 0
 IsSyntaxPlace syntax_faults.Memory text start = Unit {0}
 IsSyntaxPlace (syntax_faults.NoToken line) text start = IsUnknownAt text line start
-IsSyntaxPlace (syntax_faults.NotInGrammar line) text start = IsOutsideAt text start
-IsSyntaxPlace (syntax_faults.TooDeep line) text start = IsOutsideAt text start
+IsSyntaxPlace (syntax_faults.NotInGrammar line) text start = IsOutsideAt text line start
+IsSyntaxPlace (syntax_faults.TooDeep line) text start = IsTooDeepAt text line start
 IsSyntaxPlace syntax_faults.TooLong text start = start ≡ 0
 
 -- the message is that on this fault, of which this is so: on the line that it names, where the text has one

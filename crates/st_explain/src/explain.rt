@@ -2,21 +2,24 @@
 ghost use Rattle.std.specs.Prelude.{◌≡◌, ◌≤◌, [], IfOk, OnOk};
 ghost use Rattle.std.specs.String.{string_bytes};
 ghost use Rattle.st_explain.specs.Messages.{Explains, ExplainsAll, ExplainsFirst, IsMessage, IsToldAt, TellsFault, TellsFaults, TellsFrom, TellsNoProgram, TellsSyntax, TellsUnits, syntax_line, syntax_number};
-ghost use Rattle.st_explain.specs.Places.{code_of, start_at};
+ghost use Rattle.st_explain.specs.Places.{code_of};
 ghost use Rattle.st_messages.specs.Headings.{IsTold};
 ghost use Rattle.st_syntax.specs.Grammar.Texts.{Explains as ExplainsSyntax, IsTextOf};
+ghost use Rattle.st_syntax.specs.Stops.{NamesLine};
+ghost use Rattle.st_syntax_messages.specs.Stopped.{start_at};
 ghost use Rattle.st_tokens.specs.Text.{HasTokens, Tokens};
 
 use crate::all::{MAX_FAULTS, faults_from};
 use crate::finding::{Finding, first_finding};
+use crate::size::explain_size;
 use st_check::text_has_one_answer;
 use st_faults::Fault;
 use st_leaves::Size;
-use st_messages::{Code, Lexed, Lexeme, Place, Span, Words, lexemes, push_diagnosis, push_heading};
-use st_rule_messages::{explain_no_program, explain_rule, explain_size};
+use st_messages::{Code, Lexed, Place, Words, lexemes, push_diagnosis, push_heading};
+use st_rule_messages::{explain_no_program, explain_rule};
 use st_scopes::Tables;
 use st_syntax::parse;
-use st_syntax_messages::explain_syntax;
+use st_syntax_messages::{explain_syntax, span_at};
 use st_tokens::SyntaxFault;
 use st_tree::tree::Unit;
 use std::alloc::{AllocError, Global};
@@ -92,7 +95,7 @@ fn explain_grammar(
     text: &[u8],
     fault: SyntaxFault,
 ) -> Result<String, AllocError>
-    ensures told { ExplainsSyntax fault text.now
+    ensures told { ExplainsSyntax fault text.now → NamesLine fault text.now
         → IfOk result (λ m. TellsSyntax file.now text.now fault (string_bytes m)) }
     ensures read { OnOk result (1 ≤ syntax_number fault) }
 {
@@ -259,17 +262,4 @@ fn push_words(
         number: fault.rule.number(),
     };
     push_diagnosis(alloc, message, file, lexed.text, span, code, words)
-}
-
-/// The bytes of the token of this number.
-fn span_at(lexemes: &[Lexeme], number: usize) -> Span
-    ensures { result.start ≡ start_at lexemes.now number }
-{
-    match lexemes.get(number) {
-        Some(lexeme) => Span {
-            start: lexeme.start,
-            end: lexeme.end,
-        },
-        None => Span { start: 0, end: 0 },
-    }
 }

@@ -5,5 +5,6 @@
 mod all;
 mod explain;
 mod finding;
+mod size;
 
 pub use explain::{explain_all, explain_faults, explain_text};

@@ -1,3 +1,4 @@
+pub mod Drafts
 pub mod Headings
 pub mod Lexemes
 pub mod Places

@@ -62,14 +62,19 @@ pub fn push_diagnosis(
     ensures told { OnOk result (IsTold (string_bytes message.old) (string_bytes message.new)
         file.now text.now span.start code (string_bytes words.now.title)) }
 {
+    let below = text_below(alloc, text, span, words)?;
+    let (before, _) = text.split_at(span.start.min(text.len()));
+    push_heading(message, file, place_after(before), code)?;
+    let title = words.title.as_str();
+    write!(message, "{title}\n{below}")
+}
+
+/// What stands below the first line of a message: the line with a caret, and what else is said.
+fn text_below(alloc: Global, text: &[u8], span: Span, words: &Words) -> Result<String, AllocError> {
     let mut below = String::new(alloc);
     push_source(alloc, &mut below, text, span)?;
     below.push_str(words.more.as_str())?;
-    let (before, _) = text.split_at(span.start.min(text.len()));
-    push_heading(message, file, place_after(before), code)?;
-    message.push_str(words.title.as_str())?;
-    message.push('\n')?;
-    message.push_str(below.as_str())
+    Ok(below)
 }
 
 /// Puts bytes at the end of a message as they can be shown, between two backticks.

@@ -1,8 +1,7 @@
 //! A text with its lexemes.
 
+use crate::draft::Draft;
 use crate::lexeme::Lexeme;
-use crate::shown::push_shown;
-use std::alloc::AllocError;
 
 /// A text with its lexemes.
 #[derive(Clone, Copy)]
@@ -39,13 +38,12 @@ impl<'a> Lexed<'a> {
         }
     }
 
-    /// Puts the literal that begins at the token of this number at the end of a message, with its sign.
-    pub fn push_literal(&self, message: &mut String, number: u32) -> Result<(), AllocError> {
+    /// Says the literal that begins at the token of this number, with its sign.
+    pub fn say_literal(&self, draft: &mut Draft, number: u32) {
         let bytes = self.spelling(number);
-        push_shown(message, bytes)?;
-        if bytes == b"-".as_slice() || bytes == b"+".as_slice() {
-            push_shown(message, self.behind(number))?;
+        draft.show(bytes);
+        if let b"-" | b"+" = bytes {
+            draft.show(self.behind(number));
         }
-        Ok(())
     }
 }

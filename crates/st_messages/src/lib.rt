@@ -3,6 +3,7 @@
 //! the standard, its other editions or other languages have and this language hasn't. It knows no rule of the language.
 #![tactic(auto)]
 
+mod draft;
 mod form;
 mod left_out_names;
 mod lexed;
@@ -14,6 +15,7 @@ mod shown;
 mod skip;
 mod source;
 
+pub use draft::Draft;
 pub use form::{
     Code, Words, push_code, push_diagnosis, push_heading, push_help, push_note, push_quoted,
 };

@@ -6,12 +6,13 @@ use strsim::generic_damerau_levenshtein;
 /// The longest name that is compared, in bytes.
 const MAX_COMPARED_BYTES: usize = 64;
 
-/// The nearest of the names that were offered.
+/// The nearest of the names that were offered. It keeps that there was no memory to compare one: then no name is compared any more,
+/// and `get` says so.
 #[derive(Drop)]
 pub struct Nearest<'n> {
     alloc: Global,
-    /// The name that isn't there, in upper case.
-    wanted: Vec<u8>,
+    /// The name that isn't there, in upper case, where there was memory for it.
+    wanted: Result<Vec<u8>, AllocError>,
     /// The nearest name so far, and how far it is.
     found: Option<&'n [u8]>,
     distance: usize,
@@ -19,37 +20,46 @@ pub struct Nearest<'n> {
 
 impl<'n> Nearest<'n> {
     /// No name was offered yet for this one.
-    pub fn new(alloc: Global, wanted: &[u8]) -> Result<Nearest<'n>, AllocError> {
-        Ok(Nearest {
+    pub fn new(alloc: Global, wanted: &[u8]) -> Nearest<'n> {
+        Nearest {
             alloc,
-            wanted: raised(alloc, wanted)?,
+            wanted: raised(alloc, wanted),
             found: None,
             distance: most_edits(wanted.len()).saturating_add(1),
-        })
+        }
     }
 
     /// Offers a name. Of names that are equally near, the first one is kept.
-    pub fn offer(&mut self, name: &'n [u8]) -> Result<(), AllocError> {
-        if self.wanted.len() > MAX_COMPARED_BYTES || name.len() > MAX_COMPARED_BYTES {
-            return Ok(());
+    pub fn offer(&mut self, name: &'n [u8]) {
+        let Ok(wanted) = &self.wanted else {
+            return;
+        };
+        if wanted.len() > MAX_COMPARED_BYTES || name.len() > MAX_COMPARED_BYTES {
+            return;
         }
-        let name_raised = raised(self.alloc, name)?;
-        let distance = generic_damerau_levenshtein(
-            self.alloc,
-            self.wanted.as_slice(),
-            name_raised.as_slice(),
-        )?;
-        if distance < self.distance {
-            self.distance = distance;
-            self.found = Some(name);
+        match edits_between(self.alloc, wanted.as_slice(), name) {
+            Ok(distance) if distance < self.distance => {
+                self.distance = distance;
+                self.found = Some(name);
+            }
+            Ok(_) => {}
+            Err(error) => self.wanted = Err(error),
         }
-        Ok(())
     }
 
     /// The nearest of the names that were offered, where one is near enough: no more than a third of its letters differ.
-    pub fn get(&self) -> Option<&'n [u8]> {
-        self.found
+    pub fn get(&self) -> Result<Option<&'n [u8]>, AllocError> {
+        match self.wanted {
+            Ok(_) => Ok(self.found),
+            Err(_) => Err(AllocError),
+        }
     }
+}
+
+/// How many edits lead from a name in upper case to another one, ignoring case.
+fn edits_between(alloc: Global, wanted: &[u8], name: &[u8]) -> Result<usize, AllocError> {
+    let name = raised(alloc, name)?;
+    generic_damerau_levenshtein(alloc, wanted, name.as_slice())
 }
 
 /// How many edits may lead from a name of so many bytes to one that is near.

@@ -42,12 +42,12 @@ fn nearest_path<'a>(
     layout: &'a Layout,
     path: &'a [u8],
 ) -> Result<Option<&'a [u8]>, AllocError> {
-    let mut nearest = Nearest::new(alloc, path)?;
+    let mut nearest = Nearest::new(alloc, path);
     for number in 0..layout.len() {
         let leaf = layout.at(number);
         if !matches!(leaf.role, Role::Hidden) {
-            nearest.offer(leaf.shown.as_slice())?;
+            nearest.offer(leaf.shown.as_slice());
         }
     }
-    Ok(nearest.get())
+    nearest.get()
 }

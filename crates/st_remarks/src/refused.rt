@@ -384,11 +384,11 @@ fn complain(
 
 /// Says which command is near to a word, and which there are.
 fn tell_commands(alloc: Global, message: &mut String, word: &[u8]) -> Result<(), AllocError> {
-    let mut nearest = Nearest::new(alloc, word)?;
+    let mut nearest = Nearest::new(alloc, word);
     for command in COMMANDS {
-        nearest.offer(command.as_bytes())?;
+        nearest.offer(command.as_bytes());
     }
-    if let Some(near) = nearest.get() {
+    if let Some(near) = nearest.get()? {
         push_question(message, "did you mean ", near)?;
     }
     push_note(

@@ -1,36 +1,37 @@
 //! What is said of calls that don't fit what they call, and of EXIT.
 
-use crate::names::{offer_pins, say_members, say_nearest, say_pins};
+use crate::names::{offer_parts, say_names, say_parts};
 use st_check_expressions::count_positionals;
-use st_messages::{Lexed, Nearest, Words, push_quoted, push_shown};
+use st_messages::{Draft, Lexed, Nearest};
 use st_scopes::{Scope, Tables};
 use st_sites::Site;
 use st_tree::tree::{Argument, Call, Expression, Identifier, VarKind};
-use st_types::{Base, Callee, Purpose, Signature, StandardFunction, UnitKind};
-use std::alloc::{AllocError, Global};
+use st_types::{Base, Callee, Purpose, Signature, StandardFunction};
+use std::alloc::Global;
 
 /// Says why a call, or an EXIT, doesn't fit.
 pub fn explain_call(
     alloc: Global,
-    words: &mut Words,
+    draft: &mut Draft,
     lexed: Lexed<'_>,
     tables: &Tables<'_>,
     scope: &Scope<'_>,
     at: u32,
     site: Option<Site<'_>>,
-) -> Result<(), AllocError> {
+) {
     match site {
         Some(Site::Exit) => {
-            push_quoted(&mut words.title, lexed.spelling(at))?;
-            words.title.push_str(" stands in no loop")?;
-            words.help("it leaves FOR, WHILE and REPEAT; `RETURN;` leaves the unit")
+            draft.quote(lexed.spelling(at));
+            draft.say(" stands in no loop");
+            draft.help("it leaves FOR, WHILE and REPEAT; `RETURN;` leaves the unit");
         }
-        Some(Site::Call(call)) => say_statement(alloc, words, tables, scope, call),
-        Some(Site::Expression(expression, _)) => match first_call(expression) {
-            Some(call) => say_value(words, tables, scope, call),
-            None => Ok(()),
-        },
-        _ => Ok(()),
+        Some(Site::Call(call)) => say_statement(alloc, draft, tables, scope, call),
+        Some(Site::Expression(expression, _)) => {
+            if let Some(call) = first_call(expression) {
+                say_value(draft, tables, scope, call);
+            }
+        }
+        _ => {}
     }
 }
 
@@ -46,78 +47,83 @@ fn first_call(expression: &Expression) -> Option<&Call> {
 /// Says why a call statement doesn't fit.
 fn say_statement(
     alloc: Global,
-    words: &mut Words,
+    draft: &mut Draft,
     tables: &Tables<'_>,
     scope: &Scope<'_>,
     call: &Call,
-) -> Result<(), AllocError> {
+) {
     let name = call.name.spelling.as_slice();
     match scope.callee(name) {
-        Callee::Instance(base) => say_invocation(alloc, words, tables, scope, base, call),
-        Callee::Block => say_block(words, name),
+        Callee::Instance(base) => say_invocation(alloc, draft, tables, scope, base, call),
+        Callee::Block => say_block(draft, name),
         _ => {
-            push_quoted(&mut words.title, name)?;
-            words
-                .title
-                .push_str(" is a function, and a statement invokes an instance")?;
-            words.help("use its result, as `A := F(B);`")
+            draft.quote(name);
+            draft.say(" is a function, and a statement invokes an instance");
+            draft.help("use its result, as `A := F(B);`");
         }
     }
 }
 
 /// Says that a function block is called in place of an instance.
-fn say_block(words: &mut Words, name: &[u8]) -> Result<(), AllocError> {
-    push_quoted(&mut words.title, name)?;
-    words.title.push_str(" is a function block, and only an instance of it is invoked")?;
-    words
-        .more
-        .push_str("  help: declare one in VAR, as `Instance : ")?;
-    push_shown(&mut words.more, name)?;
-    words.more.push_str(";`, and invoke that\n")
+fn say_block(draft: &mut Draft, name: &[u8]) {
+    draft.quote(name);
+    draft.say(" is a function block, and only an instance of it is invoked");
+    draft.help("declare one in VAR, as `Instance : ");
+    draft.show(name);
+    draft.say(";`, and invoke that");
 }
 
-/// Puts the name of the function block of an instance at the end of a message.
-fn push_block(message: &mut String, tables: &Tables<'_>, base: Base) -> Result<(), AllocError> {
+/// Says the name of the function block of an instance.
+fn say_block_name(draft: &mut Draft, tables: &Tables<'_>, base: Base) {
     match base {
-        Base::Standard(block) => push_shown(message, block.name()),
+        Base::Standard(block) => draft.show(block.name()),
         Base::Block(unit) if unit < tables.len() => {
-            push_shown(message, tables.unit(unit).name.spelling.as_slice())
+            draft.show(tables.unit(unit).name.spelling.as_slice());
         }
-        _ => message.push_str("it"),
+        _ => draft.say("it"),
     }
 }
 
 /// Says why the arguments of an invocation don't fit.
 fn say_invocation(
     alloc: Global,
-    words: &mut Words,
+    draft: &mut Draft,
     tables: &Tables<'_>,
     scope: &Scope<'_>,
     base: Base,
     call: &Call,
-) -> Result<(), AllocError> {
+) {
     let arguments = call.arguments.as_slice();
     if count_positionals(arguments) != 0 {
-        words.title.push_str("an argument of an invocation has the name of an input before it")?;
-        say_pins_of(words, tables, base)?;
-        return words.help("write `Input := Value`");
+        draft.say("an argument of an invocation has the name of an input before it");
+        say_parts(draft, tables, base);
+        draft.help("write `Input := Value`");
+    } else if let Some((name, what)) = first_misnamed(scope, base, arguments) {
+        say_no_pin(alloc, draft, tables, base, name, what);
+    } else {
+        draft.say("an input or an output stands twice in this invocation");
+        draft.help("give each once");
     }
+}
+
+/// The first name of an argument that is no input, or no output, of an instance, and which of them it isn't.
+fn first_misnamed<'c>(
+    scope: &Scope<'_>,
+    base: Base,
+    arguments: &'c [Argument],
+) -> Option<(&'c Identifier, &'static str)> {
     for argument in arguments {
-        if let Argument::Input(name, _) = argument
-            && !is_pin(scope, base, name, Purpose::Input)
-        {
-            return say_no_pin(alloc, words, tables, base, name, "input");
-        }
-        if let Argument::Output(name, _) = argument
-            && !is_pin(scope, base, name, Purpose::Output)
-        {
-            return say_no_pin(alloc, words, tables, base, name, "output");
+        match argument {
+            Argument::Input(name, _) if !is_pin(scope, base, name, Purpose::Input) => {
+                return Some((name, " has no input "));
+            }
+            Argument::Output(name, _) if !is_pin(scope, base, name, Purpose::Output) => {
+                return Some((name, " has no output "));
+            }
+            _ => {}
         }
     }
-    words
-        .title
-        .push_str("an input or an output stands twice in this invocation")?;
-    words.help("give each once")
+    None
 }
 
 /// Whether a name is that of an input, or of an output.
@@ -128,66 +134,40 @@ fn is_pin(scope: &Scope<'_>, base: Base, name: &Identifier, purpose: Purpose) ->
     }
 }
 
-/// Says which inputs and outputs the block of an instance has.
-fn say_pins_of(words: &mut Words, tables: &Tables<'_>, base: Base) -> Result<(), AllocError> {
-    match base {
-        Base::Standard(block) => say_pins(words, block),
-        Base::Block(unit) => say_members(words, tables, unit),
-        _ => Ok(()),
-    }
-}
-
 /// Says that a block has no input, or no output, of a name.
 fn say_no_pin(
     alloc: Global,
-    words: &mut Words,
+    draft: &mut Draft,
     tables: &Tables<'_>,
     base: Base,
     name: &Identifier,
     what: &str,
-) -> Result<(), AllocError> {
+) {
     let spelling = name.spelling.as_slice();
-    push_block(&mut words.title, tables, base)?;
-    words.title.push_str(" has no ")?;
-    words.title.push_str(what)?;
-    words.title.push(' ')?;
-    push_quoted(&mut words.title, spelling)?;
-    say_pins_of(words, tables, base)?;
-    let mut nearest = Nearest::new(alloc, spelling)?;
-    match base {
-        Base::Standard(block) => offer_pins(&mut nearest, block)?,
-        Base::Block(unit) if unit < tables.len() => {
-            for declared in tables.declared(unit) {
-                nearest.offer(declared.name.spelling.as_slice())?;
-            }
-        }
-        _ => {}
-    }
-    say_nearest(words, &nearest)
+    let mut nearest = Nearest::new(alloc, spelling);
+    say_block_name(draft, tables, base);
+    draft.say(what);
+    draft.quote(spelling);
+    say_parts(draft, tables, base);
+    offer_parts(&mut nearest, tables, base);
+    draft.ask("did you mean `", &nearest, "`?");
 }
 
 /// Says why a call in an expression doesn't fit.
-fn say_value(
-    words: &mut Words,
-    tables: &Tables<'_>,
-    scope: &Scope<'_>,
-    call: &Call,
-) -> Result<(), AllocError> {
+fn say_value(draft: &mut Draft, tables: &Tables<'_>, scope: &Scope<'_>, call: &Call) {
     let name = call.name.spelling.as_slice();
     let count = call.arguments.as_slice().len();
     match scope.callee(name) {
         Callee::Instance(_) => {
-            push_quoted(&mut words.title, name)?;
-            words
-                .title
-                .push_str(" is an instance, and has no value in an expression")?;
-            words.help("invoke it in a statement before, and read an output, as `T1.Q`")
+            draft.quote(name);
+            draft.say(" is an instance, and has no value in an expression");
+            draft.help("invoke it in a statement before, and read an output, as `T1.Q`");
         }
-        Callee::Block => say_block(words, name),
-        Callee::Standard(function) => say_count(words, name, taken(function), count),
-        Callee::Conversion(_, _) => say_count(words, name, "one argument", count),
-        Callee::Own(signature) => say_own(words, tables, &signature, call),
-        _ => Ok(()),
+        Callee::Block => say_block(draft, name),
+        Callee::Standard(function) => say_taken(draft, name, taken(function), count),
+        Callee::Conversion(_, _) => say_taken(draft, name, "one argument", count),
+        Callee::Own(signature) => say_own(draft, tables, &signature, call),
+        _ => {}
     }
 }
 
@@ -206,67 +186,62 @@ fn taken(function: StandardFunction) -> &'static str {
 }
 
 /// Says which arguments a function takes, all by position, and how many there are.
-fn say_count(words: &mut Words, name: &[u8], taken: &str, count: usize) -> Result<(), AllocError> {
-    push_quoted(&mut words.title, name)?;
-    let title = &mut words.title;
-    write!(title, " takes {taken}, without names (here: {count})")
+fn say_taken(draft: &mut Draft, name: &[u8], taken: &str, count: usize) {
+    draft.quote(name);
+    draft.say(" takes ");
+    draft.say(taken);
+    draft.say(", without names (here: ");
+    draft.number(count as i128);
+    draft.say(")");
 }
 
 /// Says why the arguments of a function of the text don't fit.
-fn say_own(
-    words: &mut Words,
-    tables: &Tables<'_>,
-    signature: &Signature<'_>,
-    call: &Call,
-) -> Result<(), AllocError> {
+fn say_own(draft: &mut Draft, tables: &Tables<'_>, signature: &Signature<'_>, call: &Call) {
     let name = call.name.spelling.as_slice();
-    let count = call.arguments.as_slice().len();
-    let due = signature.len();
-    for argument in call.arguments.as_slice() {
-        if let Argument::Input(input, _) = argument
-            && signature.number_of(input.spelling.as_slice()).is_none()
-        {
-            push_quoted(&mut words.title, name)?;
-            words.title.push_str(" has no input ")?;
-            push_quoted(&mut words.title, input.spelling.as_slice())?;
-            return say_inputs(words, tables, name);
+    let arguments = call.arguments.as_slice();
+    draft.quote(name);
+    match first_misfit(signature, arguments) {
+        Some(Argument::Output(_, _)) => {
+            draft.say(" is a function, and has no outputs");
+            return draft.help("use its result, as `A := F(B);`");
         }
-        if let Argument::Output(_, _) = argument {
-            push_quoted(&mut words.title, name)?;
-            words.title.push_str(" is a function, and has no outputs")?;
-            return words.help("use its result, as `A := F(B);`");
+        Some(Argument::Input(input, _)) => {
+            draft.say(" has no input ");
+            draft.quote(input.spelling.as_slice());
+        }
+        _ => say_counts(draft, signature.len(), arguments.len()),
+    }
+    say_inputs(draft, tables, name);
+}
+
+/// The first argument that gives an output, or an input that the function hasn't.
+fn first_misfit<'c>(signature: &Signature<'_>, arguments: &'c [Argument]) -> Option<&'c Argument> {
+    for argument in arguments {
+        let fits = match argument {
+            Argument::Input(name, _) => signature.number_of(name.spelling.as_slice()).is_some(),
+            Argument::Output(_, _) => false,
+            Argument::Positional(_) => true,
+        };
+        if !fits {
+            return Some(argument);
         }
     }
-    push_quoted(&mut words.title, name)?;
-    let title = &mut words.title;
-    write!(
-        title,
-        " takes all its arguments by position ({due}, here: {count}), or each at most once by name"
-    )?;
-    say_inputs(words, tables, name)
+    None
+}
+
+/// Says how many arguments are due, and how many there are.
+fn say_counts(draft: &mut Draft, due: usize, found: usize) {
+    draft.say(" takes all its arguments by position (");
+    draft.number(due as i128);
+    draft.say(", here: ");
+    draft.number(found as i128);
+    draft.say("), or each at most once by name");
 }
 
 /// Says which inputs a function of the text has.
-fn say_inputs(words: &mut Words, tables: &Tables<'_>, name: &[u8]) -> Result<(), AllocError> {
-    match tables.number_of(name) {
-        Some(unit) => say_inputs_of(words, tables, unit),
-        None => Ok(()),
+fn say_inputs(draft: &mut Draft, tables: &Tables<'_>, name: &[u8]) {
+    if let Some(unit) = tables.number_of(name) {
+        draft.note("its inputs: ");
+        say_names(draft, tables, unit, VarKind::Input);
     }
-}
-
-/// Says which inputs the function of this number has.
-fn say_inputs_of(words: &mut Words, tables: &Tables<'_>, unit: usize) -> Result<(), AllocError> {
-    if unit >= tables.len() || !matches!(tables.unit(unit).kind, UnitKind::Function(_)) {
-        return Ok(());
-    }
-    words.more.push_str("  note: its inputs: ")?;
-    let mut is_first = true;
-    for declared in tables.declared(unit) {
-        if matches!(declared.kind, VarKind::Input) {
-            words.more.push_str(if is_first { "" } else { ", " })?;
-            push_shown(&mut words.more, declared.name.spelling.as_slice())?;
-            is_first = false;
-        }
-    }
-    words.more.push_str(if is_first { "none\n" } else { "\n" })
 }

@@ -1,85 +1,69 @@
 //! What is said of malformed charts.
 
-use crate::names::say_nearest;
-use st_messages::{Lexed, Nearest, Words, push_quoted};
+use crate::names::offer_steps;
+use st_messages::{Draft, Lexed, Nearest};
 use st_sites::Site;
-use st_tree::tree::{Association, Body, ChartElement};
-use st_types::{NamedUnit, UnitKind};
-use std::alloc::{AllocError, Global};
+use st_tree::tree::Association;
+use st_types::NamedUnit;
+use std::alloc::Global;
 
 /// Says how a chart is malformed.
 pub fn explain_chart(
     alloc: Global,
-    words: &mut Words,
+    draft: &mut Draft,
     lexed: Lexed<'_>,
     unit: NamedUnit<'_>,
     at: u32,
     site: Option<Site<'_>>,
-) -> Result<(), AllocError> {
+) {
     match site {
         Some(Site::Unit) => {
-            words.title.push_str("the chart of ")?;
-            push_quoted(&mut words.title, lexed.spelling(at))?;
-            words.title.push_str(" has no initial step")?;
-            words.help("write INITIAL_STEP in place of STEP for the one that it begins with")
+            draft.say("the chart of ");
+            draft.quote(lexed.spelling(at));
+            draft.say(" has no initial step");
+            draft.help("write INITIAL_STEP in place of STEP for the one that it begins with");
         }
         Some(Site::Step(name)) => {
-            push_quoted(&mut words.title, name.spelling.as_slice())?;
-            words
-                .title
-                .push_str(" is a second initial step, and a chart has one")?;
-            words.help("write STEP in place of INITIAL_STEP")
+            draft.quote(name.spelling.as_slice());
+            draft.say(" is a second initial step, and a chart has one");
+            draft.help("write STEP in place of INITIAL_STEP");
         }
-        Some(Site::StepName(name)) => {
-            words.title.push_str("there is no step ")?;
-            push_quoted(&mut words.title, name.spelling.as_slice())?;
-            let mut nearest = Nearest::new(alloc, name.spelling.as_slice())?;
-            offer_steps(&mut nearest, unit)?;
-            say_nearest(words, &nearest)
-        }
-        Some(Site::Association(association)) => say_qualifier(words, association),
-        _ => Ok(()),
+        Some(Site::StepName(name)) => say_no_step(alloc, draft, unit, name.spelling.as_slice()),
+        Some(Site::Association(association)) => say_qualifier(draft, association),
+        _ => {}
     }
 }
 
-/// Offers the names of the steps of a unit.
-fn offer_steps<'n>(nearest: &mut Nearest<'n>, unit: NamedUnit<'n>) -> Result<(), AllocError> {
-    let (UnitKind::Block(pou) | UnitKind::Program(pou)) = unit.kind else {
-        return Ok(());
-    };
-    if let Body::Chart(elements) = &pou.body {
-        for element in elements.as_slice() {
-            if let ChartElement::Step(step) = element {
-                nearest.offer(step.name.spelling.as_slice())?;
-            }
-        }
-    }
-    Ok(())
+/// Says that a unit has no step of this name, and which one is near.
+fn say_no_step(alloc: Global, draft: &mut Draft, unit: NamedUnit<'_>, name: &[u8]) {
+    let mut nearest = Nearest::new(alloc, name);
+    offer_steps(&mut nearest, unit, false);
+    draft.say("there is no step ");
+    draft.quote(name);
+    draft.ask("did you mean `", &nearest, "`?");
 }
 
 /// Says what is wrong with a qualifier.
-fn say_qualifier(words: &mut Words, association: &Association) -> Result<(), AllocError> {
+fn say_qualifier(draft: &mut Draft, association: &Association) {
     let Some(qualifier) = &association.qualifier else {
-        return Ok(());
+        return;
     };
     let letter = qualifier.name.spelling.as_slice();
-    push_quoted(&mut words.title, letter)?;
-    if letter.eq_ignore_ascii_case(b"L") || letter.eq_ignore_ascii_case(b"D") {
-        words.title.push_str(" wants a duration")?;
-        return words.help("write one behind it, as `Lamp(L, T#5s)`");
-    }
-    if is_untimed(letter) {
-        words.title.push_str(" is written without a duration")?;
-        return words.help("leave the duration out, or write L or D");
-    }
-    words.title.push_str(" is no qualifier of this profile")?;
-    words.help("write N, S, R or P without a duration, or L or D with one")
-}
-
-/// Whether a qualifier is written without a duration.
-fn is_untimed(letter: &[u8]) -> bool {
-    letter.eq_ignore_ascii_case(b"N")
-        || letter.eq_ignore_ascii_case(b"S")
-        || letter.eq_ignore_ascii_case(b"R")
-        || letter.eq_ignore_ascii_case(b"P")
+    let (what, help) = match letter {
+        b"L" | b"l" | b"D" | b"d" => (
+            " wants a duration",
+            "write one behind it, as `Lamp(L, T#5s)`",
+        ),
+        b"N" | b"n" | b"S" | b"s" | b"R" | b"r" | b"P" | b"p" => (
+            " is written without a duration",
+            "leave the duration out, or write L or D",
+        ),
+        _ => (
+            " is no qualifier of this profile",
+            "write N, S, R or P without a duration, or L or D with one",
+        ),
+    };
+    draft.quote(letter);
+    draft.say(what);
+    draft.help(help);
 }

@@ -1,6 +1,6 @@
 //! What is said of units that contain or call themselves.
 
-use st_messages::{Words, push_quoted};
+use st_messages::Draft;
 use st_references::references;
 use st_scopes::Tables;
 use st_tree::List;
@@ -13,41 +13,36 @@ const MAX_NAMED: usize = 8;
 /// Names a shortest way on which the unit of this number contains or calls itself.
 pub fn explain_recursion(
     alloc: Global,
-    words: &mut Words,
+    draft: &mut Draft,
     tables: &Tables<'_>,
     unit: usize,
 ) -> Result<(), AllocError> {
     let graph = references(alloc, tables)?;
     let way = way_back(alloc, &graph, unit)?;
-    push_unit(&mut words.title, tables, unit)?;
+    say_unit(draft, tables, unit);
     if let [_] = way.as_slice() {
-        words.title.push_str(verb(tables, unit))?;
-        words.title.push_str("itself")?;
+        draft.say(verb(tables, unit));
+        draft.say("itself");
     } else {
-        push_way(&mut words.title, tables, unit, &way)?;
+        say_way(draft, tables, unit, &way);
     }
-    words.help(advice(tables, &way))
+    draft.help(advice(tables, &way));
+    Ok(())
 }
 
-/// Puts how a unit leads back to itself at the end of a message.
-fn push_way(
-    message: &mut String,
-    tables: &Tables<'_>,
-    unit: usize,
-    way: &[usize],
-) -> Result<(), AllocError> {
+/// Says how a unit leads back to itself.
+fn say_way(draft: &mut Draft, tables: &Tables<'_>, unit: usize, way: &[usize]) {
     for (place, next) in way.iter().take(MAX_NAMED).enumerate() {
-        message.push_str(if place == 0 { "" } else { ", which" })?;
-        message.push_str(verb(tables, *next))?;
-        push_unit(message, tables, *next)?;
+        draft.say(if place == 0 { "" } else { ", which" });
+        draft.say(verb(tables, *next));
+        say_unit(draft, tables, *next);
         if *next != unit {
-            push_line_of(message, tables, *next)?;
+            say_line_of(draft, tables, *next);
         }
     }
     if way.len() > MAX_NAMED {
-        message.push_str(", and so on back to itself")?;
+        draft.say(", and so on back to itself");
     }
-    Ok(())
 }
 
 /// How a unit is used, between what uses it and its name.
@@ -68,22 +63,19 @@ fn advice(tables: &Tables<'_>, way: &[usize]) -> &'static str {
     }
 }
 
-/// Puts the line in which a unit has its name at the end of a message.
-fn push_line_of(message: &mut String, tables: &Tables<'_>, unit: usize) -> Result<(), AllocError> {
-    match tables.units().get(unit) {
-        Some(found) => {
-            let line = found.name.position.line;
-            write!(message, " (line {line})")
-        }
-        None => Ok(()),
+/// Says in which line a unit has its name.
+fn say_line_of(draft: &mut Draft, tables: &Tables<'_>, unit: usize) {
+    if let Some(found) = tables.units().get(unit) {
+        draft.say(" (line ");
+        draft.number(i128::from(found.name.position.line));
+        draft.say(")");
     }
 }
 
-/// Puts the name of a unit at the end of a message.
-fn push_unit(message: &mut String, tables: &Tables<'_>, unit: usize) -> Result<(), AllocError> {
-    match tables.units().get(unit) {
-        Some(found) => push_quoted(message, found.name.spelling.as_slice()),
-        None => Ok(()),
+/// Says the name of a unit.
+fn say_unit(draft: &mut Draft, tables: &Tables<'_>, unit: usize) {
+    if let Some(found) = tables.units().get(unit) {
+        draft.quote(found.name.spelling.as_slice());
     }
 }
 

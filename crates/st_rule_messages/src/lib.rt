@@ -9,5 +9,5 @@ mod limits;
 mod names;
 mod rules;
 
-pub use limits::explain_size;
+pub use limits::say_count;
 pub use rules::{explain_no_program, explain_rule};

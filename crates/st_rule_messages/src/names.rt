@@ -1,323 +1,263 @@
 //! What is said of a name that isn't there, or is there already.
 
 use st_messages::{
-    FUNCTION_NAMES, Lexed, Nearest, TYPE_NAMES, Words, function_left_out, push_quoted, push_shown,
-    type_left_out,
+    Draft, FUNCTION_NAMES, Lexed, Nearest, TYPE_NAMES, function_left_out, type_left_out,
 };
 use st_scopes::{Scope, Tables};
 use st_sites::{Site, reached};
 use st_tree::tree::{Body, ChartElement, Expression, VarKind, Variable};
-use st_types::{Base, Purpose, StandardBlock, UnitKind, standard_of};
-use std::alloc::{AllocError, Global};
+use st_types::{Base, NamedUnit, Purpose, Shape, StandardBlock, UnitKind, standard_of};
+use std::alloc::Global;
 
 /// Says that a name isn't there, and which one is near.
 pub fn explain_unknown(
     alloc: Global,
-    words: &mut Words,
+    draft: &mut Draft,
     lexed: Lexed<'_>,
     tables: &Tables<'_>,
     scope: &Scope<'_>,
     unit: usize,
     at: u32,
     site: Option<Site<'_>>,
-) -> Result<(), AllocError> {
+) {
     let name = lexed.spelling(at);
-    let mut nearest = Nearest::new(alloc, name)?;
+    let mut nearest = Nearest::new(alloc, name);
     match site {
-        Some(Site::Type(_)) => say_type(words, &mut nearest, tables, name)?,
-        Some(Site::Call(_)) => say_function(words, &mut nearest, tables, unit, name)?,
-        Some(Site::Expression(Expression::Call(_), _)) => {
-            say_function(words, &mut nearest, tables, unit, name)?;
+        Some(Site::Type(_)) => say_type(draft, &mut nearest, tables, name),
+        Some(Site::Call(_) | Site::Expression(Expression::Call(_), _)) => {
+            say_function(draft, &mut nearest, tables, unit, name);
         }
         Some(Site::Part(variable, number)) => {
-            say_member(words, &mut nearest, tables, scope, variable, number, name)?;
+            let whole = reached(scope, variable, number);
+            say_member(draft, &mut nearest, tables, variable, whole, name);
         }
-        _ => say_variable(words, &mut nearest, tables, unit, name)?,
+        _ => say_variable(draft, &mut nearest, tables, unit, name),
     }
-    say_nearest(words, &nearest)
+    draft.ask("did you mean `", &nearest, "`?");
 }
 
-/// Says which name is near, where one is.
-pub fn say_nearest(words: &mut Words, nearest: &Nearest<'_>) -> Result<(), AllocError> {
-    if let Some(name) = nearest.get() {
-        words.more.push_str("  help: did you mean ")?;
-        push_quoted(&mut words.more, name)?;
-        words.more.push_str("?\n")?;
-    }
-    Ok(())
+/// Says that the standard has a name and this profile hasn't, where there is something to use in its place. Answers whether there is.
+fn say_left_out(draft: &mut Draft, name: &[u8], help: Option<&'static str>) -> bool {
+    let Some(help) = help else {
+        return false;
+    };
+    draft.quote(name);
+    draft.say(" isn't in this profile");
+    draft.help(help);
+    true
 }
 
 /// Says that there is no type of this name.
-fn say_type<'n>(
-    words: &mut Words,
-    nearest: &mut Nearest<'n>,
-    tables: &'n Tables<'_>,
-    name: &[u8],
-) -> Result<(), AllocError> {
-    if let Some(help) = type_left_out(name) {
-        push_quoted(&mut words.title, name)?;
-        words.title.push_str(" isn't in this profile")?;
-        return words.help(help);
+fn say_type<'n>(draft: &mut Draft, nearest: &mut Nearest<'n>, tables: &'n Tables<'_>, name: &[u8]) {
+    if say_left_out(draft, name, type_left_out(name)) {
+        return;
     }
-    words.title.push_str("there is no type or function block ")?;
-    push_quoted(&mut words.title, name)?;
+    draft.say("there is no type or function block ");
+    draft.quote(name);
     for unit in tables.units() {
         if let UnitKind::Type(_) | UnitKind::Block(_) = unit.kind {
-            nearest.offer(unit.name.spelling.as_slice())?;
+            nearest.offer(unit.name.spelling.as_slice());
         }
     }
     for standard in &TYPE_NAMES {
-        nearest.offer(standard)?;
+        nearest.offer(standard);
     }
-    Ok(())
 }
 
 /// Says that there is no function or instance of this name.
 fn say_function<'n>(
-    words: &mut Words,
+    draft: &mut Draft,
     nearest: &mut Nearest<'n>,
     tables: &'n Tables<'_>,
     unit: usize,
     name: &[u8],
-) -> Result<(), AllocError> {
-    if let Some(help) = function_left_out(name) {
-        push_quoted(&mut words.title, name)?;
-        words.title.push_str(" isn't in this profile")?;
-        return words.help(help);
+) {
+    if say_left_out(draft, name, function_left_out(name)) {
+        return;
     }
-    words.title.push_str("there is no function or instance ")?;
-    push_quoted(&mut words.title, name)?;
+    draft.say("there is no function or instance ");
+    draft.quote(name);
     for unit in tables.units() {
         if let UnitKind::Function(_) = unit.kind {
-            nearest.offer(unit.name.spelling.as_slice())?;
+            nearest.offer(unit.name.spelling.as_slice());
         }
     }
     for standard in &FUNCTION_NAMES {
-        nearest.offer(standard)?;
+        nearest.offer(standard);
     }
-    offer_variables(nearest, tables, unit)
+    offer_variables(nearest, tables, unit);
 }
 
 /// Offers the names of the variables of a unit.
-fn offer_variables<'n>(
-    nearest: &mut Nearest<'n>,
-    tables: &'n Tables<'_>,
-    unit: usize,
-) -> Result<(), AllocError> {
+fn offer_variables<'n>(nearest: &mut Nearest<'n>, tables: &'n Tables<'_>, unit: usize) {
     if unit < tables.len() {
         for declared in tables.declared(unit) {
-            nearest.offer(declared.name.spelling.as_slice())?;
+            nearest.offer(declared.name.spelling.as_slice());
         }
-    }
-    Ok(())
-}
-
-/// Offers the names of the steps and actions of a unit.
-fn offer_chart<'n>(
-    nearest: &mut Nearest<'n>,
-    tables: &'n Tables<'_>,
-    unit: usize,
-) -> Result<(), AllocError> {
-    if unit >= tables.len() {
-        return Ok(());
-    }
-    match tables.unit(unit).kind {
-        UnitKind::Block(pou) | UnitKind::Program(pou) => match &pou.body {
-            Body::Chart(elements) => offer_elements(nearest, elements.as_slice()),
-            Body::Statements(_) => Ok(()),
-        },
-        _ => Ok(()),
     }
 }
 
-/// Offers the names of steps and actions.
-fn offer_elements<'n>(
-    nearest: &mut Nearest<'n>,
-    elements: &'n [ChartElement],
-) -> Result<(), AllocError> {
-    for element in elements {
-        match element {
-            ChartElement::Step(step) => nearest.offer(step.name.spelling.as_slice())?,
-            ChartElement::Action(action) => nearest.offer(action.name.spelling.as_slice())?,
-            ChartElement::Transition(_) => {}
+/// Offers the names of the steps of a unit, and those of its actions where they are meant too.
+pub fn offer_steps<'n>(nearest: &mut Nearest<'n>, unit: NamedUnit<'n>, with_actions: bool) {
+    let (UnitKind::Block(pou) | UnitKind::Program(pou)) = unit.kind else {
+        return;
+    };
+    if let Body::Chart(elements) = &pou.body {
+        for element in elements.as_slice() {
+            match element {
+                ChartElement::Step(step) => nearest.offer(step.name.spelling.as_slice()),
+                ChartElement::Action(action) if with_actions => {
+                    nearest.offer(action.name.spelling.as_slice());
+                }
+                _ => {}
+            }
         }
     }
-    Ok(())
 }
 
 /// Says that there is no variable of this name.
 fn say_variable<'n>(
-    words: &mut Words,
+    draft: &mut Draft,
     nearest: &mut Nearest<'n>,
     tables: &'n Tables<'_>,
     unit: usize,
     name: &[u8],
-) -> Result<(), AllocError> {
-    words.title.push_str("there is no variable ")?;
-    push_quoted(&mut words.title, name)?;
+) {
+    draft.say("there is no variable ");
+    draft.quote(name);
     if unit < tables.len() {
-        words.title.push_str(" in ")?;
-        push_quoted(&mut words.title, tables.unit(unit).name.spelling.as_slice())?;
+        draft.say(" in ");
+        draft.quote(tables.unit(unit).name.spelling.as_slice());
+        offer_variables(nearest, tables, unit);
+        offer_steps(nearest, tables.unit(unit), true);
     }
-    offer_variables(nearest, tables, unit)?;
-    offer_chart(nearest, tables, unit)
 }
 
-/// Says that what stands before the part of this number of a variable has no member of this name.
+/// Says that a part of a variable, which is this, has no member of this name.
 fn say_member<'n>(
-    words: &mut Words,
+    draft: &mut Draft,
     nearest: &mut Nearest<'n>,
     tables: &'n Tables<'_>,
-    scope: &Scope<'_>,
     variable: &Variable,
-    number: usize,
+    part: Option<Shape<'_>>,
     name: &[u8],
-) -> Result<(), AllocError> {
-    let base = match reached(scope, variable, number) {
-        Some(shape) if shape.subscripts.is_none() => shape.base,
-        Some(_) => {
-            words.title.push_str("an array has no member ")?;
-            push_quoted(&mut words.title, name)?;
-            return words.help("name an element first, as `A[1].Member`");
-        }
-        None => {
-            push_quoted(&mut words.title, variable.name.spelling.as_slice())?;
-            words.title.push_str(" has no member ")?;
-            push_quoted(&mut words.title, name)?;
-            return words.note("a step has X and T alone");
-        }
+) {
+    let is_array = match &part {
+        Some(shape) => shape.subscripts.is_some(),
+        None => false,
     };
-    push_quoted(&mut words.title, variable.name.spelling.as_slice())?;
-    words.title.push_str(" has no member ")?;
-    push_quoted(&mut words.title, name)?;
+    if is_array {
+        draft.say("an array");
+    } else {
+        draft.quote(variable.name.spelling.as_slice());
+    }
+    draft.say(" has no member ");
+    draft.quote(name);
+    match part {
+        Some(_) if is_array => draft.help("name an element first, as `A[1].Member`"),
+        Some(shape) => {
+            say_parts(draft, tables, shape.base);
+            offer_parts(nearest, tables, shape.base);
+        }
+        None => draft.note("a step has X and T alone"),
+    }
+}
+
+/// Says which members a structure, or which inputs and outputs a block, has.
+pub fn say_parts(draft: &mut Draft, tables: &Tables<'_>, base: Base) {
     match base {
-        Base::Structure(unit) | Base::Block(unit) => {
-            say_members(words, tables, unit)?;
-            offer_variables(nearest, tables, unit)
+        Base::Structure(unit) => {
+            draft.note("its members: ");
+            say_names(draft, tables, unit, VarKind::Internal);
+        }
+        Base::Block(unit) => {
+            draft.note("its inputs: ");
+            say_names(draft, tables, unit, VarKind::Input);
+            draft.say("; its outputs: ");
+            say_names(draft, tables, unit, VarKind::Output);
         }
         Base::Standard(block) => {
-            say_pins(words, block)?;
-            offer_pins(nearest, block)
+            draft.note("its inputs: ");
+            say_pins(draft, block, Purpose::Input);
+            draft.say("; its outputs: ");
+            say_pins(draft, block, Purpose::Output);
         }
-        _ => words.note("it is one value, and no structure"),
+        _ => draft.note("it is one value, and no structure"),
     }
 }
 
-/// Puts a name behind others at the end of a message.
-fn push_listed(message: &mut String, name: &[u8], is_first: bool) -> Result<(), AllocError> {
-    message.push_str(if is_first { "" } else { ", " })?;
-    push_shown(message, name)
+/// Offers the names of the parts of a structure or a block.
+pub fn offer_parts<'n>(nearest: &mut Nearest<'n>, tables: &'n Tables<'_>, base: Base) {
+    match base {
+        Base::Structure(unit) | Base::Block(unit) => offer_variables(nearest, tables, unit),
+        Base::Standard(block) => {
+            for pin in block.pins() {
+                nearest.offer(pin.name);
+            }
+        }
+        _ => {}
+    }
 }
 
-/// Puts the names of a unit that are declared so at the end of a message.
-fn push_names(
-    message: &mut String,
-    tables: &Tables<'_>,
-    unit: usize,
-    kind: VarKind,
-) -> Result<(), AllocError> {
+/// Says a name behind others.
+fn say_listed(draft: &mut Draft, name: &[u8], is_first: bool) {
+    draft.say(if is_first { "" } else { ", " });
+    draft.show(name);
+}
+
+/// Says the names of a unit that are declared so.
+pub fn say_names(draft: &mut Draft, tables: &Tables<'_>, unit: usize, kind: VarKind) {
     if unit >= tables.len() {
-        return Ok(());
+        return;
     }
     let mut is_first = true;
     for declared in tables.declared(unit) {
-        if is_same_kind(declared.kind, kind) {
-            push_listed(message, declared.name.spelling.as_slice(), is_first)?;
+        if declared.kind as u8 == kind as u8 {
+            say_listed(draft, declared.name.spelling.as_slice(), is_first);
             is_first = false;
         }
     }
-    message.push_str(if is_first { "none" } else { "" })
+    draft.say(if is_first { "none" } else { "" });
 }
 
-/// Whether variables are declared for the same.
-fn is_same_kind(kind: VarKind, other: VarKind) -> bool {
-    matches!(
-        (kind, other),
-        (VarKind::Internal, VarKind::Internal)
-            | (VarKind::Constant, VarKind::Constant)
-            | (VarKind::Input, VarKind::Input)
-            | (VarKind::Output, VarKind::Output)
-    )
-}
-
-/// Says which members a structure, or which inputs and outputs a function block, has.
-pub fn say_members(words: &mut Words, tables: &Tables<'_>, unit: usize) -> Result<(), AllocError> {
-    if unit < tables.len() && matches!(tables.unit(unit).kind, UnitKind::Block(_)) {
-        words.more.push_str("  note: its inputs: ")?;
-        push_names(&mut words.more, tables, unit, VarKind::Input)?;
-        words.more.push_str("; its outputs: ")?;
-        push_names(&mut words.more, tables, unit, VarKind::Output)?;
-    } else {
-        words.more.push_str("  note: its members: ")?;
-        push_names(&mut words.more, tables, unit, VarKind::Internal)?;
-    }
-    words.more.push('\n')
-}
-
-/// Puts the names of the pins of a standard function block for this purpose at the end of a message.
-fn push_pins(
-    message: &mut String,
-    block: StandardBlock,
-    purpose: Purpose,
-) -> Result<(), AllocError> {
+/// Says the names of the inputs, or of the outputs, of a standard function block.
+fn say_pins(draft: &mut Draft, block: StandardBlock, purpose: Purpose) {
     let mut is_first = true;
     for pin in block.pins() {
         if pin.purpose == purpose {
-            push_listed(message, pin.name, is_first)?;
+            say_listed(draft, pin.name, is_first);
             is_first = false;
         }
     }
-    Ok(())
-}
-
-/// Says which inputs and outputs a standard function block has.
-pub fn say_pins(words: &mut Words, block: StandardBlock) -> Result<(), AllocError> {
-    words.more.push_str("  note: its inputs: ")?;
-    push_pins(&mut words.more, block, Purpose::Input)?;
-    words.more.push_str("; its outputs: ")?;
-    push_pins(&mut words.more, block, Purpose::Output)?;
-    words.more.push('\n')
-}
-
-/// Offers the inputs and outputs of a standard function block.
-pub fn offer_pins(nearest: &mut Nearest<'_>, block: StandardBlock) -> Result<(), AllocError> {
-    for pin in block.pins() {
-        nearest.offer(pin.name)?;
-    }
-    Ok(())
 }
 
 /// Says that a name is there already, and where.
 pub fn explain_repeated(
-    words: &mut Words,
+    draft: &mut Draft,
     lexed: Lexed<'_>,
     tables: &Tables<'_>,
     unit: usize,
     at: u32,
-) -> Result<(), AllocError> {
+) {
     let name = lexed.spelling(at);
-    push_quoted(&mut words.title, name)?;
     let is_unit = unit < tables.len() && tables.unit(unit).name.position.number == at;
+    draft.quote(name);
     if is_unit && standard_of(name).is_some() {
-        words
-            .title
-            .push_str(" is the name of a standard function or block")?;
-        return words.help("choose another name");
-    }
-    words.title.push_str(" is declared already")?;
-    let line = if is_unit {
-        unit_line(tables, unit, name)
+        draft.say(" is the name of a standard function or block");
     } else {
-        name_line(tables, unit, name, at)
-    };
-    let more = &mut words.more;
-    if let Some(line) = line {
-        write!(
-            more,
-            "  note: first in line {line}; capital and small letters are the same\n"
-        )?;
+        draft.say(" is declared already");
+        let line = if is_unit {
+            unit_line(tables, unit, name)
+        } else {
+            name_line(tables, unit, name, at)
+        };
+        if let Some(line) = line {
+            draft.note("first in line ");
+            draft.number(i128::from(line));
+            draft.say("; capital and small letters are the same");
+        }
     }
-    words.help("choose another name")
+    draft.help("choose another name");
 }
 
 /// The line of the first unit of this name, before the one of this number.

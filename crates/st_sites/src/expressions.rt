@@ -1,13 +1,13 @@
 //! The walk through expressions to a token.
 
 use crate::due::{argument_due, inner_due, operand_due};
-use crate::site::{Site, position_of};
+use crate::site::{Search, Site, position_of, stop_at};
 use st_check_expressions::compares;
 use st_scopes::Scope;
-use st_tree::tree::{Argument, Call, Expression, Operation, Part, Variable};
+use st_tree::tree::{Argument, Call, Expression, Operation, Part, Position, Variable};
 use st_types::{Callee, Due};
 use st_values::Elem;
-use std::alloc::{AllocError, Global};
+use std::alloc::Global;
 
 /// What stands at the token of this number in an expression, of which this is due.
 #[cycle(walk)]
@@ -17,12 +17,14 @@ pub fn in_expression<'t>(
     at: u32,
     expression: &'t Expression,
     due: Due,
-) -> Result<Option<Site<'t>>, AllocError> {
-    if position_of(expression).number == at {
-        return Ok(Some(Site::Expression(expression, due)));
-    }
+) -> Search<'t> {
+    stop_at(
+        at,
+        position_of(expression),
+        Site::Expression(expression, due),
+    )?;
     match expression {
-        Expression::Constant(_) => Ok(None),
+        Expression::Constant(_) => Ok(()),
         Expression::Variable(variable) => in_parts(alloc, scope, at, variable),
         Expression::Call(call) => in_call(alloc, scope, at, call, due),
         Expression::Parenthesized(_, inner)
@@ -35,10 +37,7 @@ pub fn in_expression<'t>(
             let inside = inner_due(alloc, scope, expression, due)?;
             let operations = operations.as_slice();
             let inside = operand_due(alloc, scope, left.get(), operations, inside)?;
-            let found = in_expression(alloc, scope, at, left.get(), inside)?;
-            if found.is_some() {
-                return Ok(found);
-            }
+            in_expression(alloc, scope, at, left.get(), inside)?;
             in_operations(alloc, scope, at, operations, inside)
         }
     }
@@ -52,7 +51,7 @@ fn in_operations<'t>(
     at: u32,
     operations: &'t [Operation],
     due: Due,
-) -> Result<Option<Site<'t>>, AllocError> {
+) -> Search<'t> {
     let further = if compares(operations) {
         Due::Type(Elem::Bool)
     } else {
@@ -60,13 +59,10 @@ fn in_operations<'t>(
     };
     let mut due = due;
     'operations: for operation in operations {
-        let found = in_operation(alloc, scope, at, operation, due)?;
-        if found.is_some() {
-            return Ok(found);
-        }
+        in_operation(alloc, scope, at, operation, due)?;
         due = further;
     }
-    Ok(None)
+    Ok(())
 }
 
 /// What stands at the token in an operand behind an operator.
@@ -77,7 +73,7 @@ fn in_operation<'t>(
     at: u32,
     operation: &'t Operation,
     due: Due,
-) -> Result<Option<Site<'t>>, AllocError> {
+) -> Search<'t> {
     in_expression(alloc, scope, at, &operation.operand, due)
 }
 
@@ -88,37 +84,27 @@ pub fn in_parts<'t>(
     scope: &Scope<'_>,
     at: u32,
     variable: &'t Variable,
-) -> Result<Option<Site<'t>>, AllocError> {
+) -> Search<'t> {
     'parts: for (number, part) in variable.parts.as_slice().iter().enumerate() {
-        if begins_at(part, at) {
-            return Ok(Some(Site::Part(variable, number)));
-        }
-        let found = in_part(alloc, scope, at, part)?;
-        if found.is_some() {
-            return Ok(found);
-        }
+        stop_at(at, part_position(part), Site::Part(variable, number))?;
+        in_part(alloc, scope, at, part)?;
     }
-    Ok(None)
+    Ok(())
 }
 
-/// Whether a part is named by the token of this number.
-fn begins_at(part: &Part, at: u32) -> bool {
+/// Where a part is named.
+fn part_position(part: &Part) -> Position {
     match part {
-        Part::Field(name) => name.position.number == at,
-        Part::Subscripts(position, _) => position.number == at,
+        Part::Field(name) => name.position,
+        Part::Subscripts(position, _) => *position,
     }
 }
 
 /// What stands at the token in a part of a variable.
 #[cycle(walk)]
-fn in_part<'t>(
-    alloc: Global,
-    scope: &Scope<'_>,
-    at: u32,
-    part: &'t Part,
-) -> Result<Option<Site<'t>>, AllocError> {
+fn in_part<'t>(alloc: Global, scope: &Scope<'_>, at: u32, part: &'t Part) -> Search<'t> {
     match part {
-        Part::Field(_) => Ok(None),
+        Part::Field(_) => Ok(()),
         Part::Subscripts(_, subscripts) => in_subscripts(alloc, scope, at, subscripts.as_slice()),
     }
 }
@@ -130,14 +116,11 @@ fn in_subscripts<'t>(
     scope: &Scope<'_>,
     at: u32,
     subscripts: &'t [Expression],
-) -> Result<Option<Site<'t>>, AllocError> {
+) -> Search<'t> {
     'subscripts: for subscript in subscripts {
-        let found = in_expression(alloc, scope, at, subscript, Due::Integer)?;
-        if found.is_some() {
-            return Ok(found);
-        }
+        in_expression(alloc, scope, at, subscript, Due::Integer)?;
     }
-    Ok(None)
+    Ok(())
 }
 
 /// What stands at the token in the arguments of a call, of which this is due.
@@ -148,16 +131,13 @@ pub fn in_call<'t>(
     at: u32,
     call: &'t Call,
     due: Due,
-) -> Result<Option<Site<'t>>, AllocError> {
+) -> Search<'t> {
     let callee = scope.callee(call.name.spelling.as_slice());
     'arguments: for (number, argument) in call.arguments.as_slice().iter().enumerate() {
         let asked = argument_due(scope, &callee, argument, number, due);
-        let found = in_argument(alloc, scope, at, argument, asked)?;
-        if found.is_some() {
-            return Ok(found);
-        }
+        in_argument(alloc, scope, at, argument, asked)?;
     }
-    Ok(None)
+    Ok(())
 }
 
 /// What stands at the token in an argument, of which this is due.
@@ -168,7 +148,7 @@ fn in_argument<'t>(
     at: u32,
     argument: &'t Argument,
     due: Due,
-) -> Result<Option<Site<'t>>, AllocError> {
+) -> Search<'t> {
     match argument {
         Argument::Positional(value) => in_expression(alloc, scope, at, value, due),
         Argument::Input(_, value) => in_expression(alloc, scope, at, value.get(), due),
@@ -183,9 +163,7 @@ pub fn in_target<'t>(
     scope: &Scope<'_>,
     at: u32,
     variable: &'t Variable,
-) -> Result<Option<Site<'t>>, AllocError> {
-    if variable.name.position.number == at {
-        return Ok(Some(Site::Target(variable)));
-    }
+) -> Search<'t> {
+    stop_at(at, variable.name.position, Site::Target(variable))?;
     in_parts(alloc, scope, at, variable)
 }

@@ -4,6 +4,7 @@ use st_tree::tree::{
     Association, Call, Constant, Expression, Identifier, Position, SignedInteger, Variable,
 };
 use st_types::Due;
+use std::alloc::AllocError;
 
 /// What stands at a token that is named as the place of a fault.
 #[derive(Clone, Copy)]
@@ -38,6 +39,33 @@ pub enum Site<'t> {
     StepName(&'t Identifier),
     /// The name of a unit.
     Unit,
+}
+
+/// Why a search for what stands at a token ends.
+#[derive(Clone, Copy)]
+pub enum Stop<'t> {
+    /// This stands there.
+    At(Site<'t>),
+    /// There is no memory to go on.
+    Memory,
+}
+
+impl<'t> From<AllocError> for Stop<'t> {
+    fn from(_: AllocError) -> Stop<'t> {
+        Stop::Memory
+    }
+}
+
+/// What comes of a search: it goes on where the token isn't here, and else it ends.
+pub type Search<'t> = Result<(), Stop<'t>>;
+
+/// Ends a search with this, where it stands at the token of this number.
+pub fn stop_at<'t>(at: u32, position: Position, site: Site<'t>) -> Search<'t> {
+    if position.number == at {
+        Err(Stop::At(site))
+    } else {
+        Ok(())
+    }
 }
 
 /// Where an expression begins.

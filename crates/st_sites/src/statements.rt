@@ -2,16 +2,16 @@
 
 use crate::due::target_due;
 use crate::expressions::{in_call, in_expression, in_target};
-use crate::site::{Site, constant_position};
+use crate::site::{Search, Site, constant_position, stop_at};
 use st_check_expressions::{elem_due, elem_of, selected_type};
 use st_scopes::Scope;
 use st_tree::tree::{
-    Call, CaseElement, CaseStatement, ConditionalPart, Expression, ForStatement, Identifier,
-    IfStatement, Label, RepeatStatement, Statement, Variable, WhileStatement,
+    Call, CaseElement, CaseStatement, ConditionalPart, Constant, Expression, ForStatement,
+    Identifier, IfStatement, Label, RepeatStatement, Statement, Variable, WhileStatement,
 };
 use st_types::Due;
 use st_values::Elem;
-use std::alloc::{AllocError, Global};
+use std::alloc::Global;
 
 /// What stands at the token of this number in statements.
 #[cycle(walk)]
@@ -20,14 +20,11 @@ pub fn in_statements<'t>(
     scope: &Scope<'_>,
     at: u32,
     statements: &'t [Statement],
-) -> Result<Option<Site<'t>>, AllocError> {
+) -> Search<'t> {
     'statements: for statement in statements {
-        let found = in_statement(alloc, scope, at, statement)?;
-        if found.is_some() {
-            return Ok(found);
-        }
+        in_statement(alloc, scope, at, statement)?;
     }
-    Ok(None)
+    Ok(())
 }
 
 /// What stands at the token in a statement.
@@ -37,14 +34,10 @@ fn in_statement<'t>(
     scope: &Scope<'_>,
     at: u32,
     statement: &'t Statement,
-) -> Result<Option<Site<'t>>, AllocError> {
+) -> Search<'t> {
     match statement {
-        Statement::Empty(_) | Statement::Return(_) => Ok(None),
-        Statement::Exit(position) => Ok(if position.number == at {
-            Some(Site::Exit)
-        } else {
-            None
-        }),
+        Statement::Empty(_) | Statement::Return(_) => Ok(()),
+        Statement::Exit(position) => stop_at(at, *position, Site::Exit),
         Statement::Assignment(variable, value) => {
             in_assignment(alloc, scope, at, variable.get(), value.get())
         }
@@ -64,40 +57,22 @@ fn in_assignment<'t>(
     at: u32,
     variable: &'t Variable,
     value: &'t Expression,
-) -> Result<Option<Site<'t>>, AllocError> {
-    let found = in_target(alloc, scope, at, variable)?;
-    if found.is_some() {
-        return Ok(found);
-    }
+) -> Search<'t> {
+    in_target(alloc, scope, at, variable)?;
     let due = target_due(alloc, scope, variable)?;
     in_expression(alloc, scope, at, value, due)
 }
 
 /// What stands at the token in a call statement.
-fn in_call_statement<'t>(
-    alloc: Global,
-    scope: &Scope<'_>,
-    at: u32,
-    call: &'t Call,
-) -> Result<Option<Site<'t>>, AllocError> {
-    if call.name.position.number == at {
-        return Ok(Some(Site::Call(call)));
-    }
+fn in_call_statement<'t>(alloc: Global, scope: &Scope<'_>, at: u32, call: &'t Call) -> Search<'t> {
+    stop_at(at, call.name.position, Site::Call(call))?;
     in_call(alloc, scope, at, call, Due::Any)
 }
 
 /// What stands at the token in IF.
 #[cycle(walk)]
-fn in_if<'t>(
-    alloc: Global,
-    scope: &Scope<'_>,
-    at: u32,
-    statement: &'t IfStatement,
-) -> Result<Option<Site<'t>>, AllocError> {
-    let found = in_conditionals(alloc, scope, at, statement.parts.as_slice())?;
-    if found.is_some() {
-        return Ok(found);
-    }
+fn in_if<'t>(alloc: Global, scope: &Scope<'_>, at: u32, statement: &'t IfStatement) -> Search<'t> {
+    in_conditionals(alloc, scope, at, statement.parts.as_slice())?;
     in_statements(alloc, scope, at, statement.otherwise.as_slice())
 }
 
@@ -108,14 +83,11 @@ fn in_conditionals<'t>(
     scope: &Scope<'_>,
     at: u32,
     parts: &'t [ConditionalPart],
-) -> Result<Option<Site<'t>>, AllocError> {
+) -> Search<'t> {
     'parts: for part in parts {
-        let found = in_conditional(alloc, scope, at, part)?;
-        if found.is_some() {
-            return Ok(found);
-        }
+        in_conditional(alloc, scope, at, part)?;
     }
-    Ok(None)
+    Ok(())
 }
 
 /// What stands at the token in a part of IF.
@@ -125,11 +97,8 @@ fn in_conditional<'t>(
     scope: &Scope<'_>,
     at: u32,
     part: &'t ConditionalPart,
-) -> Result<Option<Site<'t>>, AllocError> {
-    let found = in_expression(alloc, scope, at, &part.condition, Due::Type(Elem::Bool))?;
-    if found.is_some() {
-        return Ok(found);
-    }
+) -> Search<'t> {
+    in_expression(alloc, scope, at, &part.condition, Due::Type(Elem::Bool))?;
     in_statements(alloc, scope, at, part.statements.as_slice())
 }
 
@@ -140,17 +109,11 @@ fn in_case<'t>(
     scope: &Scope<'_>,
     at: u32,
     statement: &'t CaseStatement,
-) -> Result<Option<Site<'t>>, AllocError> {
+) -> Search<'t> {
     let selector = statement.selector.get();
-    let found = in_expression(alloc, scope, at, selector, Due::Integer)?;
-    if found.is_some() {
-        return Ok(found);
-    }
+    in_expression(alloc, scope, at, selector, Due::Integer)?;
     let due = elem_due(selected_type(alloc, scope, selector)?);
-    let found = in_elements(alloc, scope, at, statement.cases.as_slice(), due)?;
-    if found.is_some() {
-        return Ok(found);
-    }
+    in_elements(alloc, scope, at, statement.cases.as_slice(), due)?;
     in_statements(alloc, scope, at, statement.otherwise.as_slice())
 }
 
@@ -162,14 +125,11 @@ fn in_elements<'t>(
     at: u32,
     elements: &'t [CaseElement],
     due: Due,
-) -> Result<Option<Site<'t>>, AllocError> {
+) -> Search<'t> {
     'elements: for element in elements {
-        let found = in_element(alloc, scope, at, element, due)?;
-        if found.is_some() {
-            return Ok(found);
-        }
+        in_element(alloc, scope, at, element, due)?;
     }
-    Ok(None)
+    Ok(())
 }
 
 /// What stands at the token in a case.
@@ -180,39 +140,33 @@ fn in_element<'t>(
     at: u32,
     element: &'t CaseElement,
     due: Due,
-) -> Result<Option<Site<'t>>, AllocError> {
-    let found = in_labels(at, element.labels.as_slice(), due);
-    if found.is_some() {
-        return Ok(found);
-    }
+) -> Search<'t> {
+    in_labels(at, element.labels.as_slice(), due)?;
     in_statements(alloc, scope, at, element.statements.as_slice())
 }
 
 /// What stands at the token in labels.
-fn in_labels<'t>(at: u32, labels: &'t [Label], due: Due) -> Option<Site<'t>> {
+fn in_labels<'t>(at: u32, labels: &'t [Label], due: Due) -> Search<'t> {
     for label in labels {
-        let found = in_label(at, label, due);
-        if found.is_some() {
-            return found;
-        }
+        in_label(at, label, due)?;
     }
-    None
+    Ok(())
 }
 
 /// What stands at the token in a label.
-fn in_label<'t>(at: u32, label: &'t Label, due: Due) -> Option<Site<'t>> {
+fn in_label<'t>(at: u32, label: &'t Label, due: Due) -> Search<'t> {
     match label {
-        Label::Value(value) if constant_position(value).number == at => {
-            Some(Site::Label(value, due))
+        Label::Value(value) => at_label(at, value, due),
+        Label::Range(first, last) => {
+            at_label(at, first.get(), due)?;
+            at_label(at, last.get(), due)
         }
-        Label::Range(first, _) if constant_position(first.get()).number == at => {
-            Some(Site::Label(first.get(), due))
-        }
-        Label::Range(_, last) if constant_position(last.get()).number == at => {
-            Some(Site::Label(last.get(), due))
-        }
-        _ => None,
     }
+}
+
+/// What stands at the token, where it is this constant of a label.
+fn at_label<'t>(at: u32, constant: &'t Constant, due: Due) -> Search<'t> {
+    stop_at(at, constant_position(constant), Site::Label(constant, due))
 }
 
 /// What is due of the values that FOR counts.
@@ -230,11 +184,8 @@ fn in_for<'t>(
     scope: &Scope<'_>,
     at: u32,
     statement: &'t ForStatement,
-) -> Result<Option<Site<'t>>, AllocError> {
-    let found = in_range(alloc, scope, at, statement)?;
-    if found.is_some() {
-        return Ok(found);
-    }
+) -> Search<'t> {
+    in_range(alloc, scope, at, statement)?;
     in_statements(alloc, scope, at, statement.statements.as_slice())
 }
 
@@ -244,22 +195,18 @@ fn in_range<'t>(
     scope: &Scope<'_>,
     at: u32,
     statement: &'t ForStatement,
-) -> Result<Option<Site<'t>>, AllocError> {
-    if statement.variable.position.number == at {
-        return Ok(Some(Site::Counter(&statement.variable)));
-    }
+) -> Search<'t> {
+    stop_at(
+        at,
+        statement.variable.position,
+        Site::Counter(&statement.variable),
+    )?;
     let due = counter_due(scope, &statement.variable);
-    let found = in_expression(alloc, scope, at, statement.first.get(), due)?;
-    if found.is_some() {
-        return Ok(found);
-    }
-    let found = in_expression(alloc, scope, at, statement.last.get(), due)?;
-    if found.is_some() {
-        return Ok(found);
-    }
+    in_expression(alloc, scope, at, statement.first.get(), due)?;
+    in_expression(alloc, scope, at, statement.last.get(), due)?;
     match &statement.step {
         Some(step) => in_expression(alloc, scope, at, step.get(), due),
-        None => Ok(None),
+        None => Ok(()),
     }
 }
 
@@ -270,12 +217,9 @@ fn in_while<'t>(
     scope: &Scope<'_>,
     at: u32,
     statement: &'t WhileStatement,
-) -> Result<Option<Site<'t>>, AllocError> {
+) -> Search<'t> {
     let condition = statement.condition.get();
-    let found = in_expression(alloc, scope, at, condition, Due::Type(Elem::Bool))?;
-    if found.is_some() {
-        return Ok(found);
-    }
+    in_expression(alloc, scope, at, condition, Due::Type(Elem::Bool))?;
     in_statements(alloc, scope, at, statement.statements.as_slice())
 }
 
@@ -286,11 +230,8 @@ fn in_repeat<'t>(
     scope: &Scope<'_>,
     at: u32,
     statement: &'t RepeatStatement,
-) -> Result<Option<Site<'t>>, AllocError> {
-    let found = in_statements(alloc, scope, at, statement.statements.as_slice())?;
-    if found.is_some() {
-        return Ok(found);
-    }
+) -> Search<'t> {
+    in_statements(alloc, scope, at, statement.statements.as_slice())?;
     let condition = statement.condition.get();
     in_expression(alloc, scope, at, condition, Due::Type(Elem::Bool))
 }

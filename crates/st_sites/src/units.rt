@@ -1,13 +1,13 @@
 //! The walk through units to a token.
 
 use crate::expressions::in_expression;
-use crate::site::{Site, constant_position};
+use crate::site::{Search, Site, Stop, constant_position, stop_at};
 use crate::statements::in_statements;
 use st_check_expressions::{elem_due, elem_of};
 use st_scopes::{Scope, Tables};
 use st_tree::tree::{
-    ArrayElement, Association, Body, ChartElement, Declaration, DeclaredType, Identifier, Initial,
-    Pou, Specification, Step, Subrange, Transition, TypeName, VarBlock,
+    ArrayElement, Association, Body, ChartElement, Constant, Declaration, DeclaredType, Identifier,
+    Initial, Pou, Specification, Step, Subrange, Transition, TypeName, VarBlock,
 };
 use st_types::{Due, NamedUnit, UnitKind};
 use st_values::Elem;
@@ -32,16 +32,26 @@ pub fn in_unit<'t>(
     at: u32,
     unit: NamedUnit<'t>,
 ) -> Result<Option<Site<'t>>, AllocError> {
-    if unit.name.position.number == at {
-        return Ok(Some(Site::Unit));
+    match search_unit(alloc, tables, scope, at, unit) {
+        Ok(()) => Ok(None),
+        Err(Stop::At(site)) => Ok(Some(site)),
+        Err(Stop::Memory) => Err(AllocError),
     }
+}
+
+/// Searches a unit.
+fn search_unit<'t>(
+    alloc: Global,
+    tables: &Tables<'_>,
+    scope: &Scope<'_>,
+    at: u32,
+    unit: NamedUnit<'t>,
+) -> Search<'t> {
+    stop_at(at, unit.name.position, Site::Unit)?;
     match unit.kind {
-        UnitKind::Type(declared) => Ok(in_type(tables, at, declared)),
+        UnitKind::Type(declared) => in_type(tables, at, declared),
         UnitKind::Function(function) => {
-            let found = in_blocks(tables, at, function.variables.as_slice());
-            if found.is_some() {
-                return Ok(found);
-            }
+            in_blocks(tables, at, function.variables.as_slice())?;
             in_statements(alloc, scope, at, function.statements.as_slice())
         }
         UnitKind::Block(pou) | UnitKind::Program(pou) => in_pou(alloc, tables, scope, at, pou),
@@ -55,11 +65,8 @@ fn in_pou<'t>(
     scope: &Scope<'_>,
     at: u32,
     pou: &'t Pou,
-) -> Result<Option<Site<'t>>, AllocError> {
-    let found = in_blocks(tables, at, pou.variables.as_slice());
-    if found.is_some() {
-        return Ok(found);
-    }
+) -> Search<'t> {
+    in_blocks(tables, at, pou.variables.as_slice())?;
     match &pou.body {
         Body::Statements(statements) => in_statements(alloc, scope, at, statements.as_slice()),
         Body::Chart(elements) => in_chart(alloc, scope, at, elements.as_slice()),
@@ -67,7 +74,7 @@ fn in_pou<'t>(
 }
 
 /// What stands at the token in the declaration of a type.
-fn in_type<'t>(tables: &Tables<'_>, at: u32, declared: &'t DeclaredType) -> Option<Site<'t>> {
+fn in_type<'t>(tables: &Tables<'_>, at: u32, declared: &'t DeclaredType) -> Search<'t> {
     match declared {
         DeclaredType::Derived(specification, initial) => {
             let initial = match initial {
@@ -81,14 +88,11 @@ fn in_type<'t>(tables: &Tables<'_>, at: u32, declared: &'t DeclaredType) -> Opti
 }
 
 /// What stands at the token in blocks of declarations.
-fn in_blocks<'t>(tables: &Tables<'_>, at: u32, blocks: &'t [VarBlock]) -> Option<Site<'t>> {
+fn in_blocks<'t>(tables: &Tables<'_>, at: u32, blocks: &'t [VarBlock]) -> Search<'t> {
     for block in blocks {
-        let found = in_declarations(tables, at, block.declarations.as_slice());
-        if found.is_some() {
-            return found;
-        }
+        in_declarations(tables, at, block.declarations.as_slice())?;
     }
-    None
+    Ok(())
 }
 
 /// What stands at the token in declarations.
@@ -96,24 +100,17 @@ fn in_declarations<'t>(
     tables: &Tables<'_>,
     at: u32,
     declarations: &'t [Declaration],
-) -> Option<Site<'t>> {
+) -> Search<'t> {
     for declaration in declarations {
-        let found = in_declaration(tables, at, declaration);
-        if found.is_some() {
-            return found;
-        }
+        in_declaration(tables, at, declaration)?;
     }
-    None
+    Ok(())
 }
 
 /// What stands at the token in a declaration.
-fn in_declaration<'t>(
-    tables: &Tables<'_>,
-    at: u32,
-    declaration: &'t Declaration,
-) -> Option<Site<'t>> {
-    if let Some(name) = name_at(declaration.names.as_slice(), at) {
-        return Some(Site::Declared(name));
+fn in_declaration<'t>(tables: &Tables<'_>, at: u32, declaration: &'t Declaration) -> Search<'t> {
+    for name in declaration.names.as_slice() {
+        stop_at(at, name.position, Site::Declared(name))?;
     }
     let initial = match &declaration.initial {
         Some(initial) => Some(initial.get()),
@@ -122,29 +119,19 @@ fn in_declaration<'t>(
     in_specified(tables, at, &declaration.specification, initial)
 }
 
-/// The name that stands at the token.
-fn name_at(names: &[Identifier], at: u32) -> Option<&Identifier> {
-    names.iter().find(|name| name.position.number == at)
-}
-
 /// What stands at the token in what is specified, and in its initial value.
 fn in_specified<'t>(
     tables: &Tables<'_>,
     at: u32,
     specification: &'t Specification,
     initial: Option<&'t Initial>,
-) -> Option<Site<'t>> {
-    let found = in_specification(at, specification);
-    if found.is_some() {
-        return found;
-    }
+) -> Search<'t> {
+    in_specification(at, specification)?;
     let due = value_due(tables, specification);
-    match initial? {
-        Initial::Constant(value) if constant_position(value).number == at => {
-            Some(Site::Initial(value, due))
-        }
-        Initial::Constant(_) => None,
-        Initial::Array(_, items) => in_items(at, items.as_slice(), due),
+    match initial {
+        Some(Initial::Constant(value)) => at_initial(at, value, due),
+        Some(Initial::Array(_, items)) => in_items(at, items.as_slice(), due),
+        None => Ok(()),
     }
 }
 
@@ -161,55 +148,56 @@ fn value_due(tables: &Tables<'_>, specification: &Specification) -> Due {
 }
 
 /// What stands at the token in a list of initial values.
-fn in_items<'t>(at: u32, items: &'t [ArrayElement], due: Due) -> Option<Site<'t>> {
+fn in_items<'t>(at: u32, items: &'t [ArrayElement], due: Due) -> Search<'t> {
     for item in items {
-        let value = match item {
-            ArrayElement::Single(value) => Some(value),
-            ArrayElement::Repeated(_, _, Some(value)) => Some(value.get()),
-            ArrayElement::Repeated(_, _, None) => None,
-        };
-        if let Some(value) = value
-            && constant_position(value).number == at
-        {
-            return Some(Site::Initial(value, due));
+        match item {
+            ArrayElement::Single(value) => at_initial(at, value, due)?,
+            ArrayElement::Repeated(_, _, Some(value)) => at_initial(at, value.get(), due)?,
+            ArrayElement::Repeated(_, _, None) => {}
         }
     }
-    None
+    Ok(())
+}
+
+/// What stands at the token, where it is this initial value.
+fn at_initial<'t>(at: u32, constant: &'t Constant, due: Due) -> Search<'t> {
+    stop_at(
+        at,
+        constant_position(constant),
+        Site::Initial(constant, due),
+    )
 }
 
 /// What stands at the token in what is specified.
-fn in_specification(at: u32, specification: &Specification) -> Option<Site<'_>> {
+fn in_specification(at: u32, specification: &Specification) -> Search<'_> {
     match specification {
         Specification::Simple(name) => in_type_name(at, name),
         Specification::Array(_, ranges, element) => {
-            let found = in_ranges(at, ranges.as_slice());
-            if found.is_some() {
-                return found;
-            }
+            in_ranges(at, ranges.as_slice())?;
             in_type_name(at, element.get())
         }
     }
 }
 
 /// What stands at the token in the name of a type.
-fn in_type_name(at: u32, name: &TypeName) -> Option<Site<'_>> {
+fn in_type_name(at: u32, name: &TypeName) -> Search<'_> {
     match name {
-        TypeName::Declared(name) if name.position.number == at => Some(Site::Type(name)),
-        _ => None,
+        TypeName::Declared(name) => stop_at(at, name.position, Site::Type(name)),
+        _ => Ok(()),
     }
 }
 
 /// What stands at the token in subscripts.
-fn in_ranges(at: u32, ranges: &[Subrange]) -> Option<Site<'_>> {
+fn in_ranges(at: u32, ranges: &[Subrange]) -> Search<'_> {
     for range in ranges {
-        if range.lower.position.number == at {
-            return Some(Site::Bound(&range.lower, None));
-        }
-        if range.upper.position.number == at {
-            return Some(Site::Bound(&range.upper, Some(&range.lower)));
-        }
+        stop_at(at, range.lower.position, Site::Bound(&range.lower, None))?;
+        stop_at(
+            at,
+            range.upper.position,
+            Site::Bound(&range.upper, Some(&range.lower)),
+        )?;
     }
-    None
+    Ok(())
 }
 
 /// What stands at the token in a chart.
@@ -218,14 +206,11 @@ fn in_chart<'t>(
     scope: &Scope<'_>,
     at: u32,
     elements: &'t [ChartElement],
-) -> Result<Option<Site<'t>>, AllocError> {
+) -> Search<'t> {
     for element in elements {
-        let found = in_chart_element(alloc, scope, at, element)?;
-        if found.is_some() {
-            return Ok(found);
-        }
+        in_chart_element(alloc, scope, at, element)?;
     }
-    Ok(None)
+    Ok(())
 }
 
 /// What stands at the token in an element of a chart.
@@ -234,41 +219,39 @@ fn in_chart_element<'t>(
     scope: &Scope<'_>,
     at: u32,
     element: &'t ChartElement,
-) -> Result<Option<Site<'t>>, AllocError> {
+) -> Search<'t> {
     match element {
-        ChartElement::Step(step) => Ok(in_step(at, step)),
+        ChartElement::Step(step) => in_step(at, step),
         ChartElement::Transition(transition) => in_transition(alloc, scope, at, transition),
-        ChartElement::Action(action) if action.name.position.number == at => {
-            Ok(Some(Site::Declared(&action.name)))
-        }
         ChartElement::Action(action) => {
+            stop_at(at, action.name.position, Site::Declared(&action.name))?;
             in_statements(alloc, scope, at, action.statements.as_slice())
         }
     }
 }
 
 /// What stands at the token in a step.
-fn in_step(at: u32, step: &Step) -> Option<Site<'_>> {
-    if step.name.position.number == at {
-        return Some(Site::Step(&step.name));
-    }
+fn in_step(at: u32, step: &Step) -> Search<'_> {
+    stop_at(at, step.name.position, Site::Step(&step.name))?;
     for association in step.associations.as_slice() {
-        if association.name.position.number == at || has_duration_at(association, at) {
-            return Some(Site::Association(association));
-        }
+        in_association(at, association)?;
     }
-    None
+    Ok(())
 }
 
-/// Whether the duration of an association stands at the token.
-fn has_duration_at(association: &Association, at: u32) -> bool {
-    match &association.qualifier {
-        Some(qualifier) => match qualifier.duration {
-            Some(duration) => duration.position.number == at,
-            None => false,
-        },
-        None => false,
+/// What stands at the token in what a step is associated with.
+fn in_association(at: u32, association: &Association) -> Search<'_> {
+    stop_at(
+        at,
+        association.name.position,
+        Site::Association(association),
+    )?;
+    if let Some(qualifier) = &association.qualifier
+        && let Some(duration) = qualifier.duration
+    {
+        stop_at(at, duration.position, Site::Association(association))?;
     }
+    Ok(())
 }
 
 /// What stands at the token in a transition.
@@ -277,23 +260,20 @@ fn in_transition<'t>(
     scope: &Scope<'_>,
     at: u32,
     transition: &'t Transition,
-) -> Result<Option<Site<'t>>, AllocError> {
-    if let Some(name) = &transition.name
-        && name.position.number == at
-    {
-        return Ok(Some(Site::Declared(name)));
+) -> Search<'t> {
+    if let Some(name) = &transition.name {
+        stop_at(at, name.position, Site::Declared(name))?;
     }
-    if let Some(name) = name_at(transition.from.as_slice(), at) {
-        return Ok(Some(Site::StepName(name)));
+    in_step_names(at, transition.from.as_slice())?;
+    in_step_names(at, transition.to.as_slice())?;
+    let condition = &transition.condition;
+    in_expression(alloc, scope, at, condition, Due::Type(Elem::Bool))
+}
+
+/// What stands at the token in names of steps.
+fn in_step_names<'t>(at: u32, names: &'t [Identifier]) -> Search<'t> {
+    for name in names {
+        stop_at(at, name.position, Site::StepName(name))?;
     }
-    if let Some(name) = name_at(transition.to.as_slice(), at) {
-        return Ok(Some(Site::StepName(name)));
-    }
-    in_expression(
-        alloc,
-        scope,
-        at,
-        &transition.condition,
-        Due::Type(Elem::Bool),
-    )
+    Ok(())
 }

@@ -1,1 +1,3 @@
 mod Standing
+pub mod Stopped
+pub mod TokenLines

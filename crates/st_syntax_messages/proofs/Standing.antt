@@ -1,14 +1,12 @@
 -- Where lexemes stand.
-use Rattle.std.proofs.Common.{◌≡◌, ℕ, ◌+◌, ◌<◌, ◌≤◌, List, ◌∷◌, ◌++◌, length, get_or, take, drop, suc, refl, sym, ap, ◌∙◌, subst, drop-cons, take-append-drop}
-use Rattle.std.specs.Prelude.{IfOk, Result}
+use Rattle.std.proofs.Common.{◌≡◌, ℕ, ◌+◌, ◌<◌, ◌≤◌, List, ◌++◌, length, get_or, take, drop, suc, refl, sym, ap, ◌∙◌, subst, drop-cons, take-append-drop}
 use Rattle.std.proofs.lemmas.List.{take_more}
 use Rattle.std.proofs.lemmas.List.Elements.{All-push}
-use Rattle.std.proofs.lemmas.Result.{IfOk-weaker}
 use Rattle.st_messages.specs.declared.lexeme.Lexeme.{Lexeme}
 use Rattle.st_messages.specs.Lexemes.{ArePieces}
 use Rattle.st_messages.specs.Places.{HasLine, IsLine, line_at}
 use Rattle.st_messages.proofs.Lines.{has_line}
-use Rattle.st_syntax_messages.specs.Located.{AreReadOn, Begins, IsOutsideAt, IsRead, IsUnknownAt, bytes_of, lexeme, end, first, none}
+use Rattle.st_syntax_messages.specs.Located.{AreReadOn, Begins, IsRead, bytes_of}
 
 -- each lexeme begins where it begins
 pub begins_at : (text : List ℕ) (ls : List Lexeme) (i : ℕ) (d : Lexeme) → ArePieces text ls → i < length ls
@@ -28,14 +26,3 @@ read_more text line ls i d h all one = subst (AreReadOn text line) (sym (take_mo
 pub within_line : (text : List ℕ) (line from to : ℕ) → (HasLine text line → IsLine text line from to)
     → (s : ℕ) → s ≤ length text → line_at text s ≡ line → (from ≤ s) × (s ≤ to)
 within_line text line from to is s h e = (is (has_line text line s e)).only s h e
-
--- an unknown lexeme is outside of the grammar
-pub outside_of : (text : List ℕ) (line start : ℕ) → IsUnknownAt text line start → IsOutsideAt text start
-outside_of text line start (first b u r) = lexeme b
-outside_of text line start (none are r e) = end e
-
--- so is one that is told of
-pub told_outside : {A E : Type 0} (start_of : A → ℕ) (result : Result A E) (text : List ℕ) (line : ℕ) → IfOk result (λ l. IsUnknownAt text line (start_of l))
-    → IfOk result (λ l. IsOutsideAt text (start_of l))
-told_outside start_of result text line = IfOk-weaker result (λ l. IsUnknownAt text line (start_of l)) (λ l. IsOutsideAt text (start_of l))
-    (λ l. outside_of text line (start_of l))

@@ -1,4 +1,4 @@
--- Where the message on a text stands that isn't in the grammar.
+-- Where the message on a text stands that has no tokens.
 use Rattle.std.specs.Prelude.{◌≡◌, ℕ, ◌^◌, ◌≤◌, List, ◌∷◌, ◌++◌, drop, length, slice_range}
 use Rattle.std.specs.List.{All}
 use Rattle.st_tokens.specs.Text.{HasTokens, Tokens}
@@ -24,13 +24,6 @@ AreReadOn text line lexemes = All (λ l. line_at text l.start ≡ line → IsRea
 pub record Begins (text : List ℕ) (start : ℕ) (before : List Lexeme) (lexeme : Lexeme) (behind : List Lexeme) : Type 0 where
   pub are : ArePieces text (before ++ lexeme ∷ behind)
   pub begins : lexeme.start ≡ start
-
--- where a text is told of whose tokens aren't in the grammar
-pub data IsOutsideAt (text : List ℕ) (start : ℕ) : Type 0 where
-  -- at one of its lexemes
-  lexeme : {before behind : List Lexeme} {l : Lexeme} → Begins text start before l behind → IsOutsideAt text start
-  -- at the end of a line
-  end : EndsLine (drop start text) → IsOutsideAt text start
 
 -- where a text is told of that has no tokens, and is refused on this line
 pub data IsUnknownAt (text : List ℕ) (line start : ℕ) : Type 0 where

@@ -8,4 +8,4 @@ mod probe;
 mod reading;
 mod tokens;
 
-pub use located::{Located, explain_syntax};
+pub use located::{Located, explain_syntax, span_at};

@@ -1,14 +1,16 @@
 //! Where a text isn't in the grammar.
-ghost use Rattle.std.specs.Prelude.{◌≡◌, ◌⊎◌, ◌↔◌, ◌<◌, ◌≤◌, All, IfOk, IsTrue, drop, false, true};
-ghost use Rattle.st_messages.specs.Lexemes.{ArePieces, IsWithin};
-ghost use Rattle.st_messages.specs.Places.{EndsLine, HasLine, line_at};
-ghost use Rattle.st_syntax_messages.specs.Located.{IsOutsideAt, IsRead, IsUnknownAt, bytes_of};
+ghost use Rattle.std.specs.Prelude.{◌≡◌, ◌↔◌, ◌<◌, ◌≤◌, All, IfOk, IsTrue, false, true};
+ghost use Rattle.st_messages.specs.Lexemes.{AreLexemes, ArePieces, IsWithin};
+ghost use Rattle.st_messages.specs.Places.{HasLine, line_at};
+ghost use Rattle.st_syntax_messages.specs.Located.{IsRead, IsUnknownAt, bytes_of};
+ghost use Rattle.st_syntax_messages.specs.Stopped.{IsAtStop, IsSaidAt, start_at, text_end};
+ghost use Rattle.st_tokens.specs.Text.{HasTokens, Tokens};
 
 use crate::characters::explain_characters;
 use crate::reading::{Reading, bytes_of};
 use crate::tokens::{explain_depth, explain_end, explain_token};
 use st_messages::{Lexeme, Span, Words, lexemes, line_span};
-use st_syntax::parse;
+use st_syntax::{ReadFault, read_units};
 use st_tokens::{SyntaxFault, tokens};
 use std::alloc::{AllocError, Global};
 
@@ -29,12 +31,12 @@ pub fn explain_syntax(
     line: u32,
 ) -> Result<Located, AllocError>
     ensures long { number ≡ 4 → IfOk result (λ l. l.span.start ≡ 0) }
-
-    // Else it stands on that line, where the text has one.
-    ensures line { number < 4 → HasLine text.now line
+    ensures line { number ≡ 1 → HasLine text.now line
         → IfOk result (λ l. line_at text.now l.span.start ≡ line) }
     ensures unknown { number ≡ 1 → IfOk result (λ l. IsUnknownAt text.now line l.span.start) }
-    ensures outside { number < 4 → IfOk result (λ l. IsOutsideAt text.now l.span.start) }
+
+    // Else it stands at the token at which reading stops, whatever the line is.
+    ensures stops { 1 < number → number < 4 → IfOk result (λ l. IsAtStop text.now l.span.start) }
 {
     if number == 4 {
         return too_long(alloc);
@@ -43,26 +45,17 @@ pub fn explain_syntax(
     if number == 1 {
         at_characters(alloc, text, &found, line)
     } else {
-        at_fault(alloc, text, &found, number, line)
+        at_stop(alloc, text, &found, line)
     }
 }
 
-/// What is said of a text whose tokens aren't in the grammar.
-fn at_fault(
-    alloc: Global,
-    text: &[u8],
-    found: &[Lexeme],
-    number: u8,
-    line: u32,
-) -> Result<Located, AllocError>
+/// What is said of a text whose tokens aren't in the grammar: of the token at which reading them stops.
+fn at_stop(alloc: Global, text: &[u8], found: &[Lexeme], line: u32) -> Result<Located, AllocError>
     requires within { All (IsWithin text.now) found.now }
     requires pieces { ArePieces text.now found.now }
-    ensures line { HasLine text.now line
-        → IfOk result (λ l. line_at text.now l.span.start ≡ line) }
-    ensures outside { IfOk result (λ l. IsOutsideAt text.now l.span.start) }
+    requires tokens { (ts : Tokens) → HasTokens 1 text.now ts → AreLexemes text.now ts found.now }
+    ensures { IfOk result (λ l. IsAtStop text.now l.span.start) }
 {
-    let (first, count) = on_line(text, found, line);
-    let at = number_at_fault(alloc, text, found, first, count, line)?;
     match tokens(alloc, text) {
         Ok(tokens) => {
             let reading = Reading {
@@ -70,31 +63,51 @@ fn at_fault(
                 lexemes: found,
                 tokens: &tokens,
             };
-            let located = at_token(alloc, &reading, number, at)?;
-            Ok(Located {
-                span: span_on(located.span, line_span(text, line as usize)),
-                words: located.words,
-            })
+            match read_units(alloc, &tokens) {
+                Ok(_units) => at_end(alloc, &reading),
+                Err(fault) => at_fault(alloc, &reading, fault),
+            }
         }
+        Err(SyntaxFault::Memory) => Err(AllocError),
         Err(_) => at_characters(alloc, text, found, line),
     }
 }
 
-/// A span that begins on a line, or the end of the line.
-fn span_on(span: Span, line: Span) -> Span
-    requires { line.start ≤ line.end }
-    ensures least { line.start ≤ result.start }
-    ensures most { result.start ≤ line.end }
-    ensures either { (result.start ≡ span.start) ⊎ (result.start ≡ line.end) }
+/// What is said of the token at which reading stops, or of the end of the text.
+fn at_fault(alloc: Global, reading: &Reading<'_>, fault: ReadFault) -> Result<Located, AllocError>
+    ensures { IfOk result (λ l. IsSaidAt fault reading.now.text.now reading.now.lexemes.now
+        l.span.start) }
 {
-    if line.start <= span.start && span.start <= line.end {
-        span
-    } else {
-        Span {
-            start: line.end,
-            end: line.end,
+    let (number, words) = match fault {
+        ReadFault::Memory => return Err(AllocError),
+        ReadFault::NotInGrammar { place: None } | ReadFault::TooDeep { place: None } => {
+            return at_end(alloc, reading);
         }
-    }
+        ReadFault::NotInGrammar {
+            place: Some(position),
+        } => {
+            let number = position.number as usize;
+            (number, explain_token(alloc, reading, number)?)
+        }
+        ReadFault::TooDeep {
+            place: Some(position),
+        } => {
+            let number = position.number as usize;
+            (number, explain_depth(alloc, reading, number)?)
+        }
+    };
+    let span = span_at(reading.lexemes, number);
+    Ok(Located { span, words })
+}
+
+/// What is said of a text that ends too early, at its end.
+fn at_end(alloc: Global, reading: &Reading<'_>) -> Result<Located, AllocError>
+    ensures { IfOk result (λ l. l.span.start ≡ text_end reading.now.text.now) }
+{
+    Ok(Located {
+        span: end_of(reading.text),
+        words: explain_end(alloc, reading)?,
+    })
 }
 
 /// What is said of a text that is too long.
@@ -110,41 +123,14 @@ fn too_long(alloc: Global) -> Result<Located, AllocError>
     Ok(Located { span, words })
 }
 
-/// The number of the first lexeme that begins on a line, and how many do.
-fn on_line(text: &[u8], found: &[Lexeme], line: u32) -> (usize, usize) {
-    let mut first: usize = 0;
-    let mut count: usize = 0;
-    let mut at: usize = 0;
-    let mut current: u32 = 1;
-    for lexeme in found {
-        current = current.saturating_add(feeds_in(bytes_between(text, at, lexeme.start)));
-        at = lexeme.start;
-        if current < line {
-            first = first.saturating_add(1);
-        } else if current == line {
-            count = count.saturating_add(1);
-        }
+/// The bytes of the token of this number. Where there is no such token, they are none, at the start of the text.
+pub fn span_at(lexemes: &[Lexeme], number: usize) -> Span
+    ensures { result.start ≡ start_at lexemes.now number }
+{
+    match lexemes.get(number) {
+        Some(lexeme) => span_of(*lexeme),
+        None => Span { start: 0, end: 0 },
     }
-    (first, count)
-}
-
-/// The bytes between two places of a text.
-fn bytes_between(text: &[u8], start: usize, end: usize) -> &[u8] {
-    match text.get(start..end) {
-        Some(bytes) => bytes,
-        None => b"",
-    }
-}
-
-/// How many line feeds are among these bytes.
-fn feeds_in(bytes: &[u8]) -> u32 {
-    let mut count: u32 = 0;
-    for byte in bytes {
-        if *byte == b'\n' {
-            count = count.saturating_add(1);
-        }
-    }
-    count
 }
 
 /// The span of a lexeme.
@@ -159,7 +145,7 @@ fn span_of(lexeme: Lexeme) -> Span
 
 /// The place behind the last byte of a text. A line feed at its end belongs to the line that it ends.
 fn end_of(text: &[u8]) -> Span
-    ensures { EndsLine (drop result.start text.now) }
+    ensures { result.start ≡ text_end text.now }
 {
     let end = if text.ends_with(b"\r\n") {
         text.len() - 2
@@ -230,85 +216,4 @@ fn is_token(alloc: Global, bytes: &[u8]) -> Result<bool, AllocError>
         Err(SyntaxFault::Memory) => Err(AllocError),
         Err(_) => Ok(false),
     }
-}
-
-/// The number of the token after which no accepted text goes on, of the tokens that begin on a line. It is none where the text ends too
-/// early.
-///
-/// The text is read once more, up to the end of the line and with each of its tokens on a line of its own.
-fn number_at_fault(
-    alloc: Global,
-    text: &[u8],
-    found: &[Lexeme],
-    first: usize,
-    count: usize,
-    line: u32,
-) -> Result<Option<usize>, AllocError> {
-    let spread = spread(alloc, text, found, first, count)?;
-    match parse(alloc, spread.as_slice()) {
-        Err(SyntaxFault::NotInGrammar { line: refused } | SyntaxFault::TooDeep { line: refused }) =>
-            {
-                let offset = refused.saturating_sub(line).saturating_sub(1) as usize;
-                if refused > line && offset < count {
-                    Ok(Some(first.saturating_add(offset)))
-                } else {
-                    Ok(None)
-                }
-            }
-        Err(SyntaxFault::Memory) => Err(AllocError),
-        _ => Ok(if count == 0 { None } else { Some(first) }),
-    }
-}
-
-/// The text up to a line, then each lexeme of the line on a line of its own, and an empty line.
-fn spread(
-    alloc: Global,
-    text: &[u8],
-    found: &[Lexeme],
-    first: usize,
-    count: usize,
-) -> Result<Vec<u8>, AllocError> {
-    let mut spread = Vec::new(alloc);
-    if let Some(lexeme) = found.get(first) {
-        spread.extend_from_slice(bytes_between(text, 0, lexeme.start))?;
-    }
-    for lexeme in found.iter().skip(first).take(count) {
-        spread.push(b'\n')?;
-        spread.extend_from_slice(bytes_of(text, *lexeme))?;
-    }
-    spread.extend_from_slice(b"\n ")?;
-    Ok(spread)
-}
-
-/// What is said of the token of this number, or of the end of the text where there is none.
-fn at_token(
-    alloc: Global,
-    reading: &Reading<'_>,
-    refusal: u8,
-    number: Option<usize>,
-) -> Result<Located, AllocError>
-    requires { ArePieces reading.now.text.now reading.now.lexemes.now }
-    ensures { IfOk result (λ l. IsOutsideAt reading.now.text.now l.span.start) }
-{
-    let Some(number) = number else {
-        return Ok(Located {
-            span: end_of(reading.text),
-            words: explain_end(alloc, reading)?,
-        });
-    };
-    let Some(lexeme) = reading.lexemes.get(number) else {
-        return Ok(Located {
-            span: end_of(reading.text),
-            words: explain_end(alloc, reading)?,
-        });
-    };
-    let words = if refusal == 3 {
-        explain_depth(alloc, reading, number)?
-    } else {
-        explain_token(alloc, reading, number)?
-    };
-    Ok(Located {
-        span: span_of(*lexeme),
-        words,
-    })
 }

@@ -1,109 +1,98 @@
 //! What is said of what may not be assigned.
 
 use st_check_expressions::elem_of;
-use st_messages::{Words, push_quoted};
+use st_messages::Draft;
 use st_operators::is_integer;
 use st_scopes::Scope;
 use st_sites::{Site, reached};
 use st_tree::tree::Variable;
 use st_types::Purpose;
-use std::alloc::AllocError;
 
 /// Says why something may not be assigned.
-pub fn explain_assigned(
-    words: &mut Words,
-    scope: &Scope<'_>,
-    site: Option<Site<'_>>,
-) -> Result<(), AllocError> {
+pub fn explain_assigned(draft: &mut Draft, scope: &Scope<'_>, site: Option<Site<'_>>) {
     match site {
-        Some(Site::Target(variable)) => say_target(words, scope, variable),
-        Some(Site::Counter(name)) => say_counter(words, scope, name.spelling.as_slice()),
+        Some(Site::Target(variable)) => say_target(draft, scope, variable),
+        Some(Site::Counter(name)) => say_counter(draft, scope, name.spelling.as_slice()),
         Some(Site::Association(association)) => {
-            let name = association.name.spelling.as_slice();
-            let _is_said = say_purpose(words, scope, name)?;
-            Ok(())
+            say_purpose(draft, scope, association.name.spelling.as_slice());
         }
-        _ => Ok(()),
+        _ => {}
     }
 }
 
 /// Says it where a name is a constant or an input. Answers whether it is.
-fn say_purpose(words: &mut Words, scope: &Scope<'_>, name: &[u8]) -> Result<bool, AllocError> {
-    let Some(symbol) = scope.variable(name) else {
-        return Ok(false);
+fn say_purpose(draft: &mut Draft, scope: &Scope<'_>, name: &[u8]) -> bool {
+    let (what, help) = match purpose_of(scope, name) {
+        Some(Purpose::Constant) => (
+            " is a constant, and can't be assigned",
+            "declare it in VAR without CONSTANT, or assign to another variable",
+        ),
+        Some(Purpose::Input) => (
+            " is an input, and only its caller or the process sets it",
+            "copy it to a variable of VAR, and assign to that",
+        ),
+        _ => return false,
     };
-    match symbol.purpose {
-        Purpose::Constant => {
-            push_quoted(&mut words.title, name)?;
-            words
-                .title
-                .push_str(" is a constant, and can't be assigned")?;
-            words.help("declare it in VAR without CONSTANT, or assign to another variable")?;
-            Ok(true)
-        }
-        Purpose::Input => {
-            push_quoted(&mut words.title, name)?;
-            words
-                .title
-                .push_str(" is an input, and only its caller or the process sets it")?;
-            words.help("copy it to a variable of VAR, and assign to that")?;
-            Ok(true)
-        }
-        _ => Ok(false),
-    }
+    draft.quote(name);
+    draft.say(what);
+    draft.help(help);
+    true
+}
+
+/// What the variable of this name is for.
+fn purpose_of(scope: &Scope<'_>, name: &[u8]) -> Option<Purpose> {
+    Some(scope.variable(name)?.purpose)
 }
 
 /// Says why a variable may not be assigned.
-fn say_target(words: &mut Words, scope: &Scope<'_>, variable: &Variable) -> Result<(), AllocError> {
+fn say_target(draft: &mut Draft, scope: &Scope<'_>, variable: &Variable) {
     let name = variable.name.spelling.as_slice();
-    if say_purpose(words, scope, name)? {
-        return Ok(());
+    if say_purpose(draft, scope, name) {
+        return;
     }
-    push_quoted(&mut words.title, name)?;
-    if variable.parts.is_empty() {
-        words.title.push_str(" is counted by a FOR loop around, and can't be assigned in it")?;
-        return words.help("assign to another variable, or use WHILE");
-    }
-    match reached(scope, variable, 0) {
-        None => {
-            words
-                .title
-                .push_str(" is a step, whose X and T only the chart sets")?;
-            words.help("let a transition lead to the step")
-        }
-        Some(_) => {
-            words.title.push_str(
-                " is, or holds, an instance of a function block, whose members can't be assigned from outside",
-            )?;
-            words.help(
-                "give inputs where it is invoked, as `T1(IN := Go);`; its outputs can be read",
-            )
-        }
-    }
+    let (what, help) = if variable.parts.is_empty() {
+        (
+            " is counted by a FOR loop around, and can't be assigned in it",
+            "assign to another variable, or use WHILE",
+        )
+    } else if reached(scope, variable, 0).is_none() {
+        (
+            " is a step, whose X and T only the chart sets",
+            "let a transition lead to the step",
+        )
+    } else {
+        (
+            " is, or holds, an instance of a function block, whose members can't be assigned from outside",
+            "give inputs where it is invoked, as `T1(IN := Go);`; its outputs can be read",
+        )
+    };
+    draft.quote(name);
+    draft.say(what);
+    draft.help(help);
 }
 
 /// Says why FOR may not count a variable.
-fn say_counter(words: &mut Words, scope: &Scope<'_>, name: &[u8]) -> Result<(), AllocError> {
-    if say_purpose(words, scope, name)? {
-        return Ok(());
+fn say_counter(draft: &mut Draft, scope: &Scope<'_>, name: &[u8]) {
+    if say_purpose(draft, scope, name) {
+        return;
     }
-    push_quoted(&mut words.title, name)?;
-    let is_number = match scope.variable(name) {
+    draft.quote(name);
+    if is_number(scope, name) {
+        draft.say(" is counted by a FOR loop around already");
+        draft.help("let each loop count a variable of its own");
+    } else {
+        draft.say(" is no integer, and FOR counts integers alone");
+        draft.help("declare a variable of type INT for it");
+    }
+}
+
+/// Whether a name is that of a variable of an integer type.
+fn is_number(scope: &Scope<'_>, name: &[u8]) -> bool {
+    match scope.variable(name) {
         Some(symbol) => match elem_of(&symbol.shape) {
             Some(elem) => is_integer(elem),
             None => false,
         },
         None => false,
-    };
-    if is_number {
-        words
-            .title
-            .push_str(" is counted by a FOR loop around already")?;
-        words.help("let each loop count a variable of its own")
-    } else {
-        words
-            .title
-            .push_str(" is no integer, and FOR counts integers alone")?;
-        words.help("declare a variable of type INT for it")
     }
 }

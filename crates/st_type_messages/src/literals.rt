@@ -1,33 +1,32 @@
 //! What is said of literals that are out of range.
 
-use st_messages::{Lexed, Words, push_shown};
+use st_messages::{Draft, Lexed};
 use st_sites::Site;
 use st_tree::tree::{Constant, Expression, SignedInteger};
 use st_types::Due;
 use st_values::{Class, Elem};
-use std::alloc::AllocError;
 
 /// Says which range a literal or a bound is outside of.
-pub fn explain_range(
-    words: &mut Words,
-    lexed: Lexed<'_>,
-    at: u32,
-    site: Option<Site<'_>>,
-) -> Result<(), AllocError> {
-    match site {
-        Some(Site::Bound(upper, Some(lower))) => {
-            say_bound(words, lexed, at, upper, lower.position.number)
-        }
-        Some(Site::Bound(_, None)) => say_outside(words, lexed, at, Some(Elem::Lint)),
-        Some(Site::Expression(Expression::Constant(constant), due)) => {
-            say_outside(words, lexed, at, due_of(constant, due))
-        }
-        Some(Site::Label(constant, due) | Site::Initial(constant, due)) => {
-            say_outside(words, lexed, at, due_of(constant, due))
-        }
-        Some(Site::Expression(_, Due::Type(elem))) => say_outside(words, lexed, at, Some(elem)),
-        Some(Site::Association(_)) => say_outside(words, lexed, at, Some(Elem::Time)),
-        _ => say_outside(words, lexed, at, None),
+pub fn explain_range(draft: &mut Draft, lexed: Lexed<'_>, at: u32, site: Option<Site<'_>>) {
+    if let Some(Site::Bound(upper, Some(lower))) = site
+        && is_within_lint(upper)
+    {
+        say_bound(draft, lexed, at, lower.position.number);
+    } else {
+        say_outside(draft, lexed, at, range_at(site));
+    }
+}
+
+/// The type whose range what stands at a token is outside of.
+fn range_at(site: Option<Site<'_>>) -> Option<Elem> {
+    match site? {
+        Site::Bound(_, _) => Some(Elem::Lint),
+        Site::Expression(Expression::Constant(constant), due)
+        | Site::Label(constant, due)
+        | Site::Initial(constant, due) => due_of(constant, due),
+        Site::Expression(_, Due::Type(elem)) => Some(elem),
+        Site::Association(_) => Some(Elem::Time),
+        _ => None,
     }
 }
 
@@ -42,40 +41,44 @@ fn due_of(constant: &Constant, due: Due) -> Option<Elem> {
 }
 
 /// Says that a literal is outside the range of a type, or of all types.
-fn say_outside(
-    words: &mut Words,
-    lexed: Lexed<'_>,
-    at: u32,
-    elem: Option<Elem>,
-) -> Result<(), AllocError> {
-    words.title.push('`')?;
-    lexed.push_literal(&mut words.title, at)?;
-    let Some(elem) = elem else {
-        words.title.push_str("` is outside the range of all types")?;
-        return words.note(
-            "the widest range are those of LINT, -9223372036854775808 to 9223372036854775807, and of ULINT, 0 to 18446744073709551615",
-        );
-    };
-    words.title.push_str("` is outside the range of ")?;
-    push_shown(&mut words.title, elem.name())?;
-    words.title.push_str(", ")?;
-    push_range(&mut words.title, elem)?;
-    match wider(elem) {
-        Some(help) => words.help(help),
-        None => Ok(()),
+fn say_outside(draft: &mut Draft, lexed: Lexed<'_>, at: u32, elem: Option<Elem>) {
+    draft.say("`");
+    lexed.say_literal(draft, at);
+    match elem {
+        Some(elem) => {
+            draft.say("` is outside the range of ");
+            draft.show(elem.name());
+            draft.say(", ");
+            say_range(draft, elem);
+            if let Some(help) = wider(elem) {
+                draft.help(help);
+            }
+        }
+        None => {
+            draft.say("` is outside the range of all types");
+            draft.note(
+                "the widest range are those of LINT, -9223372036854775808 to 9223372036854775807, and of ULINT, 0 to 18446744073709551615",
+            );
+        }
     }
 }
 
-/// Puts the range of a type at the end of a message.
-pub fn push_range(message: &mut String, elem: Elem) -> Result<(), AllocError> {
+/// Says the range of a type.
+pub fn say_range(draft: &mut Draft, elem: Elem) {
     let limit = elem.limit();
-    let most = limit.saturating_sub(1);
-    match elem.class() {
-        Class::Boolean => message.push_str("0 and 1, or FALSE and TRUE"),
-        Class::Duration => write!(message, "T#-{limit}ms to T#{most}ms"),
-        _ if elem.is_signed() => write!(message, "-{limit} to {most}"),
-        _ => write!(message, "0 to {most}"),
+    let (least, between, end) = match elem.class() {
+        Class::Boolean => return draft.say("0 and 1, or FALSE and TRUE"),
+        Class::Duration => ("T#-", "ms to T#", "ms"),
+        _ if elem.is_signed() => ("-", " to ", ""),
+        _ => ("0", " to ", ""),
+    };
+    draft.say(least);
+    if elem.is_signed() {
+        draft.number(limit.cast_signed());
     }
+    draft.say(between);
+    draft.number(limit.saturating_sub(1).cast_signed());
+    draft.say(end);
 }
 
 /// What to do about a number that a type doesn't hold.
@@ -95,23 +98,19 @@ fn wider(elem: Elem) -> Option<&'static str> {
     }
 }
 
-/// Says that an upper bound is below the lower one, or out of range.
-fn say_bound(
-    words: &mut Words,
-    lexed: Lexed<'_>,
-    at: u32,
-    upper: &SignedInteger,
-    lower: u32,
-) -> Result<(), AllocError> {
+/// Whether a bound is in the range of LINT.
+fn is_within_lint(bound: &SignedInteger) -> bool {
     let limit = Elem::Lint.limit();
-    let distance = upper.magnitude.get();
-    if distance > limit || (distance == limit && !upper.is_negative) {
-        return say_outside(words, lexed, at, Some(Elem::Lint));
-    }
-    words.title.push_str("the upper bound `")?;
-    lexed.push_literal(&mut words.title, at)?;
-    words.title.push_str("` is below the lower bound `")?;
-    lexed.push_literal(&mut words.title, lower)?;
-    words.title.push('`')?;
-    words.help("write the lower bound first, as `[1..10]`")
+    let distance = bound.magnitude.get();
+    distance < limit || (distance == limit && bound.is_negative)
+}
+
+/// Says that an upper bound is below the lower one.
+fn say_bound(draft: &mut Draft, lexed: Lexed<'_>, upper: u32, lower: u32) {
+    draft.say("the upper bound `");
+    lexed.say_literal(draft, upper);
+    draft.say("` is below the lower bound `");
+    lexed.say_literal(draft, lower);
+    draft.say("`");
+    draft.help("write the lower bound first, as `[1..10]`");
 }

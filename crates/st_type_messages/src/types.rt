@@ -1,8 +1,8 @@
 //! What is said where a type is expected and another one found.
 
-use crate::literals::push_range;
+use crate::literals::say_range;
 use st_check_expressions::{compares, elem_of, is_unknown};
-use st_messages::{Lexed, Words, push_quoted, push_shown};
+use st_messages::{Draft, Lexed};
 use st_operators::{is_comparison, is_integer};
 use st_scopes::{Declared, Scope, Tables};
 use st_sites::{Site, elements_of, operand_due, own, reached, target_shape};
@@ -15,7 +15,7 @@ use std::alloc::{AllocError, Global};
 /// Says which type is expected, and which is found.
 pub fn explain_type(
     alloc: Global,
-    words: &mut Words,
+    draft: &mut Draft,
     lexed: Lexed<'_>,
     tables: &Tables<'_>,
     scope: &Scope<'_>,
@@ -25,52 +25,54 @@ pub fn explain_type(
 ) -> Result<(), AllocError> {
     match site {
         Some(Site::Expression(expression, due)) => {
-            say_expression(alloc, words, lexed, scope, expression, due)
+            return say_expression(alloc, draft, lexed, scope, expression, due);
         }
-        Some(Site::Target(variable)) => say_target(alloc, words, scope, variable),
-        Some(Site::Part(variable, number)) => say_subscripts(words, scope, variable, number),
+        Some(Site::Target(variable)) => return say_target(alloc, draft, scope, variable),
+        Some(Site::Part(variable, number)) => say_subscripts(draft, scope, variable, number),
         Some(Site::Label(constant, due) | Site::Initial(constant, due)) => {
-            say_constant(words, lexed, constant, due)
+            say_constant(draft, lexed, constant, due);
         }
         Some(Site::Association(association)) => {
-            say_association(words, scope, association.name.spelling.as_slice())
+            say_association(draft, scope, association.name.spelling.as_slice());
         }
         Some(Site::Type(name)) => {
-            push_quoted(&mut words.title, name.spelling.as_slice())?;
-            words.title.push_str(" can't be the type here")?;
-            words.help(
+            draft.quote(name.spelling.as_slice());
+            draft.say(" can't be the type here");
+            draft.help(
                 "programs and functions are no types; an instance of a function block stands in VAR of a program or a block, alone",
-            )
+            );
         }
-        Some(Site::Declared(_)) => say_declared(words, lexed, tables, unit, at),
-        _ => Ok(()),
+        Some(Site::Declared(_)) => say_declared(draft, lexed, tables, unit, at),
+        _ => {}
     }
+    Ok(())
 }
 
 /// Says why something can't be declared so.
-fn say_declared(
-    words: &mut Words,
-    lexed: Lexed<'_>,
-    tables: &Tables<'_>,
-    unit: usize,
-    at: u32,
-) -> Result<(), AllocError> {
-    push_quoted(&mut words.title, lexed.spelling(at))?;
+fn say_declared(draft: &mut Draft, lexed: Lexed<'_>, tables: &Tables<'_>, unit: usize, at: u32) {
+    draft.quote(lexed.spelling(at));
     if unit >= tables.len() {
-        return words.title.push_str(" can't be declared so");
+        return draft.say(" can't be declared so");
     }
-    let kind = tables.unit(unit).kind;
-    for declared in tables.declared(unit) {
-        if declared.name.position.number == at {
-            let (title, help) = misdeclared(tables, kind, declared);
-            words.title.push_str(title)?;
-            return words.help(help);
+    let (what, help) = match declared_at(tables.declared(unit), at) {
+        Some(declared) => misdeclared(tables, tables.unit(unit).kind, declared),
+        None => (
+            " can't begin so",
+            "structures and instances have no initial value, and a list has no more values than its array has elements",
+        ),
+    };
+    draft.say(what);
+    draft.help(help);
+}
+
+/// What is declared at the token of this number.
+fn declared_at<'d, 'a>(declared: &'d [Declared<'a>], at: u32) -> Option<&'d Declared<'a>> {
+    for variable in declared {
+        if variable.name.position.number == at {
+            return Some(variable);
         }
     }
-    words.title.push_str(" can't begin so")?;
-    words.help(
-        "structures and instances have no initial value, and a list has no more values than its array has elements",
-    )
+    None
 }
 
 /// What is wrong with a declaration, and what to do.
@@ -112,110 +114,129 @@ fn misdeclared(
     )
 }
 
-/// Puts what is due at the end of a message.
-fn push_due(message: &mut String, due: Due) -> Result<(), AllocError> {
+/// Says what is due.
+fn say_due(draft: &mut Draft, due: Due) {
     match due {
-        Due::Type(elem) => push_shown(message, elem.name()),
-        Due::Integer => message.push_str("an integer"),
-        Due::NoValue => message.push_str("nothing"),
-        Due::Any => message.push_str("a single value"),
+        Due::Type(elem) => draft.show(elem.name()),
+        Due::Integer => draft.say("an integer"),
+        Due::NoValue => draft.say("nothing"),
+        Due::Any => draft.say("a single value"),
     }
 }
 
 /// Says that a type is expected, and what is found.
-fn say_expected(words: &mut Words, due: Due, found: Elem) -> Result<(), AllocError> {
-    words.title.push_str("expected ")?;
-    push_due(&mut words.title, due)?;
-    words.title.push_str(", found ")?;
-    push_shown(&mut words.title, found.name())
+fn say_expected(draft: &mut Draft, due: Due, found: Elem) {
+    draft.say("expected ");
+    say_due(draft, due);
+    draft.say(", found ");
+    draft.show(found.name());
 }
 
-/// Says which conversion would do, where there is one.
-fn say_conversion(
-    words: &mut Words,
-    found: Elem,
-    due: Due,
-    value: &[u8],
-) -> Result<(), AllocError> {
+/// Says that a type is expected, what is found, and which conversion would do, where there is one.
+fn say_conversion(draft: &mut Draft, found: Elem, due: Due, value: &[u8]) {
+    say_expected(draft, due, found);
     match due {
-        Due::Type(Elem::Bool) => words.help("compare, as `A <> 0`"),
-        Due::Type(Elem::Time) => words.help(
+        Due::Type(Elem::Bool) => draft.help("compare, as `A <> 0`"),
+        Due::Type(Elem::Time) => draft.help(
             "TIME converts from no other type: write a duration, as `T#500ms`, or declare a TIME",
         ),
         Due::Type(_) if found.is(Elem::Time) => {
-            words.help("TIME converts into no other type: compare durations, as `T1.ET >= T#5s`")
+            draft.help("TIME converts into no other type: compare durations, as `T1.ET >= T#5s`");
         }
-        Due::Type(elem) => {
-            words.more.push_str("  help: convert it: `")?;
-            push_shown(&mut words.more, found.name())?;
-            words.more.push_str("_TO_")?;
-            push_shown(&mut words.more, elem.name())?;
-            words.more.push('(')?;
-            push_shown(&mut words.more, value)?;
-            words.more.push_str(")`\n")?;
-            say_wrapping(words, found, elem)
-        }
-        Due::Integer => words.help("an index, a selector and a count of a shift are integers"),
-        Due::Any | Due::NoValue => Ok(()),
+        Due::Type(elem) => say_converted(draft, found, elem, value),
+        Due::Integer => draft.help("an index, a selector and a count of a shift are integers"),
+        Due::Any | Due::NoValue => {}
     }
 }
 
-/// Says it where a conversion may change a value.
-fn say_wrapping(words: &mut Words, from: Elem, to: Elem) -> Result<(), AllocError> {
-    let holds = from.limit() <= to.limit() && (to.is_signed() || !from.is_signed());
-    if holds {
-        return Ok(());
+/// Says how a value is converted, and where that may change it.
+fn say_converted(draft: &mut Draft, from: Elem, to: Elem, value: &[u8]) {
+    draft.help("convert it: `");
+    draft.show(from.name());
+    draft.say("_TO_");
+    draft.show(to.name());
+    draft.say("(");
+    draft.show(value);
+    draft.say(")`");
+    if from.limit() > to.limit() || (from.is_signed() && !to.is_signed()) {
+        draft.note("values outside ");
+        draft.show(to.name());
+        draft.say(" (");
+        say_range(draft, to);
+        draft.say(") wrap");
     }
-    words.more.push_str("  note: values outside ")?;
-    push_shown(&mut words.more, to.name())?;
-    words.more.push_str(" (")?;
-    push_range(&mut words.more, to)?;
-    words.more.push_str(") wrap\n")
 }
 
 /// Says why an expression isn't what is due.
-#[cycle(say)]
 fn say_expression(
     alloc: Global,
-    words: &mut Words,
+    draft: &mut Draft,
     lexed: Lexed<'_>,
     scope: &Scope<'_>,
     expression: &Expression,
     due: Due,
 ) -> Result<(), AllocError> {
-    match expression {
-        Expression::Constant(constant) => say_constant(words, lexed, constant, due),
+    let (part, due) = part_at_fault(alloc, scope, expression, due)?;
+    match part {
+        Expression::Constant(constant) => say_constant(draft, lexed, constant, due),
         Expression::Variable(variable) => {
             let shape = target_shape(alloc, scope, variable)?;
-            match elem_of(&shape) {
-                Some(found) => {
-                    say_expected(words, due, found)?;
-                    say_conversion(words, found, due, written(variable))
-                }
-                None => say_whole(words, &shape, variable),
-            }
+            say_variable(draft, &shape, variable, due);
         }
-        Expression::Parenthesized(_, inner) => {
-            say_expression(alloc, words, lexed, scope, inner.get(), due)
+        Expression::Negate(_, _) => say_taken(draft, b"-", "integers and TIME", due),
+        Expression::Not(_, _) => say_taken(draft, b"NOT", "BOOL and bit strings", due),
+        Expression::Call(call) => {
+            let found = own(alloc, scope, part)?;
+            say_call(draft, call.name.spelling.as_slice(), found, due);
         }
-        Expression::Negate(_, _) => say_taken(words, b"-", "integers and TIME", due),
-        Expression::Not(_, _) => say_taken(words, b"NOT", "BOOL and bit strings", due),
-        Expression::Call(call) => match own(alloc, scope, expression)? {
-            Some(found) if !is_due(found, due) => {
-                say_expected(words, due, found)?;
-                say_conversion(words, found, due, b"..")
-            }
-            _ => say_function(words, call.name.spelling.as_slice(), due),
-        },
-        Expression::Chain(_, left, operations) => say_chain(
-            alloc,
-            words,
-            lexed,
-            scope,
-            left.get(),
-            operations.as_slice(),
-            due,
-        ),
+        Expression::Chain(_, _, operations) => {
+            say_operators(draft, lexed, operations.as_slice(), due);
+        }
+        Expression::Parenthesized(_, _) => {}
+    }
+    Ok(())
+}
+
+/// The part of an expression that isn't what is due, and what is due of it: what stands in parentheses, or the first operand where its
+/// operators give and take what is due.
+fn part_at_fault<'e>(
+    alloc: Global,
+    scope: &Scope<'_>,
+    expression: &'e Expression,
+    due: Due,
+) -> Result<(&'e Expression, Due), AllocError> {
+    match expression {
+        Expression::Parenthesized(_, inner) => part_at_fault(alloc, scope, inner.get(), due),
+        Expression::Chain(_, left, operations) if fits(operations.as_slice(), due) => {
+            let inside = operand_due(alloc, scope, left.get(), operations.as_slice(), due)?;
+            part_at_fault(alloc, scope, left.get(), inside)
+        }
+        _ => Ok((expression, due)),
+    }
+}
+
+/// Whether operators give and take what is due.
+fn fits(operations: &[Operation], due: Due) -> bool {
+    if compares(operations) {
+        matches!(due, Due::Type(Elem::Bool))
+    } else {
+        untaken(operations, due).is_none()
+    }
+}
+
+/// Says why a variable of this shape isn't what is due.
+fn say_variable(draft: &mut Draft, shape: &Shape<'_>, variable: &Variable, due: Due) {
+    match elem_of(shape) {
+        Some(found) => say_conversion(draft, found, due, written(variable)),
+        None => say_whole(draft, shape, variable),
+    }
+}
+
+/// Says why a call of a function of this name, which gives this type, isn't what is due.
+fn say_call(draft: &mut Draft, name: &[u8], found: Option<Elem>, due: Due) {
+    match found {
+        Some(found) if !is_due(found, due) => say_conversion(draft, found, due, b".."),
+        _ => say_function(draft, name, due),
     }
 }
 
@@ -238,65 +259,44 @@ fn written(variable: &Variable) -> &[u8] {
 }
 
 /// Says which types an operator takes, where another one is due.
-fn say_taken(words: &mut Words, operator: &[u8], taken: &str, due: Due) -> Result<(), AllocError> {
-    push_quoted(&mut words.title, operator)?;
-    words.title.push_str(" takes ")?;
-    words.title.push_str(taken)?;
-    words.title.push_str(", and ")?;
-    push_due(&mut words.title, due)?;
-    words.title.push_str(" is due here")
+fn say_taken(draft: &mut Draft, operator: &[u8], taken: &str, due: Due) {
+    draft.quote(operator);
+    draft.say(" takes ");
+    draft.say(taken);
+    say_due_here(draft, due);
+}
+
+/// Says that a type is due here.
+fn say_due_here(draft: &mut Draft, due: Due) {
+    draft.say(", and ");
+    say_due(draft, due);
+    draft.say(" is due here");
 }
 
 /// Says that a standard function doesn't give what is due.
-fn say_function(words: &mut Words, name: &[u8], due: Due) -> Result<(), AllocError> {
-    push_quoted(&mut words.title, name)?;
-    words.title.push_str(" doesn't give ")?;
-    push_due(&mut words.title, due)?;
-    words.note(
+fn say_function(draft: &mut Draft, name: &[u8], due: Due) {
+    draft.quote(name);
+    draft.say(" doesn't give ");
+    say_due(draft, due);
+    draft.note(
         "ABS takes integers; SHL, SHR, ROL and ROR take BYTE, WORD, DWORD and LWORD; MIN, MAX, LIMIT and SEL take values of one type",
-    )
+    );
 }
 
-/// Says why an expression of operators isn't what is due.
-#[cycle(say)]
-fn say_chain(
-    alloc: Global,
-    words: &mut Words,
-    lexed: Lexed<'_>,
-    scope: &Scope<'_>,
-    left: &Expression,
-    operations: &[Operation],
-    due: Due,
-) -> Result<(), AllocError> {
+/// Says why operators don't give or take what is due.
+fn say_operators(draft: &mut Draft, lexed: Lexed<'_>, operations: &[Operation], due: Due) {
     let first = match operations.first() {
         Some(operation) => lexed.spelling(operation.position.number),
         None => b"",
     };
-    if compares(operations) {
-        let Due::Type(Elem::Bool) = due else {
-            push_quoted(&mut words.title, first)?;
-            words.title.push_str(" compares and gives a BOOL, and ")?;
-            push_due(&mut words.title, due)?;
-            return words.title.push_str(" is due here");
-        };
-    } else if let Some(taken) = untaken(operations, due) {
-        return say_taken(words, first, taken, due);
+    match untaken(operations, due) {
+        Some(taken) if !compares(operations) => say_taken(draft, first, taken, due),
+        _ => {
+            draft.quote(first);
+            draft.say(" compares and gives a BOOL");
+            say_due_here(draft, due);
+        }
     }
-    let inside = operand_due(alloc, scope, left, operations, due)?;
-    say_operand(alloc, words, lexed, scope, left, inside)
-}
-
-/// Says why the first operand isn't what is due. It is no expression of operators of the same level.
-#[cycle(say)]
-fn say_operand(
-    alloc: Global,
-    words: &mut Words,
-    lexed: Lexed<'_>,
-    scope: &Scope<'_>,
-    operand: &Expression,
-    due: Due,
-) -> Result<(), AllocError> {
-    say_expression(alloc, words, lexed, scope, operand, due)
 }
 
 /// What operators take, where they don't take what is due.
@@ -340,140 +340,125 @@ fn taken_by(operator: BinOp, elem: Elem) -> Option<&'static str> {
 }
 
 /// Says why a literal isn't what is due.
-fn say_constant(
-    words: &mut Words,
-    lexed: Lexed<'_>,
-    constant: &Constant,
-    due: Due,
-) -> Result<(), AllocError> {
+fn say_constant(draft: &mut Draft, lexed: Lexed<'_>, constant: &Constant, due: Due) {
     match constant {
-        Constant::Integer(number) => {
-            words.title.push_str("expected ")?;
-            push_due(&mut words.title, due)?;
-            words.title.push_str(", found the number ")?;
-            lexed.push_literal(&mut words.title, number.position.number)?;
-            match due {
-                Due::Type(Elem::Time) => {
-                    words.more.push_str("  help: write a duration, as `T#")?;
-                    push_shown(&mut words.more, lexed.spelling(number.position.number))?;
-                    words.more.push_str("ms`\n")
-                }
-                _ => Ok(()),
-            }
-        }
+        Constant::Integer(number) => say_number(draft, lexed, number.position.number, due),
         Constant::Typed(_, value) => {
-            let found = value.get().elem;
-            say_expected(words, due, found)?;
-            words.help("write the literal of the type that is expected, or a number without a type")
+            say_expected(draft, due, value.get().elem);
+            draft.help(
+                "write the literal of the type that is expected, or a number without a type",
+            );
         }
         Constant::Duration(_) => {
-            say_expected(words, due, Elem::Time)?;
-            words.help("TIME converts into no other type: write a number")
+            say_expected(draft, due, Elem::Time);
+            draft.help("TIME converts into no other type: write a number");
         }
-        Constant::Bool(position, _) => {
-            say_expected(words, due, Elem::Bool)?;
-            match due {
-                Due::Type(elem) if !elem.is(Elem::Time) => {
-                    say_conversion(words, Elem::Bool, due, lexed.spelling(position.number))
-                }
-                _ => Ok(()),
+        Constant::Bool(position, _) => match due {
+            Due::Type(elem) if !elem.is(Elem::Time) => {
+                say_conversion(draft, Elem::Bool, due, lexed.spelling(position.number));
             }
-        }
+            _ => say_expected(draft, due, Elem::Bool),
+        },
+    }
+}
+
+/// Says why the number at a token isn't what is due.
+fn say_number(draft: &mut Draft, lexed: Lexed<'_>, at: u32, due: Due) {
+    draft.say("expected ");
+    say_due(draft, due);
+    draft.say(", found the number ");
+    lexed.say_literal(draft, at);
+    if let Due::Type(Elem::Time) = due {
+        draft.help("write a duration, as `T#");
+        draft.show(lexed.spelling(at));
+        draft.say("ms`");
     }
 }
 
 /// Says that a whole array, structure or instance stands for a value.
-fn say_whole(words: &mut Words, shape: &Shape<'_>, variable: &Variable) -> Result<(), AllocError> {
-    push_quoted(&mut words.title, variable.name.spelling.as_slice())?;
-    if shape.subscripts.is_some() || matches!(shape.base, Base::Array(_)) {
-        words
-            .title
-            .push_str(" is a whole array, and a single value is due here")?;
-        return words.help("name one element, as `A[1]`");
-    }
-    match shape.base {
-        Base::Structure(_) => {
-            words
-                .title
-                .push_str(" is a whole structure, and a single value is due here")?;
-            words.help("name one member, as `S.Member`, and assign member by member")
-        }
-        Base::Block(_) | Base::Standard(_) => {
-            words
-                .title
-                .push_str(" is an instance, and a single value is due here")?;
-            words.help("name one of its outputs, as `T1.Q`")
-        }
-        _ => words.title.push_str(" is no single value"),
-    }
+fn say_whole(draft: &mut Draft, shape: &Shape<'_>, variable: &Variable) {
+    draft.quote(variable.name.spelling.as_slice());
+    let (what, help) = match shape.base {
+        _ if shape.subscripts.is_some() => WHOLE_ARRAY,
+        Base::Array(_) => WHOLE_ARRAY,
+        Base::Structure(_) => (
+            " is a whole structure, and a single value is due here",
+            "name one member, as `S.Member`, and assign member by member",
+        ),
+        Base::Block(_) | Base::Standard(_) => (
+            " is an instance, and a single value is due here",
+            "name one of its outputs, as `T1.Q`",
+        ),
+        _ => return draft.say(" is no single value"),
+    };
+    draft.say(what);
+    draft.help(help);
 }
+
+/// What is said of a whole array, and what to do.
+const WHOLE_ARRAY: (&str, &str) = (
+    " is a whole array, and a single value is due here",
+    "name one element, as `A[1]`",
+);
 
 /// Says why a variable doesn't take a value.
 fn say_target(
     alloc: Global,
-    words: &mut Words,
+    draft: &mut Draft,
     scope: &Scope<'_>,
     variable: &Variable,
 ) -> Result<(), AllocError> {
     let shape = target_shape(alloc, scope, variable)?;
     match elem_of(&shape) {
         Some(elem) => {
-            push_quoted(&mut words.title, variable.name.spelling.as_slice())?;
-            words.title.push_str(" is ")?;
-            push_shown(&mut words.title, elem.name())?;
-            words.title.push_str(", and the output has another type")?;
-            words.help("let a variable of the output's type take it, and convert that")
+            draft.quote(variable.name.spelling.as_slice());
+            draft.say(" is ");
+            draft.show(elem.name());
+            draft.say(", and the output has another type");
+            draft.help("let a variable of the output's type take it, and convert that");
         }
-        None => say_whole(words, &shape, variable),
+        None => say_whole(draft, &shape, variable),
     }
+    Ok(())
 }
 
 /// Says why subscripts don't fit what stands before them.
-fn say_subscripts(
-    words: &mut Words,
-    scope: &Scope<'_>,
-    variable: &Variable,
-    number: usize,
-) -> Result<(), AllocError> {
-    let count = match variable.parts.as_slice().get(number) {
+fn say_subscripts(draft: &mut Draft, scope: &Scope<'_>, variable: &Variable, number: usize) {
+    draft.quote(variable.name.spelling.as_slice());
+    let Some(shape) = reached(scope, variable, number) else {
+        return draft.say(" has no elements");
+    };
+    let Some(elements) = elements_of(scope, &shape) else {
+        return draft.say(" is no array here, and has no elements");
+    };
+    draft.say(" has elements of another number of subscripts: ");
+    draft.number(elements.subscripts.len() as i128);
+    draft.say(", and not ");
+    draft.number(count_subscripts(variable, number) as i128);
+    draft.help("write all of them in one pair of brackets, as `A[1, 2]`");
+}
+
+/// How many subscripts the part of this number of a variable has.
+fn count_subscripts(variable: &Variable, number: usize) -> usize {
+    match variable.parts.as_slice().get(number) {
         Some(Part::Subscripts(_, subscripts)) => subscripts.len(),
         _ => 0,
-    };
-    push_quoted(&mut words.title, variable.name.spelling.as_slice())?;
-    let Some(shape) = reached(scope, variable, number) else {
-        return words.title.push_str(" has no elements");
-    };
-    match elements_of(scope, &shape) {
-        Some(elements) => {
-            let due = elements.subscripts.len();
-            let title = &mut words.title;
-            write!(
-                title,
-                " has elements of another number of subscripts: {due}, and not {count}"
-            )?;
-            words.help("write all of them in one pair of brackets, as `A[1, 2]`")
-        }
-        None => words
-            .title
-            .push_str(" is no array here, and has no elements"),
     }
 }
 
 /// Says why a step can't switch a variable.
-fn say_association(words: &mut Words, scope: &Scope<'_>, name: &[u8]) -> Result<(), AllocError> {
-    push_quoted(&mut words.title, name)?;
+fn say_association(draft: &mut Draft, scope: &Scope<'_>, name: &[u8]) {
+    draft.quote(name);
     match scope.variable(name) {
         Some(symbol) => match elem_of(&symbol.shape) {
             Some(elem) => {
-                words.title.push_str(" is ")?;
-                push_shown(&mut words.title, elem.name())?;
+                draft.say(" is ");
+                draft.show(elem.name());
             }
-            None => words.title.push_str(" is no single value")?,
+            None => draft.say(" is no single value"),
         },
-        None => words.title.push_str(" is no variable")?,
+        None => draft.say(" is no variable"),
     }
-    words
-        .title
-        .push_str(", and a step switches BOOL variables and actions")?;
-    words.help("write an ACTION that assigns to it, and name that in the step")
+    draft.say(", and a step switches BOOL variables and actions");
+    draft.help("write an ACTION that assigns to it, and name that in the step");
 }

@@ -5,7 +5,7 @@ use Rattle.st_explain.proofs.Syntax.{syntax_lined, syntax_place}
 use Rattle.st_explain.proofs.explain.explain_grammar.Goals as goal
 
 pub returns-clause-told : goal.returns-clause-told
-returns-clause-told c = λ is.
+returns-clause-told c = λ is names.
     let text = c.args.text.now in
     let fault = c.args.fault in
     let found = c.in_ok-number in
@@ -13,6 +13,7 @@ returns-clause-told c = λ is.
     let start = located.span.start in
     let title = string_bytes located.words.title in
     let said = c.in_ok-located.ensures in
+    let place = syntax_place text start fault found.number found.line found.ensures.number found.ensures.line names said.long said.unknown said.stops in
     let message = string_bytes c.push_diagnosis.new.message in record {
       read = found.ensures.read;
       is = is;
@@ -21,6 +22,6 @@ returns-clause-told c = λ is.
       told = subst (λ n. IsTold [] message c.args.file.now text start (record { letter = 83; number = n }) title) found.ensures.number
           (subst (λ old. IsTold old message c.args.file.now text start (record { letter = 83; number = found.number }) title) c.new-message.ensures.bytes
           c.in_ok-push_diagnosis.ensures.told);
-      line = syntax_lined text start fault found.number found.line found.ensures.number found.ensures.line said.long said.line;
-      place = syntax_place text start fault found.number found.line found.ensures.number found.ensures.line said.long said.unknown said.outside;
+      line = syntax_lined text start fault found.number found.line found.ensures.number found.ensures.line place said.line (rw found.ensures.number found.ensures.read);
+      place = place;
     }

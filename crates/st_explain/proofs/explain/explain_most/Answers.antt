@@ -19,4 +19,4 @@ returns-in-Ok c =
 pub returns-in-Err : goal.returns-in-Err
 returns-in-Err c =
     message_unread string_bytes c.explain_grammar.result (TellsFrom c.args.most c.args.file.now c.args.text.now) c.args.file.now c.args.text.now c.args.main.now c.in-Err.fault
-    (c.explain_grammar.ensures.told c.in-Err.ensures.fault) c.explain_grammar.ensures.read (λ us r. c.in-Err.ensures.only us r.short r.is)
+    (c.explain_grammar.ensures.told c.in-Err.ensures.fault c.in-Err.ensures.stops) c.explain_grammar.ensures.read (λ us r. c.in-Err.ensures.only us r.short r.is)
