@@ -1,6 +1,6 @@
 //! Plans of online changes: which leaf of a new program takes the place of which leaf of an old one.
-ghost use Rattle.std.specs.Prelude.{◌≡◌, ◌<◌, ◌≤◌, false, IfOk, OnOk, length, true};
-ghost use Rattle.st_layout.specs.Pairs.{IsPairing, dropped_count, fresh_count, is_pairable, kept_count, number_at, pairs_between, range_count};
+ghost use Rattle.std.specs.Prelude.{◌≡◌, ◌<◌, ◌≤◌, All, false, IfOk, IfSome, OnOk, length, true};
+ghost use Rattle.st_layout.specs.Pairs.{IsPairing, dropped_count, fresh_count, is_pairable, kept_count, names_wrongly, number_at, pairs_between, range_count, shares_target, sources_of, targets_of};
 ghost use Rattle.st_layout.specs.Runs.{IsNextRun};
 
 use crate::layout::Layout;
@@ -43,17 +43,27 @@ impl Plan {
             → is_pairable old.now new.now renames.now ≡ false }
         ensures pairing { IfOk result (λ plan. IsPairing old.now new.now plan) }
     {
-        let renames = RenameTable::of(alloc, old, new, renames)?;
-        let targets = targets_of(alloc, old, new, &renames)?;
-        let sources = sources_of(alloc, &targets, new.len())?;
+        let targets = renamed_targets(alloc, old, new, renames)?;
         if some_leaves_chart(old, new, &targets) {
             return Err(PlanFault::NotPaired);
         }
-        let by_old = Runs::of(alloc, &targets)?;
-        let by_new = Runs::of(alloc, &sources)?;
+        Plan::of(alloc, &targets, new.len())
+    }
+
+    /// The plan by which the old leaves go to these of so many new ones. It is refused for want of memory, or where two go to one.
+    fn of(alloc: Global, targets: &[Option<u32>], count: u32) -> Result<Plan, PlanFault>
+        requires few { length targets.now ≤ 65536 }
+        requires few_new { count ≤ 65536 }
+        requires below { All (λ target. IfSome target (λ number. number < count)) targets.now }
+        ensures ok { IfOk result (λ plan. plan
+            ≡ record { targets = targets.now; sources = sources_of targets.now count }) }
+        ensures apart { OnOk result (shares_target targets.now ≡ false) }
+        ensures shared { result ≡ Err PlanFault.NotPaired → shares_target targets.now ≡ true }
+    {
+        let sources = sources_of(alloc, targets, count)?;
         Ok(Plan {
-            targets: by_old,
-            sources: by_new,
+            targets: Runs::of(alloc, targets)?,
+            sources: Runs::of(alloc, &sources)?,
         })
     }
 
@@ -130,4 +140,27 @@ impl Plan {
     {
         self.targets.runs()
     }
+}
+
+/// Of each old leaf the number of the new one that takes its place. It is refused for want of memory, or where the renames name parts
+/// wrongly.
+fn renamed_targets(
+    alloc: Global,
+    old: &Layout,
+    new: &Layout,
+    renames: &[Rename],
+) -> Result<Vec<Option<u32>>, PlanFault>
+    ensures ok { IfOk result
+        (λ targets. targets.items ≡ targets_of old.now new.now renames.now) }
+    ensures accepted { OnOk result (names_wrongly old.now new.now renames.now ≡ false) }
+    ensures refused { result ≡ Err PlanFault.NotPaired
+        → names_wrongly old.now new.now renames.now ≡ true }
+    ensures count { IfOk result (λ targets. length targets.items ≡ length old.now) }
+    ensures few { IfOk result (λ targets. length targets.items ≤ 65536) }
+    ensures below { IfOk result
+        (λ targets. All (λ target. IfSome target (λ number. number < length new.now))
+        targets.items) }
+{
+    let renames = RenameTable::of(alloc, old, new, renames)?;
+    Ok(targets_of(alloc, old, new, &renames)?)
 }

@@ -1,4 +1,4 @@
-use Rattle.std.proofs.Common.{◌≡◌, List, Some, ap, get_or, sym, ◌∙◌}
+use Rattle.std.proofs.Common.{◌≡◌, List, ap, get_or, ◌∙◌}
 use Rattle.std.proofs.lemmas.List.{get_or_default}
 use Rattle.st_tree.specs.declared.leaf.Leaf.{Leaf}
 use Rattle.st_leaves.specs.Sound.{IsSound}
