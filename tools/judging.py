@@ -60,6 +60,8 @@ class Program:
         match part.words.split():
             case ["session", *limit]:
                 return self.failure(["run", *words, *(["--steps", limit[1]] if limit else [])], Wanted(status_of(written), written), lines_of(part.typed))
+            case ["trial", *_]:
+                return self.failure(["run", *words], Wanted(status_of(written), written), lines_of(part.typed))
             case ["layout"]:
                 return self.failure(["layout", *words], Wanted(ACCEPTED, written))
             case ["ok"]:
@@ -76,6 +78,13 @@ class Program:
             file.flush()
             failures = [self.failure_in_part(file.name, part) for part in case.parts]
         return next(filter(None, failures), None if failures else "behind its text no line of -- stands")
+
+    def failure_in_last_line(self, text: str, line: str, reply: str) -> str | None:
+        """A line that lacks its line feed has this reply."""
+        with tempfile.NamedTemporaryFile(suffix=".st") as file:
+            file.write(text.encode("latin-1"))
+            file.flush()
+            return self.failure(["run", file.name, "--program", "Main"], Wanted(status_of(reply + "\n"), f"{reply}\n"), line)
 
     def failure_in_example(self, text: Path) -> str | None:
         """An example is accepted, and its session has the replies that stand beside it."""

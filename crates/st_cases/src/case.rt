@@ -1,14 +1,13 @@
-//! Cases: a program's text, and what has to come out of what is done with it.
+//! Cases: a program's text, and the sessions over it with the replies that are wanted.
 //!
 //! A case is a text, behind which its parts stand. A part begins with a line of `--`. Behind `-- session`, with the words `steps N`
-//! where a scan may take so many steps, a line of `>` is typed by the operator and any other is a reply. Behind `-- layout` the lines
-//! of the leaves stand. And `-- ok` or `-- refused ..` is what a check of the text answers.
+//! where a scan may take so many steps, a line of `>` is typed by the operator and any other is a reply. Parts of other kinds are what
+//! the program answers of a text whatever the memory is, and are passed over here.
 //!
 //! Scans of a session may stand in columns, which begin with `|`. The first such line names them: `scan`, inputs, `=>`, and what is
 //! shown. Each line behind it is a scan at a moment, with a value for each input that isn't left out by `-`, and the values that are
 //! shown after it. One that is forced has a `!` at its end.
-use crate::trials::{check_failure, layout_failure, session_failure};
-use crate::ways::{STEPS, Typed};
+use crate::sessions::{STEPS, Session};
 use std::alloc::{AllocError, Global};
 
 /// A case.
@@ -17,12 +16,12 @@ pub struct Case<'a> {
     /// The program's text.
     text: String,
     /// What is done with it.
-    parts: Vec<Part<'a>>,
+    pub parts: Vec<Part<'a>>,
 }
 
 /// What is done with a text, and what has to come out.
 #[derive(Drop)]
-struct Part<'a> {
+pub struct Part<'a> {
     /// What stands behind the `--`.
     words: &'a str,
     /// The lines that are typed in a session.
@@ -50,17 +49,14 @@ impl<'a> Case<'a> {
         Ok(Case { text, parts })
     }
 
-    /// How the case fails, or nothing where all its parts come out.
-    pub fn failure(&self, alloc: Global) -> Result<Option<String>, AllocError> {
-        if self.parts.is_empty() {
-            return Ok(Some(format!(in alloc; "no line of -- stands behind its text")?));
-        }
-        for part in &self.parts {
-            if let Some(failure) = part.failure(alloc, self.text.as_bytes())? {
-                return Ok(Some(failure));
-            }
-        }
-        Ok(None)
+    /// The session that a part of the case is, where it is one.
+    pub fn session<'b>(&'b self, part: &'b Part<'_>) -> Option<Session<'b>> {
+        Some(Session {
+            text: self.text.as_bytes(),
+            steps: part.steps()?,
+            typed: part.typed.as_bytes(),
+            replies: part.wanted.as_str(),
+        })
     }
 }
 
@@ -72,6 +68,15 @@ impl<'a> Part<'a> {
             typed: String::new(alloc),
             wanted: String::new(alloc),
             columns: "",
+        }
+    }
+
+    /// How many steps a scan of the session may take, where the part is one.
+    fn steps(&self) -> Option<u32> {
+        match self.words.strip_prefix("session steps ") {
+            Some(digits) => digits.parse::<u32>().ok(),
+            None if self.words == "session" => Some(STEPS),
+            None => None,
         }
     }
 
@@ -91,46 +96,55 @@ impl<'a> Part<'a> {
         }
     }
 
-    /// Takes a scan that stands in columns.
+    /// Takes a scan that stands in columns: its moment and its inputs, and behind the arrow what is shown after it.
     fn add_scan(&mut self, row: &str) -> Result<(), AllocError> {
-        let mut words = row.split_whitespace();
-        let moment = words.next().unwrap_or("");
-        write!(self.typed, "scan {moment}")?;
-        let mut columns = self.columns.split_whitespace();
-        let mut is_shown = false;
-        for word in words {
-            let column = columns.next().unwrap_or("");
-            if word == "=>" {
-                is_shown = true;
-                self.typed.push('\n')?;
-                self.wanted.push_str("ok\n")?;
-            } else if is_shown {
-                writeln!(self.typed, "show {column}")?;
-                match word.strip_suffix('!') {
-                    Some(value) => writeln!(self.wanted, "{column} = {value} forced")?,
-                    None => writeln!(self.wanted, "{column} = {word}")?,
-                }
-            } else if word != "-" {
-                write!(self.typed, " {column}:={word}")?;
+        let (inputs, outputs) = around_arrow(self.columns);
+        let (scan, shown) = around_arrow(row);
+        self.add_inputs(scan, inputs)?;
+        self.add_shown(shown, outputs)
+    }
+
+    /// Takes a scan with values for these inputs. A `-` leaves one out.
+    fn add_inputs(&mut self, scan: &str, inputs: &str) -> Result<(), AllocError> {
+        let mut words = scan.split_whitespace();
+        put(
+            &mut self.typed,
+            ["scan ", words.next().unwrap_or(""), "", ""],
+        )?;
+        for (value, input) in words.zip(inputs.split_whitespace()) {
+            if value != "-" {
+                put(&mut self.typed, [" ", input, ":=", value])?;
             }
+        }
+        self.typed.push('\n')?;
+        self.wanted.push_str("ok\n")
+    }
+
+    /// Takes the values that are shown of these.
+    fn add_shown(&mut self, values: &str, outputs: &str) -> Result<(), AllocError> {
+        for (word, output) in values.split_whitespace().zip(outputs.split_whitespace()) {
+            let value = word.strip_suffix('!').unwrap_or(word);
+            let end = if word.ends_with('!') {
+                " forced\n"
+            } else {
+                "\n"
+            };
+            put(&mut self.typed, ["show ", output, "\n", ""])?;
+            put(&mut self.wanted, [output, " = ", value, end])?;
         }
         Ok(())
     }
+}
 
-    /// How that which is done with a text fails to come out, or nothing where it does.
-    fn failure(&self, alloc: Global, text: &[u8]) -> Result<Option<String>, AllocError> {
-        let steps = match self.words.strip_prefix("session steps ") {
-            Some(digits) => digits.parse::<u32>().ok(),
-            None if self.words == "session" => Some(STEPS),
-            None => None,
-        };
-        if let Some(steps) = steps {
-            let lines = self.typed.as_bytes();
-            return session_failure(alloc, text, Typed { lines, steps }, &self.wanted);
-        }
-        if self.words == "layout" {
-            return layout_failure(alloc, text, self.wanted.as_bytes());
-        }
-        check_failure(alloc, text, self.words)
+/// What stands before the arrow, and what behind it.
+fn around_arrow(row: &str) -> (&str, &str) {
+    row.split_once("=>").unwrap_or((row, ""))
+}
+
+/// Puts pieces behind a text.
+fn put(text: &mut String, pieces: [&str; 4]) -> Result<(), AllocError> {
+    for piece in pieces {
+        text.push_str(piece)?;
     }
+    Ok(())
 }

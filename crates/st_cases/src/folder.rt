@@ -1,18 +1,26 @@
-//! The files of a folder, and the cases of each.
+//! The files of a folder, and the sessions of each.
 use crate::blocks::{Block, blocks_of};
 use crate::case::Case;
 use crate::tally::Tally;
 use std::fs::{read_dir, read_to_string};
 use std::io;
 
-/// Runs the cases of a folder's files, names those that fail, and says how many each file has.
+/// Where a case stands.
+#[derive(Clone, Copy)]
+struct Place<'a> {
+    path: &'a str,
+    line: usize,
+    name: &'a str,
+}
+
+/// Runs the sessions of a folder's files, names those that fail, and says how many each file has.
 pub fn run_folder(rt: &HostRuntime, folder: &str) -> io::Result<Tally> {
     let folder = folder.strip_suffix('/').unwrap_or(folder);
     let mut all = Tally::default();
     for name in &case_files(rt, folder)? {
         let path = format!(in rt.alloc(); "{folder}/{name}")?;
         let tally = run_file(rt, &path)?;
-        tally.tell(rt, &path)?;
+        tally.tell(rt, &path, "sessions")?;
         all.add(tally);
     }
     Ok(all)
@@ -32,7 +40,7 @@ fn case_files(rt: &HostRuntime, folder: &str) -> io::Result<Vec<String>> {
     Ok(names)
 }
 
-/// Runs the cases of a file, and names those that fail.
+/// Runs the sessions of a file, and names those that fail.
 fn run_file(rt: &HostRuntime, path: &str) -> io::Result<Tally> {
     let file = read_to_string(rt, path)?;
     let mut all = Tally::default();
@@ -42,16 +50,32 @@ fn run_file(rt: &HostRuntime, path: &str) -> io::Result<Tally> {
     Ok(all)
 }
 
-/// Runs the cases of a block, and names those that fail.
+/// Runs the sessions of a block, and names those that fail.
 fn run_block(rt: &HostRuntime, path: &str, block: &Block<'_>) -> io::Result<Tally> {
     let name = block.name;
-    let mut tally = Tally::default();
+    let mut all = Tally::default();
     for row in &block.rows {
         let lines = block.case(rt.alloc(), *row)?;
-        let failure = Case::new(rt.alloc(), &lines)?.failure(rt.alloc())?;
         let line = row.line;
-        let place = format!(in rt.alloc(); "{path}:{line}: {name}")?;
-        tally.count(rt, &place, failure)?;
+        all.add(run_case(rt, Place { path, line, name }, &lines)?);
+    }
+    Ok(all)
+}
+
+/// Runs the sessions of the case with these lines, and says how each fails that does.
+fn run_case(rt: &HostRuntime, place: Place<'_>, lines: &str) -> io::Result<Tally> {
+    let case = Case::new(rt.alloc(), lines)?;
+    let mut tally = Tally::default();
+    for part in &case.parts {
+        if let Some(session) = case.session(part) {
+            let failure = session.failure(rt.alloc());
+            tally.count(failure.is_none());
+            if let Some(failure) = failure {
+                let Place { path, line, name } = place;
+                let (way, lost) = (failure.way, failure.line);
+                println!(rt; "{path}:{line}: {name}: {way}: no '{lost}'")?;
+            }
+        }
     }
     Ok(tally)
 }

@@ -1,9 +1,9 @@
-//! Runs worked cases: sessions, layouts and checks of whole program texts, with what has to come out.
+//! Runs the sessions of worked cases over each kind of memory, with the replies that are wanted.
 //!
-//! A word of the command line is a folder. Of each of its files `*.cases`, by name, a line says how many cases it has, with a line
-//! before it for each case that fails. The word `--made` stands for the cases that are made by code, and a word
-//! `--without-memory=NAME` for the trial of that name, in which memory may be refused (`src/without_memory.rt` lists them). The last
-//! line counts all. The status is 0 where none failed, 1 where one did, and 2 where a folder or a file can't be read.
+//! A word of the command line is a folder. Of each of its files `*.cases`, by name, a line says how many sessions it has, with a line
+//! before it for each that fails. The word `--made` stands for the cases that are made by code, and a word `--without-memory=NAME` for
+//! the trial of that name, in which memory may be refused (`src/trial.rt`). The last line counts all. The status is 0 where none
+//! failed, 1 where one did, and 2 where a folder or a file can't be read.
 //! `data/README.md` has the form of a case.
 #![tactic(auto)]
 
@@ -12,15 +12,14 @@ mod braces;
 mod case;
 mod folder;
 mod made;
+mod sessions;
 mod tally;
-mod trials;
-mod ways;
-mod without_memory;
+mod trial;
 
 use crate::folder::run_folder;
 use crate::made::run_made;
 use crate::tally::Tally;
-use crate::without_memory::run_trial;
+use crate::trial::run_trial;
 use std::io;
 use std::process::ExitCode;
 

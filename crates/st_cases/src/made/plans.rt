@@ -1,11 +1,10 @@
 //! The plans of online changes, and how many ranges of leaves each has.
-use crate::tally::Tally;
-use crate::ways::{FIRST, MAIN};
+use crate::made::Made;
+use crate::sessions::{FIRST, MAIN};
 use st_layout::{Layout, Plan};
 use st_listing::OfProgram;
-use st_session::control::{Refusal, check_program};
+use st_session::control::check_program;
 use std::alloc::Global;
-use std::io;
 
 const ARRAY: &[u8] =
     b"PROGRAM Main VAR R : ARRAY [1..4] OF INT := [10, 20, 30, 40]; END_VAR END_PROGRAM";
@@ -26,23 +25,26 @@ const CHANGES: [(&[u8], &[u8], u32); 3] = [
     (FIRST, TURNED, 2),
 ];
 
-pub fn run(rt: &HostRuntime, tally: &mut Tally) -> io::Result<()> {
+pub fn run(alloc: Global, made: &mut Made) {
     for (old, new, count) in CHANGES {
-        let comes_out = ranges(rt.alloc(), old, new) == Ok(count);
-        tally.count_whether(rt, "ranges of plans", comes_out)?;
+        made.count("ranges of plans", ranges(alloc, old, new) == Some(count));
     }
-    Ok(())
 }
 
 /// How many ranges the plan of a change has.
-fn ranges(alloc: Global, old: &[u8], new: &[u8]) -> Result<u32, Refusal> {
+fn ranges(alloc: Global, old: &[u8], new: &[u8]) -> Option<u32> {
     let old = layout_of(alloc, old)?;
     let new = layout_of(alloc, new)?;
-    Ok(Plan::between(alloc, &old, &new, &[])?.ranges())
+    match Plan::between(alloc, &old, &new, &[]) {
+        Ok(plan) => Some(plan.ranges()),
+        Err(_) => None,
+    }
 }
 
 /// The layout of a text.
-pub fn layout_of(alloc: Global, text: &[u8]) -> Result<Layout, Refusal> {
-    let program = check_program(alloc, text, MAIN)?;
-    Ok(Layout::of(alloc, &program)?)
+pub fn layout_of(alloc: Global, text: &[u8]) -> Option<Layout> {
+    match check_program(alloc, text, MAIN) {
+        Ok(program) => Layout::of(alloc, &program).ok(),
+        Err(_) => None,
+    }
 }

@@ -1,16 +1,15 @@
 //! What online changes save, over each kind of memory.
 ghost use Rattle.std.specs.Prelude.{◌<◌, length};
 ghost use Rattle.st_layout.specs.Layout.{IsValueAt};
+ghost use Rattle.st_layout.specs.Pairs.{IsPairing};
 
+use crate::made::Made;
 use crate::made::plans::layout_of;
-use crate::tally::Tally;
-use crate::ways::FIRST;
+use crate::sessions::FIRST;
 use st_layout::{Layout, Plan};
-use st_memory::{Cells, Memory, Packed};
-use st_session::control::Refusal;
+use st_memory::{Cells, Memory, Packed, Saved};
 use st_values::{Value, wrap};
 use std::alloc::Global;
-use std::io;
 
 /// A change of a program of which one leaf has this number, and may be forced; and what it saves: so many bytes, which begin so, and the
 /// numbers of these leaves as forced ones.
@@ -91,34 +90,58 @@ const CHANGES: [Change; 4] = [
     },
 ];
 
-pub fn run(rt: &HostRuntime, tally: &mut Tally) -> io::Result<()> {
+pub fn run(alloc: Global, made: &mut Made) {
     for change in &CHANGES {
-        let over_cells = saves::<Cells>(rt.alloc(), change).unwrap_or(false);
-        tally.count_whether(rt, "what a change saves, over Cells", over_cells)?;
-        let over_packed = saves::<Packed>(rt.alloc(), change).unwrap_or(false);
-        tally.count_whether(rt, "what a change saves, over Packed", over_packed)?;
+        made.count(
+            "what a change saves, over Cells",
+            saves::<Cells>(alloc, change),
+        );
+        made.count(
+            "what a change saves, over Packed",
+            saves::<Packed>(alloc, change),
+        );
     }
-    Ok(())
 }
 
 /// Whether a change saves the values of what it drops, in order and little-endian, and names what was forced.
-fn saves<M: Memory>(alloc: Global, change: &Change) -> Result<bool, Refusal> {
-    let old = layout_of(alloc, change.texts.0)?;
-    let new = layout_of(alloc, change.texts.1)?;
-    let plan = Plan::between(alloc, &old, &new, &[])?;
-    let mut memory = M::fresh(alloc, &old)?;
-    if let Some(leaf) = old.leaf(change.leaf) {
-        let value = value_of(&old, leaf, change.number);
-        memory.set(&old, leaf, value);
-        memory.mark(&old, leaf, change.forced);
+fn saves<M: Memory>(alloc: Global, change: &Change) -> bool {
+    let (Some(old), Some(new)) = (
+        layout_of(alloc, change.texts.0),
+        layout_of(alloc, change.texts.1),
+    ) else {
+        return false;
+    };
+    match Plan::between(alloc, &old, &new, &[]) {
+        Ok(plan) => change.is_saved::<M>(alloc, &plan, &old, &new),
+        Err(_) => false,
     }
-    let saved = memory.carry(alloc, &plan, &old, &new)?;
-    let bytes = saved.bytes.items.as_slice();
-    Ok(
-        bytes.len() == change.length
-            && bytes.starts_with(change.begin)
-            && saved.forced.items.as_slice() == change.marks,
-    )
+}
+
+impl Change {
+    /// Whether it saves so by its plan.
+    fn is_saved<M: Memory>(&self, alloc: Global, plan: &Plan, old: &Layout, new: &Layout) -> bool
+        requires { IsPairing old.now new.now plan.now }
+    {
+        let Ok(mut memory) = M::fresh(alloc, old) else {
+            return false;
+        };
+        if let Some(leaf) = old.leaf(self.leaf) {
+            memory.set(old, leaf, value_of(old, leaf, self.number));
+            memory.mark(old, leaf, self.forced);
+        }
+        match memory.carry(alloc, plan, old, new) {
+            Ok(saved) => self.saves(&saved),
+            Err(_) => false,
+        }
+    }
+
+    /// Whether this is what it saves.
+    fn saves(&self, saved: &Saved) -> bool {
+        let bytes = saved.bytes.items.as_slice();
+        bytes.len() == self.length
+            && bytes.starts_with(self.begin)
+            && saved.forced.items.as_slice() == self.marks
+    }
 }
 
 /// A number as a value of a leaf's type.

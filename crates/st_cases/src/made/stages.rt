@@ -98,13 +98,22 @@ impl Stage {
     }
 }
 
-/// What goes one way up to a stage.
-pub fn text_to(alloc: Global, side: Side, last: usize) -> Result<Vec<u8>, AllocError> {
+/// All that goes one way.
+pub fn whole(alloc: Global, side: Side) -> Result<Vec<u8>, AllocError> {
     let mut text = Vec::new(alloc);
-    for stage in STAGES.iter().take(last.saturating_add(1)) {
+    for stage in STAGES {
         text.extend_from_slice(stage.text(side))?;
     }
     Ok(text)
+}
+
+/// How many bytes go one way up to a stage.
+pub fn len_to(side: Side, last: usize) -> usize {
+    let mut len: usize = 0;
+    for stage in STAGES.iter().take(last.saturating_add(1)) {
+        len = len.saturating_add(stage.text(side).len());
+    }
+    len
 }
 
 /// The last stage up to which no more than so many bytes go one way, and how many are left for the next.

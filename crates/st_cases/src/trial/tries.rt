@@ -1,14 +1,11 @@
 //! How often something was refused for want of memory.
-use std::alloc::Global;
 
 /// How often a thing is tried at most.
 pub const MOST_TRIES: u32 = 1000;
 
 /// Counts refusals for want of memory.
-#[derive(Drop)]
+#[derive(Clone, Copy, Default)]
 pub struct Tries {
-    /// The memory of the trials.
-    pub alloc: Global,
     /// How many refusals there were.
     pub refused: u32,
     in_a_row: u32,
@@ -17,15 +14,6 @@ pub struct Tries {
 }
 
 impl Tries {
-    pub fn new(alloc: Global) -> Self {
-        Tries {
-            alloc,
-            refused: 0,
-            in_a_row: 0,
-            most_in_a_row: 0,
-        }
-    }
-
     /// Counts a refusal.
     pub fn count_refusal(&mut self) {
         self.refused = self.refused.saturating_add(1);
