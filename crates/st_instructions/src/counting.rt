@@ -71,12 +71,7 @@ pub(crate) fn set_counter(stack: &mut Stack, cell: i64)
         stack.old.0 ≡ step ∷ last ∷ counter ∷ rest → stack.new.0 ≡ step ∷ last ∷ cell ∷ rest }
     ensures room { stack.new.1 ≡ stack.old.1 }
 {
-    let step = stack.pop();
-    let last = stack.pop();
-    stack.pop();
-    stack.push(cell);
-    stack.push(last);
-    stack.push(step);
+    stack.put(2, cell);
 }
 
 /// Whether the counter of a FOR hasn't passed its last value.

@@ -29,7 +29,7 @@ pub fn load_as<M: Memory>(memory: &M, layout: &Layout, elem: Elem, leaf: u32) ->
     ensures { result
         ≡ cell_of (get_or (M.content layout.now memory.now).values leaf no_value).bits }
 {
-    if layout.elem(leaf) == elem {
+    if memory.elem(layout, leaf) == elem {
         let value = memory.get(layout, leaf);
         cell(value)
     } else {

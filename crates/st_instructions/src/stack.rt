@@ -1,5 +1,5 @@
 //! The operand stack, whose room is made before a run.
-ghost use Rattle.std.specs.Prelude.{◌≡◌, ◌<◌, ◌≤◌, ◌-◌, [], ◌∷◌, drop, get_or, length, pos, reverse, take, IfOk};
+ghost use Rattle.std.specs.Prelude.{◌≡◌, ◌<◌, ◌≤◌, ◌-◌, [], ◌∷◌, drop, get_or, length, pos, reverse, set, take, IfOk};
 
 use std::alloc::{AllocError, Global};
 use std::marker::Model;
@@ -104,6 +104,17 @@ impl Stack {
         ensures { result ≡ get_or self.now.0 distance (pos 0) }
     {
         self.cells[self.top - 1 - distance]
+    }
+
+    /// Puts a number in the place of the one that stands so far below the newest.
+    #[inline]
+    pub fn put(&mut self, distance: usize, number: i64)
+        requires { distance < length self.old.0 }
+        ensures cells { self.new.0 ≡ set self.old.0 distance number }
+        ensures room { self.new.1 ≡ self.old.1 }
+    {
+        let place = self.top - 1 - distance;
+        self.cells[place] = number;
     }
 
     /// Leaves so many numbers, the oldest ones.

@@ -1,7 +1,6 @@
 -- Marks, one bit a leaf.
-use Rattle.std.proofs.Common.{ℕ, zero, suc, ◌≡◌, ◌≢◌, ◌+◌, ◌-◌, ◌*◌, ◌/◌, ◌%◌, ◌<◌, ◌≤◌, ◌==◌, ◌&&◌, nat_lt, Bool, true, false, cond, List, [], ◌∷◌, ◌++◌, Option, Some, None, add-one, append_assoc, drop, length, map, set, get_or, replicate, refl, sym, ap, ◌∙◌, ⊎_elim, arith}
+use Rattle.std.proofs.Common.{true≢false, ℕ, zero, suc, ◌≡◌, ◌≢◌, ◌+◌, ◌-◌, ◌*◌, ◌/◌, ◌%◌, ◌<◌, ◌≤◌, ◌==◌, ◌&&◌, ◌||◌, nat_lt, Bool, true, false, cond, List, [], ◌∷◌, ◌++◌, Option, Some, None, add-one, append_assoc, drop, length, set, get_or, replicate, refl, sym, ap, ◌∙◌, ⊎_elim, arith}
 use Rattle.std.specs.Int.{bit_at}
-use Rattle.std.specs.List.{range_with_len}
 use Rattle.std.specs.Option.{is_none}
 use Rattle.std.proofs.lemmas.Bool.{both_ways, cases_eq, cases_lt}
 use Rattle.std.proofs.lemmas.List.{drop_more, get_or-set_other, get_or-set_same, get_or-replicate, length-replicate, length-set, same_lists}
@@ -11,7 +10,7 @@ use Rattle.st_values.proofs.Cases.{below, is_below, is_not_below}
 use Rattle.st_memory.specs.Memory.{forced_at}
 use Rattle.st_memory.specs.Moves.{saved_forced}
 use Rattle.st_layout.specs.Pairs.{number_at}
-use Rattle.st_memory.specs.Packed.{mark_at, mark_bytes, marked}
+use Rattle.st_memory.specs.Packed.{has_mark, mark_at, mark_bytes, marked}
 
 pub length-marked : (count : ℕ) (marks : List ℕ) → length (marked count marks) ≡ count
 length-marked count marks = length-map-range_with_len (mark_at marks) 0 count
@@ -47,6 +46,20 @@ pub none_marked : (count bytes : ℕ) → count ≤ 8 * bytes → marked count (
 none_marked count bytes room =
     marked_is count (replicate bytes 0) (replicate count false) (length-replicate count false) (λ k d below.
     no_mark bytes k (omega arith) ∙ sym (get_or-replicate count k false d below))
+
+-- where no byte has a mark, all bytes are 0
+all_zero : (marks : List ℕ) → has_mark marks ≡ false → (k : ℕ) → get_or marks k 0 ≡ 0
+all_zero [] none zero = refl
+all_zero [] none (suc k) = refl
+all_zero (zero ∷ marks) none zero = refl
+all_zero (zero ∷ marks) none (suc k) = all_zero marks none k
+all_zero (suc n ∷ marks) none k = absurd (true≢false (sym (ap (λ (b : Bool). b || has_mark marks) (is_below 0 (suc n) (omega arith))) ∙ none))
+
+pub unmarked : (marks : List ℕ) → has_mark marks ≡ false → (i : ℕ) → mark_at marks i ≡ false
+unfolding mark_at
+unmarked marks none i =
+    ap (λ (n : ℕ). bit_at n (i % 8) == 1) (all_zero marks none (i / 8))
+    ∙ ap (λ (n : ℕ). n == 1) (bit_at-zero (i % 8))
 
 -- a byte in the place of the one with a leaf's mark
 pub set_here : (marks : List ℕ) (i byte bit : ℕ) → i / 8 < length marks → bit_at byte (i % 8) ≡ bit → mark_at (set marks (i / 8) byte) i ≡ (bit == 1)

@@ -1,21 +1,19 @@
 -- Values in bytes, one after another.
-use Rattle.std.proofs.Common.{ℕ, zero, suc, ◌≡◌, ◌+◌, ◌-◌, ◌<◌, ◌≤◌, Bool, List, [], ◌∷◌, ◌++◌, length, map, take, drop, set, get_or, min, refl, sym, ap, subst, ◌∙◌, arith, append_assoc, add-one}
-use Rattle.std.specs.List.{flat_map}
-use Rattle.std.proofs.lemmas.List.{append-nil, drop-drop, drop-take, drop_at, drop_more, length-append, length-take, length-drop, set_split, take-append-drop, take-take, take_at}
+use Rattle.std.proofs.Common.{ℕ, zero, suc, ◌≡◌, ◌+◌, ◌-◌, ◌<◌, ◌≤◌, List, [], ◌∷◌, ◌++◌, length, take, drop, set, refl, sym, ap, ◌∙◌, arith, add-one}
+use Rattle.std.proofs.lemmas.List.{append-nil, drop-drop, drop-take, drop_at, drop_more, length-append, set_split, take-append-drop, take-take, take_at}
 use Rattle.std.proofs.lemmas.List.Concat.{flat_map-append}
 use Rattle.std.proofs.lemmas.List.Sums.{sum_by-cons, sum_by-take-drop, sum_by-take-le}
 use Rattle.st_values.specs.Types.{width_of}
 use Rattle.st_values.specs.declared.elem.Elem.{Elem}
 use Rattle.st_values.specs.declared.value.Value.{Value}
 use Rattle.st_tree.specs.declared.leaf.Leaf.{Leaf}
-use Rattle.st_leaves.specs.Sound.{IsValueOf}
-use Rattle.st_memory.specs.Bytes.{read_bytes, value_bytes}
+use Rattle.st_memory.specs.Bytes.{BeginAsTruth, read_bytes, value_bytes}
 use Rattle.st_layout.specs.Layout.{IsValueAt, leaf_at, no_value, offset_of, total_width}
 use Rattle.st_memory.specs.Memory.{AreValues, value_at}
 use Rattle.st_memory.specs.Packed.{IsHeld, decoded, encoded, length-decoded}
 use Rattle.st_memory.proofs.Contents.{set_values_fit, value_fits}
 use Rattle.st_layout.proofs.Places.{offset_more}
-use Rattle.st_memory.proofs.ValueBytes.{length-value_bytes, read_bytes-value_bytes}
+use Rattle.st_memory.proofs.ValueBytes.{begin_as_truth, length-value_bytes, read_bytes-value_bytes}
 
 total-cons : (leaf : Leaf) (leaves : List Leaf) → total_width (leaf ∷ leaves) ≡ width_of leaf.elem + total_width leaves
 total-cons leaf leaves = sum_by-cons (λ (leaf : Leaf). width_of leaf.elem) leaf leaves
@@ -89,6 +87,17 @@ module _ (leaves : List Leaf) (values : List Value) (fit : AreValues leaves valu
 
   pub drop-encoded : drop (offset_of leaves i) (encoded values) ≡ encoded (drop i values)
   drop-encoded = ap (λ (them : List ℕ). drop (offset_of leaves i) them) parts ∙ drop_at (encoded (take i values)) (encoded (drop i values)) (offset_of leaves i) before
+
+-- the bytes at a BOOL's place begin with 0 or 1
+pub begins_as_truth : (leaves : List Leaf) (bytes : List ℕ) (i : ℕ) → IsHeld leaves bytes → i < length leaves → BeginAsTruth (leaf_at leaves i).elem (drop (offset_of leaves i) bytes)
+begins_as_truth leaves bytes i held below =
+    let values : List Value = decoded leaves bytes in
+    let many : i < length values = omega (arith, length-decoded leaves bytes, below) in
+    let fits = value_fits leaves values i held.types below in
+    let there : drop (offset_of leaves i) bytes ≡ value_bytes (value_at values i) ++ encoded (drop (i + 1) values) =
+    ap (drop (offset_of leaves i)) (sym held.exact)
+    ∙ (drop-encoded leaves values held.types i ∙ ap encoded (drop_more values i no_value many)) in
+    rw (there, sym fits.elem) (begin_as_truth (value_at values i) (encoded (drop (i + 1) values)) fits.in_range)
 
 -- a value in the place of another
 pub set-encoded : (leaves : List Leaf) (values : List Value) (i : ℕ) (value : Value) → AreValues leaves values → length values ≡ length leaves → i < length leaves → IsValueAt leaves i value

@@ -7,6 +7,7 @@ pub mod Maps
 pub mod Moved
 pub mod Moving
 pub mod OpenForces
+pub mod Rows
 pub mod Saving
 pub mod Steps
 pub mod Unpacked

@@ -1,16 +1,13 @@
 -- What a memory holds, by path.
-use Rattle.std.proofs.Common.{ℕ, ◌≡◌, ◌≢◌, ◌<◌, ◌↔◌, Bool, true, false, cond, List, [], ◌∷◌, length, Option, Some, None, IsSome, IfSome, refl, sym, ◌∙◌, ap, arith}
-use Rattle.std.specs.Char.{to_ascii_uppercase}
+use Rattle.std.proofs.Common.{ℕ, ◌≡◌, ◌≢◌, ◌<◌, ◌↔◌, Bool, true, false, cond, List, length, Option, Some, None, IsSome, IfSome, refl, sym, ◌∙◌, ap, arith}
 use Rattle.std.specs.List.{AllPairs, Contains}
 use Rattle.std.specs.Option.{option_map, option_map_or}
-use Rattle.std.proofs.lemmas.List.{get_or-map, get_or-set_other, get_or-set_same, length-map, same_lists, get_or_default}
+use Rattle.std.proofs.lemmas.List.{get_or-set_other, get_or-set_same, same_lists, get_or_default}
 use Rattle.std.proofs.lemmas.Slice.Eq.{bytes_eq-Decides}
-use Rattle.std.proofs.lemmas.Bool.Decides.{nat_tests}
 use Rattle.st_tree.specs.declared.leaf.Leaf.{Leaf}
 use Rattle.st_values.specs.declared.value.Value.{Value}
 use Rattle.st_memory.specs.Laws.{HasLeavesValues, MarkChangesOneForce, PathsDetermineContent, SetChangesOneValue, is_path_of}
-use Rattle.st_leaves.specs.Sound.{IsSound}
-use Rattle.st_layout.specs.Layout.{IsValueAt, leaf_at, no_leaf, no_value, number_of, paths_of}
+use Rattle.st_layout.specs.Layout.{IsValueAt, leaf_at, no_value, number_of, paths_of}
 use Rattle.st_values.specs.Words.{raised}
 use Rattle.st_memory.specs.Memory.{Content, forced_at, value_at, with_force, with_value}
 use Rattle.st_memory.proofs.Contents.{value_fits}

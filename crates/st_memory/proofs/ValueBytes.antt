@@ -1,5 +1,5 @@
 -- What the bytes of a value read as.
-use Rattle.std.proofs.Common.{ℕ, zero, suc, ℤ, pos, negsuc, ◌≡◌, ◌+◌, ◌-◌, ◌%◌, ◌^◌, ◌<◌, ◌≤◌, ◌-ℤ◌, Bool, true, false, List, ◌∷◌, ◌++◌, length, take, if◌then◌else◌, refl, ap, ◌∙◌, arith}
+use Rattle.std.proofs.Common.{◌/◌, get_or, subst, sym, ℕ, zero, suc, ℤ, pos, negsuc, ◌≡◌, ◌+◌, ◌-◌, ◌%◌, ◌^◌, ◌<◌, ◌≤◌, ◌-ℤ◌, Bool, true, false, List, ◌∷◌, ◌++◌, length, take, if◌then◌else◌, refl, ap, ◌∙◌, arith}
 use Rattle.std.specs.Int.{byte_at, bytes_low_first, cast_unsigned, w64}
 use Rattle.std.specs.Ordering.{int_eq}
 use Rattle.std.proofs.Math.Nat.{div-one, mod-eq_of_lt}
@@ -12,7 +12,7 @@ use Rattle.st_values.proofs.Cases.{below, is_not_below}
 use Rattle.st_values.specs.declared.elem.Elem.{Elem}
 use Rattle.st_values.specs.declared.elem.Elem.TheVariants as elems
 use Rattle.st_values.specs.declared.value.Value.{Value}
-use Rattle.st_memory.specs.Bytes.{read_bytes, value_bytes}
+use Rattle.st_memory.specs.Bytes.{BeginAsTruth, read_bytes, value_bytes}
 
 pub length-value_bytes : (value : Value) → length (value_bytes value) ≡ width_of value.elem
 unfolding value_bytes
@@ -50,7 +50,7 @@ lowered elem n m whole outside =
     let below : pos m -ℤ pos (2 ^ bits_of elem) ≡ negsuc n = omega (arith, ints, whole) in
     ap (chosen elem) left ∙ ap (either elem (pos m)) outside ∙ below
 
-truth : (n m : ℕ) → m ≡ n → n < 2 → (if int_eq (pos m) (pos 0) then pos 0 else pos 1) ≡ pos n
+pub truth : (n m : ℕ) → m ≡ n → n < 2 → (if int_eq (pos m) (pos 0) then pos 0 else pos 1) ≡ pos n
 truth zero m same small = rw same refl
 truth (suc zero) m same small = rw same refl
 truth (suc (suc n)) m same small = absurd (omega (arith, small))
@@ -138,3 +138,17 @@ unfolding value_bytes read_bytes
 read_bytes-value_bytes value rest inside =
     ap (λ (n : ℕ). wrapped value.elem (pos n)) (lowest (width_of value.elem) (cast_unsigned w64 value.bits) rest)
     ∙ wrapped_back value.elem value.bits inside
+
+-- ---- the byte of a BOOL
+
+truth_first : (bits : ℤ) (rest : List ℕ) → in_range elems.Bool bits ≡ true → get_or (little_bytes 1 (cast_unsigned w64 bits) ++ rest) 0 0 < 2
+truth_first (pos n) rest inside =
+    let same : n / 1 % 256 ≡ n % 256 = ap (λ (y : ℕ). y % 256) (div-one n) in
+    omega (arith, same, below n 2 inside)
+truth_first (negsuc n) rest inside = cc
+
+pub begin_as_truth : (value : Value) (rest : List ℕ) → IsValue value → BeginAsTruth value.elem (value_bytes value ++ rest)
+unfolding value_bytes
+begin_as_truth value rest inside is =
+    let at : in_range elems.Bool value.bits ≡ true = ap (λ (e : Elem). in_range e value.bits) (sym is) ∙ inside in
+    subst (λ (e : Elem). get_or (little_bytes (width_of e) (cast_unsigned w64 value.bits) ++ rest) 0 0 < 2) (sym is) (truth_first value.bits rest at)

@@ -1,5 +1,5 @@
 -- What follows of what memories hold, and of what an online change makes of it.
-use Rattle.std.specs.Prelude.{ℕ, pos, ◌≡◌, ◌+◌, ◌<◌, ◌↔◌, Bool, true, false, if◌then◌else◌, List, length, Option, Some, None, IsSome, IsSomeAnd, IfSome, IsTrue}
+use Rattle.std.specs.Prelude.{ℕ, pos, ◌≡◌, ◌<◌, ◌↔◌, Bool, false, if◌then◌else◌, List, length, Option, Some, None, IsSome, IsSomeAnd, IfSome, IsTrue}
 use Rattle.std.specs.List.{All, AllPairs, Contains, filter, flat_map, range_with_len, sum_by}
 use Rattle.std.specs.Option.{is_none, option_map, option_map_or}
 use Rattle.std.specs.Str.{bytes_eq}

@@ -1,14 +1,15 @@
 -- What the bytes and the marks of a packed memory say.
-use Rattle.std.specs.Prelude.{ℕ, suc, ◌≡◌, ◌+◌, ◌/◌, ◌%◌, ◌==◌, Bool, List, [], ◌∷◌, map, length, drop, get_or, refl}
+use Rattle.std.specs.Prelude.{ℕ, suc, ◌≡◌, ◌+◌, ◌/◌, ◌%◌, ◌==◌, Bool, nat_lt, List, [], ◌∷◌, map, length, drop, get_or, refl}
 use Rattle.std.proofs.Common.{ap}
 use Rattle.std.proofs.lemmas.List.FromFn.{length-map-range_with_len}
 use Rattle.std.specs.Int.{bit_at}
-use Rattle.std.specs.List.{flat_map, range_with_len}
+use Rattle.std.specs.List.{flat_map, list_any, range_with_len}
 use Rattle.st_values.specs.Types.{width_of}
 use Rattle.st_values.specs.declared.value.Value.{Value}
 use Rattle.st_tree.specs.declared.leaf.Leaf.{Leaf}
 use Rattle.st_memory.specs.Bytes.{read_bytes, value_bytes}
-use Rattle.st_layout.specs.Layout.{total_width}
+use Rattle.st_layout.specs.Layout.{leaf_at, offset_of, total_width}
+use Rattle.st_memory.specs.declared.packed.rows.Row.{Row}
 use Rattle.st_memory.specs.Memory.{AreValues, Content, Fits}
 
 -- the values that stand in bytes, one after another
@@ -46,6 +47,24 @@ pub record IsHeld (leaves : List Leaf) (bytes : List ℕ) : Type 0 where
 pub record IsPacked (leaves : List Leaf) (bytes marks : List ℕ) : Type 0 where
   pub held : IsHeld leaves bytes
   pub count : length marks ≡ mark_bytes (length leaves)
+
+-- where the value of a leaf lies, and its type
+abbrev pub row_of : List Leaf → ℕ → Row
+row_of leaves i = record { offset = offset_of leaves i; elem = (leaf_at leaves i).elem }
+
+-- the rows of all leaves
+abbrev pub rows_of : List Leaf → List Row
+rows_of leaves = map (row_of leaves) (range_with_len 0 (length leaves))
+
+-- whether any mark is set
+abbrev pub has_mark : List ℕ → Bool
+has_mark marks = list_any (λ byte. nat_lt 0 byte) marks
+
+-- The bytes and marks are those of the leaves, and so are the rows; and it is known whether any leaf is forced.
+pub record IsWhole (leaves : List Leaf) (bytes marks : List ℕ) (rows : List Row) (is_forced : Bool) : Type 0 where
+  pub packed : IsPacked leaves bytes marks
+  pub rows' : rows ≡ rows_of leaves
+  pub forced' : is_forced ≡ has_mark marks
 
 pub length-decoded : (leaves : List Leaf) (bytes : List ℕ) → length (decoded leaves bytes) ≡ length leaves
 length-decoded [] bytes = refl

@@ -2,7 +2,7 @@
 ghost use Rattle.std.specs.Prelude.{◌≡◌, ◌<◌, ◌≤◌, ◌++◌, ◌^◌, OnOk, drop, length, unsigned_abs};
 ghost use Rattle.std.specs.Int.{cast_unsigned, w64};
 ghost use Rattle.byteorder.specs.Endian.{little_bytes};
-ghost use Rattle.st_memory.specs.Bytes.{read_bytes, value_bytes};
+ghost use Rattle.st_memory.specs.Bytes.{BeginAsTruth, read_bytes, value_bytes};
 ghost use Rattle.st_values.specs.Types.{width_of};
 ghost use Rattle.st_values.specs.Values.{IsValue};
 
@@ -72,10 +72,11 @@ fn put_low(bytes: &mut [u8], elem: Elem, number: u64)
     }
 }
 
-/// The value of a type whose bytes these begin with, as `first_value` gives it, with no arithmetic in 128 bits.
+/// The value of a type whose bytes these begin with, as `first_value` gives it, with no arithmetic in 128 bits. Those of a BOOL are 0 or 1.
 #[inline(always)]
 pub fn value_in(elem: Elem, bytes: &[u8]) -> Value
-    requires { width_of elem ≤ length bytes.now }
+    requires room { width_of elem ≤ length bytes.now }
+    requires truth { BeginAsTruth elem bytes.now }
     ensures { result ≡ read_bytes elem bytes.now }
 {
     Value {
@@ -88,11 +89,12 @@ pub fn value_in(elem: Elem, bytes: &[u8]) -> Value
 #[tactic(auto, unfolding(crate::specs::Bytes::read_bytes))]
 #[inline(always)]
 fn number_in(elem: Elem, bytes: &[u8]) -> i128
-    requires { width_of elem ≤ length bytes.now }
+    requires room { width_of elem ≤ length bytes.now }
+    requires truth { BeginAsTruth elem bytes.now }
     ensures { record { elem = elem; bits = result } ≡ read_bytes elem bytes.now }
 {
     match elem {
-        Elem::Bool => { if bytes[0] == 0 { 0 } else { 1 } }
+        Elem::Bool => i128::from(bytes[0]),
         Elem::Sint => i128::from(bytes[0].cast_signed()),
         Elem::Int => i128::from(LittleEndian::read_u16(bytes).cast_signed()),
         Elem::Dint => i128::from(LittleEndian::read_u32(bytes).cast_signed()),

@@ -12,7 +12,7 @@ use crate::memory::Memory;
 use crate::saved::Saved;
 use st_layout::{Layout, Plan};
 use st_tree::List;
-use st_values::Value;
+use st_values::{Elem, Value};
 use std::alloc::{AllocError, Global};
 
 /// A memory of one value and one mark a leaf.
@@ -36,6 +36,10 @@ impl Memory for Cells {
         let values = initial_values(alloc, layout)?;
         let forced = no_forces(alloc, layout)?;
         Ok(Cells { values, forced })
+    }
+
+    fn elem(&self, layout: &Layout, leaf: u32) -> Elem {
+        layout.elem(leaf)
     }
 
     fn get(&self, layout: &Layout, leaf: u32) -> Value {

@@ -1,7 +1,7 @@
 //! Memories: what a layout's leaves hold while the program runs.
 ghost use Rattle.std.specs.Prelude.{◌≡◌, ◌<◌, IfOk, OnErr, OnOk, length, List as Items};
 ghost use Rattle.std.specs.List.{All};
-ghost use Rattle.st_layout.specs.Layout.{IsOpenAt, IsValueAt};
+ghost use Rattle.st_layout.specs.Layout.{IsOpenAt, IsValueAt, leaf_at};
 ghost use Rattle.st_memory.specs.Memory.{Content, Fits, ForcesAreOpen, forced_at, initial_content, value_at, with_force, with_value};
 ghost use Rattle.st_memory.specs.Moves.{HoldsValues, moved, saved, unmoved};
 ghost use Rattle.st_layout.specs.Pairs.{IsPairing};
@@ -9,7 +9,7 @@ ghost use Rattle.st_tree.specs.declared.leaf.Leaf.{Leaf};
 
 use crate::saved::Saved;
 use st_layout::{Layout, Plan};
-use st_values::Value;
+use st_values::{Elem, Value};
 use std::alloc::{AllocError, Global};
 
 /// A memory: the value of each leaf of a layout, and whether the leaf is forced.
@@ -24,6 +24,12 @@ pub trait Memory: Sized + Drop {
     fn fresh(alloc: Global, layout: &Layout) -> Result<Self, AllocError>
         ensures over { IfOk result (λ memory. IsOver layout.now memory) }
         ensures initial { IfOk result (λ memory. content layout.now memory ≡ initial_content layout.now) };
+
+    /// The type of a leaf.
+    fn elem(&self, layout: &Layout, leaf: u32) -> Elem
+        requires over { IsOver layout.now self.now }
+        requires below { leaf < length layout.now }
+        ensures { result ≡ (leaf_at layout.now leaf).elem };
 
     /// The value of a leaf.
     fn get(&self, layout: &Layout, leaf: u32) -> Value

@@ -24,13 +24,11 @@ struct OfBytes<'a> {
 }
 
 impl OldValues for OfBytes<'_> {
-    ghost use Rattle.std.specs.Prelude.{◌≡◌, length};
-    ghost use Rattle.st_layout.specs.Layout.{total_width};
-    ghost use Rattle.st_memory.specs.Packed.{decoded};
+    ghost use Rattle.st_memory.specs.Packed.{IsHeld, decoded};
 
     ghost values = { λ leaves packed. decoded leaves packed.bytes.now };
 
-    ghost AreOver = { λ leaves packed. length packed.bytes.now ≡ total_width leaves };
+    ghost AreOver = { λ leaves packed. IsHeld leaves packed.bytes.now };
 
     fn at(&self, old: &Layout, leaf: u32) -> Value {
         value_at(self.bytes, old, leaf)

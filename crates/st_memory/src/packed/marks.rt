@@ -2,7 +2,7 @@
 ghost use Rattle.std.specs.Prelude.{◌≡◌, ◌≢◌, ◌<◌, ◌≤◌, ◌+◌, ◌*◌, ◌^◌, IfOk, false, length, map, replicate, ℕ};
 ghost use Rattle.st_layout.specs.Pairs.{AreBelow};
 ghost use Rattle.st_memory.specs.Moves.{moved_force};
-ghost use Rattle.st_memory.specs.Packed.{mark_at, mark_bytes, marked};
+ghost use Rattle.st_memory.specs.Packed.{has_mark, mark_at, mark_bytes, marked};
 
 use st_layout::{Layout, Run, Runs};
 use std::alloc::{AllocError, Global};
@@ -24,6 +24,13 @@ pub fn is_marked(marks: &[u8], leaf: u32) -> bool
     ensures { result ≡ mark_at marks.now leaf }
 {
     (marks[(leaf / 8) as usize] >> (leaf % 8)) % 2 == 1
+}
+
+/// Tests whether any leaf is marked.
+pub fn has_mark(marks: &[u8]) -> bool
+    ensures { result ≡ has_mark marks.now }
+{
+    marks.iter().any(|byte| 0 < *byte)
 }
 
 /// Marks a leaf, or takes its mark away.

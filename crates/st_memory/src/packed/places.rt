@@ -1,38 +1,50 @@
 //! Values at the places of their leaves, in the bytes of all leaves.
 ghost use Rattle.std.specs.Prelude.{◌≡◌, ◌≤◌, ◌<◌, ◌++◌, ◌+◌, ◌-◌, OnOk, drop, length, take};
 ghost use Rattle.st_memory.specs.Bytes.{value_bytes};
-ghost use Rattle.st_layout.specs.Layout.{IsValueAt, offset_of, total_width};
-ghost use Rattle.st_memory.specs.Memory.{value_at as value_of};
+ghost use Rattle.st_layout.specs.Layout.{IsValueAt, leaf_at, offset_of, total_width};
+ghost use Rattle.st_memory.specs.Memory.{value_at};
 ghost use Rattle.st_memory.specs.Packed.{IsHeld, decoded, encoded};
 ghost use Rattle.st_values.specs.Types.{width_of};
 
 use crate::bytes::{put_value, value_in};
 use st_layout::{Layout, Run};
-use st_values::Value;
+use st_values::{Elem, Value};
 use std::alloc::AllocError;
 
 /// The value of a leaf.
-#[inline(always)]
 pub fn value_at(bytes: &[u8], layout: &Layout, leaf: u32) -> Value
-    requires bytes { length bytes.now ≡ total_width layout.now }
+    requires held { IsHeld layout.now bytes.now }
     requires below { leaf < length layout.now }
-    ensures { result ≡ value_of (decoded layout.now bytes.now) leaf }
+    ensures { result ≡ value_at (decoded layout.now bytes.now) leaf }
 {
-    let start = layout.offset(leaf) as usize;
-    value_in(layout.elem(leaf), &bytes[start..])
+    value_of(bytes, layout, leaf, layout.offset(leaf), layout.elem(leaf))
 }
 
-/// Puts the value of a leaf in the place of the one that is there.
+/// The value of a leaf, which lies there and is of this type.
 #[inline(always)]
-pub fn set_value_at(bytes: &mut [u8], layout: &Layout, leaf: u32, value: Value)
+pub fn value_of(bytes: &[u8], layout: &Layout, leaf: u32, offset: u32, elem: Elem) -> Value
+    requires held { IsHeld layout.now bytes.now }
+    requires below { leaf < length layout.now }
+    requires offset { offset ≡ offset_of layout.now leaf }
+    requires elem { elem ≡ (leaf_at layout.now leaf).elem }
+    ensures { result ≡ value_at (decoded layout.now bytes.now) leaf }
+{
+    let start = offset as usize;
+    value_in(elem, &bytes[start..])
+}
+
+/// Puts the value of a leaf, which lies there, in the place of the one that is there.
+#[inline(always)]
+pub fn set_value_of(bytes: &mut [u8], layout: &Layout, leaf: u32, offset: u32, value: Value)
     requires bytes { length bytes.old ≡ total_width layout.now }
     requires below { leaf < length layout.now }
+    requires offset { offset ≡ offset_of layout.now leaf }
     requires value { IsValueAt layout.now leaf value }
     ensures { let start = offset_of layout.now leaf in
         bytes.new ≡ take start bytes.old ++ (value_bytes value
         ++ drop (start + width_of value.elem) bytes.old) }
 {
-    let start = layout.offset(leaf) as usize;
+    let start = offset as usize;
     put_value(&mut bytes[start..], value);
 }
 

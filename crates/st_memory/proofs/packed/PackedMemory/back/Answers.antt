@@ -1,8 +1,8 @@
-use Rattle.std.proofs.Common.{◌≡◌, ◌∙◌, Bool, List, ap, length, refl}
+use Rattle.std.proofs.Common.{◌∙◌, Bool, List, ap, length, refl}
 use Rattle.st_values.specs.declared.value.Value.{Value}
 use Rattle.st_memory.specs.Memory.{Content, Fits}
 use Rattle.st_memory.specs.Moves.{unmoved, unmoved_values}
-use Rattle.st_memory.specs.Packed.{content_in, decoded, marked, packed_fits}
+use Rattle.st_memory.specs.Packed.{content_in, marked, packed_fits}
 use Rattle.st_memory.proofs.Encoded.{holds_encoded, says_encoded}
 use Rattle.st_memory.proofs.GivenBack.{unmoved_fits}
 use Rattle.st_layout.proofs.Paired.{targets_below}
@@ -22,21 +22,26 @@ unfolding unmoved
 returns-clause-over c =
     let content : Content = content_in c.args.new.now c.args.self.now.bytes.items c.args.self.now.marks.items in
     let fits : Fits c.args.old.now (unmoved c.args.old.now c.args.plan.now content c.args.dropped.now) =
-    unmoved_fits c.args.old.now c.args.new.now c.args.plan.now c.requires.plan content c.args.dropped.now (packed_fits c.args.new.now c.args.self.now.bytes.items c.args.self.now.marks.items c.requires.over) c.requires.holds in
+    unmoved_fits c.args.old.now c.args.new.now c.args.plan.now c.requires.plan content c.args.dropped.now (packed_fits c.args.new.now c.args.self.now.bytes.items c.args.self.now.marks.items c.requires.over.packed) c.requires.holds in
     let are = rw (c.deref.ensures.value, c.as_slice.ensures) at c.in_ok-bytes.ensures in
-    record {
-      held = holds_encoded c.args.old.now (unmoved_values content.values c.args.old.now c.args.plan.now.targets c.args.dropped.now.bytes) c.in_ok-bytes.bytes.items fits.types are;
-      count = c.in_ok-marks.ensures.count;
-    }
+    rw (c.with.ensures.bytes, c.with.ensures.marks, c.with.ensures.rows) (record {
+      packed = record {
+        held = holds_encoded c.args.old.now (unmoved_values content.values c.args.old.now c.args.plan.now.targets c.args.dropped.now.bytes) c.in_ok-bytes.bytes.items fits.types are;
+        count = c.in_ok-marks.ensures.count;
+      };
+      rows' = c.in_ok-rows.ensures;
+      forced' = c.with.ensures.forced;
+    })
 
 pub returns-clause-unmoved : goal.returns-clause-unmoved
 unfolding unmoved
 returns-clause-unmoved c =
     let content : Content = content_in c.args.new.now c.args.self.now.bytes.items c.args.self.now.marks.items in
     let fits : Fits c.args.old.now (unmoved c.args.old.now c.args.plan.now content c.args.dropped.now) =
-    unmoved_fits c.args.old.now c.args.new.now c.args.plan.now c.requires.plan content c.args.dropped.now (packed_fits c.args.new.now c.args.self.now.bytes.items c.args.self.now.marks.items c.requires.over) c.requires.holds in
+    unmoved_fits c.args.old.now c.args.new.now c.args.plan.now c.requires.plan content c.args.dropped.now (packed_fits c.args.new.now c.args.self.now.bytes.items c.args.self.now.marks.items c.requires.over.packed) c.requires.holds in
     let are = rw (c.deref.ensures.value, c.as_slice.ensures) at c.in_ok-bytes.ensures in
     let values = says_encoded c.args.old.now (unmoved_values content.values c.args.old.now c.args.plan.now.targets c.args.dropped.now.bytes) c.in_ok-bytes.bytes.items fits.types are in
     let forced = rw (c.deref-2.ensures.value, c.as_slice-2.ensures) at c.in_ok-marks.ensures.marks in
-    ap (λ (them : List Value). made them (marked (length c.args.old.now) c.in_ok-marks.marks.items)) values
-    ∙ ap (made (unmoved_values content.values c.args.old.now c.args.plan.now.targets c.args.dropped.now.bytes)) forced
+    rw (c.with.ensures.bytes, c.with.ensures.marks)
+    (ap (λ (them : List Value). made them (marked (length c.args.old.now) c.in_ok-marks.marks.items)) values
+    ∙ ap (made (unmoved_values content.values c.args.old.now c.args.plan.now.targets c.args.dropped.now.bytes)) forced)

@@ -1,11 +1,8 @@
-use Rattle.std.proofs.Common.{◌≡◌, ◌∙◌, ap, subst}
-use Rattle.st_layout.specs.Layout.{IsValueAt}
-use Rattle.st_memory.specs.Memory.{value_at}
 use Rattle.st_memory.specs.Packed.{decoded}
 use Rattle.st_memory.proofs.Contents.{value_fits}
 use Rattle.st_memory.proofs.packed.PackedMemory.get.Goals as goal
 
 pub returns-clause-fits : goal.returns-clause-fits
 returns-clause-fits c =
-    rw (c.value_at.ensures, c.deref.ensures.value)
-    (value_fits c.args.layout.now (decoded c.args.layout.now c.args.self.now.bytes.items) c.args.leaf c.requires.over.held.types c.requires.below)
+    rw (c.value_of.ensures, c.deref-3.ensures.value)
+    (value_fits c.args.layout.now (decoded c.args.layout.now c.args.self.now.bytes.items) c.args.leaf c.requires.over.packed.held.types c.requires.below)

@@ -1,4 +1,4 @@
-use Rattle.std.proofs.Common.{◌≡◌, ◌∙◌, ◌++◌, ℕ, Bool, List, ap, arith, drop, length, take}
+use Rattle.std.proofs.Common.{◌∙◌, ℕ, Bool, List, ap, arith, drop, length}
 use Rattle.std.proofs.lemmas.List.{take_at}
 use Rattle.st_values.specs.declared.value.Value.{Value}
 use Rattle.st_memory.specs.Memory.{Content}

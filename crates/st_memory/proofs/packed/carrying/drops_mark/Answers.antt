@@ -1,4 +1,4 @@
-use Rattle.std.proofs.Common.{◌≡◌, ◌∙◌, ◌&&◌, Bool, false, ap, length, sym}
+use Rattle.std.proofs.Common.{◌∙◌, ◌&&◌, Bool, false, ap, length, sym}
 use Rattle.std.specs.Option.{is_none}
 use Rattle.st_layout.specs.Pairs.{number_at}
 use Rattle.st_memory.proofs.Bits.{marked_at}

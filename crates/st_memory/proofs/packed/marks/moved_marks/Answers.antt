@@ -1,4 +1,4 @@
-use Rattle.std.proofs.Common.{◌≡◌, ◌∙◌, ◌+◌, ◌<◌, ◌≤◌, ℕ, Bool, List, Option, None, Some, false, ap, arith, length, map, replicate, sym}
+use Rattle.std.proofs.Common.{◌≡◌, ◌∙◌, ◌+◌, ◌≤◌, ℕ, Bool, List, Option, None, false, ap, arith, length, map, replicate, sym}
 use Rattle.std.proofs.lemmas.List.{get_or-map, length-map, with_items_is}
 use Rattle.st_memory.specs.Moves.{moved_force}
 use Rattle.st_memory.specs.Packed.{mark_at, mark_bytes, marked}

@@ -1,4 +1,4 @@
-use Rattle.std.proofs.Common.{◌<◌, ◌/◌, ◌%◌, ◌∙◌, length, sym, arith}
+use Rattle.std.proofs.Common.{◌%◌, ◌∙◌, sym, arith}
 use Rattle.std.specs.Int.{w8}
 use Rattle.std.proofs.lemmas.Nat.Bits.{bit_at_clear_other, bit_at_clear_same, bit_at_set_other, bit_at_set_same}
 use Rattle.st_memory.proofs.Bits.{set_here, set_others}

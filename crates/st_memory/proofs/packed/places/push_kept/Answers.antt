@@ -1,4 +1,4 @@
-use Rattle.std.proofs.Common.{◌≡◌, ◌∙◌, ◌++◌, ◌-◌, ◌+◌, ℕ, List, ap, arith, drop, take}
+use Rattle.std.proofs.Common.{◌≡◌, ◌++◌, ◌-◌, ◌+◌, ℕ, ap, arith, drop, take}
 use Rattle.std.proofs.lemmas.Result.{IfOk-equal}
 use Rattle.st_memory.specs.Packed.{decoded, encoded}
 use Rattle.st_memory.proofs.packed.places.push_kept.Goals as goal

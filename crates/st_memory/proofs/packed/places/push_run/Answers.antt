@@ -1,4 +1,4 @@
-use Rattle.std.proofs.Common.{◌≡◌, ◌∙◌, ◌-◌, ℕ, List, ap, arith, drop, take}
+use Rattle.std.proofs.Common.{◌≡◌, ◌∙◌, ◌-◌, ℕ, ap, arith, drop, take}
 use Rattle.std.proofs.lemmas.Grind.{common_steps}
 use Rattle.st_layout.specs.Layout.{offset_of}
 use Rattle.st_memory.specs.Packed.{decoded, encoded}

@@ -1,4 +1,4 @@
-use Rattle.std.proofs.Common.{◌≡◌, ◌+◌, ◌≤◌, ◌∙◌, ℕ, List, None, ap, arith, length, refl}
+use Rattle.std.proofs.Common.{◌≡◌, ◌+◌, ◌≤◌, ◌∙◌, List, None, ap, arith, length, refl}
 use Rattle.std.proofs.lemmas.List.{take_rest}
 use Rattle.st_values.specs.declared.value.Value.{Value}
 use Rattle.st_tree.specs.declared.leaf.Leaf.{Leaf}
