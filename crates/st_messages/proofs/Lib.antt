@@ -2,3 +2,4 @@ mod Lexing
 pub mod Lines
 mod ReplacementRows
 mod Skips
+pub mod Telling

@@ -1,16 +1,21 @@
 //! A message as it is written.
-ghost use Rattle.std.specs.Prelude.{◌≡◌, []};
-ghost use Rattle.st_messages.specs.Drafts.{Adds, written};
+ghost use Rattle.std.specs.Prelude.{◌≡◌, ◌++◌, IfOk, List, [], codes, false, true, ℕ};
+ghost use Rattle.std.specs.String.{string_bytes};
+ghost use Rattle.st_messages.specs.Drafts.{Adds, Becomes, ended, quoted, said, with_line};
+ghost use Rattle.st_messages.specs.Sayings.{Tells, title_of};
 
 use crate::form::Words;
 use crate::nearest::Nearest;
-use crate::shown::push_shown;
+use crate::saying::{Opening, Saying};
+use crate::shown::{quoted, shown};
 use std::alloc::{AllocError, Global};
 
 /// What is said of a fault, as it is written: a title, and lines below it. It keeps that memory was wanting: then nothing more is
 /// written, and `finish` says so.
 #[derive(Drop)]
 pub struct Draft {
+    /// Where the memory for it is.
+    alloc: Global,
     /// What is wrong, in one line.
     title: String,
     /// The lines below it, without the last line feed.
@@ -22,9 +27,11 @@ pub struct Draft {
 impl Draft {
     /// Nothing is said yet.
     pub fn new(alloc: Global) -> Draft
-        ensures { written result ≡ [] }
+        ensures title { string_bytes result.title ≡ [] }
+        ensures more { string_bytes result.more ≡ [] }
     {
         Draft {
+            alloc,
             title: String::new(alloc),
             more: String::new(alloc),
             failed: false,
@@ -34,15 +41,6 @@ impl Draft {
     /// Whether nothing was said.
     pub fn is_empty(&self) -> bool {
         self.title.is_empty()
-    }
-
-    /// The line that is written: the last one.
-    fn last(&mut self) -> &mut String {
-        if self.more.is_empty() {
-            &mut self.title
-        } else {
-            &mut self.more
-        }
     }
 
     /// Says a text.
@@ -61,23 +59,30 @@ impl Draft {
     }
 
     /// Says bytes as they can be shown.
-    pub fn show(&mut self, bytes: &[u8]) {
-        if !self.failed {
-            self.failed = push_shown(self.last(), bytes).is_err();
+    pub fn show(&mut self, bytes: &[u8])
+        ensures { (shown : List ℕ) × Adds self.old self.new shown }
+    {
+        match shown(self.alloc, bytes) {
+            Ok(text) => self.say(text.as_str()),
+            Err(_) => self.fail(),
         }
     }
 
     /// Says a name, between two backticks.
-    pub fn quote(&mut self, name: &[u8]) {
-        self.say("`");
-        self.show(name);
-        self.say("`");
+    pub fn quote(&mut self, name: &[u8])
+        ensures { (shown : List ℕ) × Adds self.old self.new (quoted shown) }
+    {
+        match quoted(self.alloc, name) {
+            Ok(text) => self.say(text.as_str()),
+            Err(_) => self.fail(),
+        }
     }
 
     /// Says a number.
     pub fn number(&mut self, number: i128) {
-        if !self.failed {
-            self.failed = write!(self.last(), "{number}").is_err();
+        match format!(in self.alloc; "{number}") {
+            Ok(text) => self.say(text.as_str()),
+            Err(_) => self.fail(),
         }
     }
 
@@ -88,13 +93,47 @@ impl Draft {
     }
 
     /// Begins a line below, which says what to do.
-    pub fn help(&mut self, help: &str) {
+    pub fn help(&mut self, help: &str)
+        ensures { Becomes self.old self.new (with_line (said self.old)
+            (codes "  help: " ++ help.now)) }
+    {
         self.line("  help: ");
         self.say(help);
     }
 
+    /// Says what a row says of these bytes.
+    pub fn tell(&mut self, bytes: &[u8], saying: Saying)
+        ensures { Tells self.old self.new saying }
+    {
+        self.entitle(bytes, saying);
+        if !saying.help.is_empty() {
+            self.help(saying.help);
+        }
+    }
+
+    /// Says the title of a row, of these bytes.
+    fn entitle(&mut self, bytes: &[u8], saying: Saying)
+        ensures { (shown : List ℕ) × Adds self.old self.new
+            (title_of saying.opening shown saying.title.now) }
+    {
+        match saying.opening {
+            Opening::Quoted => self.say_of(bytes, saying.title),
+            Opening::Plain => self.say(saying.title),
+        }
+    }
+
+    /// Says a text of a name, which stands between two backticks before it.
+    fn say_of(&mut self, name: &[u8], text: &str)
+        ensures { (shown : List ℕ) × Adds self.old self.new (quoted shown ++ text.now) }
+    {
+        self.quote(name);
+        self.say(text);
+    }
+
     /// Begins a line below with a text that isn't empty.
-    pub fn line(&mut self, start: &str) {
+    pub fn line(&mut self, start: &str)
+        ensures { Becomes self.old self.new (with_line (said self.old) start.now) }
+    {
         if !self.more.is_empty() {
             self.say("\n");
         }
@@ -104,7 +143,9 @@ impl Draft {
     }
 
     /// Keeps that there was no memory for what was to be said.
-    pub fn fail(&mut self) {
+    pub fn fail(&mut self)
+        ensures { self.new.failed ≡ true }
+    {
         self.failed = true;
     }
 
@@ -122,7 +163,12 @@ impl Draft {
     }
 
     /// What was said, where there was memory for all of it.
-    pub fn finish(mut self) -> Result<Words, AllocError> {
+    pub fn finish(mut self) -> Result<Words, AllocError>
+        ensures all { IfOk result (λ _. self.failed ≡ false) }
+        ensures title { IfOk result (λ words. string_bytes words.title ≡ string_bytes self.title) }
+        ensures more { IfOk result (λ words. string_bytes words.more
+            ≡ ended (string_bytes self.more)) }
+    {
         if !self.more.is_empty() {
             self.say("\n");
         }

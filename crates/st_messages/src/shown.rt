@@ -1,6 +1,25 @@
 //! Bytes as people can read them.
 
-use std::alloc::AllocError;
+ghost use Rattle.std.specs.Prelude.{◌≡◌, IfOk, List, ℕ};
+ghost use Rattle.std.specs.String.{string_bytes};
+ghost use Rattle.st_messages.specs.Drafts.{quoted};
+
+use std::alloc::{AllocError, Global};
+
+/// Bytes as they can be shown safely.
+pub fn shown(alloc: Global, bytes: &[u8]) -> Result<String, AllocError> {
+    let mut text = String::new(alloc);
+    push_shown(&mut text, bytes)?;
+    Ok(text)
+}
+
+/// Bytes as they can be shown, between two backticks.
+pub fn quoted(alloc: Global, bytes: &[u8]) -> Result<String, AllocError>
+    ensures { IfOk result (λ text. (shown : List ℕ) × (string_bytes text ≡ quoted shown)) }
+{
+    let shown = shown(alloc, bytes)?;
+    format!(in alloc; "`{shown}`")
+}
 
 /// Puts bytes at the end of a message, as they can be shown safely: text in UTF-8 and tabs as they are, and each control character, each
 /// character that turns the direction of writing, and each byte that is no UTF-8 by its number.

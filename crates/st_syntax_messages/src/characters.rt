@@ -1,94 +1,137 @@
 //! What is said of bytes that are no token.
+ghost use Rattle.st_messages.specs.Lexemes.{IsWithin};
+ghost use Rattle.st_messages.specs.Sayings.{AreWordsFor};
+ghost use Rattle.std.specs.List.{list_any};
+ghost use Rattle.std.specs.Prelude.{◌<◌, ◌==◌, ◌≡◌, IfOk, IfSome, length, position};
+ghost use Rattle.st_syntax_messages.specs.Characters.{cause_of, is_left_out, literal_cause, number_cause, plain_cause, sign_cause, word_cause};
+ghost use Rattle.st_syntax_messages.specs.Located.{bytes_of};
+ghost use Rattle.st_syntax_messages.specs.Rows.{rows};
+ghost use Rattle.st_tokens.specs.Characters.{begins_word};
+ghost use Rattle.st_tokens.specs.Scanning.{is_duration_word};
+ghost use Rattle.st_values.specs.Words.{is_word};
 
+use crate::cause::Cause;
 use crate::reading::bytes_of;
-use st_messages::{Lexeme, Words, push_quoted};
+use crate::rows::words_for;
+use st_messages::{Lexeme, Words};
 use std::alloc::{AllocError, Global};
 
 /// What is said of a lexeme that is no token.
-pub fn explain_characters(alloc: Global, text: &[u8], lexeme: Lexeme) -> Result<Words, AllocError> {
-    let mut words = Words::new(alloc);
+pub fn explain_characters(alloc: Global, text: &[u8], lexeme: Lexeme) -> Result<Words, AllocError>
+    ensures { IsWithin text.now lexeme → IfOk result (AreWordsFor rows
+        (cause_of (lexeme.start == 0) (bytes_of text.now lexeme))) }
+{
     let bytes = bytes_of(text, lexeme);
-    match bytes {
-        [b'(', b'*', ..] => say_comment(&mut words)?,
-        [0xEF, 0xBB, 0xBF, ..] => say_mark(&mut words, lexeme.start == 0)?,
-        [first, ..] if first.is_ascii_digit() => say_number(&mut words, bytes)?,
-        [first, ..] if first.is_ascii_alphabetic() || *first == b'_' => say_word(
-            &mut words, bytes,
-        )?,
-        [first, ..] => say_symbol(&mut words, bytes, *first)?,
-        [] => words.title.push_str("nothing stands here")?,
-    }
-    Ok(words)
+    words_for(alloc, bytes, cause_of(lexeme.start == 0, bytes))
 }
 
-/// Says that a comment isn't closed.
-fn say_comment(words: &mut Words) -> Result<(), AllocError> {
-    words.title.push_str("this comment isn't closed")?;
-    words.help("close it by `*)`; comments don't nest, so the first `*)` ends one")
-}
-
-/// Says that a byte order mark stands here.
-fn say_mark(words: &mut Words, is_first: bool) -> Result<(), AllocError> {
-    words.title.push_str(if is_first {
-        "the text begins with a byte order mark"
-    } else {
-        "a byte order mark stands here"
-    })?;
-    words.help("save the text as UTF-8 without a byte order mark (BOM)")
-}
-
-/// Says that a number isn't well formed.
-fn say_number(words: &mut Words, bytes: &[u8]) -> Result<(), AllocError> {
-    push_quoted(&mut words.title, bytes)?;
-    words.title.push_str(" is no number")?;
-    if bytes.contains(&b'#') {
-        words.help("write `2#`, `8#` or `16#` and digits of that base, as `16#FF`")
-    } else {
-        words.help(
-            "write digits alone, where a single `_` may stand between two; a name begins with a letter",
-        )
-    }
-}
-
-/// Says that a word, or a literal that begins with one, isn't well formed.
-fn say_word(words: &mut Words, bytes: &[u8]) -> Result<(), AllocError> {
-    push_quoted(&mut words.title, bytes)?;
-    match bytes.iter().position(|byte| *byte == b'#') {
-        Some(at) => say_literal(words, bytes.get(..at).unwrap_or(b"")),
-        None => {
-            words
-                .title
-                .push_str(" is no name: two `_` stand in a row, or one at the end")?;
-            words.help("write a single `_` between letters or digits")
+/// Why bytes, which may be the first ones of a text, are no token.
+fn cause_of(is_first: bool, bytes: &[u8]) -> Cause
+    ensures { result ≡ cause_of is_first bytes.now }
+{
+    if bytes.is_empty() {
+        Cause::Nothing
+    } else if bytes.starts_with(b"(*") {
+        Cause::OpenComment
+    } else if bytes.starts_with(&MARK) {
+        if is_first {
+            Cause::FirstMark
+        } else {
+            Cause::LaterMark
         }
+    } else {
+        plain_cause(bytes)
     }
 }
 
-/// Says that a literal that begins with this word and `#` isn't well formed.
-fn say_literal(words: &mut Words, word: &[u8]) -> Result<(), AllocError> {
-    if word.eq_ignore_ascii_case(b"T") || word.eq_ignore_ascii_case(b"TIME") {
-        words.title.push_str(" is no duration")?;
-        words.help(
-            "write numbers with units from large to small, as `T#1d2h3m4s5ms` or `T#1.5s`, that come to whole milliseconds",
-        )
-    } else if is_left_out(word) {
-        words
-            .title
-            .push_str(" is of a type that isn't in this profile")?;
-        words.help(
-            "use integers, bit strings, BOOL and TIME: see \"Scaled integers\" in docs/COMING-FROM.md",
-        )
+/// The byte order mark.
+const MARK: [u8; 3] = [0xEF, 0xBB, 0xBF];
+
+/// Why bytes that are no comment and no byte order mark are no token.
+fn plain_cause(bytes: &[u8]) -> Cause
+    ensures { result ≡ plain_cause bytes.now }
+{
+    let first = match bytes {
+        [first, ..] => *first,
+        [] => 0,
+    };
+    if first.is_ascii_digit() {
+        number_cause(bytes)
+    } else if begins_word(first) {
+        word_cause(bytes)
     } else {
-        words.title.push_str(" is no value of a type")?;
-        words.help("write a type, `#` and a number, as `INT#-5`, `WORD#16#FF` or `BOOL#TRUE`")
+        sign_cause(first)
     }
+}
+
+/// Whether a word begins with this byte.
+fn begins_word(byte: u8) -> bool
+    ensures { result ≡ begins_word byte }
+{
+    byte.is_ascii_alphabetic() || byte == b'_'
+}
+
+/// Why bytes that begin with a digit are no number.
+fn number_cause(bytes: &[u8]) -> Cause
+    ensures { result ≡ number_cause bytes.now }
+{
+    if bytes.contains(&b'#') {
+        Cause::BasedNumber
+    } else {
+        Cause::PlainNumber
+    }
+}
+
+/// Why bytes that begin with a letter or `_` are no name and no literal.
+fn word_cause(bytes: &[u8]) -> Cause
+    ensures { result ≡ word_cause bytes.now }
+{
+    match first_hash(bytes) {
+        Some(at) => literal_cause(&bytes[..at]),
+        None => Cause::BadName,
+    }
+}
+
+/// How many bytes stand before the first `#`.
+fn first_hash(bytes: &[u8]) -> Option<usize>
+    ensures within { IfSome result (λ at. at < length bytes.now) }
+    ensures first { result ≡ position (λ b. b == 35) bytes.now }
+{
+    bytes.iter().position(|byte| *byte == b'#')
+}
+
+/// Why a literal is none that begins with this word and `#`.
+fn literal_cause(word: &[u8]) -> Cause
+    ensures { result ≡ literal_cause word.now }
+{
+    if is_duration(word) {
+        Cause::BadDuration
+    } else if is_left_out(word) {
+        Cause::LeftOutLiteral
+    } else {
+        Cause::BadLiteral
+    }
+}
+
+/// Whether a literal that begins with this word and `#` is a duration.
+fn is_duration(word: &[u8]) -> bool
+    ensures { result ≡ is_duration_word word.now }
+{
+    word.eq_ignore_ascii_case(b"T") || word.eq_ignore_ascii_case(b"TIME")
 }
 
 /// Whether a word is the name of a type of the standard that isn't in the profile.
-pub fn is_left_out(word: &[u8]) -> bool {
-    TYPES_LEFT_OUT
-        .iter()
-        .any(|name| word.eq_ignore_ascii_case(name))
+pub fn is_left_out(word: &[u8]) -> bool
+    ensures { result ≡ is_left_out word.now }
+{
+    is_among(&TYPES_LEFT_OUT, word)
+}
+
+/// Whether a word is one of these names, ignoring case.
+fn is_among(names: &[&[u8]], word: &[u8]) -> bool
+    ensures { result ≡ list_any (λ name. is_word name.now word.now) names.now }
+{
+    names.iter().any(|name| word.eq_ignore_ascii_case(name))
 }
 
 /// The types of the standard that aren't in the profile.
@@ -113,49 +156,22 @@ static TYPES_LEFT_OUT: [&[u8]; 18] = [
     b"POINTER",
 ];
 
-/// Says that no symbol of the language is this character.
-fn say_symbol(words: &mut Words, bytes: &[u8], first: u8) -> Result<(), AllocError> {
-    push_quoted(&mut words.title, bytes)?;
-    let (sentence, help) = symbol_words(first);
-    words.title.push_str(sentence)?;
-    words.help(help)
-}
-
-/// What is wrong with a character that begins no symbol, and what to do.
-fn symbol_words(first: u8) -> (&'static str, &'static str) {
+/// Why a character that begins with this byte is no symbol.
+fn sign_cause(first: u8) -> Cause
+    ensures { result ≡ sign_cause first }
+{
     match first {
-        b'\'' | b'"' => (
-            " begins a character string, and this profile has none",
-            "use numbers for what a text would say",
-        ),
-        b'{' | b'}' => (" is for pragmas, and this profile has none", "leave it out"),
-        b'!' => (
-            " is no symbol of the language",
-            "write `NOT A`, and `A <> B` for what isn't equal",
-        ),
-        b'|' => (" is no symbol of the language", "write `A OR B`"),
-        b'~' => (" is no symbol of the language", "write `NOT A`"),
-        b'^' => (
-            " is no symbol of the language",
-            "write `A XOR B`; there are no pointers here",
-        ),
-        b'?' => (
-            " is no symbol of the language",
-            "write `SEL(Condition, IfFalse, IfTrue)`",
-        ),
-        b'#' => (
-            " stands only in literals",
-            "write a type or a base before it, as `INT#5` or `16#FF`",
-        ),
-        b'$' => (
-            " can't stand in a text",
-            "what a block or a chart keeps under a name with `$` is only shown in sessions",
-        ),
-        b'\\' | b'@' | b'`' => (" is no symbol of the language", "leave it out"),
-        0x80..=0xFF => (
-            " is no character of the language",
-            "write names in letters without accents; other characters stand in comments alone",
-        ),
-        _ => (" is no character of the language", "leave it out"),
+        b'\'' | b'"' => Cause::CharacterString,
+        b'{' | b'}' => Cause::Pragma,
+        b'!' => Cause::Exclamation,
+        b'|' => Cause::Bar,
+        b'~' => Cause::Tilde,
+        b'^' => Cause::Caret,
+        b'?' => Cause::QuestionMark,
+        b'#' => Cause::Hash,
+        b'$' => Cause::Dollar,
+        b'\\' | b'@' | b'`' => Cause::OtherSign,
+        0..0x80 => Cause::OtherCharacter,
+        _ => Cause::Accented,
     }
 }

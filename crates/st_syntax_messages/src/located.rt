@@ -2,12 +2,16 @@
 ghost use Rattle.std.specs.Prelude.{◌≡◌, ◌↔◌, ◌<◌, ◌≤◌, All, IfOk, IsTrue, false, true};
 ghost use Rattle.st_messages.specs.Lexemes.{AreLexemes, ArePieces, IsWithin};
 ghost use Rattle.st_messages.specs.Places.{HasLine, line_at};
+ghost use Rattle.st_messages.specs.Sayings.{AreWordsFor};
 ghost use Rattle.st_syntax_messages.specs.Located.{IsRead, IsUnknownAt, bytes_of};
+ghost use Rattle.st_syntax_messages.specs.Rows.{rows};
 ghost use Rattle.st_syntax_messages.specs.Stopped.{IsAtStop, IsSaidAt, start_at, text_end};
 ghost use Rattle.st_tokens.specs.Text.{HasTokens, Tokens};
 
+use crate::cause::Cause;
 use crate::characters::explain_characters;
 use crate::reading::{Reading, bytes_of};
+use crate::rows::words_for;
 use crate::tokens::{explain_depth, explain_end, explain_token};
 use st_messages::{Lexeme, Span, Words, lexemes, line_span};
 use st_syntax::{ReadFault, read_units};
@@ -112,13 +116,10 @@ fn at_end(alloc: Global, reading: &Reading<'_>) -> Result<Located, AllocError>
 
 /// What is said of a text that is too long.
 fn too_long(alloc: Global) -> Result<Located, AllocError>
-    ensures { IfOk result (λ l. l.span.start ≡ 0) }
+    ensures start { IfOk result (λ l. l.span.start ≡ 0) }
+    ensures words { IfOk result (λ l. AreWordsFor rows Cause.TooLong l.words) }
 {
-    let mut words = Words::new(alloc);
-    words
-        .title
-        .push_str("the text is longer than 1,048,576 bytes")?;
-    words.help("shorten it; blanks and comments count too")?;
+    let words = words_for(alloc, b"", Cause::TooLong)?;
     let span = Span { start: 0, end: 0 };
     Ok(Located { span, words })
 }
@@ -180,10 +181,7 @@ fn at_characters(
             });
         }
     }
-    let mut words = Words::new(alloc);
-    words
-        .title
-        .push_str("no word, number or symbol of the language begins here")?;
+    let words = words_for(alloc, b"", Cause::NoToken)?;
     let span = Span {
         start: here.end,
         end: here.end,

@@ -1,7 +1,9 @@
 //! A text with its lexemes and tokens.
-ghost use Rattle.std.specs.Prelude.{◌≡◌};
+ghost use Rattle.std.specs.Option.{option_copied};
+ghost use Rattle.std.specs.Prelude.{◌≡◌, Some};
 ghost use Rattle.st_messages.specs.Lexemes.{IsWithin};
 ghost use Rattle.st_syntax_messages.specs.Located.{bytes_of};
+ghost use Rattle.st_syntax_messages.specs.Spots.{bytes_in, spelling_at, touch, touches_at};
 
 use st_messages::Lexeme;
 use st_tokens::{Keyword, Kind, Symbol, Token};
@@ -16,11 +18,22 @@ pub struct Reading<'a> {
 
 /// The bytes of a lexeme.
 pub fn bytes_of(text: &[u8], lexeme: Lexeme) -> &[u8]
-    ensures { IsWithin text.now lexeme → result.now ≡ bytes_of text.now lexeme }
+    ensures within { IsWithin text.now lexeme → result.now ≡ bytes_of text.now lexeme }
+    ensures any { result.now ≡ bytes_in text.now (Some lexeme) }
 {
     match text.get(lexeme.start..lexeme.end) {
         Some(bytes) => bytes,
         None => b"",
+    }
+}
+
+/// Whether nothing stands between a lexeme and one behind it, if there is one.
+fn touch(before: &Lexeme, lexeme: Option<&Lexeme>) -> bool
+    ensures { result ≡ touch (Some before.now) (option_copied lexeme.entry) }
+{
+    match lexeme {
+        Some(lexeme) => before.end == lexeme.start,
+        None => false,
     }
 }
 
@@ -44,7 +57,9 @@ impl<'a> Reading<'a> {
     }
 
     /// The bytes of the token of this number. There are none where there is no such token.
-    pub fn spelling(&self, number: usize) -> &'a [u8] {
+    pub fn spelling(&self, number: usize) -> &'a [u8]
+        ensures { result.now ≡ spelling_at self.now.text.now self.now.lexemes.now number }
+    {
         match self.lexemes.get(number) {
             Some(lexeme) => bytes_of(self.text, *lexeme),
             None => b"",
@@ -75,14 +90,6 @@ impl<'a> Reading<'a> {
         }
     }
 
-    /// Whether the token before the one of this number is this symbol.
-    pub fn follows_symbol(&self, number: usize, symbol: Symbol) -> bool {
-        match number.checked_sub(1) {
-            Some(before) => self.is_symbol(before, symbol),
-            None => false,
-        }
-    }
-
     /// Whether the token before the one of this number is this reserved word.
     pub fn follows_keyword(&self, number: usize, keyword: Keyword) -> bool {
         match number.checked_sub(1) {
@@ -100,10 +107,15 @@ impl<'a> Reading<'a> {
     }
 
     /// Whether nothing stands between the token of this number and the one before it.
-    pub fn touches(&self, number: usize) -> bool {
-        match (self.lexeme_before(number), self.lexemes.get(number)) {
-            (Some(before), Some(lexeme)) => before.end == lexeme.start,
-            _ => false,
+    pub fn touches(&self, number: usize) -> bool
+        ensures { result ≡ touches_at self.now.lexemes.now number }
+    {
+        if number == 0 {
+            return false;
+        }
+        match self.lexemes.get(number - 1) {
+            Some(before) => touch(before, self.lexemes.get(number)),
+            None => false,
         }
     }
 

@@ -1,9 +1,18 @@
 //! What is said of a token that the grammar doesn't have where it stands.
 
-use crate::characters::is_left_out;
+ghost use Rattle.st_messages.specs.Sayings.{AreWordsFor};
+ghost use Rattle.std.specs.Prelude.{IfOk};
+ghost use Rattle.st_syntax_messages.specs.Rows.{rows};
+ghost use Rattle.st_syntax_messages.specs.Spots.{spot_at};
+ghost use Rattle.st_syntax_messages.specs.Tokens.{AreWordsAmong, AreWordsWhere, symbol_cause};
+
+use crate::cause::Cause;
 use crate::open::{Closing, Open, closes, open_before, written};
 use crate::probe::{MAX_PROBED_BYTES, is_allowed, push_allowed};
 use crate::reading::Reading;
+use crate::rows::words_for;
+use crate::spot::{Spot, spot_at};
+use crate::token_cause::{place_cause, symbol_cause};
 use st_messages::{Row, Words, left_out, other_word, push_quoted, push_shown};
 use st_tokens::{Keyword, Kind, Symbol};
 use std::alloc::{AllocError, Global};
@@ -13,22 +22,68 @@ pub fn explain_token(
     alloc: Global,
     reading: &Reading<'_>,
     number: usize,
+) -> Result<Words, AllocError>
+    ensures { let spot = spot_at reading.now.text.now reading.now.lexemes.now
+        reading.now.tokens.now number in
+        IfOk result (AreWordsWhere (symbol_cause spot spot.here)) }
+{
+    let spot = spot_at(reading, number);
+    match symbol_cause(spot) {
+        Some(cause) => words_for(alloc, reading.spelling(number), cause),
+        None => explain_word(alloc, reading, number, spot),
+    }
+}
+
+/// What is said of a token that is no symbol of another language: in the row of a word, or by its place.
+fn explain_word(
+    alloc: Global,
+    reading: &Reading<'_>,
+    number: usize,
+    spot: Spot,
 ) -> Result<Words, AllocError> {
     let mut words = Words::new(alloc);
-    if say_symbols(&mut words, reading, number)? || say_word(&mut words, reading, number)? {
+    if say_word(&mut words, reading, number)? {
         return Ok(words);
     }
+    explain_place(alloc, reading, number, spot)
+}
+
+/// What is said of a token among declarations, or elsewhere.
+fn explain_place(
+    alloc: Global,
+    reading: &Reading<'_>,
+    number: usize,
+    spot: Spot,
+) -> Result<Words, AllocError>
+    ensures { IfOk result (AreWordsAmong spot) }
+{
     let open = open_before(alloc, reading, number)?;
-    if say_declared(&mut words, reading, number, &open)? {
-        return Ok(words);
+    match place_cause(spot, declares(&open)) {
+        Some(cause) => words_for(alloc, reading.spelling(number), cause),
+        None => explain_open(alloc, reading, number, &open),
     }
-    if say_operator(&mut words, reading, number)? || say_name(&mut words, reading, number, &open)? {
+}
+
+/// What is said of a token where this is open.
+fn explain_open(
+    alloc: Global,
+    reading: &Reading<'_>,
+    number: usize,
+    open: &[Open],
+) -> Result<Words, AllocError> {
+    let mut words = Words::new(alloc);
+    if say_assigned(&mut words, reading, number, open)?
+        || say_name(&mut words, reading, number, open)?
+    {
         return Ok(words);
     }
     if say_ended(alloc, &mut words, reading, number)? {
         return Ok(words);
     }
-    if say_open(&mut words, reading, number, &open)? {
+    if let Some(cause) = end_cause(reading, number, open) {
+        return words_for(alloc, reading.spelling(number), cause);
+    }
+    if say_open(&mut words, reading, number, open)? {
         return Ok(words);
     }
     say_any(alloc, &mut words, reading, number)?;
@@ -54,96 +109,10 @@ pub fn explain_depth(
     alloc: Global,
     reading: &Reading<'_>,
     number: usize,
-) -> Result<Words, AllocError> {
-    let mut words = Words::new(alloc);
-    push_quoted(&mut words.title, reading.spelling(number))?;
-    words.title.push_str(
-        " opens a 65th level: no more than 64 parentheses, brackets and statements may be open inside one another",
-    )?;
-    words.help("work out a part of it in a statement before this one, or move it into a function")?;
-    Ok(words)
-}
-
-/// Says a title and what to do.
-fn say(words: &mut Words, title: &str, help: &str) -> Result<bool, AllocError> {
-    words.title.push_str(title)?;
-    words.help(help)?;
-    Ok(true)
-}
-
-// ---- symbols of other languages
-
-/// Says it where two symbols that touch are one of another language.
-fn say_symbols(
-    words: &mut Words,
-    reading: &Reading<'_>,
-    number: usize,
-) -> Result<bool, AllocError> {
-    match reading.kind(number) {
-        Some(Kind::Symbol(Symbol::Divide)) => say_slashes(words, reading, number),
-        Some(Kind::Symbol(Symbol::Times)) if doubles(reading, number, Symbol::Times) => say(
-            words,
-            "`**` isn't in this profile: there are no powers",
-            "multiply, as `A * A`",
-        ),
-        Some(Kind::Symbol(Symbol::Ampersand)) if doubles(reading, number, Symbol::Ampersand) => {
-            say(
-                words,
-                "`&&` is no symbol of the language",
-                "write `A AND B`, or `A & B`",
-            )
-        }
-        Some(Kind::Symbol(Symbol::Dot)) => say_point(words, reading, number),
-        Some(Kind::Symbol(Symbol::Percent)) => say(
-            words,
-            "`%` begins an address, and this profile has none",
-            "inputs of the process are the VAR_INPUT of the program, outputs its VAR_OUTPUT; a remainder is `A MOD B`",
-        ),
-        _ => Ok(false),
-    }
-}
-
-/// Whether this symbol stands here and directly before.
-fn doubles(reading: &Reading<'_>, number: usize, symbol: Symbol) -> bool {
-    reading.touches(number) && reading.follows_symbol(number, symbol)
-}
-
-/// Says it where `//` stands.
-fn say_slashes(
-    words: &mut Words,
-    reading: &Reading<'_>,
-    number: usize,
-) -> Result<bool, AllocError> {
-    let behind = number.saturating_add(1);
-    let first = reading.is_symbol(behind, Symbol::Divide) && reading.touches(behind);
-    let starred = reading.is_symbol(behind, Symbol::Times) && reading.touches(behind);
-    if first || doubles(reading, number, Symbol::Divide) {
-        return say(
-            words,
-            "`//` begins no comment in this edition of the standard",
-            "write `(* .. *)`",
-        );
-    }
-    if starred {
-        return say(
-            words,
-            "`/*` begins no comment in this edition of the standard",
-            "write `(* .. *)`",
-        );
-    }
-    Ok(false)
-}
-
-/// Says it where a number has a fraction.
-fn say_point(words: &mut Words, reading: &Reading<'_>, number: usize) -> Result<bool, AllocError> {
-    if !matches!(reading.kind_before(number), Some(Kind::Number(_))) {
-        return Ok(false);
-    }
-    words.title.push_str("a number with a fraction is a REAL, and this profile has none")?;
-    words.help(
-        "count in smaller units, as tenths: see \"Scaled integers\" in docs/COMING-FROM.md",
-    )?;
-    Ok(true)
+) -> Result<Words, AllocError>
+    ensures { IfOk result (AreWordsFor rows Cause.Depth) }
+{
+    words_for(alloc, reading.spelling(number), Cause::Depth)
 }
 
 // ---- words that are left out, or are of other languages
@@ -166,7 +135,9 @@ fn say_word(words: &mut Words, reading: &Reading<'_>, number: usize) -> Result<b
 fn say_row(words: &mut Words, row: Row) -> Result<bool, AllocError> {
     push_quoted(&mut words.title, row.0)?;
     words.title.push(' ')?;
-    say(words, row.1, row.2)
+    words.title.push_str(row.1)?;
+    words.help(row.2)?;
+    Ok(true)
 }
 
 // ---- declarations
@@ -182,67 +153,6 @@ fn declares(open: &[Open]) -> bool {
     }
 }
 
-/// Says it where a declaration goes on with what this profile leaves out.
-fn say_declared(
-    words: &mut Words,
-    reading: &Reading<'_>,
-    number: usize,
-    open: &[Open],
-) -> Result<bool, AllocError> {
-    if !declares(open) {
-        return Ok(false);
-    }
-    match reading.kind(number) {
-        Some(Kind::Symbol(Symbol::Open)) => say_parenthesis(words, reading, number),
-        Some(Kind::Symbol(Symbol::OpenBracket)) => say_length(words, reading, number),
-        Some(Kind::Symbol(Symbol::Equal)) => say(
-            words,
-            "an initial value is written behind `:=`",
-            "write `:=` in place of `=`",
-        ),
-        Some(Kind::Symbol(Symbol::Assign)) => say_assigned(words, reading, number, open),
-        _ => Ok(false),
-    }
-}
-
-/// Says what a `(` in a declaration would be.
-fn say_parenthesis(
-    words: &mut Words,
-    reading: &Reading<'_>,
-    number: usize,
-) -> Result<bool, AllocError> {
-    match reading.kind_before(number) {
-        Some(Kind::Symbol(Symbol::Colon)) => say(
-            words,
-            "enumerations aren't in this profile",
-            "use an INT, and a VAR CONSTANT for each of its values",
-        ),
-        Some(Kind::Symbol(Symbol::Assign)) => say(
-            words,
-            "initial values of structures and instances aren't in this profile",
-            "give each member its initial value in the STRUCT, or assign in the program",
-        ),
-        Some(Kind::Type(_)) => say(
-            words,
-            "subranges aren't in this profile",
-            "take the type alone, and LIMIT where values are assigned",
-        ),
-        _ => Ok(false),
-    }
-}
-
-/// Says it where a type has a length.
-fn say_length(words: &mut Words, reading: &Reading<'_>, number: usize) -> Result<bool, AllocError> {
-    match number.checked_sub(1) {
-        Some(before) if is_left_out(reading.spelling(before)) => say(
-            words,
-            "character strings aren't in this profile",
-            "use numbers for what a text would say",
-        ),
-        _ => Ok(false),
-    }
-}
-
 /// Says it where a statement stands among declarations.
 fn say_assigned(
     words: &mut Words,
@@ -251,8 +161,9 @@ fn say_assigned(
     open: &[Open],
 ) -> Result<bool, AllocError> {
     let is_name = matches!(reading.kind_before(number), Some(Kind::Word(_)));
+    let is_statement = is_name && declares(open) && reading.is_symbol(number, Symbol::Assign);
     match open.last() {
-        Some(last) if is_name => {
+        Some(last) if is_statement => {
             words
                 .title
                 .push_str("a statement stands among declarations: ")?;
@@ -263,75 +174,6 @@ fn say_assigned(
         }
         _ => Ok(false),
     }
-}
-
-// ---- operators
-
-/// Says it where an operator is taken for another one.
-fn say_operator(
-    words: &mut Words,
-    reading: &Reading<'_>,
-    number: usize,
-) -> Result<bool, AllocError> {
-    match reading.kind(number) {
-        Some(Kind::Symbol(Symbol::Equal)) => say_equal(words, reading, number),
-        Some(Kind::Symbol(Symbol::Assign))
-            if matches!(
-                reading.kind_before(number),
-                Some(Kind::Word(_) | Kind::Symbol(Symbol::CloseBracket))
-            ) => say(
-            words,
-            "`:=` assigns, and nothing can be assigned here",
-            "write `=` to compare",
-        ),
-        Some(Kind::Symbol(Symbol::Plus | Symbol::Minus | Symbol::Times)) => {
-            say_counting(words, reading, number)
-        }
-        _ => Ok(false),
-    }
-}
-
-/// Says what an `=` would be.
-fn say_equal(words: &mut Words, reading: &Reading<'_>, number: usize) -> Result<bool, AllocError> {
-    if reading.follows_symbol(number, Symbol::Equal) {
-        return say(
-            words,
-            "`==` is no symbol of the language",
-            "write `=` to compare",
-        );
-    }
-    if matches!(
-        reading.kind_before(number),
-        Some(Kind::Word(_) | Kind::Symbol(Symbol::CloseBracket))
-    ) {
-        return say(
-            words,
-            "`=` compares, and a statement stands here",
-            "write `:=` to assign",
-        );
-    }
-    Ok(false)
-}
-
-/// Says it where a variable would be counted on.
-fn say_counting(
-    words: &mut Words,
-    reading: &Reading<'_>,
-    number: usize,
-) -> Result<bool, AllocError> {
-    let twice = reading.kind_behind(number);
-    let counts = matches!(
-        twice,
-        Some(Kind::Symbol(Symbol::Equal | Symbol::Plus | Symbol::Minus))
-    );
-    if counts && matches!(reading.kind_before(number), Some(Kind::Word(_))) {
-        return say(
-            words,
-            "a variable is assigned by `:=` alone",
-            "write `A := A + 1;`",
-        );
-    }
-    Ok(false)
 }
 
 // ---- reserved words as names
@@ -585,16 +427,11 @@ fn say_open(
         return Ok(false);
     };
     let Some(last) = open.last() else {
-        return say_outside(words, reading, number);
+        return Ok(false);
     };
     let last = *last;
     if !ends_something(Some(kind)) || closes(kind, last.closing) {
         return Ok(false);
-    }
-    if is_unopened(kind, open) {
-        push_quoted(&mut words.title, reading.spelling(number))?;
-        words.title.push_str(" closes nothing that is open here")?;
-        return Ok(true);
     }
     if matches!(kind, Kind::Symbol(_)) && !matches!(last.closing, Closing::Symbol(_)) {
         return Ok(false);
@@ -607,18 +444,17 @@ fn say_open(
     Ok(true)
 }
 
-/// Says that a token stands outside of all units.
-fn say_outside(
-    words: &mut Words,
-    reading: &Reading<'_>,
-    number: usize,
-) -> Result<bool, AllocError> {
-    push_quoted(&mut words.title, reading.spelling(number))?;
-    say(
-        words,
-        " stands outside of all programs, functions and types",
-        "a text is TYPE, FUNCTION, FUNCTION_BLOCK and PROGRAM units, one behind the other",
-    )
+/// Why a token is out of place that stands outside of all units, or closes nothing that is open.
+fn end_cause(reading: &Reading<'_>, number: usize, open: &[Open]) -> Option<Cause> {
+    let kind = reading.kind(number)?;
+    let Some(last) = open.last() else {
+        return Some(Cause::Outside);
+    };
+    if ends_something(Some(kind)) && !closes(kind, last.closing) && is_unopened(kind, open) {
+        Some(Cause::Unopened)
+    } else {
+        None
+    }
 }
 
 /// Whether a token closes something that isn't open at all.
