@@ -19,3 +19,4 @@ pub mod Steps
 pub mod Texts
 pub mod Undone
 pub mod Unrenamed
+pub mod Writes

@@ -75,7 +75,8 @@ impl<M: Memory> State<M> {
     ghost use Rattle.st_control.specs.Controllers.{is_of_change};
     ghost use Rattle.st_control.specs.Machine.{leaf_to_force, leaf_to_release, leaf_to_write};
 
-    /// The leaf that a write would set, or its refusal.
+    /// The leaf that a write would set, or its refusal: that of a force for which there is room, where the leaf isn't forced.
+    #[tactic(auto, using(crate::proofs::Writes::write_as_force))]
     pub(crate) fn leaf_to_write(
         &self,
         full: bool,
@@ -88,16 +89,7 @@ impl<M: Memory> State<M> {
         ensures fits { IfOk result (λ leaf. IsValueAt (leaves_of self.entry.now) leaf value) }
         ensures not_full { OnOk result (full ≡ false) }
     {
-        let Some(leaf) = self.image.layout().leaf(path) else {
-            return Err(Refusal::O(NO_SUCH_PATH));
-        };
-        let declared = self.image.layout().at(leaf);
-        if !is_open(declared.role) {
-            return Err(Refusal::O(NOT_OPEN));
-        }
-        if !is_value_of(declared, value) {
-            return Err(Refusal::O(NOT_OF_TYPE));
-        }
+        let leaf = self.leaf_to_force(false, path, value)?;
         if self.memory.forced(self.image.layout(), leaf) {
             return Err(Refusal::O(IS_FORCED));
         }

@@ -42,6 +42,12 @@ EndsAsLaidOut text main status = OfLayout text main (λ laid. status ≡ layout_
 abbrev pub EndsAsLoaded : List ℕ → List ℕ → ℕ → ℕ → Type 0
 EndsAsLoaded text main limit status = OfLoad text main limit (λ loaded. (bytes : List ℕ) × HasStatus bytes status loaded)
 
+-- unless memory ran out or a device failed, this text is checked, laid out or loaded as is ordered, and the status is that of what comes of it
+pub record EndsAsOrdered (order : Order) (text : List ℕ) (status : ℕ) : Type 0 where
+  pub check : order.verb ≡ Check → status ≢ device_failed → status ≢ no_memory → EndsAsChecked text order.main.now status
+  pub layout : order.verb ≡ Layout → status ≢ device_failed → status ≢ no_memory → EndsAsLaidOut text order.main.now status
+  pub run : order.verb ≡ Run → status ≢ device_failed → status ≢ no_memory → EndsAsLoaded text order.main.now order.steps status
+
 -- where the order is to check: memory ran out, or the file couldn't be read or a device failed, or some text is checked as the
 -- order says
 abbrev pub EndsAsCheck : Order → ℕ → Type 0

@@ -13,7 +13,7 @@ ghost use Rattle.st_session.specs.Replies.{ended};
 ghost use Rattle.st_session.specs.Runs.{OfProgram, WritesAll, WritesPart, WritesRead};
 ghost use Rattle.st_session.specs.Statuses.{device_failed, no_memory, no_program};
 ghost use Rattle.st_explain.specs.Messages.{Explains};
-ghost use Rattle.st_driver.specs.Statuses.{EndsAsCheck, EndsAsChecked, EndsAsLaidOut, EndsAsLayout, EndsAsLoaded, EndsAsRun, EndsBy, EndsByWords, error_status, usage};
+ghost use Rattle.st_driver.specs.Statuses.{EndsAsCheck, EndsAsLayout, EndsAsOrdered, EndsAsRun, EndsBy, EndsByWords, error_status, usage};
 
 use crate::refused::TextExplainer;
 use clap::error::ErrorKind;
@@ -145,15 +145,7 @@ fn answer<R: Input + Print + Eprint + AllocGlobal>(
     manner: Manner,
     text: &[u8],
 ) -> u8
-    ensures check_status { order.entry.verb ≡ Verb.Check →
-        result ≢ device_failed → result ≢ no_memory
-        → EndsAsChecked text.now order.entry.main.now result }
-    ensures layout_status { order.entry.verb ≡ Verb.Layout →
-        result ≢ device_failed → result ≢ no_memory
-        → EndsAsLaidOut text.now order.entry.main.now result }
-    ensures run_status { order.entry.verb ≡ Verb.Run →
-        result ≢ device_failed → result ≢ no_memory
-        → EndsAsLoaded text.now order.entry.main.now order.entry.steps result }
+    ensures { EndsAsOrdered order.entry text.now result }
 {
     let status = serve(rt, order, manner, text);
     if let Ok(told) = told_of(rt.alloc(), order, manner, text, status)
@@ -230,15 +222,7 @@ fn serve<R: Input + Print + Eprint + AllocGlobal>(
     manner: Manner,
     text: &[u8],
 ) -> u8
-    ensures check_status { order.entry.verb ≡ Verb.Check →
-        result ≢ device_failed → result ≢ no_memory
-        → EndsAsChecked text.now order.entry.main.now result }
-    ensures layout_status { order.entry.verb ≡ Verb.Layout →
-        result ≢ device_failed → result ≢ no_memory
-        → EndsAsLaidOut text.now order.entry.main.now result }
-    ensures run_status { order.entry.verb ≡ Verb.Run →
-        result ≢ device_failed → result ≢ no_memory
-        → EndsAsLoaded text.now order.entry.main.now order.entry.steps result }
+    ensures { EndsAsOrdered order.entry text.now result }
 {
     if manner.quiet {
         return serve_observed(rt, order, text, &mut Silent);
@@ -256,15 +240,7 @@ fn serve_observed<R: Input + Print + AllocGlobal, O: Observer>(
     text: &[u8],
     observer: &mut O,
 ) -> u8
-    ensures check_status { order.entry.verb ≡ Verb.Check →
-        result ≢ device_failed → result ≢ no_memory
-        → EndsAsChecked text.now order.entry.main.now result }
-    ensures layout_status { order.entry.verb ≡ Verb.Layout →
-        result ≢ device_failed → result ≢ no_memory
-        → EndsAsLaidOut text.now order.entry.main.now result }
-    ensures run_status { order.entry.verb ≡ Verb.Run →
-        result ≢ device_failed → result ≢ no_memory
-        → EndsAsLoaded text.now order.entry.main.now order.entry.steps result }
+    ensures { EndsAsOrdered order.entry text.now result }
 {
     let mut source = FromReader::new(rt.reader());
     let mut sink = ToWriter::new(io::writer(rt));

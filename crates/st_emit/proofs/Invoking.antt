@@ -26,14 +26,17 @@ use Rattle.st_code.specs.Code.{Line, at, command_code, moves_code, plain}
 use Rattle.st_code.specs.declared.instr.Instr.{Instr}
 use Rattle.st_code.specs.declared.instr.Instr.TheVariants.{Enter, Invoke, Step}
 use Rattle.st_places.specs.Parts.{TablesView, optional_whole, whole_in}
+use Rattle.st_emit.specs.declared.invocations.Moved.{Moved}
+use Rattle.st_emit.specs.declared.invocations.Moved.TheVariants as moved
 use Rattle.st_emit.specs.Instances.{entering, instance_instr, running}
+use Rattle.st_emit.specs.Moves.{moves_of}
 use Rattle.st_emit_expressions.specs.Trees.{whole_of}
 use Rattle.st_emit_expressions.proofs.Before.{before_code}
 
 -- ---- arguments
 
 -- one, and the further ones
-pub inputs_joined : (w : Whole) (name : List ℕ) (a : Argument) (xs : List Argument)
+inputs_joined : (w : Whole) (name : List ℕ) (a : Argument) (xs : List Argument)
     → moves_code w.variables (inputs_of w name (a ∷ xs)) ≡ moves_code w.variables (inputs_of w name (a ∷ [])) ++ moves_code w.variables (inputs_of w name xs)
 inputs_joined w name a xs = by (out-Argument a) where
   typed_by : (o : Option Elem) (pin : List ℕ) (x : Expression)
@@ -47,7 +50,7 @@ inputs_joined w name a xs = by (out-Argument a) where
   by (Argument-F.Input n x) = typed_by (type_of w.variables (pin_of name n.spelling)) n.spelling x
   by (Argument-F.Output n v) = refl
 
-pub outputs_joined : (w : Whole) (name : List ℕ) (a : Argument) (xs : List Argument)
+outputs_joined : (w : Whole) (name : List ℕ) (a : Argument) (xs : List Argument)
     → moves_code w.variables (outputs_of w name (a ∷ xs)) ≡ moves_code w.variables (outputs_of w name (a ∷ [])) ++ moves_code w.variables (outputs_of w name xs)
 outputs_joined w name a xs = by (out-Argument a) where
   typed_by : (o : Option Elem) (pin : List ℕ) (v : Variable)
@@ -60,6 +63,11 @@ outputs_joined w name a xs = by (out-Argument a) where
   by (Argument-F.Positional x) = refl
   by (Argument-F.Input n x) = refl
   by (Argument-F.Output n v) = typed_by (type_of w.variables (place_of w v)) n.spelling v
+
+pub moves_joined : (m : Moved) (w : Whole) (name : List ℕ) (a : Argument) (xs : List Argument)
+    → moves_code w.variables (moves_of m w name (a ∷ xs)) ≡ moves_code w.variables (moves_of m w name (a ∷ [])) ++ moves_code w.variables (moves_of m w name xs)
+moves_joined moved.Inputs = inputs_joined
+moves_joined moved.Outputs = outputs_joined
 
 -- the code of the arguments from the one of this number on, with that of one before them
 pub moves_step : (root : Composition) (moves : List Argument → Moves) (all : List Argument) (i j : ℕ) (a : Argument) (base code new : List Line)

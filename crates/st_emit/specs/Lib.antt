@@ -1,3 +1,4 @@
 pub mod Charts
 pub mod Instances
+pub mod Moves
 pub mod Statements

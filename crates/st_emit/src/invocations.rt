@@ -5,6 +5,7 @@ ghost use Rattle.st_meaning.specs.Wholes.{type_of};
 ghost use Rattle.st_code.specs.Code.{base_of, command_code, moves_code};
 ghost use Rattle.st_emit_expressions.specs.Emits.{Emits};
 ghost use Rattle.st_emit.specs.Instances.{instance_instr};
+ghost use Rattle.st_emit.specs.Moves.{moves_of};
 ghost use Rattle.st_emit_expressions.specs.Trees.{whole_of};
 
 use st_code::{Code, Instr};
@@ -29,9 +30,9 @@ pub(crate) fn emit_invocation(
         return code.push(Instr::Step, line);
     };
     let arguments = call.arguments.as_slice();
-    emit_outputs(code, scope, &call.name, arguments)?;
+    emit_moves(code, scope, &call.name, arguments, Moved::Outputs)?;
     code.push(block, 0)?;
-    emit_inputs(code, scope, &call.name, arguments)?;
+    emit_moves(code, scope, &call.name, arguments, Moved::Inputs)?;
     code.push(Instr::Step, line)?;
     code.push(Instr::Step, line)
 }
@@ -62,23 +63,51 @@ fn pin(scope: &Scope<'_>, instance: &Identifier, name: &Identifier) -> Option<(E
     Some((elem, first + before))
 }
 
-/// The inputs among arguments, each stored before the next is evaluated.
-fn emit_inputs(
+/// What is moved of the arguments of an invocation.
+#[derive(Clone, Copy)]
+enum Moved {
+    /// The inputs, before the block runs.
+    Inputs,
+    /// The outputs, after it.
+    Outputs,
+}
+
+/// The inputs among arguments, or the outputs, each moved before the next is evaluated.
+fn emit_moves(
     code: &mut Code,
     scope: &Scope<'_>,
     instance: &Identifier,
     arguments: &[Argument],
+    moved: Moved,
 ) -> Result<(), AllocError>
     ensures { OnOk result (code.new ≡ code.old ++ reverse
         (moves_code (whole_of scope.now).variables
-        (inputs_of (whole_of scope.now) instance.now.spelling arguments.now))) }
+        (moves_of moved (whole_of scope.now) instance.now.spelling arguments.now))) }
 {
     let mut i = arguments.len();
     while i > 0 {
         i -= 1;
-        emit_input(code, scope, instance, &arguments[i])?;
+        emit_move(code, scope, instance, &arguments[i], moved)?;
     }
     Ok(())
+}
+
+/// An argument, where it is an input or an output as is to be moved.
+fn emit_move(
+    code: &mut Code,
+    scope: &Scope<'_>,
+    instance: &Identifier,
+    argument: &Argument,
+    moved: Moved,
+) -> Result<(), AllocError>
+    ensures { OnOk result (code.new ≡ code.old ++ reverse
+        (moves_code (whole_of scope.now).variables
+        (moves_of moved (whole_of scope.now) instance.now.spelling (argument.now ∷ [])))) }
+{
+    match moved {
+        Moved::Inputs => emit_input(code, scope, instance, argument),
+        Moved::Outputs => emit_output(code, scope, instance, argument),
+    }
 }
 
 /// An input, where it has a type.
@@ -103,25 +132,6 @@ fn emit_input(
         }
         Argument::Positional(_) | Argument::Output(_, _) => Ok(()),
     }
-}
-
-/// The outputs among arguments, each assigned before the next.
-fn emit_outputs(
-    code: &mut Code,
-    scope: &Scope<'_>,
-    instance: &Identifier,
-    arguments: &[Argument],
-) -> Result<(), AllocError>
-    ensures { OnOk result (code.new ≡ code.old ++ reverse
-        (moves_code (whole_of scope.now).variables
-        (outputs_of (whole_of scope.now) instance.now.spelling arguments.now))) }
-{
-    let mut i = arguments.len();
-    while i > 0 {
-        i -= 1;
-        emit_output(code, scope, instance, &arguments[i])?;
-    }
-    Ok(())
 }
 
 /// An output, where the variable that takes it has a type.

@@ -1,7 +1,7 @@
 -- Parsers that read a relation exactly: what they read is in it, and what is in it they read.
 use Rattle.std.proofs.Common.{◌≡◌, ℕ, zero, suc, ◌+◌, ◌<◌, ◌≤◌, List, [], ◌∷◌, length, refl, sym, ap, subst, ◌∙◌, Bool, true, false, if◌then◌else◌, rules, arith, ◌⊎◌, inl, inr}
 use denote.Enum.Bare.{same_true}
-use Rattle.std.specs.Prelude.{Option, Some, Ok, Err}
+use Rattle.std.specs.Prelude.{Option, Some, None, Ok, Err}
 use Rattle.st_tokens.specs.contracts.keyword.Keyword as keyword
 use Rattle.st_tokens.specs.contracts.symbol.Symbol as symbol
 use Rattle.st_tokens.specs.declared.keyword.Keyword.TheVariants as keywords
@@ -321,63 +321,68 @@ module _ (x : Symbol) (r : ℕ) (opening : opens (token_kinds.Symbol x) ≡ 1) w
   unfolding parser.open_level
   exact_open_level = exact_on (λ ts. parser.is_symbol x (kind ts)) (by_kind (parser.is_symbol x)) (λ b ts. if b then parser.enter (suc r) ts else parser.refuse ts) Always (IsOne (token_kinds.Symbol x)) Any (At (suc r)) (At r) open_by
 
+-- what a parser does with its first token, whatever stands behind it: it takes the token alone, or refuses
+pub data TakesOne {A : Type 0} (P : Parser A) (R : Relation A) (r : ℕ) (t : Tok) : Type 0 where
+  takes : (x : A) → Leads (At r) (At r) t.1 → ((us : List Tok) → P (t ∷ us) ≡ Ok (x, us)) → ((us : List Tok) → R (t ∷ us) x us) → TakesOne P R r t
+  refuses : P ≡ parser.refuse → TakesOne P R r t
+
+-- by the first token, which is taken alone or refused
+module _ {A : Type 0} (f : Option Kind → Parser A) (R : Relation A) (r : ℕ) (none : f None ≡ parser.refuse) (one : (t : Tok) → TakesOne (f (Some t.1)) R r t)
+    (is_read : (ts : List Tok) (x : A) (rest : List Tok) → R ts x rest → f (kind ts) ts ≡ Ok (x, rest)) where
+  one_reads : {P : Parser A} (t : Tok) (us : List Tok) (x : A) (rest : List Tok) → TakesOne P R r t → P (t ∷ us) ≡ Ok (x, rest) → Found 1 R (At r) (At r) (t ∷ us) x rest
+  one_reads t us x rest (takes y levels reads is) h = let e = ok_parts (sym (reads us) ∙ h) in
+      subst (λ z. Found 1 R (At r) (At r) (t ∷ us) z rest) e.0
+      (subst (λ vs. Found 1 R (At r) (At r) (t ∷ us) y vs) e.1
+      (record { is = is us; takes = omega arith; after = (levels t.0 us).0; before = (levels t.0 us).1 }))
+  one_reads t us x rest (refuses e) h = let g = rw e at h in absurd (cc)
+
+  first_reads : (ts : List Tok) (x : A) (rest : List Tok) → f (kind ts) ts ≡ Ok (x, rest) → Found 1 R (At r) (At r) ts x rest
+  first_reads [] x rest h = let g = rw none at h in absurd (cc)
+  first_reads (t ∷ us) x rest h = one_reads t us x rest (one t) h
+
+  one_deep : {P : Parser A} (t : Tok) (us : List Tok) (at : Option Position) → TakesOne P R r t → P (t ∷ us) ≡ Err (Deep at) → ⊥
+  one_deep t us at (takes y levels reads is) h = let g = sym (reads us) ∙ h in cc
+  one_deep t us at (refuses e) h = let g = rw e at h in cc
+
+  first_deep : (ts : List Tok) (at : Option Position) → f (kind ts) ts ≡ Err (Deep at) → ⊥
+  first_deep [] at h = let g = rw none at h in cc
+  first_deep (t ∷ us) at h = one_deep t us at (one t) h
+
+  one_local : {P : Parser A} (t : Tok) (us : List Tok) → TakesOne P R r t → Stays P (t ∷ us)
+  one_local t us (takes x levels reads is) = stays_one t us x reads
+  one_local t us (refuses e) = subst (λ P. Stays P (t ∷ us)) (sym e) (stays_refuse (t ∷ us))
+
+  first_local : (ts : List Tok) → Stays (f (kind ts)) ts
+  first_local [] = subst (λ P. Stays P []) (sym none) (stays_refuse [])
+  first_local (t ∷ us) = one_local t us (one t)
+
+  pub exact_one : Exact 1 (λ ts. f (kind ts) ts) Always R Any (At r) (At r)
+  exact_one = record {
+    reads = λ ts x rest u h. first_reads ts x rest h;
+    deep = λ ts at u h q. first_deep ts at h;
+    read = λ ts x rest u d g q. is_read ts x rest d;
+    local = λ ts u. stays_on kind f Always (steady_first kind f Always kind_first) ts tt (first_local ts);
+  }
+
 pub exact_identifier : (r : ℕ) → Exact 1 parser.identifier Always IsWord Any (At r) (At r)
 unfolding parser.identifier
-exact_identifier r = record {
-  reads = λ ts x rest u h. reads ts x rest h;
-  deep = λ ts at u h q. deep ts at h;
-  read = λ ts x rest u d g q. read d;
-  local = λ ts u. stays_on kind parser.identifier_by Always (steady_first kind parser.identifier_by Always kind_first) ts tt (local ts);
-} where
-  local : (ts : List Tok) → Stays (parser.identifier_by (kind ts)) ts
-  local ((p, token_kinds.Word n) ∷ ts) = stays_one (p, token_kinds.Word n) ts (identifier_of p n) (λ rest. refl)
-  local [] = stays_refuse []
-  local ((p, _) ∷ ts) = stays_refuse _
+exact_identifier r = exact_one parser.identifier_by IsWord r refl one is_read where
+  one : (t : Tok) → TakesOne (parser.identifier_by (Some t.1)) IsWord r t
+  one (p, token_kinds.Word n) = takes (identifier_of p n) (λ q us. (λ h. h, λ h. h)) (λ us. refl) (λ us. a_word)
+  one (p, _) = refuses refl
 
-  reads : (ts : List Tok) (x : Identifier) (rest : List Tok) → parser.identifier_by (kind ts) ts ≡ Ok (x, rest) → Found 1 IsWord (At r) (At r) ts x rest
-  reads ((p, token_kinds.Word n) ∷ ts) x rest h = let e = ok_parts h in
-      subst (λ z. Found 1 IsWord (At r) (At r) ((p, token_kinds.Word n) ∷ ts) z rest) e.0
-      (subst (λ us. Found 1 IsWord (At r) (At r) ((p, token_kinds.Word n) ∷ ts) (identifier_of p n) us) e.1
-      (record { is = a_word; takes = omega arith; after = λ q. q; before = λ q. q }))
-  reads [] x rest h = absurd (cc)
-  reads ((p, _) ∷ ts) x rest h = absurd (cc)
-
-  deep : (ts : List Tok) (at : Option Position) → parser.identifier_by (kind ts) ts ≡ Err (Deep at) → ⊥
-  deep ((p, token_kinds.Word n) ∷ ts) at h = cc
-  deep [] at h = cc
-  deep ((p, _) ∷ ts) at h = cc
-
-  read : {ts rest : List Tok} {x : Identifier} → IsWord ts x rest → parser.identifier_by (kind ts) ts ≡ Ok (x, rest)
-  read a_word = refl
+  is_read : (ts : List Tok) (x : Identifier) (rest : List Tok) → IsWord ts x rest → parser.identifier_by (kind ts) ts ≡ Ok (x, rest)
+  is_read ts x rest a_word = refl
 
 pub exact_number : (r : ℕ) → Exact 1 parser.number Always IsNumber Any (At r) (At r)
 unfolding parser.number
-exact_number r = record {
-  reads = λ ts x rest u h. reads ts x rest h;
-  deep = λ ts at u h q. deep ts at h;
-  read = λ ts x rest u d g q. read d;
-  local = λ ts u. stays_on kind parser.number_by Always (steady_first kind parser.number_by Always kind_first) ts tt (local ts);
-} where
-  local : (ts : List Tok) → Stays (parser.number_by (kind ts)) ts
-  local ((p, token_kinds.Number n) ∷ ts) = stays_one (p, token_kinds.Number n) ts n (λ rest. refl)
-  local [] = stays_refuse []
-  local ((p, _) ∷ ts) = stays_refuse _
+exact_number r = exact_one parser.number_by IsNumber r refl one is_read where
+  one : (t : Tok) → TakesOne (parser.number_by (Some t.1)) IsNumber r t
+  one (p, token_kinds.Number n) = takes n (λ q us. (λ h. h, λ h. h)) (λ us. refl) (λ us. a_number)
+  one (p, _) = refuses refl
 
-  reads : (ts : List Tok) (x : ℕ) (rest : List Tok) → parser.number_by (kind ts) ts ≡ Ok (x, rest) → Found 1 IsNumber (At r) (At r) ts x rest
-  reads ((p, token_kinds.Number n) ∷ ts) x rest h = let e = ok_parts h in
-      subst (λ z. Found 1 IsNumber (At r) (At r) ((p, token_kinds.Number n) ∷ ts) z rest) e.0
-      (subst (λ us. Found 1 IsNumber (At r) (At r) ((p, token_kinds.Number n) ∷ ts) n us) e.1
-      (record { is = a_number; takes = omega arith; after = λ q. q; before = λ q. q }))
-  reads [] x rest h = absurd (cc)
-  reads ((p, _) ∷ ts) x rest h = absurd (cc)
-
-  deep : (ts : List Tok) (at : Option Position) → parser.number_by (kind ts) ts ≡ Err (Deep at) → ⊥
-  deep ((p, token_kinds.Number n) ∷ ts) at h = cc
-  deep [] at h = cc
-  deep ((p, _) ∷ ts) at h = cc
-
-  read : {ts rest : List Tok} {x : ℕ} → IsNumber ts x rest → parser.number_by (kind ts) ts ≡ Ok (x, rest)
-  read a_number = refl
+  is_read : (ts : List Tok) (x : ℕ) (rest : List Tok) → IsNumber ts x rest → parser.number_by (kind ts) ts ≡ Ok (x, rest)
+  is_read ts x rest a_number = refl
 
 -- ---- what may follow
 

@@ -5,7 +5,7 @@ ghost use Rattle.st_check.specs.Programs.{leaves_of_program};
 
 use crate::message::{push_rest, push_value};
 use crate::words::Words;
-use st_layout::{Layout, Plan, PlanFault, Rename};
+use st_layout::{Layout, Plan, PlanFault, Rename, Runs};
 use st_memory::{Memory, Saved};
 use st_messages::push_quoted;
 use st_session::control::{Controller, Counts, Image, Record};
@@ -95,10 +95,10 @@ fn push_lists<M: Memory>(
         Ok(plan) => plan,
         Err(PlanFault::Memory | PlanFault::NotPaired) => return Err(AllocError),
     };
-    push_dropped(&mut told.done, "  dropped: ", before, &plan)?;
-    push_fresh(&mut told.done, "  new: ", now, &plan)?;
-    push_fresh(&mut told.undone, "  dropped: ", now, &plan)?;
-    push_dropped(&mut told.undone, "  back: ", before, &plan)?;
+    push_lone(&mut told.done, "  dropped: ", before, plan.targets())?;
+    push_lone(&mut told.done, "  new: ", now, plan.sources())?;
+    push_lone(&mut told.undone, "  dropped: ", now, plan.sources())?;
+    push_lone(&mut told.undone, "  back: ", before, plan.targets())?;
     if saved.forced.as_slice().is_empty() {
         return Ok(());
     }
@@ -106,37 +106,19 @@ fn push_lists<M: Memory>(
     push_forces(alloc, told, before, &plan, &memory)
 }
 
-/// Puts the old names that the new program hasn't.
-fn push_dropped(
+/// Puts the names of a program's leaves that have no partner in the other program.
+fn push_lone(
     message: &mut String,
     title: &str,
-    old: &Layout,
-    plan: &Plan,
+    leaves: &Layout,
+    partners: &Runs,
 ) -> Result<(), AllocError>
-    requires { length plan.now.targets ≡ length old.now }
+    requires { length partners.now ≡ length leaves.now }
 {
     let mut names = Names::new(title);
-    for leaf in 0..old.len() {
-        if plan.target(leaf).is_none() {
-            names.put(message, old, leaf)?;
-        }
-    }
-    names.end(message)
-}
-
-/// Puts the new names that the old program hasn't.
-fn push_fresh(
-    message: &mut String,
-    title: &str,
-    new: &Layout,
-    plan: &Plan,
-) -> Result<(), AllocError>
-    requires { length plan.now.sources ≡ length new.now }
-{
-    let mut names = Names::new(title);
-    for leaf in 0..new.len() {
-        if plan.source(leaf).is_none() {
-            names.put(message, new, leaf)?;
+    for leaf in 0..leaves.len() {
+        if partners.at(leaf).is_none() {
+            names.put(message, leaves, leaf)?;
         }
     }
     names.end(message)

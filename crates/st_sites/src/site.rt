@@ -1,5 +1,6 @@
 //! What stands at a token of a tree, and what is due there.
 
+use st_check_expressions::literal_position;
 use st_tree::tree::{
     Association, Call, Constant, Expression, Identifier, Position, SignedInteger, Variable,
 };
@@ -71,21 +72,12 @@ pub fn stop_at<'t>(at: u32, position: Position, site: Site<'t>) -> Search<'t> {
 /// Where an expression begins.
 pub fn position_of(expression: &Expression) -> Position {
     match expression {
-        Expression::Constant(constant) => constant_position(constant),
+        Expression::Constant(constant) => literal_position(constant),
         Expression::Variable(variable) => variable.name.position,
         Expression::Call(call) => call.name.position,
         Expression::Parenthesized(position, _)
         | Expression::Negate(position, _)
         | Expression::Not(position, _)
         | Expression::Chain(position, _, _) => *position,
-    }
-}
-
-/// Where a literal stands.
-pub fn constant_position(constant: &Constant) -> Position {
-    match constant {
-        Constant::Integer(number) => number.position,
-        Constant::Typed(position, _) | Constant::Bool(position, _) => *position,
-        Constant::Duration(duration) => duration.position,
     }
 }

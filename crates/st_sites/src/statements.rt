@@ -2,8 +2,8 @@
 
 use crate::due::target_due;
 use crate::expressions::{in_call, in_expression, in_target};
-use crate::site::{Search, Site, constant_position, stop_at};
-use st_check_expressions::{elem_due, elem_of, selected_type};
+use crate::site::{Search, Site, stop_at};
+use st_check_expressions::{elem_due, elem_of, literal_position, selected_type};
 use st_scopes::Scope;
 use st_tree::tree::{
     Call, CaseElement, CaseStatement, ConditionalPart, Constant, Expression, ForStatement,
@@ -166,7 +166,7 @@ fn in_label<'t>(at: u32, label: &'t Label, due: Due) -> Search<'t> {
 
 /// What stands at the token, where it is this constant of a label.
 fn at_label<'t>(at: u32, constant: &'t Constant, due: Due) -> Search<'t> {
-    stop_at(at, constant_position(constant), Site::Label(constant, due))
+    stop_at(at, literal_position(constant), Site::Label(constant, due))
 }
 
 /// What is due of the values that FOR counts.

@@ -1,9 +1,9 @@
 //! The walk through units to a token.
 
 use crate::expressions::in_expression;
-use crate::site::{Search, Site, Stop, constant_position, stop_at};
+use crate::site::{Search, Site, Stop, stop_at};
 use crate::statements::in_statements;
-use st_check_expressions::{elem_due, elem_of};
+use st_check_expressions::{elem_due, elem_of, literal_position};
 use st_scopes::{Scope, Tables};
 use st_tree::tree::{
     ArrayElement, Association, Body, ChartElement, Constant, Declaration, DeclaredType, Identifier,
@@ -161,11 +161,7 @@ fn in_items<'t>(at: u32, items: &'t [ArrayElement], due: Due) -> Search<'t> {
 
 /// What stands at the token, where it is this initial value.
 fn at_initial<'t>(at: u32, constant: &'t Constant, due: Due) -> Search<'t> {
-    stop_at(
-        at,
-        constant_position(constant),
-        Site::Initial(constant, due),
-    )
+    stop_at(at, literal_position(constant), Site::Initial(constant, due))
 }
 
 /// What stands at the token in what is specified.

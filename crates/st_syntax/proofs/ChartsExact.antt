@@ -1,6 +1,6 @@
 -- The reading functions of charts read their grammar exactly.
-use Rattle.std.proofs.Common.{◌≡◌, ℕ, zero, suc, ◌<◌, List, [], ◌∷◌, refl, sym, subst, ◌∙◌, Bool, true, false, arith, if◌then◌else◌}
-use Rattle.std.specs.Prelude.{◌↔◌, Option, Some, None, Ok, Err}
+use Rattle.std.proofs.Common.{◌≡◌, ℕ, zero, suc, ◌<◌, List, [], ◌∷◌, refl, sym, ap, subst, ◌∙◌, Bool, true, false, arith, if◌then◌else◌}
+use Rattle.std.specs.Prelude.{◌↔◌, Option, Some, None, Ok}
 use Rattle.st_tokens.specs.declared.keyword.Keyword.TheVariants as keywords
 use Rattle.st_tokens.specs.declared.symbol.Symbol.TheVariants as symbols
 use Rattle.st_tokens.specs.declared.token.Kind.TheVariants as token_kinds
@@ -10,11 +10,10 @@ use Rattle.st_parser.specs.Grammar.Levels.{IsWithin}
 use Rattle.st_parser.specs.Grammar.Lists.{IsMany, IsListed, listed}
 use Rattle.st_parser.specs.Grammar.Tokens.{Tok, kind}
 use Rattle.st_parser.specs.Reader.Parsers as parser
-use Rattle.st_parser.specs.Reader.Parsers.{and_then, is_symbol, is_word, Deep}
-use Rattle.st_parser.proofs.Exact.{Relation, Found, Exact, Always, Any, Then, seq, IsOne, one, IsPure, done, IsWord, a_word, IsNumber, a_number, exact_bind, exact_as, exact_iff, exact_last, exact_under, exact_zero, exact_pure, made, exact_refuse, exact_on, IsFirst, exact_token, exact_token_if, symbol_is, exact_symbol, exact_keyword, exact_open_level, exact_identifier, Before, exact_identifier_before, exact_number, exact_before, Ends, exact_many, exact_listed}
-use Rattle.st_parser.proofs.Local.{Stays, by_kind, kind_first, stays_bump, stays_on, stays_one, stays_refuse, steady_first}
+use Rattle.st_parser.specs.Reader.Parsers.{and_then, is_symbol, is_word}
+use Rattle.st_parser.proofs.Exact.{Relation, Exact, Always, Any, Then, seq, IsOne, one, IsPure, done, IsWord, a_word, IsNumber, a_number, exact_bind, exact_as, exact_iff, exact_last, exact_under, exact_zero, exact_pure, made, exact_refuse, exact_on, IsFirst, exact_token, exact_token_if, symbol_is, exact_symbol, exact_keyword, exact_open_level, exact_identifier, Before, exact_identifier_before, exact_number, TakesOne, takes, refuses, exact_one, exact_before, Ends, exact_many, exact_listed}
+use Rattle.st_parser.proofs.Local.{by_kind, kind_first}
 use Rattle.st_parser.proofs.Levels.{At, enters, fits_from, within_from}
-use Rattle.st_parser.proofs.Loops.{ok_parts}
 use Rattle.st_parser.specs.Grammar.Expressions.{IsBinary, duration_of}
 use Rattle.st_parser.proofs.Expressions.{expression_exact}
 use Rattle.st_parser.proofs.Follows.{Stops}
@@ -31,32 +30,13 @@ data IsDuration : List Tok → Duration → List Tok → Type 0 where
 
 duration_exact : (r : ℕ) → Exact 1 spec.duration Always IsDuration Any (At r) (At r)
 unfolding spec.duration
-duration_exact r = record {
-  reads = λ ts x rest u h. reads ts x rest h;
-  deep = λ ts at u h q. deep ts at h;
-  read = λ ts x rest u d g q. read d;
-  local = λ ts u. stays_on kind spec.duration_by Always (steady_first kind spec.duration_by Always kind_first) ts tt (local ts);
-} where
-  local : (ts : List Tok) → Stays (spec.duration_by (kind ts)) ts
-  local ((p, token_kinds.Duration d) ∷ ts) = stays_one (p, token_kinds.Duration d) ts (duration_of p d) (λ rest. refl)
-  local [] = stays_refuse []
-  local ((p, _) ∷ ts) = stays_refuse _
+duration_exact r = exact_one spec.duration_by IsDuration r refl one is_read where
+  one : (t : Tok) → TakesOne (spec.duration_by (Some t.1)) IsDuration r t
+  one (p, token_kinds.Duration d) = takes (duration_of p d) (λ q us. (λ h. h, λ h. h)) (λ us. refl) (λ us. a_duration)
+  one (p, _) = refuses refl
 
-  reads : (ts : List Tok) (x : Duration) (rest : List Tok) → spec.duration_by (kind ts) ts ≡ Ok (x, rest) → Found 1 IsDuration (At r) (At r) ts x rest
-  reads ((p, token_kinds.Duration d) ∷ ts) x rest h = let e = ok_parts h in
-      subst (λ z. Found 1 IsDuration (At r) (At r) ((p, token_kinds.Duration d) ∷ ts) z rest) e.0
-      (subst (λ us. Found 1 IsDuration (At r) (At r) ((p, token_kinds.Duration d) ∷ ts) (duration_of p d) us) e.1
-      (record { is = a_duration; takes = omega arith; after = λ q. q; before = λ q. q }))
-  reads [] x rest h = absurd (cc)
-  reads ((p, _) ∷ ts) x rest h = absurd (cc)
-
-  deep : (ts : List Tok) (at : Option Position) → spec.duration_by (kind ts) ts ≡ Err (Deep at) → ⊥
-  deep ((p, token_kinds.Duration d) ∷ ts) at h = cc
-  deep [] at h = cc
-  deep ((p, _) ∷ ts) at h = cc
-
-  read : {ts rest : List Tok} {x : Duration} → IsDuration ts x rest → spec.duration_by (kind ts) ts ≡ Ok (x, rest)
-  read a_duration = refl
+  is_read : (ts : List Tok) (x : Duration) (rest : List Tok) → IsDuration ts x rest → spec.duration_by (kind ts) ts ≡ Ok (x, rest)
+  is_read ts x rest a_duration = refl
 
 -- [ ',' duration ]
 data IsTime : List Tok → Option Duration → List Tok → Type 0 where
@@ -226,45 +206,20 @@ data IsPriorityWord : List Tok → Position → List Tok → Type 0 where
 
 priority_word_exact : (r : ℕ) → Exact 1 spec.priority_word Always IsPriorityWord Any (At r) (At r)
 unfolding spec.priority_word
-priority_word_exact r = record {
-  reads = λ ts x rest u h. reads ts x rest h;
-  deep = λ ts at u h q. deep ts at h;
-  read = λ ts x rest u d g q. read d;
-  local = λ ts u. stays_on kind spec.priority_word_by Always (steady_first kind spec.priority_word_by Always kind_first) ts tt (local ts);
-} where
-  local_by : (b : Bool) (ts : List Tok) → Stays (λ us. if b then parser.bump us else parser.refuse us) ts
-  local_by true ts = stays_bump ts
-  local_by false ts = stays_refuse ts
+priority_word_exact r = exact_one spec.priority_word_by IsPriorityWord r refl one is_read where
+  bump_if : Bool → parser.Parser Position
+  bump_if b = λ us. if b then parser.bump us else parser.refuse us
 
-  local : (ts : List Tok) → Stays (spec.priority_word_by (kind ts)) ts
-  local ((p, token_kinds.Word n) ∷ ts) = local_by (is_priority n) ((p, token_kinds.Word n) ∷ ts)
-  local [] = stays_refuse []
-  local ((p, _) ∷ ts) = stays_refuse _
+  word : (p : Position) (n : List ℕ) (b : Bool) → is_priority n ≡ b → TakesOne (spec.priority_word_by (Some (token_kinds.Word n))) IsPriorityWord r (p, token_kinds.Word n)
+  word p n true t = takes p (λ q us. (λ h. h, λ h. h)) (λ us. rw t refl) (λ us. the_word t)
+  word p n false t = refuses (ap bump_if t)
 
-  reads_by : (p : Position) (n : List ℕ) (ts : List Tok) (x : Position) (rest : List Tok) (b : Bool) → is_priority n ≡ b → spec.priority_word_by (Some (token_kinds.Word n)) ((p, token_kinds.Word n) ∷ ts) ≡ Ok (x, rest)
-      → Found 1 IsPriorityWord (At r) (At r) ((p, token_kinds.Word n) ∷ ts) x rest
-  reads_by p n ts x rest true t h = let e = ok_parts (rw t at h) in
-      subst (λ z. Found 1 IsPriorityWord (At r) (At r) ((p, token_kinds.Word n) ∷ ts) z rest) e.0
-      (subst (λ us. Found 1 IsPriorityWord (At r) (At r) ((p, token_kinds.Word n) ∷ ts) p us) e.1
-      (record { is = the_word t; takes = omega arith; after = λ q. q; before = λ q. q }))
-  reads_by p n ts x rest false t h = let g = rw t at h in absurd (cc)
+  one : (t : Tok) → TakesOne (spec.priority_word_by (Some t.1)) IsPriorityWord r t
+  one (p, token_kinds.Word n) = word p n (is_priority n) refl
+  one (p, _) = refuses refl
 
-  reads : (ts : List Tok) (x : Position) (rest : List Tok) → spec.priority_word_by (kind ts) ts ≡ Ok (x, rest) → Found 1 IsPriorityWord (At r) (At r) ts x rest
-  reads ((p, token_kinds.Word n) ∷ ts) x rest h = reads_by p n ts x rest (is_priority n) refl h
-  reads [] x rest h = absurd (cc)
-  reads ((p, _) ∷ ts) x rest h = absurd (cc)
-
-  deep_by : (p : Position) (n : List ℕ) (ts : List Tok) (at : Option Position) (b : Bool) → is_priority n ≡ b → spec.priority_word_by (Some (token_kinds.Word n)) ((p, token_kinds.Word n) ∷ ts) ≡ Err (Deep at) → ⊥
-  deep_by p n ts at true t h = let g = rw t at h in cc
-  deep_by p n ts at false t h = let g = rw t at h in cc
-
-  deep : (ts : List Tok) (at : Option Position) → spec.priority_word_by (kind ts) ts ≡ Err (Deep at) → ⊥
-  deep ((p, token_kinds.Word n) ∷ ts) at h = deep_by p n ts at (is_priority n) refl h
-  deep [] at h = cc
-  deep ((p, _) ∷ ts) at h = cc
-
-  read : {ts rest : List Tok} {x : Position} → IsPriorityWord ts x rest → spec.priority_word_by (kind ts) ts ≡ Ok (x, rest)
-  read (the_word t) = rw t refl
+  is_read : (ts : List Tok) (x : Position) (rest : List Tok) → IsPriorityWord ts x rest → spec.priority_word_by (kind ts) ts ≡ Ok (x, rest)
+  is_read ts x rest (the_word t) = rw t refl
 
 abbrev PriorityRule : Relation (Option ℕ)
 PriorityRule = Then IsPriorityWord (λ q. Then (IsOne (token_kinds.Symbol symbols.Assign)) (λ u. Then IsNumber (λ n. Then (IsOne (token_kinds.Symbol symbols.Close)) (λ z. IsPure (Some n)))))

@@ -1,6 +1,6 @@
 -- The reading functions of units read their grammar exactly.
-use Rattle.std.proofs.Common.{◌≡◌, ℕ, suc, List, [], ◌∷◌, refl, sym, subst, ◌∙◌, Bool, true, false, arith}
-use Rattle.std.specs.Prelude.{Option, Some, Ok, Err}
+use Rattle.std.proofs.Common.{◌≡◌, ℕ, suc, List, ◌∷◌, refl, sym, subst, ◌∙◌, Bool, true, false}
+use Rattle.std.specs.Prelude.{Option, Some, Ok}
 use Rattle.st_tokens.specs.declared.keyword.Keyword.TheVariants as keywords
 use Rattle.st_tokens.specs.declared.symbol.Symbol.TheVariants as symbols
 use Rattle.st_tokens.specs.declared.token.Kind.TheVariants as token_kinds
@@ -13,11 +13,10 @@ use Rattle.st_parser.specs.Names.{Body, Declaration, DeclaredType, Kind, Positio
 use Rattle.st_parser.specs.Grammar.Lists.{IsMany}
 use Rattle.st_parser.specs.Grammar.Tokens.{Tok, kind}
 use Rattle.st_parser.specs.Reader.Parsers as parser
-use Rattle.st_parser.specs.Reader.Parsers.{and_then, is_keyword, is_word, Deep}
-use Rattle.st_parser.proofs.Exact.{Relation, Found, Exact, Always, Any, Then, seq, IsOne, one, IsPure, done, IsWord, a_word, exact_bind, exact_as, exact_iff, exact_last, exact_under, exact_zero, exact_pure, made, exact_refuse, exact_on, IsFirst, exact_token, keyword_is, exact_symbol, exact_keyword, exact_identifier, Before, exact_identifier_before, exact_before, Ends, exact_many}
-use Rattle.st_parser.proofs.Local.{Stays, by_kind, kind_first, stays_on, stays_one, stays_refuse, steady_first}
+use Rattle.st_parser.specs.Reader.Parsers.{and_then, is_keyword, is_word}
+use Rattle.st_parser.proofs.Exact.{Relation, Exact, Always, Any, Then, seq, IsOne, one, IsPure, done, IsWord, a_word, exact_bind, exact_as, exact_iff, exact_last, exact_under, exact_zero, exact_pure, made, exact_refuse, exact_on, IsFirst, exact_token, keyword_is, exact_symbol, exact_keyword, exact_identifier, Before, exact_identifier_before, TakesOne, takes, refuses, exact_one, exact_before, Ends, exact_many}
+use Rattle.st_parser.proofs.Local.{by_kind, kind_first}
 use Rattle.st_parser.proofs.Levels.{At}
-use Rattle.st_parser.proofs.Loops.{ok_parts}
 use Rattle.st_syntax.specs.Grammar.Charts.{IsElement, initial_step, plain_step, transition, action, IsChart, chart}
 use Rattle.st_syntax.specs.Grammar.Statements.{IsStatements, no_statement, statements}
 use Rattle.st_syntax.specs.Reader.Charts.{begins_element}
@@ -121,32 +120,13 @@ data IsElementary : List Tok → Elem → List Tok → Type 0 where
 
 elementary_exact : (r : ℕ) → Exact 1 spec.elementary Always IsElementary Any (At r) (At r)
 unfolding spec.elementary
-elementary_exact r = record {
-  reads = λ ts x rest t h. reads ts x rest h;
-  deep = λ ts at t h q. deep ts at h;
-  read = λ ts x rest t c g q. read c;
-  local = λ ts t. stays_on kind spec.elementary_by Always (steady_first kind spec.elementary_by Always kind_first) ts tt (local ts);
-} where
-  local : (ts : List Tok) → Stays (spec.elementary_by (kind ts)) ts
-  local ((p, token_kinds.Type e) ∷ ts) = stays_one (p, token_kinds.Type e) ts e (λ rest. refl)
-  local [] = stays_refuse []
-  local ((p, _) ∷ ts) = stays_refuse _
+elementary_exact r = exact_one spec.elementary_by IsElementary r refl one is_read where
+  one : (t : Tok) → TakesOne (spec.elementary_by (Some t.1)) IsElementary r t
+  one (p, token_kinds.Type e) = takes e (λ q us. (λ h. h, λ h. h)) (λ us. refl) (λ us. an_elem)
+  one (p, _) = refuses refl
 
-  reads : (ts : List Tok) (x : Elem) (rest : List Tok) → spec.elementary_by (kind ts) ts ≡ Ok (x, rest) → Found 1 IsElementary (At r) (At r) ts x rest
-  reads ((p, token_kinds.Type e) ∷ ts) x rest h = let same = ok_parts h in
-      subst (λ z. Found 1 IsElementary (At r) (At r) ((p, token_kinds.Type e) ∷ ts) z rest) same.0
-      (subst (λ us. Found 1 IsElementary (At r) (At r) ((p, token_kinds.Type e) ∷ ts) e us) same.1
-      (record { is = an_elem; takes = omega arith; after = λ q. q; before = λ q. q }))
-  reads [] x rest h = absurd (cc)
-  reads ((p, _) ∷ ts) x rest h = absurd (cc)
-
-  deep : (ts : List Tok) (at : Option Position) → spec.elementary_by (kind ts) ts ≡ Err (Deep at) → ⊥
-  deep ((p, token_kinds.Type e) ∷ ts) at h = cc
-  deep [] at h = cc
-  deep ((p, _) ∷ ts) at h = cc
-
-  read : {ts rest : List Tok} {x : Elem} → IsElementary ts x rest → spec.elementary_by (kind ts) ts ≡ Ok (x, rest)
-  read an_elem = refl
+  is_read : (ts : List Tok) (x : Elem) (rest : List Tok) → IsElementary ts x rest → spec.elementary_by (kind ts) ts ≡ Ok (x, rest)
+  is_read ts x rest an_elem = refl
 
 abbrev FunctionRule : Position → Relation names.Unit
 FunctionRule p = Then (Before IsWord (token_kinds.Symbol symbols.Colon)) (λ n. Then IsElementary (λ e. Then (IsMany IsVarBlock) (λ vs. Then IsStatements (λ ss. Then (IsOne (token_kinds.Keyword keywords.EndFunction)) (λ z. IsPure (unit_kinds.Function (function_of p n e vs ss)))))))

@@ -26,9 +26,9 @@ returns c =
     let outputs = moves_code w.variables (outputs_of w name.spelling xs) in
     let step = at name.position.line Step in
     let block = plain i in
-    let with_block = before_code base c.emit_outputs.new.code c.push-2.new.self outputs block c.in_ok-emit_outputs.ensures c.in_ok-push.ensures.ok in
-    let with_inputs = before_code base c.push-2.new.self c.emit_inputs.new.code (block ++ outputs) inputs with_block c.in_ok-emit_inputs.ensures in
-    let with_step = before_code base c.emit_inputs.new.code c.push-3.new.self (inputs ++ (block ++ outputs)) step with_inputs c.in_ok-push-2.ensures.ok in
+    let with_block = before_code base c.emit_moves.new.code c.push-2.new.self outputs block c.in_ok-emit_moves.ensures c.in_ok-push.ensures.ok in
+    let with_inputs = before_code base c.push-2.new.self c.emit_moves-2.new.code (block ++ outputs) inputs with_block c.in_ok-emit_moves-2.ensures in
+    let with_step = before_code base c.emit_moves-2.new.code c.push-3.new.self (inputs ++ (block ++ outputs)) step with_inputs c.in_ok-push-2.ensures.ok in
     let code_by : List Argument → List Line = (λ ys.
     step ++ (step ++ (moves_code w.variables (inputs_of w name.spelling ys) ++ (block ++ moves_code w.variables (outputs_of w name.spelling ys))))) in
     subst (λ l. OnOk c.push-4.result (c.push-4.new.self ≡ base ++ reverse l))
