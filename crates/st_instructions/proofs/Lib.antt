@@ -6,4 +6,5 @@ pub mod Operands
 pub mod Operated
 pub mod Shifted
 pub mod Stores
+mod Together
 pub mod Turns

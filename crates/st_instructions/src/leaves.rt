@@ -3,12 +3,13 @@ ghost use Rattle.std.specs.Prelude.{◌≡◌, ◌<◌, get_or, length, IsTrue, 
 ghost use Rattle.st_code.specs.Code.{cell_of};
 ghost use Rattle.st_code.specs.Machine.{has_leaf, is_cell_of, value_in};
 ghost use Rattle.st_meaning.specs.Meaning.{no_value, stored_to};
+ghost use Rattle.st_memory.specs.Memory.{value_at};
 
 use crate::cells::{cell, value_in};
 use st_chart_runs::store_value;
 use st_layout::Layout;
 use st_memory::Memory;
-use st_values::Elem;
+use st_values::{Elem, Value};
 
 /// The value of a leaf, as a cell.
 #[inline(always)]
@@ -47,6 +48,31 @@ fn load_any<M: Memory>(memory: &M, layout: &Layout, leaf: u32) -> i64
         ≡ cell_of (get_or (M.content layout.now memory.now).values leaf no_value).bits }
 {
     load(memory, layout, leaf)
+}
+
+/// The value of a leaf that is likely to be of this type: where that is known as the code is made, its width is too.
+#[inline(always)]
+pub(crate) fn value_as<M: Memory>(memory: &M, layout: &Layout, elem: Elem, leaf: u32) -> Value
+    requires over { M.IsOver layout.now memory.now }
+    requires below { leaf < length layout.now }
+    ensures { result ≡ value_at (M.content layout.now memory.now).values leaf }
+{
+    if memory.elem(layout, leaf) == elem {
+        memory.get(layout, leaf)
+    } else {
+        any_value(memory, layout, leaf)
+    }
+}
+
+/// The value of a leaf of any type.
+#[cold]
+#[inline(never)]
+fn any_value<M: Memory>(memory: &M, layout: &Layout, leaf: u32) -> Value
+    requires over { M.IsOver layout.now memory.now }
+    requires below { leaf < length layout.now }
+    ensures { result ≡ value_at (M.content layout.now memory.now).values leaf }
+{
+    memory.get(layout, leaf)
 }
 
 /// Stores a cell, which is a value of the leaf's type, unless the leaf is forced.
