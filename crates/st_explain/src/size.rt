@@ -2,16 +2,14 @@
 
 use st_check::{MAX_IMAGE_BYTES, MAX_LEAVES, MAX_PATH_BYTES};
 use st_leaves::{MAX_COUNT, Size};
-use st_messages::{Draft, Words};
-use st_rule_messages::say_count;
+use st_messages::{Draft, Slot, Words};
+use st_rule_messages::count_text;
 use std::alloc::{AllocError, Global};
 
 /// A limit of a program's size.
 struct Limit {
-    /// What is said before the name of the program, and behind it before and after the size.
-    before: &'static str,
-    between: &'static str,
-    after: &'static str,
+    /// What is wrong: `①` is the name of the program, `②` its size, and `③` the limit.
+    title: &'static str,
     /// The most that a program may have.
     most: u64,
     /// What to do.
@@ -21,23 +19,17 @@ struct Limit {
 /// The limits of a program's size: of its leaves, of their bytes, and of its longest path.
 static LIMITS: [Limit; 3] = [
     Limit {
-        before: "",
-        between: " has ",
-        after: " single variables, and a program has at most ",
+        title: "① has ② single variables, and a program has at most ③",
         most: MAX_LEAVES,
         help: "make arrays smaller: each element counts",
     },
     Limit {
-        before: "the values of ",
-        between: " take ",
-        after: " bytes, and those of a program take at most ",
+        title: "the values of ① take ② bytes, and those of a program take at most ③",
         most: MAX_IMAGE_BYTES,
         help: "make arrays smaller, or choose narrower types",
     },
     Limit {
-        before: "the longest path of a variable in ",
-        between: " has ",
-        after: " bytes with the name of the program, and a path has at most ",
+        title: "the longest path of a variable in ① has ② bytes with the name of the program, and a path has at most ③",
         most: MAX_PATH_BYTES,
         help: "shorten names",
     },
@@ -51,21 +43,27 @@ pub fn explain_size(alloc: Global, name: &[u8], size: Size) -> Result<Words, All
         _ => size.longest.saturating_add(name.len() as u64),
     };
     let found = [size.leaves, size.bytes, longest];
-    say_passed(&mut draft, name, &found);
+    say_passed(alloc, &mut draft, name, &found)?;
     say_helps(&mut draft, &found);
     draft.finish()
 }
 
 /// Says which limits a program of this name passes, which has so much of what each of them limits.
-fn say_passed(draft: &mut Draft, name: &[u8], found: &[u64]) {
+fn say_passed(
+    alloc: Global,
+    draft: &mut Draft,
+    name: &[u8],
+    found: &[u64],
+) -> Result<(), AllocError> {
     let mut is_first = true;
     for (limit, count) in LIMITS.iter().zip(found) {
         if *count > limit.most {
             draft.say(if is_first { "" } else { "; " });
-            say_limit(draft, limit, name, *count);
+            say_limit(alloc, draft, limit, name, *count)?;
             is_first = false;
         }
     }
+    Ok(())
 }
 
 /// Says what to do about the limits that are passed.
@@ -78,20 +76,29 @@ fn say_helps(draft: &mut Draft, found: &[u64]) {
 }
 
 /// Says that a program of this name passes a limit, with so much.
-fn say_limit(draft: &mut Draft, limit: &Limit, name: &[u8], count: u64) {
-    draft.say(limit.before);
-    draft.quote(name);
-    draft.say(limit.between);
-    say_size(draft, count);
-    draft.say(limit.after);
-    say_size(draft, limit.most);
+fn say_limit(
+    alloc: Global,
+    draft: &mut Draft,
+    limit: &Limit,
+    name: &[u8],
+    count: u64,
+) -> Result<(), AllocError> {
+    let found = size_text(alloc, count)?;
+    let most = size_text(alloc, limit.most)?;
+    let slots = [
+        Slot::Name(name),
+        Slot::Words(found.as_str()),
+        Slot::Words(most.as_str()),
+    ];
+    draft.fill(limit.title, &slots);
+    Ok(())
 }
 
-/// Says a size. It stops at 1,000,000, which stands for more too.
-fn say_size(draft: &mut Draft, size: u64) {
+/// A size. It stops at 1,000,000, which stands for more too.
+fn size_text(alloc: Global, size: u64) -> Result<String, AllocError> {
     if size >= MAX_COUNT {
-        draft.say("1,000,000 or more");
+        String::from_str(alloc, "1,000,000 or more")
     } else {
-        say_count(draft, size);
+        count_text(alloc, size)
     }
 }

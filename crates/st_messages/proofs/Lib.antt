@@ -1,5 +1,6 @@
 mod Lexing
 pub mod Lines
 mod ReplacementRows
+mod Showing
 mod Skips
 pub mod Telling

@@ -3,5 +3,7 @@ pub mod Headings
 pub mod Lexemes
 pub mod Places
 pub mod Replacements
+pub mod Rows
 pub mod Sayings
+pub mod Shown
 pub mod Skips

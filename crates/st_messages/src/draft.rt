@@ -1,13 +1,12 @@
 //! A message as it is written.
-ghost use Rattle.std.specs.Prelude.{◌≡◌, ◌++◌, IfOk, List, [], codes, false, true, ℕ};
+ghost use Rattle.std.specs.Prelude.{◌≡◌, ◌++◌, IfOk, [], codes, false, true};
 ghost use Rattle.std.specs.String.{string_bytes};
-ghost use Rattle.st_messages.specs.Drafts.{Adds, Becomes, ended, quoted, said, with_line};
-ghost use Rattle.st_messages.specs.Sayings.{Tells, title_of};
+ghost use Rattle.st_messages.specs.Drafts.{Adds, Becomes, ended, said, with_line};
+ghost use Rattle.st_messages.specs.Rows.{filled, slot_texts};
+ghost use Rattle.st_messages.specs.Sayings.{Tells};
 
 use crate::form::Words;
-use crate::nearest::Nearest;
-use crate::saying::{Opening, Saying};
-use crate::shown::{quoted, shown};
+use crate::saying::{Saying, Slot, filled};
 use std::alloc::{AllocError, Global};
 
 /// What is said of a fault, as it is written: a title, and lines below it. It keeps that memory was wanting: then nothing more is
@@ -58,40 +57,6 @@ impl Draft {
         self.failed = said.is_err();
     }
 
-    /// Says bytes as they can be shown.
-    pub fn show(&mut self, bytes: &[u8])
-        ensures { (shown : List ℕ) × Adds self.old self.new shown }
-    {
-        match shown(self.alloc, bytes) {
-            Ok(text) => self.say(text.as_str()),
-            Err(_) => self.fail(),
-        }
-    }
-
-    /// Says a name, between two backticks.
-    pub fn quote(&mut self, name: &[u8])
-        ensures { (shown : List ℕ) × Adds self.old self.new (quoted shown) }
-    {
-        match quoted(self.alloc, name) {
-            Ok(text) => self.say(text.as_str()),
-            Err(_) => self.fail(),
-        }
-    }
-
-    /// Says a number.
-    pub fn number(&mut self, number: i128) {
-        match format!(in self.alloc; "{number}") {
-            Ok(text) => self.say(text.as_str()),
-            Err(_) => self.fail(),
-        }
-    }
-
-    /// Begins a line below, which says more.
-    pub fn note(&mut self, note: &str) {
-        self.line("  note: ");
-        self.say(note);
-    }
-
     /// Begins a line below, which says what to do.
     pub fn help(&mut self, help: &str)
         ensures { Becomes self.old self.new (with_line (said self.old)
@@ -101,33 +66,25 @@ impl Draft {
         self.say(help);
     }
 
-    /// Says what a row says of these bytes.
-    pub fn tell(&mut self, bytes: &[u8], saying: Saying)
-        ensures { Tells self.old self.new saying }
+    /// Says what a row says with these slots.
+    pub fn tell(&mut self, saying: Saying, slots: &[Slot<'_>])
+        ensures { Tells self.old self.new saying (slot_texts slots.now) }
     {
-        self.entitle(bytes, saying);
-        if !saying.help.is_empty() {
-            self.help(saying.help);
+        self.fill(saying.title, slots);
+        if !saying.below.is_empty() {
+            self.line("  ");
+            self.fill(saying.below, slots);
         }
     }
 
-    /// Says the title of a row, of these bytes.
-    fn entitle(&mut self, bytes: &[u8], saying: Saying)
-        ensures { (shown : List ℕ) × Adds self.old self.new
-            (title_of saying.opening shown saying.title.now) }
+    /// Says the words of a row with these slots.
+    pub fn fill(&mut self, row: &str, slots: &[Slot<'_>])
+        ensures { Adds self.old self.new (filled (slot_texts slots.now) row.now) }
     {
-        match saying.opening {
-            Opening::Quoted => self.say_of(bytes, saying.title),
-            Opening::Plain => self.say(saying.title),
+        match filled(self.alloc, row, slots) {
+            Ok(text) => self.say(text.as_str()),
+            Err(_) => self.fail(),
         }
-    }
-
-    /// Says a text of a name, which stands between two backticks before it.
-    fn say_of(&mut self, name: &[u8], text: &str)
-        ensures { (shown : List ℕ) × Adds self.old self.new (quoted shown ++ text.now) }
-    {
-        self.quote(name);
-        self.say(text);
     }
 
     /// Begins a line below with a text that isn't empty.
@@ -147,19 +104,6 @@ impl Draft {
         ensures { self.new.failed ≡ true }
     {
         self.failed = true;
-    }
-
-    /// Begins a line below, which asks whether the nearest name was meant, where one is near.
-    pub fn ask(&mut self, before: &str, nearest: &Nearest<'_>, after: &str) {
-        match nearest.get() {
-            Ok(Some(name)) => {
-                self.help(before);
-                self.show(name);
-                self.say(after);
-            }
-            Ok(None) => {}
-            Err(_) => self.fail(),
-        }
     }
 
     /// What was said, where there was memory for all of it.

@@ -1,7 +1,9 @@
 //! The lines of a message.
 ghost use Rattle.std.specs.Prelude.{◌≡◌, ◌++◌, [], OnOk};
 ghost use Rattle.std.specs.String.{string_bytes};
+ghost use Rattle.st_messages.specs.Drafts.{quoted};
 ghost use Rattle.st_messages.specs.Headings.{IsTold, code_text, heading, help_line, note_line, place_text};
+ghost use Rattle.st_messages.specs.Shown.{shown};
 
 use crate::place::{Place, place_after};
 use crate::shown::push_shown;
@@ -78,7 +80,10 @@ fn text_below(alloc: Global, text: &[u8], span: Span, words: &Words) -> Result<S
 }
 
 /// Puts bytes at the end of a message as they can be shown, between two backticks.
-pub fn push_quoted(message: &mut String, bytes: &[u8]) -> Result<(), AllocError> {
+pub fn push_quoted(message: &mut String, bytes: &[u8]) -> Result<(), AllocError>
+    ensures { OnOk result (string_bytes message.new ≡
+        string_bytes message.old ++ quoted (shown bytes.now)) }
+{
     message.push('`')?;
     push_shown(message, bytes)?;
     message.push('`')

@@ -1,6 +1,5 @@
 //! A text with its lexemes.
 
-use crate::draft::Draft;
 use crate::lexeme::Lexeme;
 
 /// A text with its lexemes.
@@ -38,12 +37,12 @@ impl<'a> Lexed<'a> {
         }
     }
 
-    /// Says the literal that begins at the token of this number, with its sign.
-    pub fn say_literal(&self, draft: &mut Draft, number: u32) {
+    /// The literal that begins at the token of this number: its sign, or nothing, and what follows it.
+    pub fn literal(&self, number: u32) -> (&'a [u8], &'a [u8]) {
         let bytes = self.spelling(number);
-        draft.show(bytes);
-        if let b"-" | b"+" = bytes {
-            draft.show(self.behind(number));
+        match bytes {
+            b"-" | b"+" => (bytes, self.behind(number)),
+            _ => (b"", bytes),
         }
     }
 }

@@ -26,6 +26,6 @@ pub use lexeme::{Lexeme, lexemes};
 pub use nearest::Nearest;
 pub use other_words::{Row, left_out, other_word};
 pub use place::{Place, last_line, line_span, place_after};
-pub use saying::{CauseRow, Opening, Saying, saying_at, words_of};
+pub use saying::{CauseRow, Saying, Slot, saying_at, words_of};
 pub use shown::push_shown;
 pub use source::{Span, push_line, push_source};

@@ -1,13 +1,15 @@
 //! What is said of calls that don't fit what they call, and of EXIT.
 
-use crate::names::{offer_parts, say_names, say_parts};
+use crate::cause::Cause;
+use crate::names::{names_of, offer_parts, tell_near, tell_parts};
+use crate::rows::{tell, tell_two};
 use st_check_expressions::count_positionals;
-use st_messages::{Draft, Lexed, Nearest};
+use st_messages::{Draft, Lexed, Nearest, Slot};
 use st_scopes::{Scope, Tables};
 use st_sites::Site;
 use st_tree::tree::{Argument, Call, Expression, Identifier, VarKind};
 use st_types::{Base, Callee, Purpose, Signature, StandardFunction};
-use std::alloc::Global;
+use std::alloc::{AllocError, Global};
 
 /// Says why a call, or an EXIT, doesn't fit.
 pub fn explain_call(
@@ -18,21 +20,18 @@ pub fn explain_call(
     scope: &Scope<'_>,
     at: u32,
     site: Option<Site<'_>>,
-) {
+) -> Result<(), AllocError> {
     match site {
-        Some(Site::Exit) => {
-            draft.quote(lexed.spelling(at));
-            draft.say(" stands in no loop");
-            draft.help("it leaves FOR, WHILE and REPEAT; `RETURN;` leaves the unit");
-        }
-        Some(Site::Call(call)) => say_statement(alloc, draft, tables, scope, call),
+        Some(Site::Exit) => tell(draft, Cause::NoLoop, &[Slot::Name(lexed.spelling(at))]),
+        Some(Site::Call(call)) => return say_statement(alloc, draft, tables, scope, call),
         Some(Site::Expression(expression, _)) => {
             if let Some(call) = first_call(expression) {
-                say_value(draft, tables, scope, call);
+                return say_value(alloc, draft, tables, scope, call);
             }
         }
         _ => {}
     }
+    Ok(())
 }
 
 /// The call with which an expression begins.
@@ -51,36 +50,31 @@ fn say_statement(
     tables: &Tables<'_>,
     scope: &Scope<'_>,
     call: &Call,
-) {
+) -> Result<(), AllocError> {
     let name = call.name.spelling.as_slice();
     match scope.callee(name) {
-        Callee::Instance(base) => say_invocation(alloc, draft, tables, scope, base, call),
+        Callee::Instance(base) => return say_invocation(alloc, draft, tables, scope, base, call),
         Callee::Block => say_block(draft, name),
-        _ => {
-            draft.quote(name);
-            draft.say(" is a function, and a statement invokes an instance");
-            draft.help("use its result, as `A := F(B);`");
-        }
+        _ => tell(draft, Cause::FunctionInvoked, &[Slot::Name(name)]),
     }
+    Ok(())
 }
 
 /// Says that a function block is called in place of an instance.
 fn say_block(draft: &mut Draft, name: &[u8]) {
-    draft.quote(name);
-    draft.say(" is a function block, and only an instance of it is invoked");
-    draft.help("declare one in VAR, as `Instance : ");
-    draft.show(name);
-    draft.say(";`, and invoke that");
+    tell(
+        draft,
+        Cause::BlockInvoked,
+        &[Slot::Name(name), Slot::Bytes(name)],
+    );
 }
 
-/// Says the name of the function block of an instance.
-fn say_block_name(draft: &mut Draft, tables: &Tables<'_>, base: Base) {
+/// The name of the function block of an instance.
+fn block_name<'b>(tables: &'b Tables<'_>, base: Base) -> &'b [u8] {
     match base {
-        Base::Standard(block) => draft.show(block.name()),
-        Base::Block(unit) if unit < tables.len() => {
-            draft.show(tables.unit(unit).name.spelling.as_slice());
-        }
-        _ => draft.say("it"),
+        Base::Standard(block) => block.name(),
+        Base::Block(unit) if unit < tables.len() => tables.unit(unit).name.spelling.as_slice(),
+        _ => b"it",
     }
 }
 
@@ -92,18 +86,24 @@ fn say_invocation(
     scope: &Scope<'_>,
     base: Base,
     call: &Call,
-) {
+) -> Result<(), AllocError> {
     let arguments = call.arguments.as_slice();
     if count_positionals(arguments) != 0 {
-        draft.say("an argument of an invocation has the name of an input before it");
-        say_parts(draft, tables, base);
-        draft.help("write `Input := Value`");
-    } else if let Some((name, what)) = first_misnamed(scope, base, arguments) {
-        say_no_pin(alloc, draft, tables, base, name, what);
+        tell(draft, Cause::NoNames, &[]);
+        tell_parts(alloc, draft, tables, base)?;
+        tell(draft, Cause::WriteNames, &[]);
+    } else if let Some((name, cause)) = first_misnamed(scope, base, arguments) {
+        let spelling = name.spelling.as_slice();
+        let block = Slot::Bytes(block_name(tables, base));
+        tell_two(draft, cause, block, Slot::Name(spelling));
+        tell_parts(alloc, draft, tables, base)?;
+        let mut nearest = Nearest::new(alloc, spelling);
+        offer_parts(&mut nearest, tables, base);
+        tell_near(draft, Cause::Near, &nearest);
     } else {
-        draft.say("an input or an output stands twice in this invocation");
-        draft.help("give each once");
+        tell(draft, Cause::PinTwice, &[]);
     }
+    Ok(())
 }
 
 /// The first name of an argument that is no input, or no output, of an instance, and which of them it isn't.
@@ -111,14 +111,14 @@ fn first_misnamed<'c>(
     scope: &Scope<'_>,
     base: Base,
     arguments: &'c [Argument],
-) -> Option<(&'c Identifier, &'static str)> {
+) -> Option<(&'c Identifier, Cause)> {
     for argument in arguments {
         match argument {
             Argument::Input(name, _) if !is_pin(scope, base, name, Purpose::Input) => {
-                return Some((name, " has no input "));
+                return Some((name, Cause::NoInput));
             }
             Argument::Output(name, _) if !is_pin(scope, base, name, Purpose::Output) => {
-                return Some((name, " has no output "));
+                return Some((name, Cause::NoOutput));
             }
             _ => {}
         }
@@ -134,41 +134,25 @@ fn is_pin(scope: &Scope<'_>, base: Base, name: &Identifier, purpose: Purpose) ->
     }
 }
 
-/// Says that a block has no input, or no output, of a name.
-fn say_no_pin(
+/// Says why a call in an expression doesn't fit.
+fn say_value(
     alloc: Global,
     draft: &mut Draft,
     tables: &Tables<'_>,
-    base: Base,
-    name: &Identifier,
-    what: &str,
-) {
-    let spelling = name.spelling.as_slice();
-    let mut nearest = Nearest::new(alloc, spelling);
-    say_block_name(draft, tables, base);
-    draft.say(what);
-    draft.quote(spelling);
-    say_parts(draft, tables, base);
-    offer_parts(&mut nearest, tables, base);
-    draft.ask("did you mean `", &nearest, "`?");
-}
-
-/// Says why a call in an expression doesn't fit.
-fn say_value(draft: &mut Draft, tables: &Tables<'_>, scope: &Scope<'_>, call: &Call) {
+    scope: &Scope<'_>,
+    call: &Call,
+) -> Result<(), AllocError> {
     let name = call.name.spelling.as_slice();
     let count = call.arguments.as_slice().len();
     match scope.callee(name) {
-        Callee::Instance(_) => {
-            draft.quote(name);
-            draft.say(" is an instance, and has no value in an expression");
-            draft.help("invoke it in a statement before, and read an output, as `T1.Q`");
-        }
+        Callee::Instance(_) => tell(draft, Cause::InstanceValue, &[Slot::Name(name)]),
         Callee::Block => say_block(draft, name),
         Callee::Standard(function) => say_taken(draft, name, taken(function), count),
         Callee::Conversion(_, _) => say_taken(draft, name, "one argument", count),
-        Callee::Own(signature) => say_own(draft, tables, &signature, call),
+        Callee::Own(signature) => return say_own(alloc, draft, tables, &signature, call),
         _ => {}
     }
+    Ok(())
 }
 
 /// Which arguments a standard function takes.
@@ -186,32 +170,48 @@ fn taken(function: StandardFunction) -> &'static str {
 }
 
 /// Says which arguments a function takes, all by position, and how many there are.
-fn say_taken(draft: &mut Draft, name: &[u8], taken: &str, count: usize) {
-    draft.quote(name);
-    draft.say(" takes ");
-    draft.say(taken);
-    draft.say(", without names (here: ");
-    draft.number(count as i128);
-    draft.say(")");
+fn say_taken(draft: &mut Draft, name: &[u8], taken: &'static str, count: usize) {
+    let slots = [
+        Slot::Name(name),
+        Slot::Words(taken),
+        Slot::Number(count as u64),
+    ];
+    tell(draft, Cause::OtherArguments, &slots);
 }
 
 /// Says why the arguments of a function of the text don't fit.
-fn say_own(draft: &mut Draft, tables: &Tables<'_>, signature: &Signature<'_>, call: &Call) {
+fn say_own(
+    alloc: Global,
+    draft: &mut Draft,
+    tables: &Tables<'_>,
+    signature: &Signature<'_>,
+    call: &Call,
+) -> Result<(), AllocError> {
     let name = call.name.spelling.as_slice();
     let arguments = call.arguments.as_slice();
-    draft.quote(name);
     match first_misfit(signature, arguments) {
         Some(Argument::Output(_, _)) => {
-            draft.say(" is a function, and has no outputs");
-            return draft.help("use its result, as `A := F(B);`");
+            tell(draft, Cause::FunctionOutputs, &[Slot::Name(name)]);
+            return Ok(());
         }
         Some(Argument::Input(input, _)) => {
-            draft.say(" has no input ");
-            draft.quote(input.spelling.as_slice());
+            let input = input.spelling.as_slice();
+            tell(
+                draft,
+                Cause::NoInput,
+                &[Slot::Name(name), Slot::Name(input)],
+            );
         }
-        _ => say_counts(draft, signature.len(), arguments.len()),
+        _ => {
+            let slots = [
+                Slot::Name(name),
+                Slot::Number(signature.len() as u64),
+                Slot::Number(arguments.len() as u64),
+            ];
+            tell(draft, Cause::OtherCount, &slots);
+        }
     }
-    say_inputs(draft, tables, name);
+    tell_inputs(alloc, draft, tables, name)
 }
 
 /// The first argument that gives an output, or an input that the function hasn't.
@@ -229,19 +229,16 @@ fn first_misfit<'c>(signature: &Signature<'_>, arguments: &'c [Argument]) -> Opt
     None
 }
 
-/// Says how many arguments are due, and how many there are.
-fn say_counts(draft: &mut Draft, due: usize, found: usize) {
-    draft.say(" takes all its arguments by position (");
-    draft.number(due as i128);
-    draft.say(", here: ");
-    draft.number(found as i128);
-    draft.say("), or each at most once by name");
-}
-
 /// Says which inputs a function of the text has.
-fn say_inputs(draft: &mut Draft, tables: &Tables<'_>, name: &[u8]) {
+fn tell_inputs(
+    alloc: Global,
+    draft: &mut Draft,
+    tables: &Tables<'_>,
+    name: &[u8],
+) -> Result<(), AllocError> {
     if let Some(unit) = tables.number_of(name) {
-        draft.note("its inputs: ");
-        say_names(draft, tables, unit, VarKind::Input);
+        let inputs = names_of(alloc, tables, unit, VarKind::Input)?;
+        tell(draft, Cause::Inputs, &[Slot::Words(inputs.as_str())]);
     }
+    Ok(())
 }

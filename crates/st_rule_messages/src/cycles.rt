@@ -1,6 +1,8 @@
 //! What is said of units that contain or call themselves.
 
-use st_messages::Draft;
+use crate::cause::Cause;
+use crate::rows::tell;
+use st_messages::{Draft, Slot, push_quoted};
 use st_references::references;
 use st_scopes::Tables;
 use st_tree::List;
@@ -19,30 +21,37 @@ pub fn explain_recursion(
 ) -> Result<(), AllocError> {
     let graph = references(alloc, tables)?;
     let way = way_back(alloc, &graph, unit)?;
-    say_unit(draft, tables, unit);
+    let name = Slot::Name(unit_name(tables, unit));
     if let [_] = way.as_slice() {
-        draft.say(verb(tables, unit));
-        draft.say("itself");
+        tell(draft, own_cause(is_function(tables, unit)), &[name]);
     } else {
-        say_way(draft, tables, unit, &way);
+        let text = way_text(alloc, tables, unit, &way)?;
+        let slots = [name, Slot::Words(text.as_str())];
+        tell(draft, way_cause(tables, &way), &slots);
     }
-    draft.help(advice(tables, &way));
     Ok(())
 }
 
-/// Says how a unit leads back to itself.
-fn say_way(draft: &mut Draft, tables: &Tables<'_>, unit: usize, way: &[usize]) {
+/// How a unit leads back to itself, behind its name.
+fn way_text(
+    alloc: Global,
+    tables: &Tables<'_>,
+    unit: usize,
+    way: &[usize],
+) -> Result<String, AllocError> {
+    let mut text = String::new(alloc);
     for (place, next) in way.iter().take(MAX_NAMED).enumerate() {
-        draft.say(if place == 0 { "" } else { ", which" });
-        draft.say(verb(tables, *next));
-        say_unit(draft, tables, *next);
+        text.push_str(if place == 0 { "" } else { ", which" })?;
+        text.push_str(verb(tables, *next))?;
+        push_quoted(&mut text, unit_name(tables, *next))?;
         if *next != unit {
-            say_line_of(draft, tables, *next);
+            push_line_of(&mut text, tables, *next)?;
         }
     }
     if way.len() > MAX_NAMED {
-        draft.say(", and so on back to itself");
+        text.push_str(", and so on back to itself")?;
     }
+    Ok(text)
 }
 
 /// How a unit is used, between what uses it and its name.
@@ -54,28 +63,40 @@ fn verb(tables: &Tables<'_>, unit: usize) -> &'static str {
     }
 }
 
-/// What to do about a way on which a unit leads back to itself.
-fn advice(tables: &Tables<'_>, way: &[usize]) -> &'static str {
-    if way.iter().all(|next| is_function(tables, *next)) {
-        "leave out a call on this way back; a loop often does what it was to do"
+/// What is wrong with a unit that leads to itself at once.
+fn own_cause(is_function: bool) -> Cause {
+    if is_function {
+        Cause::CallsItself
     } else {
-        "leave out a variable, a member or a call on this way back"
+        Cause::ContainsItself
     }
 }
 
-/// Says in which line a unit has its name.
-fn say_line_of(draft: &mut Draft, tables: &Tables<'_>, unit: usize) {
-    if let Some(found) = tables.units().get(unit) {
-        draft.say(" (line ");
-        draft.number(i128::from(found.name.position.line));
-        draft.say(")");
+/// What is wrong with a way on which a unit leads back to itself.
+fn way_cause(tables: &Tables<'_>, way: &[usize]) -> Cause {
+    if way.iter().all(|next| is_function(tables, *next)) {
+        Cause::WayOfCalls
+    } else {
+        Cause::WayOfUnits
     }
 }
 
-/// Says the name of a unit.
-fn say_unit(draft: &mut Draft, tables: &Tables<'_>, unit: usize) {
-    if let Some(found) = tables.units().get(unit) {
-        draft.quote(found.name.spelling.as_slice());
+/// Puts in which line a unit has its name at the end of a text.
+fn push_line_of(text: &mut String, tables: &Tables<'_>, unit: usize) -> Result<(), AllocError> {
+    match tables.units().get(unit) {
+        Some(found) => {
+            let line = found.name.position.line;
+            write!(text, " (line {line})")
+        }
+        None => Ok(()),
+    }
+}
+
+/// The name of a unit.
+fn unit_name<'b>(tables: &'b Tables<'_>, unit: usize) -> &'b [u8] {
+    match tables.units().get(unit) {
+        Some(found) => found.name.spelling.as_slice(),
+        None => b"",
     }
 }
 

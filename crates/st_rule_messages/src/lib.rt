@@ -3,11 +3,13 @@
 #![tactic(auto)]
 
 mod calls;
+mod cause;
 mod charts;
 mod cycles;
 mod limits;
 mod names;
+mod rows;
 mod rules;
 
-pub use limits::say_count;
+pub use limits::count_text;
 pub use rules::{explain_no_program, explain_rule};

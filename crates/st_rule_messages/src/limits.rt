@@ -1,37 +1,40 @@
 //! What is said of limits that are passed.
 
-use st_messages::{Draft, Lexed};
+use crate::cause::Cause;
+use crate::rows::tell;
+use st_messages::{Draft, Lexed, Slot};
 use st_tree::MAX_NAME_BYTES;
+use std::alloc::{AllocError, Global};
 
 /// Says which limit is passed at the name of the unit of this number.
-pub fn explain_limit(draft: &mut Draft, lexed: Lexed<'_>, number: usize, at: u32) {
+pub fn explain_limit(
+    alloc: Global,
+    draft: &mut Draft,
+    lexed: Lexed<'_>,
+    number: usize,
+    at: u32,
+) -> Result<(), AllocError> {
     let len = lexed.spelling(at).len();
     if len > MAX_NAME_BYTES {
-        draft.say("this name has ");
-        draft.number(len as i128);
-        draft.say(" bytes, and the name of a type, function, block or program has at most ");
-        draft.number(MAX_NAME_BYTES as i128);
-        draft.help("shorten it");
+        let slots = [
+            Slot::Number(len as u64),
+            Slot::Number(MAX_NAME_BYTES as u64),
+        ];
+        tell(draft, Cause::LongName, &slots);
     } else {
-        draft.say("this is number ");
-        say_count(draft, (number as u64).saturating_add(1));
-        draft.say(
-            " of the types, functions, blocks and programs of the text, and there are at most 1,000",
-        );
-        draft.help("leave out what isn't used");
+        let count = count_text(alloc, (number as u64).saturating_add(1))?;
+        tell(draft, Cause::ManyUnits, &[Slot::Words(count.as_str())]);
     }
+    Ok(())
 }
 
-/// Says a count, its thousands apart.
-pub fn say_count(draft: &mut Draft, count: u64) {
+/// A count, its thousands apart.
+pub fn count_text(alloc: Global, count: u64) -> Result<String, AllocError> {
+    let thousands = count / 1000;
     let rest = count % 1000;
     if count >= 1000 {
-        draft.number(i128::from(count / 1000));
-        draft.say(match rest {
-            0..=9 => ",00",
-            10..=99 => ",0",
-            _ => ",",
-        });
+        format!(in alloc; "{thousands},{rest:03}")
+    } else {
+        format!(in alloc; "{rest}")
     }
-    draft.number(i128::from(rest));
 }

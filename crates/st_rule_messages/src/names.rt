@@ -1,13 +1,16 @@
 //! What is said of a name that isn't there, or is there already.
 
+use crate::cause::Cause;
+use crate::rows::{tell, tell_two};
 use st_messages::{
-    Draft, FUNCTION_NAMES, Lexed, Nearest, TYPE_NAMES, function_left_out, type_left_out,
+    Draft, FUNCTION_NAMES, Lexed, Nearest, Slot, TYPE_NAMES, function_left_out, push_shown,
+    type_left_out,
 };
 use st_scopes::{Scope, Tables};
 use st_sites::{Site, reached};
 use st_tree::tree::{Body, ChartElement, Expression, VarKind, Variable};
 use st_types::{Base, NamedUnit, Purpose, Shape, StandardBlock, UnitKind, standard_of};
-use std::alloc::Global;
+use std::alloc::{AllocError, Global};
 
 /// Says that a name isn't there, and which one is near.
 pub fn explain_unknown(
@@ -19,7 +22,7 @@ pub fn explain_unknown(
     unit: usize,
     at: u32,
     site: Option<Site<'_>>,
-) {
+) -> Result<(), AllocError> {
     let name = lexed.spelling(at);
     let mut nearest = Nearest::new(alloc, name);
     match site {
@@ -29,22 +32,36 @@ pub fn explain_unknown(
         }
         Some(Site::Part(variable, number)) => {
             let whole = reached(scope, variable, number);
-            say_member(draft, &mut nearest, tables, variable, whole, name);
+            say_member(alloc, draft, &mut nearest, tables, variable, whole, name)?;
         }
         _ => say_variable(draft, &mut nearest, tables, unit, name),
     }
-    draft.ask("did you mean `", &nearest, "`?");
+    tell_near(draft, Cause::Near, &nearest);
+    Ok(())
+}
+
+/// Asks whether the nearest name was meant, in the words of this row, where one is near.
+pub fn tell_near(draft: &mut Draft, cause: Cause, nearest: &Nearest<'_>) {
+    match nearest.get() {
+        Ok(Some(name)) => tell(draft, cause, &[Slot::Bytes(name)]),
+        Ok(None) => {}
+        Err(_) => draft.fail(),
+    }
 }
 
 /// Says that the standard has a name and this profile hasn't, where there is something to use in its place. Answers whether there is.
 fn say_left_out(draft: &mut Draft, name: &[u8], help: Option<&'static str>) -> bool {
-    let Some(help) = help else {
-        return false;
-    };
-    draft.quote(name);
-    draft.say(" isn't in this profile");
-    draft.help(help);
-    true
+    match help {
+        Some(help) => {
+            tell(
+                draft,
+                Cause::LeftOut,
+                &[Slot::Name(name), Slot::Words(help)],
+            );
+            true
+        }
+        None => false,
+    }
 }
 
 /// Says that there is no type of this name.
@@ -52,8 +69,7 @@ fn say_type<'n>(draft: &mut Draft, nearest: &mut Nearest<'n>, tables: &'n Tables
     if say_left_out(draft, name, type_left_out(name)) {
         return;
     }
-    draft.say("there is no type or function block ");
-    draft.quote(name);
+    tell(draft, Cause::NoType, &[Slot::Name(name)]);
     for unit in tables.units() {
         if let UnitKind::Type(_) | UnitKind::Block(_) = unit.kind {
             nearest.offer(unit.name.spelling.as_slice());
@@ -75,8 +91,7 @@ fn say_function<'n>(
     if say_left_out(draft, name, function_left_out(name)) {
         return;
     }
-    draft.say("there is no function or instance ");
-    draft.quote(name);
+    tell(draft, Cause::NoFunction, &[Slot::Name(name)]);
     for unit in tables.units() {
         if let UnitKind::Function(_) = unit.kind {
             nearest.offer(unit.name.spelling.as_slice());
@@ -123,67 +138,81 @@ fn say_variable<'n>(
     unit: usize,
     name: &[u8],
 ) {
-    draft.say("there is no variable ");
-    draft.quote(name);
-    if unit < tables.len() {
-        draft.say(" in ");
-        draft.quote(tables.unit(unit).name.spelling.as_slice());
-        offer_variables(nearest, tables, unit);
-        offer_steps(nearest, tables.unit(unit), true);
+    if unit >= tables.len() {
+        return tell(draft, Cause::NoVariable, &[Slot::Name(name)]);
     }
+    let own = tables.unit(unit).name.spelling.as_slice();
+    tell_two(
+        draft,
+        Cause::NoVariableIn,
+        Slot::Name(name),
+        Slot::Name(own),
+    );
+    offer_variables(nearest, tables, unit);
+    offer_steps(nearest, tables.unit(unit), true);
 }
 
 /// Says that a part of a variable, which is this, has no member of this name.
 fn say_member<'n>(
+    alloc: Global,
     draft: &mut Draft,
     nearest: &mut Nearest<'n>,
     tables: &'n Tables<'_>,
     variable: &Variable,
     part: Option<Shape<'_>>,
     name: &[u8],
-) {
-    let is_array = match &part {
-        Some(shape) => shape.subscripts.is_some(),
-        None => false,
-    };
-    if is_array {
-        draft.say("an array");
-    } else {
-        draft.quote(variable.name.spelling.as_slice());
-    }
-    draft.say(" has no member ");
-    draft.quote(name);
+) -> Result<(), AllocError> {
+    let whole = Slot::Name(variable.name.spelling.as_slice());
+    let member = Slot::Name(name);
     match part {
-        Some(_) if is_array => draft.help("name an element first, as `A[1].Member`"),
+        None => tell_two(draft, Cause::StepMember, whole, member),
+        Some(shape) if shape.subscripts.is_some() => {
+            tell_two(draft, Cause::ArrayMember, whole, member);
+        }
         Some(shape) => {
-            say_parts(draft, tables, shape.base);
+            tell_two(draft, Cause::NoMember, whole, member);
+            tell_parts(alloc, draft, tables, shape.base)?;
             offer_parts(nearest, tables, shape.base);
         }
-        None => draft.note("a step has X and T alone"),
     }
+    Ok(())
 }
 
 /// Says which members a structure, or which inputs and outputs a block, has.
-pub fn say_parts(draft: &mut Draft, tables: &Tables<'_>, base: Base) {
+pub fn tell_parts(
+    alloc: Global,
+    draft: &mut Draft,
+    tables: &Tables<'_>,
+    base: Base,
+) -> Result<(), AllocError> {
     match base {
         Base::Structure(unit) => {
-            draft.note("its members: ");
-            say_names(draft, tables, unit, VarKind::Internal);
+            let members = names_of(alloc, tables, unit, VarKind::Internal)?;
+            tell(draft, Cause::Members, &[Slot::Words(members.as_str())]);
         }
         Base::Block(unit) => {
-            draft.note("its inputs: ");
-            say_names(draft, tables, unit, VarKind::Input);
-            draft.say("; its outputs: ");
-            say_names(draft, tables, unit, VarKind::Output);
+            let inputs = names_of(alloc, tables, unit, VarKind::Input)?;
+            let outputs = names_of(alloc, tables, unit, VarKind::Output)?;
+            tell_pins(draft, inputs.as_str(), outputs.as_str());
         }
         Base::Standard(block) => {
-            draft.note("its inputs: ");
-            say_pins(draft, block, Purpose::Input);
-            draft.say("; its outputs: ");
-            say_pins(draft, block, Purpose::Output);
+            let inputs = pins_of(alloc, block, Purpose::Input)?;
+            let outputs = pins_of(alloc, block, Purpose::Output)?;
+            tell_pins(draft, inputs.as_str(), outputs.as_str());
         }
-        _ => draft.note("it is one value, and no structure"),
+        _ => tell(draft, Cause::OneValue, &[]),
     }
+    Ok(())
+}
+
+/// Says which inputs and outputs a block has.
+fn tell_pins(draft: &mut Draft, inputs: &str, outputs: &str) {
+    tell_two(
+        draft,
+        Cause::Pins,
+        Slot::Words(inputs),
+        Slot::Words(outputs),
+    );
 }
 
 /// Offers the names of the parts of a structure or a block.
@@ -199,36 +228,43 @@ pub fn offer_parts<'n>(nearest: &mut Nearest<'n>, tables: &'n Tables<'_>, base: 
     }
 }
 
-/// Says a name behind others.
-fn say_listed(draft: &mut Draft, name: &[u8], is_first: bool) {
-    draft.say(if is_first { "" } else { ", " });
-    draft.show(name);
+/// Puts a name at the end of others.
+pub fn push_listed(list: &mut String, name: &[u8]) -> Result<(), AllocError> {
+    if !list.is_empty() {
+        list.push_str(", ")?;
+    }
+    push_shown(list, name)
 }
 
-/// Says the names of a unit that are declared so.
-pub fn say_names(draft: &mut Draft, tables: &Tables<'_>, unit: usize, kind: VarKind) {
+/// The names of a unit that are declared so.
+pub fn names_of(
+    alloc: Global,
+    tables: &Tables<'_>,
+    unit: usize,
+    kind: VarKind,
+) -> Result<String, AllocError> {
+    let mut list = String::new(alloc);
     if unit >= tables.len() {
-        return;
+        return Ok(list);
     }
-    let mut is_first = true;
     for declared in tables.declared(unit) {
         if declared.kind as u8 == kind as u8 {
-            say_listed(draft, declared.name.spelling.as_slice(), is_first);
-            is_first = false;
+            push_listed(&mut list, declared.name.spelling.as_slice())?;
         }
     }
-    draft.say(if is_first { "none" } else { "" });
+    list.push_str(if list.is_empty() { "none" } else { "" })?;
+    Ok(list)
 }
 
-/// Says the names of the inputs, or of the outputs, of a standard function block.
-fn say_pins(draft: &mut Draft, block: StandardBlock, purpose: Purpose) {
-    let mut is_first = true;
+/// The names of the inputs, or of the outputs, of a standard function block.
+fn pins_of(alloc: Global, block: StandardBlock, purpose: Purpose) -> Result<String, AllocError> {
+    let mut list = String::new(alloc);
     for pin in block.pins() {
         if pin.purpose == purpose {
-            say_listed(draft, pin.name, is_first);
-            is_first = false;
+            push_listed(&mut list, pin.name)?;
         }
     }
+    Ok(list)
 }
 
 /// Says that a name is there already, and where.
@@ -241,23 +277,21 @@ pub fn explain_repeated(
 ) {
     let name = lexed.spelling(at);
     let is_unit = unit < tables.len() && tables.unit(unit).name.position.number == at;
-    draft.quote(name);
     if is_unit && standard_of(name).is_some() {
-        draft.say(" is the name of a standard function or block");
-    } else {
-        draft.say(" is declared already");
-        let line = if is_unit {
-            unit_line(tables, unit, name)
-        } else {
-            name_line(tables, unit, name, at)
-        };
-        if let Some(line) = line {
-            draft.note("first in line ");
-            draft.number(i128::from(line));
-            draft.say("; capital and small letters are the same");
-        }
+        return tell(draft, Cause::StandardName, &[Slot::Name(name)]);
     }
-    draft.help("choose another name");
+    let line = if is_unit {
+        unit_line(tables, unit, name)
+    } else {
+        name_line(tables, unit, name, at)
+    };
+    match line {
+        Some(line) => {
+            let slots = [Slot::Name(name), Slot::Number(u64::from(line))];
+            tell(draft, Cause::DeclaredIn, &slots);
+        }
+        None => tell(draft, Cause::Declared, &[Slot::Name(name)]),
+    }
 }
 
 /// The line of the first unit of this name, before the one of this number.

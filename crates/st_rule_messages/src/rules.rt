@@ -3,12 +3,14 @@ ghost use Rattle.std.specs.Prelude.{◌<◌, length};
 ghost use Rattle.st_types.specs.Names.{units_of};
 
 use crate::calls::explain_call;
+use crate::cause::Cause;
 use crate::charts::explain_chart;
 use crate::cycles::explain_recursion;
 use crate::limits::explain_limit;
-use crate::names::{explain_repeated, explain_unknown};
+use crate::names::{explain_repeated, explain_unknown, push_listed, tell_near};
+use crate::rows::tell;
 use st_faults::{Fault, Rule, explanation_of_rule};
-use st_messages::{Draft, Lexed, Nearest, Words};
+use st_messages::{Draft, Lexed, Nearest, Slot, Words};
 use st_scopes::Tables;
 use st_sites::{in_unit, unit_at};
 use st_type_messages::{explain_assigned, explain_range, explain_type};
@@ -51,17 +53,19 @@ fn explain_in(
     let unit = tables.unit(number);
     let site = in_unit(alloc, tables, &scope, at, unit)?;
     match fault.rule {
-        Rule::UnknownName => explain_unknown(alloc, draft, lexed, tables, &scope, number, at, site),
+        Rule::UnknownName => {
+            explain_unknown(alloc, draft, lexed, tables, &scope, number, at, site)?;
+        }
         Rule::NameTwice => explain_repeated(draft, lexed, tables, number, at),
         Rule::TypeMismatch => {
             explain_type(alloc, draft, lexed, tables, &scope, number, at, site)?;
         }
         Rule::OutOfRange => explain_range(draft, lexed, at, site),
         Rule::NotAssignable => explain_assigned(draft, &scope, site),
-        Rule::CallMismatch => explain_call(alloc, draft, lexed, tables, &scope, at, site),
+        Rule::CallMismatch => explain_call(alloc, draft, lexed, tables, &scope, at, site)?,
         Rule::MalformedChart => explain_chart(alloc, draft, lexed, unit, at, site),
         Rule::Recursion => explain_recursion(alloc, draft, tables, number)?,
-        Rule::LimitPassed => explain_limit(draft, lexed, number, at),
+        Rule::LimitPassed => explain_limit(alloc, draft, lexed, number, at)?,
         Rule::NoProgram => {}
     }
     Ok(())
@@ -75,24 +79,20 @@ pub fn explain_no_program(
 ) -> Result<Words, AllocError> {
     let mut draft = Draft::new(alloc);
     let mut nearest = Nearest::new(alloc, main);
-    draft.say("the text has no program ");
-    draft.quote(main);
-    let mut is_first = true;
+    let mut programs = String::new(alloc);
     for unit in tables.units() {
         if let UnitKind::Program(_) = unit.kind {
-            if is_first {
-                draft.note("the programs of this text: ");
-            } else {
-                draft.say(", ");
-            }
-            draft.show(unit.name.spelling.as_slice());
+            push_listed(&mut programs, unit.name.spelling.as_slice())?;
             nearest.offer(unit.name.spelling.as_slice());
-            is_first = false;
         }
     }
-    if is_first {
-        draft.note("it has no program at all");
-    }
-    draft.ask("did you mean `--program ", &nearest, "`?");
+    let cause = if programs.is_empty() {
+        Cause::NoProgramAtAll
+    } else {
+        Cause::NoProgram
+    };
+    let slots = [Slot::Name(main), Slot::Words(programs.as_str())];
+    tell(&mut draft, cause, &slots);
+    tell_near(&mut draft, Cause::NearProgram, &nearest);
     draft.finish()
 }

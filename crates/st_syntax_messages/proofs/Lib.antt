@@ -1,3 +1,4 @@
+mod Placed
 mod Standing
 pub mod Stopped
 pub mod TokenLines

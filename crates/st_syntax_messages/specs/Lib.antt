@@ -1,5 +1,9 @@
+pub mod Causes
 pub mod Characters
+pub mod Kinds
 pub mod Located
+pub mod Open
+pub mod Probes
 pub mod Rows
 pub mod Spots
 pub mod Stopped

@@ -1,5 +1,5 @@
 -- What stands at a token and around it.
-use Rattle.std.specs.Prelude.{ℕ, ◌+◌, ◌-◌, ◌==◌, ◌||◌, ◌&&◌, Bool, true, false, if◌then◌else◌, List, [], Option, Some, None, length, nat_le, nat_lt, slice_get}
+use Rattle.std.specs.Prelude.{ℕ, ◌+◌, ◌-◌, ◌==◌, ◌||◌, ◌&&◌, Bool, true, false, if◌then◌else◌, List, [], Option, Some, None, length, nat_le, nat_lt, option_map, slice_get}
 use Rattle.st_tokens.specs.declared.symbol.Symbol.{Symbol}
 use Rattle.st_tokens.specs.declared.symbol.Symbol.TheVariants as symbols
 use Rattle.st_tokens.specs.declared.token.Kind.{Kind}
@@ -42,6 +42,28 @@ token_mark (Some token) = kind_mark token.kind
 abbrev pub mark_at : List Token → ℕ → Mark
 mark_at tokens number = token_mark (slice_get tokens number)
 
+-- what the token of this number is, and those before and behind it
+abbrev pub kind_at : List Token → ℕ → Option Kind
+kind_at tokens number = option_map (λ (t : Token). t.kind) (slice_get tokens number)
+
+abbrev pub kind_before : List Token → ℕ → Option Kind
+kind_before tokens number = if number == 0 then None else kind_at tokens (number - 1)
+
+abbrev pub kind_behind : List Token → ℕ → Option Kind
+kind_behind tokens number = if nat_lt number (length tokens) then kind_at tokens (number + 1) else None
+
+-- the line of the token of this number; there is none of number 0
+abbrev pub line_in : Option Token → ℕ
+line_in None = 0
+line_in (Some token) = token.line
+
+abbrev pub line_of : List Token → ℕ → ℕ
+line_of tokens number = line_in (slice_get tokens number)
+
+-- the lexeme before the one of this number
+abbrev pub lexeme_before : List Lexeme → ℕ → Option Lexeme
+lexeme_before lexemes number = if number == 0 then None else slice_get lexemes (number - 1)
+
 abbrev pub is_divide : Mark → Bool
 is_divide marks.Divide = true
 is_divide _ = false
@@ -57,6 +79,10 @@ is_ampersand _ = false
 abbrev pub is_number : Mark → Bool
 is_number marks.Number = true
 is_number _ = false
+
+abbrev pub is_assign : Mark → Bool
+is_assign marks.Assign = true
+is_assign _ = false
 
 abbrev pub is_word : Mark → Bool
 is_word marks.Word = true

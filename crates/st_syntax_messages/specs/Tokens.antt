@@ -1,13 +1,10 @@
 -- Why a token is out of place, where the tokens around it tell.
 use Rattle.std.specs.Prelude.{◌||◌, ◌&&◌, not, Bool, if◌then◌else◌, Option, Some, None}
-use Rattle.st_messages.specs.Sayings.{AreWordsFor}
-use Rattle.st_messages.specs.declared.form.Words.{Words}
 use Rattle.st_syntax_messages.specs.declared.cause.Cause.{Cause}
 use Rattle.st_syntax_messages.specs.declared.cause.Cause.TheVariants as causes
 use Rattle.st_syntax_messages.specs.declared.spot.Mark.{Mark}
 use Rattle.st_syntax_messages.specs.declared.spot.Mark.TheVariants as marks
 use Rattle.st_syntax_messages.specs.declared.spot.Spot.{Spot}
-use Rattle.st_syntax_messages.specs.Rows.{rows}
 use Rattle.st_syntax_messages.specs.Spots.{can_be_assigned, counts, is_ampersand, is_close_bracket, is_divide, is_number, is_times, is_word}
 
 abbrev pub when : Bool → Cause → Option Cause
@@ -57,12 +54,3 @@ place_cause s declares marks.Plus = counting_cause s
 place_cause s declares marks.Minus = counting_cause s
 place_cause s declares marks.Times = counting_cause s
 place_cause s declares _ = None
-
--- where there is such a cause, these are the words of its row
-abbrev pub AreWordsWhere : Option Cause → Words → Type 0
-AreWordsWhere None words = Unit {0}
-AreWordsWhere (Some cause) words = AreWordsFor rows cause words
-
--- that, of the cause of a symbol among declarations, or elsewhere
-abbrev pub AreWordsAmong : Spot → Words → Type 0
-AreWordsAmong s words = (declares : Bool) × AreWordsWhere (place_cause s declares s.here) words

@@ -85,6 +85,26 @@ pub enum Cause {
     Depth,
     /// The text is too long.
     TooLong,
+    /// A statement stands among declarations.
+    Statement,
+    /// A reserved word, or a type, stands for a name.
+    ReservedName,
+    /// A `;` is missing before the token.
+    Semicolon,
+    /// The token ends, or stands outside of, what isn't closed.
+    Unclosed,
+    /// That, where `ELSE IF` opened it.
+    UnclosedElseIf,
+    /// The token can't stand here, for no reason above.
+    Elsewhere,
+    /// That, where it is known what could stand here.
+    ElsewhereKnown,
+    /// The text ends, and something isn't closed.
+    EndUnclosed,
+    /// That, where `ELSE IF` opened it.
+    EndElseIf,
+    /// The text ends too early.
+    EndEarly,
     /// No token begins on a line.
     NoToken,
 }

@@ -1,5 +1,6 @@
 //! What is said of bytes that are no token.
 ghost use Rattle.st_messages.specs.Lexemes.{IsWithin};
+ghost use Rattle.st_messages.specs.Rows.{one_name};
 ghost use Rattle.st_messages.specs.Sayings.{AreWordsFor};
 ghost use Rattle.std.specs.List.{list_any};
 ghost use Rattle.std.specs.Prelude.{◌<◌, ◌==◌, ◌≡◌, IfOk, IfSome, length, position};
@@ -13,16 +14,21 @@ ghost use Rattle.st_values.specs.Words.{is_word};
 use crate::cause::Cause;
 use crate::reading::bytes_of;
 use crate::rows::words_for;
-use st_messages::{Lexeme, Words};
+use st_messages::{Lexeme, Slot, Words};
 use std::alloc::{AllocError, Global};
 
 /// What is said of a lexeme that is no token.
 pub fn explain_characters(alloc: Global, text: &[u8], lexeme: Lexeme) -> Result<Words, AllocError>
     ensures { IsWithin text.now lexeme → IfOk result (AreWordsFor rows
-        (cause_of (lexeme.start == 0) (bytes_of text.now lexeme))) }
+        (cause_of (lexeme.start == 0) (bytes_of text.now lexeme))
+        (one_name (bytes_of text.now lexeme))) }
 {
     let bytes = bytes_of(text, lexeme);
-    words_for(alloc, bytes, cause_of(lexeme.start == 0, bytes))
+    words_for(
+        alloc,
+        cause_of(lexeme.start == 0, bytes),
+        &[Slot::Name(bytes)],
+    )
 }
 
 /// Why bytes, which may be the first ones of a text, are no token.

@@ -3,6 +3,7 @@
 
 mod cause;
 mod characters;
+mod kinds;
 mod located;
 mod open;
 mod probe;

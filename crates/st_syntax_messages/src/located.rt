@@ -1,5 +1,5 @@
 //! Where a text isn't in the grammar.
-ghost use Rattle.std.specs.Prelude.{◌≡◌, ◌↔◌, ◌<◌, ◌≤◌, All, IfOk, IsTrue, false, true};
+ghost use Rattle.std.specs.Prelude.{◌≡◌, ◌↔◌, ◌<◌, ◌≤◌, All, IfOk, IsTrue, [], false, true};
 ghost use Rattle.st_messages.specs.Lexemes.{AreLexemes, ArePieces, IsWithin};
 ghost use Rattle.st_messages.specs.Places.{HasLine, line_at};
 ghost use Rattle.st_messages.specs.Sayings.{AreWordsFor};
@@ -117,9 +117,9 @@ fn at_end(alloc: Global, reading: &Reading<'_>) -> Result<Located, AllocError>
 /// What is said of a text that is too long.
 fn too_long(alloc: Global) -> Result<Located, AllocError>
     ensures start { IfOk result (λ l. l.span.start ≡ 0) }
-    ensures words { IfOk result (λ l. AreWordsFor rows Cause.TooLong l.words) }
+    ensures words { IfOk result (λ l. AreWordsFor rows Cause.TooLong [] l.words) }
 {
-    let words = words_for(alloc, b"", Cause::TooLong)?;
+    let words = words_for(alloc, Cause::TooLong, &[])?;
     let span = Span { start: 0, end: 0 };
     Ok(Located { span, words })
 }
@@ -181,7 +181,7 @@ fn at_characters(
             });
         }
     }
-    let words = words_for(alloc, b"", Cause::NoToken)?;
+    let words = words_for(alloc, Cause::NoToken, &[])?;
     let span = Span {
         start: here.end,
         end: here.end,

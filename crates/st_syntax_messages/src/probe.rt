@@ -1,11 +1,15 @@
 //! What the grammar allows at a place: each candidate is put there, and the text up to it is read.
 
+ghost use Rattle.std.specs.Prelude.{IfOk};
+ghost use Rattle.st_syntax_messages.specs.Probes.{Allows};
+
+use st_messages::place_after;
 use st_syntax::parse;
 use st_tokens::SyntaxFault;
 use std::alloc::{AllocError, Global};
 
 /// The most bytes of a text before a place at which many candidates are tried.
-pub const MAX_PROBED_BYTES: usize = 131_072;
+const MAX_PROBED_BYTES: usize = 131_072;
 
 /// The most candidates that are named.
 const MAX_NAMED: usize = 8;
@@ -58,44 +62,35 @@ static CANDIDATES: [Candidate; 40] = [
 ];
 
 /// Whether the grammar allows a token behind the beginning of a text.
-pub fn is_allowed(alloc: Global, before: &[u8], token: &[u8]) -> Result<bool, AllocError> {
+pub fn is_allowed(alloc: Global, before: &[u8], token: &[u8]) -> Result<bool, AllocError>
+    ensures { IfOk result (Allows before.now token.now) }
+{
     let mut text = Vec::from_slice(alloc, before)?;
     text.extend_from_slice(b"\n")?;
-    let line = lines_in(text.as_slice());
+    let line = place_after(text.as_slice()).line;
     text.extend_from_slice(token)?;
     text.extend_from_slice(b"\n ")?;
     match parse(alloc, text.as_slice()) {
         Ok(_units) => Ok(true),
         Err(SyntaxFault::Memory) => Err(AllocError),
-        Err(SyntaxFault::NotInGrammar { line: refused }) => Ok(refused > line),
+        Err(SyntaxFault::NotInGrammar { line: refused }) => Ok(refused as usize > line),
         Err(_) => Ok(false),
     }
 }
 
-/// The number of the line that follows a text.
-fn lines_in(text: &[u8]) -> u32 {
-    let mut line: u32 = 1;
-    for byte in text {
-        if *byte == b'\n' {
-            line = line.saturating_add(1);
-        }
+/// What the grammar allows behind the beginning of a text, at most eight, where the text isn't too long to try each.
+pub fn allowed(alloc: Global, before: &[u8]) -> Result<String, AllocError> {
+    let mut named = String::new(alloc);
+    if before.len() > MAX_PROBED_BYTES {
+        return Ok(named);
     }
-    line
-}
-
-/// Puts what the grammar allows behind the beginning of a text at the end of a message, at most eight, and says whether there is any.
-pub fn push_allowed(
-    alloc: Global,
-    message: &mut String,
-    before: &[u8],
-) -> Result<bool, AllocError> {
     let mut count: usize = 0;
     for candidate in &CANDIDATES {
         if count < MAX_NAMED && is_allowed(alloc, before, candidate.1)? {
-            message.push_str(if count == 0 { "" } else { ", " })?;
-            message.push_str(candidate.0)?;
+            named.push_str(if count == 0 { "" } else { ", " })?;
+            named.push_str(candidate.0)?;
             count = count.saturating_add(1);
         }
     }
-    Ok(count > 0)
+    Ok(named)
 }

@@ -3,10 +3,10 @@ ghost use Rattle.std.specs.Option.{option_copied};
 ghost use Rattle.std.specs.Prelude.{◌≡◌, Some};
 ghost use Rattle.st_messages.specs.Lexemes.{IsWithin};
 ghost use Rattle.st_syntax_messages.specs.Located.{bytes_of};
-ghost use Rattle.st_syntax_messages.specs.Spots.{bytes_in, spelling_at, touch, touches_at};
+ghost use Rattle.st_syntax_messages.specs.Spots.{bytes_in, kind_at, kind_before, kind_behind, lexeme_before, line_of, spelling_at, touch, touches_at};
 
 use st_messages::Lexeme;
-use st_tokens::{Keyword, Kind, Symbol, Token};
+use st_tokens::{Kind, Token};
 
 /// A text that has tokens, with them and with the lexemes that they are.
 #[derive(Clone, Copy)]
@@ -39,7 +39,9 @@ fn touch(before: &Lexeme, lexeme: Option<&Lexeme>) -> bool
 
 impl<'a> Reading<'a> {
     /// What the token of this number is.
-    pub fn kind(&self, number: usize) -> Option<&'a Kind<'a>> {
+    pub fn kind(&self, number: usize) -> Option<&'a Kind<'a>>
+        ensures { option_copied result ≡ kind_at self.now.tokens.now number }
+    {
         match self.tokens.get(number) {
             Some(token) => Some(&token.kind),
             None => None,
@@ -47,13 +49,25 @@ impl<'a> Reading<'a> {
     }
 
     /// What the token before the one of this number is.
-    pub fn kind_before(&self, number: usize) -> Option<&'a Kind<'a>> {
-        self.kind(number.checked_sub(1)?)
+    pub fn kind_before(&self, number: usize) -> Option<&'a Kind<'a>>
+        ensures { option_copied result ≡ kind_before self.now.tokens.now number }
+    {
+        if number == 0 {
+            None
+        } else {
+            self.kind(number - 1)
+        }
     }
 
     /// What the token behind the one of this number is.
-    pub fn kind_behind(&self, number: usize) -> Option<&'a Kind<'a>> {
-        self.kind(number.checked_add(1)?)
+    pub fn kind_behind(&self, number: usize) -> Option<&'a Kind<'a>>
+        ensures { option_copied result ≡ kind_behind self.now.tokens.now number }
+    {
+        if number < self.tokens.len() {
+            self.kind(number + 1)
+        } else {
+            None
+        }
     }
 
     /// The bytes of the token of this number. There are none where there is no such token.
@@ -66,43 +80,13 @@ impl<'a> Reading<'a> {
         }
     }
 
-    /// The line of the token of this number.
-    pub fn line(&self, number: usize) -> Option<u32> {
+    /// The line of the token of this number. It is 0 where there is no such token.
+    pub fn line(&self, number: usize) -> u32
+        ensures { result ≡ line_of self.now.tokens.now number }
+    {
         match self.tokens.get(number) {
-            Some(token) => Some(token.line),
-            None => None,
-        }
-    }
-
-    /// Whether the token of this number is this symbol.
-    pub fn is_symbol(&self, number: usize, symbol: Symbol) -> bool {
-        match self.kind(number) {
-            Some(Kind::Symbol(found)) => *found == symbol,
-            _ => false,
-        }
-    }
-
-    /// Whether the token of this number is this reserved word.
-    pub fn is_keyword(&self, number: usize, keyword: Keyword) -> bool {
-        match self.kind(number) {
-            Some(Kind::Keyword(found)) => *found == keyword,
-            _ => false,
-        }
-    }
-
-    /// Whether the token before the one of this number is this reserved word.
-    pub fn follows_keyword(&self, number: usize, keyword: Keyword) -> bool {
-        match number.checked_sub(1) {
-            Some(before) => self.is_keyword(before, keyword),
-            None => false,
-        }
-    }
-
-    /// Whether the token behind the one of this number is this symbol.
-    pub fn precedes_symbol(&self, number: usize, symbol: Symbol) -> bool {
-        match number.checked_add(1) {
-            Some(behind) => self.is_symbol(behind, symbol),
-            None => false,
+            Some(token) => token.line,
+            None => 0,
         }
     }
 
@@ -120,7 +104,13 @@ impl<'a> Reading<'a> {
     }
 
     /// The lexeme before the one of this number.
-    pub fn lexeme_before(&self, number: usize) -> Option<Lexeme> {
-        self.lexemes.get(number.checked_sub(1)?).copied()
+    pub fn lexeme_before(&self, number: usize) -> Option<Lexeme>
+        ensures { result ≡ lexeme_before self.now.lexemes.now number }
+    {
+        if number == 0 {
+            None
+        } else {
+            self.lexemes.get(number - 1).copied()
+        }
     }
 }

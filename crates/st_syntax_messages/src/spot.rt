@@ -1,7 +1,7 @@
 //! What stands at a token and around it.
 ghost use Rattle.std.specs.Prelude.{◌+◌, ◌-◌, ◌==◌, ◌≡◌, false, if◌then◌else◌, length, nat_lt};
 ghost use Rattle.st_syntax_messages.specs.Characters.{is_left_out};
-ghost use Rattle.st_syntax_messages.specs.Spots.{can_be_assigned, counts, is_ampersand, is_close_bracket, is_divide, is_number, is_times, is_word, kind_mark, mark_at, spelling_at, spot_at, symbol_mark, touches_at};
+ghost use Rattle.st_syntax_messages.specs.Spots.{can_be_assigned, counts, is_ampersand, is_assign, is_close_bracket, is_divide, is_number, is_times, is_word, kind_mark, mark_at, spelling_at, spot_at, symbol_mark, touches_at};
 
 use crate::characters::is_left_out;
 use crate::reading::Reading;
@@ -60,6 +60,13 @@ impl Mark {
         ensures { result ≡ is_number self }
     {
         matches!(self, Mark::Number)
+    }
+
+    /// Whether it is `:=`.
+    pub fn is_assign(self) -> bool
+        ensures { result ≡ is_assign self }
+    {
+        matches!(self, Mark::Assign)
     }
 
     /// Whether it is a word that isn't reserved.

@@ -1,20 +1,27 @@
 //! What is said of a token that the grammar doesn't have where it stands.
 
 ghost use Rattle.st_messages.specs.Sayings.{AreWordsFor};
-ghost use Rattle.std.specs.Prelude.{IfOk};
+ghost use Rattle.std.specs.List.{list_any};
+ghost use Rattle.std.specs.Prelude.{◌≡◌, IfOk, option_map};
+ghost use Rattle.st_messages.specs.Rows.{one_name};
+ghost use Rattle.st_syntax_messages.specs.Open.{closes};
 ghost use Rattle.st_syntax_messages.specs.Rows.{rows};
-ghost use Rattle.st_syntax_messages.specs.Spots.{spot_at};
-ghost use Rattle.st_syntax_messages.specs.Tokens.{AreWordsAmong, AreWordsWhere, symbol_cause};
+ghost use Rattle.st_syntax_messages.specs.Causes.{AreWordsOfEnd, AreWordsOfPlace, AreWordsOfRow, AreWordsOfToken, IsFirstElseIf, Lacks, early_cause, elsewhere_cause, end_cause, late_cause, opened_at, stands_for_name, tells_unclosed, text_before, texts, unclosed_cause, word_row, written_end};
+ghost use Rattle.st_syntax_messages.specs.Spots.{spelling_at, spot_at};
 
 use crate::cause::Cause;
-use crate::open::{Closing, Open, closes, open_before, written};
-use crate::probe::{MAX_PROBED_BYTES, is_allowed, push_allowed};
+use crate::kinds::{
+    begins_outside, begins_statement, is_comma, is_else, is_if, is_plain, is_reserved,
+    may_follow_semicolon, names_before, wants_name,
+};
+use crate::open::{Group, Open, closed_by, closes, declares, last_of, open_before};
+use crate::probe::{allowed, is_allowed};
 use crate::reading::Reading;
 use crate::rows::words_for;
 use crate::spot::{Spot, spot_at};
 use crate::token_cause::{place_cause, symbol_cause};
-use st_messages::{Row, Words, left_out, other_word, push_quoted, push_shown};
-use st_tokens::{Keyword, Kind, Symbol};
+use st_messages::{Row, Saying, Slot, Words, left_out, other_word, words_of};
+use st_tokens::Kind;
 use std::alloc::{AllocError, Global};
 
 /// What is said of a token that the grammar doesn't have where it stands.
@@ -23,85 +30,37 @@ pub fn explain_token(
     reading: &Reading<'_>,
     number: usize,
 ) -> Result<Words, AllocError>
-    ensures { let spot = spot_at reading.now.text.now reading.now.lexemes.now
-        reading.now.tokens.now number in
-        IfOk result (AreWordsWhere (symbol_cause spot spot.here)) }
+    ensures { IfOk result (AreWordsOfToken reading.now.text.now reading.now.lexemes.now
+        reading.now.tokens.now number) }
 {
     let spot = spot_at(reading, number);
-    match symbol_cause(spot) {
-        Some(cause) => words_for(alloc, reading.spelling(number), cause),
-        None => explain_word(alloc, reading, number, spot),
+    if let Some(cause) = symbol_cause(spot) {
+        return words_for(alloc, cause, &[Slot::Name(reading.spelling(number))]);
     }
-}
-
-/// What is said of a token that is no symbol of another language: in the row of a word, or by its place.
-fn explain_word(
-    alloc: Global,
-    reading: &Reading<'_>,
-    number: usize,
-    spot: Spot,
-) -> Result<Words, AllocError> {
-    let mut words = Words::new(alloc);
-    if say_word(&mut words, reading, number)? {
-        return Ok(words);
+    match word_row(reading, number, spot) {
+        Some(row) => words_of_row(alloc, row),
+        None => explain_place(alloc, reading, number, spot),
     }
-    explain_place(alloc, reading, number, spot)
-}
-
-/// What is said of a token among declarations, or elsewhere.
-fn explain_place(
-    alloc: Global,
-    reading: &Reading<'_>,
-    number: usize,
-    spot: Spot,
-) -> Result<Words, AllocError>
-    ensures { IfOk result (AreWordsAmong spot) }
-{
-    let open = open_before(alloc, reading, number)?;
-    match place_cause(spot, declares(&open)) {
-        Some(cause) => words_for(alloc, reading.spelling(number), cause),
-        None => explain_open(alloc, reading, number, &open),
-    }
-}
-
-/// What is said of a token where this is open.
-fn explain_open(
-    alloc: Global,
-    reading: &Reading<'_>,
-    number: usize,
-    open: &[Open],
-) -> Result<Words, AllocError> {
-    let mut words = Words::new(alloc);
-    if say_assigned(&mut words, reading, number, open)?
-        || say_name(&mut words, reading, number, open)?
-    {
-        return Ok(words);
-    }
-    if say_ended(alloc, &mut words, reading, number)? {
-        return Ok(words);
-    }
-    if let Some(cause) = end_cause(reading, number, open) {
-        return words_for(alloc, reading.spelling(number), cause);
-    }
-    if say_open(&mut words, reading, number, open)? {
-        return Ok(words);
-    }
-    say_any(alloc, &mut words, reading, number)?;
-    Ok(words)
 }
 
 /// What is said of a text that ends too early.
-pub fn explain_end(alloc: Global, reading: &Reading<'_>) -> Result<Words, AllocError> {
-    let mut words = Words::new(alloc);
-    let open = open_before(alloc, reading, reading.tokens.len())?;
-    words.title.push_str("the text ends here")?;
-    if let Some(last) = open.last() {
-        words.title.push_str(", and ")?;
-        push_begun(&mut words.title, reading, *last)?;
-        words.title.push_str(" isn't closed")?;
-        say_closing(&mut words, reading, *last)?;
-    }
-    Ok(words)
+pub fn explain_end(alloc: Global, reading: &Reading<'_>) -> Result<Words, AllocError>
+    ensures { IfOk result (AreWordsOfEnd reading.now.text.now reading.now.lexemes.now
+        reading.now.tokens.now) }
+{
+    let number = reading.tokens.len();
+    let opened = open_before(alloc, reading.tokens, number)?;
+    let last = last_of(&opened);
+    let else_if = else_if_from(reading, opened_at(last));
+    say(
+        alloc,
+        reading,
+        number,
+        end_cause(last, else_if),
+        last,
+        else_if,
+        "",
+    )
 }
 
 /// What is said of a token that opens one level too many.
@@ -110,433 +69,274 @@ pub fn explain_depth(
     reading: &Reading<'_>,
     number: usize,
 ) -> Result<Words, AllocError>
-    ensures { IfOk result (AreWordsFor rows Cause.Depth) }
+    ensures { IfOk result (AreWordsFor rows Cause.Depth (one_name
+        (spelling_at reading.now.text.now reading.now.lexemes.now number))) }
 {
-    words_for(alloc, reading.spelling(number), Cause::Depth)
+    words_for(alloc, Cause::Depth, &[Slot::Name(reading.spelling(number))])
 }
 
 // ---- words that are left out, or are of other languages
 
-/// Says it where the token, or the word before it, is one that this profile leaves out or another language has.
-fn say_word(words: &mut Words, reading: &Reading<'_>, number: usize) -> Result<bool, AllocError> {
+/// The row of a word that this profile leaves out, or of one before the token that another language has.
+fn word_row(reading: &Reading<'_>, number: usize, spot: Spot) -> Option<Row>
+    ensures { option_map (λ row. (row.0.now, row.1.now, row.2.now)) result ≡
+        word_row reading.now.text.now reading.now.lexemes.now number spot }
+{
     if let Some(row) = left_out(reading.spelling(number)) {
-        return say_row(words, row);
-    }
-    if matches!(reading.kind_before(number), Some(Kind::Word(_)))
-        && let Some(before) = number.checked_sub(1)
-        && let Some(row) = other_word(reading.spelling(before))
-    {
-        return say_row(words, row);
-    }
-    Ok(false)
-}
-
-/// Says what a row says.
-fn say_row(words: &mut Words, row: Row) -> Result<bool, AllocError> {
-    push_quoted(&mut words.title, row.0)?;
-    words.title.push(' ')?;
-    words.title.push_str(row.1)?;
-    words.help(row.2)?;
-    Ok(true)
-}
-
-// ---- declarations
-
-/// Whether declarations are open.
-fn declares(open: &[Open]) -> bool {
-    match open.last() {
-        Some(last) => matches!(
-            last.closing,
-            Closing::Keyword(Keyword::EndVar | Keyword::EndStruct | Keyword::EndType)
-        ),
-        None => false,
-    }
-}
-
-/// Says it where a statement stands among declarations.
-fn say_assigned(
-    words: &mut Words,
-    reading: &Reading<'_>,
-    number: usize,
-    open: &[Open],
-) -> Result<bool, AllocError> {
-    let is_name = matches!(reading.kind_before(number), Some(Kind::Word(_)));
-    let is_statement = is_name && declares(open) && reading.is_symbol(number, Symbol::Assign);
-    match open.last() {
-        Some(last) if is_statement => {
-            words
-                .title
-                .push_str("a statement stands among declarations: ")?;
-            push_begun(&mut words.title, reading, *last)?;
-            words.title.push_str(" isn't closed")?;
-            say_closing(words, reading, *last)?;
-            Ok(true)
-        }
-        _ => Ok(false),
-    }
-}
-
-// ---- reserved words as names
-
-/// Says it where a reserved word, or a type, stands for a name.
-fn say_name(
-    words: &mut Words,
-    reading: &Reading<'_>,
-    number: usize,
-    open: &[Open],
-) -> Result<bool, AllocError> {
-    let is_reserved = matches!(reading.kind(number), Some(Kind::Keyword(_) | Kind::Type(_)));
-    if !is_reserved || !stands_for_name(reading, number, open) {
-        return Ok(false);
-    }
-    push_quoted(&mut words.title, reading.spelling(number))?;
-    words.title.push_str(" is a reserved word, and no name")?;
-    words.more.push_str("  help: choose another name, as ")?;
-    push_longer(&mut words.more, reading.spelling(number))?;
-    words.more.push('\n')?;
-    Ok(true)
-}
-
-/// Puts a name with one letter more at the end of a message.
-fn push_longer(message: &mut String, name: &[u8]) -> Result<(), AllocError> {
-    message.push('`')?;
-    push_shown(message, name)?;
-    message.push_str("1`")
-}
-
-/// Whether a reserved word stands where a name is due.
-fn stands_for_name(reading: &Reading<'_>, number: usize, open: &[Open]) -> bool {
-    if matches!(reading.kind(number), Some(Kind::Keyword(Keyword::Else))) {
-        return false;
-    }
-    let before = matches!(
-        reading.kind_before(number),
-        Some(Kind::Keyword(
-            Keyword::Program
-                | Keyword::Function
-                | Keyword::FunctionBlock
-                | Keyword::Step
-                | Keyword::InitialStep
-                | Keyword::Action
-                | Keyword::For
-                | Keyword::From
-        )) | Some(Kind::Symbol(Symbol::Dot))
-    );
-    let behind = matches!(
-        reading.kind_behind(number),
-        Some(Kind::Symbol(
-            Symbol::Colon | Symbol::Assign | Symbol::Dot | Symbol::OpenBracket | Symbol::Output
-        ))
-    );
-    let listed = declares(open) && reading.precedes_symbol(number, Symbol::Comma);
-    (before && is_plain(reading, number)) || behind || listed || is_operand(reading, number)
-}
-
-/// Whether a reserved word that begins and ends nothing stands where an operand is due.
-fn is_operand(reading: &Reading<'_>, number: usize) -> bool {
-    let is_due = matches!(
-        reading.kind_before(number),
-        Some(
-            Kind::Symbol(
-                Symbol::Assign
-                    | Symbol::Plus
-                    | Symbol::Minus
-                    | Symbol::Times
-                    | Symbol::Divide
-                    | Symbol::Equal
-                    | Symbol::NotEqual
-                    | Symbol::Less
-                    | Symbol::LessEqual
-                    | Symbol::Greater
-                    | Symbol::GreaterEqual
-                    | Symbol::Open
-                    | Symbol::OpenBracket
-                    | Symbol::Comma
-                    | Symbol::Ampersand
-            ) | Kind::Keyword(
-                Keyword::And
-                    | Keyword::Or
-                    | Keyword::Xor
-                    | Keyword::Not
-                    | Keyword::Mod
-                    | Keyword::If
-                    | Keyword::Elsif
-                    | Keyword::While
-                    | Keyword::Until
-                    | Keyword::Case
-            )
-        )
-    );
-    is_due && is_plain(reading, number)
-}
-
-/// Whether a type stands here, or a reserved word that neither ends nor divides anything.
-fn is_plain(reading: &Reading<'_>, number: usize) -> bool {
-    matches!(
-        reading.kind(number),
-        Some(
-            Kind::Type(_)
-                | Kind::Keyword(
-                    Keyword::Step
-                        | Keyword::Action
-                        | Keyword::Transition
-                        | Keyword::By
-                        | Keyword::From
-                        | Keyword::Constant
-                        | Keyword::Retain
-                        | Keyword::NonRetain
-                        | Keyword::Type
-                        | Keyword::Program
-                        | Keyword::Function
-                        | Keyword::Exit
-                        | Keyword::Return
-                        | Keyword::Array
-                        | Keyword::Struct
-                )
-        )
-    )
-}
-
-// ---- what is missing before the token
-
-/// Says it where a `;` is missing before the token.
-fn say_ended(
-    alloc: Global,
-    words: &mut Words,
-    reading: &Reading<'_>,
-    number: usize,
-) -> Result<bool, AllocError> {
-    let Some(before) = reading.lexeme_before(number) else {
-        return Ok(false);
-    };
-    let begins = matches!(
-        reading.kind(number),
-        Some(Kind::Word(_) | Kind::Keyword(_) | Kind::Type(_) | Kind::Symbol(Symbol::Semicolon))
-    );
-    let Some(text) = reading.text.get(..before.end) else {
-        return Ok(false);
-    };
-    if !begins || begins_statement(reading, number) || !is_allowed(alloc, text, b";")? {
-        return Ok(false);
-    }
-    words.title.push_str("a `;` is missing before ")?;
-    push_quoted(&mut words.title, reading.spelling(number))?;
-    say_behind(words, reading, number)?;
-    Ok(true)
-}
-
-/// Whether a statement, also an empty one, may begin at the token of this number, since none goes on before it.
-fn begins_statement(reading: &Reading<'_>, number: usize) -> bool {
-    match reading.kind_before(number) {
-        Some(Kind::Symbol(Symbol::Semicolon | Symbol::Colon)) => true,
-        Some(Kind::Keyword(keyword)) => !matches!(
-            keyword,
-            Keyword::EndIf
-                | Keyword::EndCase
-                | Keyword::EndFor
-                | Keyword::EndWhile
-                | Keyword::EndRepeat
-                | Keyword::EndStruct
-                | Keyword::Exit
-                | Keyword::Return
-                | Keyword::True
-                | Keyword::False
-        ),
-        _ => false,
-    }
-}
-
-/// Says behind which token, and on which line, the `;` is due.
-fn say_behind(words: &mut Words, reading: &Reading<'_>, number: usize) -> Result<(), AllocError> {
-    let Some(before) = number.checked_sub(1) else {
-        return Ok(());
-    };
-    let Some(line) = reading.line(before) else {
-        return Ok(());
-    };
-    words.more.push_str("  help: put it behind ")?;
-    push_quoted(&mut words.more, reading.spelling(before))?;
-    let more = &mut words.more;
-    write!(more, " in line {line}\n")
-}
-
-// ---- what is open
-
-/// Puts what is open at the end of a message, with the line on which it begins.
-fn push_begun(message: &mut String, reading: &Reading<'_>, open: Open) -> Result<(), AllocError> {
-    message.push_str("the ")?;
-    push_quoted(message, reading.spelling(open.number))?;
-    match reading.line(open.number) {
-        Some(line) => write!(message, " of line {line}"),
-        None => Ok(()),
-    }
-}
-
-/// Whether the token can only close something, or begin something outside of what is open.
-fn ends_something(kind: Option<&Kind<'_>>) -> bool {
-    matches!(
-        kind,
-        Some(
-            Kind::Keyword(
-                Keyword::EndAction
-                    | Keyword::EndCase
-                    | Keyword::EndFor
-                    | Keyword::EndFunction
-                    | Keyword::EndFunctionBlock
-                    | Keyword::EndIf
-                    | Keyword::EndProgram
-                    | Keyword::EndRepeat
-                    | Keyword::EndStep
-                    | Keyword::EndStruct
-                    | Keyword::EndTransition
-                    | Keyword::EndType
-                    | Keyword::EndVar
-                    | Keyword::EndWhile
-                    | Keyword::Until
-                    | Keyword::Program
-                    | Keyword::Function
-                    | Keyword::FunctionBlock
-                    | Keyword::Type
-                    | Keyword::Var
-                    | Keyword::VarInput
-                    | Keyword::VarOutput
-                    | Keyword::Step
-                    | Keyword::InitialStep
-                    | Keyword::Transition
-                    | Keyword::Action
-                    | Keyword::If
-                    | Keyword::Case
-                    | Keyword::For
-                    | Keyword::While
-                    | Keyword::Repeat
-                    | Keyword::Then
-                    | Keyword::Do
-            ) | Kind::Symbol(Symbol::Semicolon | Symbol::Close | Symbol::CloseBracket)
-        )
-    )
-}
-
-/// Says what isn't closed, where the token ends, or stands outside of, something else.
-fn say_open(
-    words: &mut Words,
-    reading: &Reading<'_>,
-    number: usize,
-    open: &[Open],
-) -> Result<bool, AllocError> {
-    let Some(kind) = reading.kind(number) else {
-        return Ok(false);
-    };
-    let Some(last) = open.last() else {
-        return Ok(false);
-    };
-    let last = *last;
-    if !ends_something(Some(kind)) || closes(kind, last.closing) {
-        return Ok(false);
-    }
-    if matches!(kind, Kind::Symbol(_)) && !matches!(last.closing, Closing::Symbol(_)) {
-        return Ok(false);
-    }
-    push_quoted(&mut words.title, reading.spelling(number))?;
-    words.title.push_str(" stands here, but ")?;
-    push_begun(&mut words.title, reading, last)?;
-    words.title.push_str(" isn't closed")?;
-    say_closing(words, reading, last)?;
-    Ok(true)
-}
-
-/// Why a token is out of place that stands outside of all units, or closes nothing that is open.
-fn end_cause(reading: &Reading<'_>, number: usize, open: &[Open]) -> Option<Cause> {
-    let kind = reading.kind(number)?;
-    let Some(last) = open.last() else {
-        return Some(Cause::Outside);
-    };
-    if ends_something(Some(kind)) && !closes(kind, last.closing) && is_unopened(kind, open) {
-        Some(Cause::Unopened)
+        Some(row)
+    } else if spot.before.is_word() {
+        other_word(reading.spelling(number.saturating_sub(1)))
     } else {
         None
     }
 }
 
-/// Whether a token closes something that isn't open at all.
-fn is_unopened(kind: &Kind<'_>, open: &[Open]) -> bool {
-    let is_end = matches!(
-        kind,
-        Kind::Keyword(
-            Keyword::EndAction
-                | Keyword::EndCase
-                | Keyword::EndFor
-                | Keyword::EndFunction
-                | Keyword::EndFunctionBlock
-                | Keyword::EndIf
-                | Keyword::EndProgram
-                | Keyword::EndRepeat
-                | Keyword::EndStep
-                | Keyword::EndStruct
-                | Keyword::EndTransition
-                | Keyword::EndType
-                | Keyword::EndVar
-                | Keyword::EndWhile
-        ) | Kind::Symbol(Symbol::Close | Symbol::CloseBracket)
-    );
-    is_end && !open.iter().any(|it| closes(kind, it.closing))
+/// What is said of a word, in the words of its row.
+fn words_of_row(alloc: Global, row: Row) -> Result<Words, AllocError>
+    ensures { IfOk result (AreWordsOfRow (row.entry.0.now, row.entry.1.now, row.entry.2.now)) }
+{
+    let saying = Saying {
+        title: row.1,
+        below: row.2,
+    };
+    words_of(alloc, saying, &[Slot::Name(row.0)])
 }
 
-/// Says how to close what is open.
-fn say_closing(words: &mut Words, reading: &Reading<'_>, open: Open) -> Result<(), AllocError> {
-    let closing = written(open.closing);
-    let is_if = open.closing == Closing::Keyword(Keyword::EndIf);
-    let more = &mut words.more;
-    match else_if_line(reading, open.number) {
-        Some(line) if is_if => write!(
-            more,
-            "  help: write `ELSIF` for the `ELSE IF` of line {line}, or close it by `{closing}`\n"
-        ),
-        _ => write!(more, "  help: close it by `{closing}`\n"),
+// ---- what is told by the place
+
+/// What is said of a token by the place where it stands.
+fn explain_place(
+    alloc: Global,
+    reading: &Reading<'_>,
+    number: usize,
+    spot: Spot,
+) -> Result<Words, AllocError>
+    ensures { IfOk result (AreWordsOfPlace reading.now.text.now reading.now.lexemes.now
+        reading.now.tokens.now number spot) }
+{
+    let opened = open_before(alloc, reading.tokens, number)?;
+    let last = last_of(&opened);
+    let else_if = else_if_from(reading, opened_at(last));
+    if let Some(cause) = early_cause(reading, number, spot, last) {
+        return say(alloc, reading, number, cause, last, else_if, "");
+    }
+    if lacks_semicolon(alloc, reading, number)? {
+        return say(alloc, reading, number, Cause::Semicolon, last, else_if, "");
+    }
+    if let Some(cause) = late_cause(reading, number, &opened, else_if) {
+        return say(alloc, reading, number, cause, last, else_if, "");
+    }
+    let named = allowed(alloc, text_before(reading, number))?;
+    let named = named.as_str();
+    say(
+        alloc,
+        reading,
+        number,
+        elsewhere_cause(named),
+        last,
+        else_if,
+        named,
+    )
+}
+
+/// Why a token is out of place of which nothing else tells, where this could stand in its place.
+fn elsewhere_cause(allowed: &str) -> Cause
+    ensures { result ≡ elsewhere_cause allowed.now }
+{
+    if allowed.is_empty() {
+        Cause::Elsewhere
+    } else {
+        Cause::ElsewhereKnown
     }
 }
 
-/// The line of the first `ELSE IF` from the token of this number on.
-fn else_if_line(reading: &Reading<'_>, number: usize) -> Option<u32> {
-    for (at, token) in reading.tokens.iter().enumerate().skip(number) {
-        if let Kind::Keyword(Keyword::If) = token.kind
-            && reading.follows_keyword(at, Keyword::Else)
-        {
-            return Some(token.line);
-        }
+/// What is said of a cause at the token of this number, where this is open last, this is the line of the first `ELSE IF` in it, and
+/// this could stand here.
+fn say<'x>(
+    alloc: Global,
+    reading: &Reading<'x>,
+    number: usize,
+    cause: Cause,
+    last: Option<Open>,
+    else_if: Option<u32>,
+    allowed: &'x str,
+) -> Result<Words, AllocError>
+    ensures { IfOk result (AreWordsFor rows cause (texts reading.now.text.now
+        reading.now.lexemes.now reading.now.tokens.now number last else_if allowed.now)) }
+{
+    let before = number.saturating_sub(1);
+    let opened = opened_at(last);
+    words_for(
+        alloc,
+        cause,
+        &[
+            Slot::Name(reading.spelling(number)),
+            Slot::Name(reading.spelling(before)),
+            Slot::Number(u64::from(reading.line(before))),
+            Slot::Name(reading.spelling(opened)),
+            Slot::Number(u64::from(reading.line(opened))),
+            Slot::Words(end_of(last)),
+            Slot::Number(u64::from(else_if.unwrap_or(0))),
+            Slot::Words(allowed),
+            Slot::Bytes(reading.spelling(number)),
+        ],
+    )
+}
+
+/// The number of the first token of what is open last.
+fn opened_at(last: Option<Open>) -> usize
+    ensures { result ≡ opened_at last }
+{
+    match last {
+        Some(last) => last.number,
+        None => 0,
+    }
+}
+
+/// How the end of what is open last is written.
+fn end_of(last: Option<Open>) -> &'static str
+    ensures { result.now ≡ written_end last }
+{
+    match last {
+        Some(last) => last.group.end(),
+        None => "",
+    }
+}
+
+// ---- declarations, and reserved words as names
+
+/// Why a token is out of place, by what stands around it.
+fn early_cause(
+    reading: &Reading<'_>,
+    number: usize,
+    spot: Spot,
+    last: Option<Open>,
+) -> Option<Cause>
+    ensures { result ≡ early_cause reading.now.tokens.now number spot last }
+{
+    if let Some(cause) = place_cause(spot, declares(last)) {
+        return Some(cause);
+    }
+    if declares(last) && spot.before.is_word() && spot.here.is_assign() {
+        return Some(Cause::Statement);
+    }
+    if stands_for_name(reading, number, last) {
+        return Some(Cause::ReservedName);
     }
     None
 }
 
-// ---- all else
+/// Whether a reserved word stands where a name is due.
+fn stands_for_name(reading: &Reading<'_>, number: usize, last: Option<Open>) -> bool
+    ensures { result ≡ stands_for_name reading.now.tokens.now number last }
+{
+    let kind = reading.kind(number);
+    let behind = reading.kind_behind(number);
+    let is_due = is_plain(kind) && wants_name(reading.kind_before(number));
+    is_reserved(kind) && (is_due || names_before(behind) || (declares(last) && is_comma(behind)))
+}
 
-/// Says that the token can't stand here, and what could.
-fn say_any(
-    alloc: Global,
-    words: &mut Words,
+// ---- what is missing before the token
+
+/// Whether a `;` is missing before a token.
+fn lacks_semicolon(alloc: Global, reading: &Reading<'_>, number: usize) -> Result<bool, AllocError>
+    ensures { IfOk result (Lacks reading.now.text.now reading.now.lexemes.now
+        reading.now.tokens.now number) }
+{
+    let begins = begins_statement(reading.kind_before(number));
+    if number == 0 || begins || !may_follow_semicolon(reading.kind(number)) {
+        return Ok(false);
+    }
+    is_allowed(alloc, text_before(reading, number), b";")
+}
+
+/// The text up to the end of the token before the one of this number.
+fn text_before<'a>(reading: &Reading<'a>, number: usize) -> &'a [u8]
+    ensures { result.now ≡ text_before reading.now.text.now reading.now.lexemes.now number }
+{
+    match reading.lexeme_before(number) {
+        Some(before) => reading.text.get(..before.end).unwrap_or(b""),
+        None => b"",
+    }
+}
+
+// ---- what is open
+
+/// Why a token is out of place that stands outside of all units, or that can't stand in what is open last.
+fn late_cause(
     reading: &Reading<'_>,
     number: usize,
-) -> Result<(), AllocError> {
-    push_quoted(&mut words.title, reading.spelling(number))?;
-    words.title.push_str(" can't stand here")?;
-    let end = match reading.lexeme_before(number) {
-        Some(before) => {
-            words.title.push_str(", behind ")?;
-            push_quoted(&mut words.title, reading.spelling(number.saturating_sub(1)))?;
-            before.end
+    opened: &[Open],
+    else_if: Option<u32>,
+) -> Option<Cause>
+    ensures { result ≡ late_cause reading.now.tokens.now number opened.now else_if }
+{
+    let kind = reading.kind(number)?;
+    let Some(last) = last_of(opened) else {
+        return Some(Cause::Outside);
+    };
+    if closes(kind, last.group) {
+        return None;
+    }
+    let is_end = closed_by(kind).is_some();
+    if is_end && !is_open(kind, opened) {
+        return Some(Cause::Unopened);
+    }
+    if (is_end || begins_outside(Some(kind))) && tells_unclosed(kind, last.group) {
+        Some(unclosed_cause(last.group, else_if))
+    } else {
+        None
+    }
+}
+
+/// Whether what a token closes is open.
+fn is_open(kind: &Kind<'_>, opened: &[Open]) -> bool
+    ensures { result ≡ list_any (λ it. closes kind.now it.group) opened.now }
+{
+    opened.iter().any(|it| closes(kind, it.group))
+}
+
+/// Whether a token tells that a group isn't closed: a symbol tells it of parentheses and brackets alone.
+fn tells_unclosed(kind: &Kind<'_>, group: Group) -> bool
+    ensures { result ≡ tells_unclosed kind.now group }
+{
+    match kind {
+        Kind::Symbol(_) => matches!(group, Group::Parenthesis | Group::Bracket),
+        _ => true,
+    }
+}
+
+/// Why a token can't stand in a group that isn't closed.
+fn unclosed_cause(group: Group, else_if: Option<u32>) -> Cause
+    ensures { result ≡ unclosed_cause group else_if }
+{
+    match (group, else_if) {
+        (Group::If, Some(_)) => Cause::UnclosedElseIf,
+        _ => Cause::Unclosed,
+    }
+}
+
+/// Why a text ends too early, where this is open last.
+fn end_cause(last: Option<Open>, else_if: Option<u32>) -> Cause
+    ensures { result ≡ end_cause last else_if }
+{
+    match last {
+        None => Cause::EndEarly,
+        Some(last) => match unclosed_cause(last.group, else_if) {
+            Cause::UnclosedElseIf => Cause::EndElseIf,
+            _ => Cause::EndUnclosed,
+        },
+    }
+}
+
+/// The line of the first `ELSE IF` from the token of this number on.
+fn else_if_from(reading: &Reading<'_>, number: usize) -> Option<u32>
+    ensures { IsFirstElseIf reading.now.tokens.now number result }
+{
+    for at in number..reading.tokens.len() {
+        if is_if(reading.kind(at)) && is_else(reading.kind_before(at)) {
+            return Some(reading.line(at));
         }
-        None => 0,
-    };
-    let Some(text) = reading.text.get(..end) else {
-        return Ok(());
-    };
-    if text.len() > MAX_PROBED_BYTES {
-        return Ok(());
     }
-    let mut allowed = String::new(alloc);
-    if push_allowed(alloc, &mut allowed, text)? {
-        words.more.push_str("  note: here could stand: ")?;
-        words.more.push_str(allowed.as_str())?;
-        words.more.push('\n')?;
-    }
-    Ok(())
+    None
 }

@@ -1,0 +1,4 @@
+pub mod Assigned
+pub mod Literals
+pub mod Rows
+pub mod Types

@@ -1,7 +1,12 @@
 //! What is said of what may not be assigned.
+ghost use Rattle.std.specs.Prelude.{◌≡◌};
+ghost use Rattle.st_types.specs.Scopes.{scope_at};
+ghost use Rattle.st_type_messages.specs.Assigned.{counter_cause, is_number, part_cause, purpose_cause, purpose_of};
 
+use crate::cause::Cause;
+use crate::rows::tell;
 use st_check_expressions::elem_of;
-use st_messages::Draft;
+use st_messages::{Draft, Slot};
 use st_operators::is_integer;
 use st_scopes::Scope;
 use st_sites::{Site, reached};
@@ -11,83 +16,88 @@ use st_types::Purpose;
 /// Says why something may not be assigned.
 pub fn explain_assigned(draft: &mut Draft, scope: &Scope<'_>, site: Option<Site<'_>>) {
     match site {
-        Some(Site::Target(variable)) => say_target(draft, scope, variable),
-        Some(Site::Counter(name)) => say_counter(draft, scope, name.spelling.as_slice()),
+        Some(Site::Target(variable)) => {
+            let name = variable.name.spelling.as_slice();
+            tell(draft, target_cause(scope, variable), &[Slot::Name(name)]);
+        }
+        Some(Site::Counter(name)) => {
+            let name = name.spelling.as_slice();
+            tell(draft, counter_cause(scope, name), &[Slot::Name(name)]);
+        }
         Some(Site::Association(association)) => {
-            say_purpose(draft, scope, association.name.spelling.as_slice());
+            let name = association.name.spelling.as_slice();
+            if let Some(cause) = purpose_cause(purpose_of(scope, name)) {
+                tell(draft, cause, &[Slot::Name(name)]);
+            }
         }
         _ => {}
     }
 }
 
-/// Says it where a name is a constant or an input. Answers whether it is.
-fn say_purpose(draft: &mut Draft, scope: &Scope<'_>, name: &[u8]) -> bool {
-    let (what, help) = match purpose_of(scope, name) {
-        Some(Purpose::Constant) => (
-            " is a constant, and can't be assigned",
-            "declare it in VAR without CONSTANT, or assign to another variable",
-        ),
-        Some(Purpose::Input) => (
-            " is an input, and only its caller or the process sets it",
-            "copy it to a variable of VAR, and assign to that",
-        ),
-        _ => return false,
-    };
-    draft.quote(name);
-    draft.say(what);
-    draft.help(help);
-    true
+/// Why what is for this purpose may not be assigned.
+fn purpose_cause(purpose: Option<Purpose>) -> Option<Cause>
+    ensures { result ≡ purpose_cause purpose }
+{
+    match purpose {
+        Some(Purpose::Constant) => Some(Cause::Constant),
+        Some(Purpose::Input) => Some(Cause::Input),
+        _ => None,
+    }
 }
 
 /// What the variable of this name is for.
-fn purpose_of(scope: &Scope<'_>, name: &[u8]) -> Option<Purpose> {
-    Some(scope.variable(name)?.purpose)
+fn purpose_of(scope: &Scope<'_>, name: &[u8]) -> Option<Purpose>
+    ensures { result ≡ purpose_of (scope_at scope.now) name.now }
+{
+    match scope.variable(name) {
+        Some(symbol) => Some(symbol.purpose),
+        None => None,
+    }
 }
 
-/// Says why a variable may not be assigned.
-fn say_target(draft: &mut Draft, scope: &Scope<'_>, variable: &Variable) {
+/// Why a variable may not be assigned.
+fn target_cause(scope: &Scope<'_>, variable: &Variable) -> Cause {
     let name = variable.name.spelling.as_slice();
-    if say_purpose(draft, scope, name) {
-        return;
+    match purpose_cause(purpose_of(scope, name)) {
+        Some(cause) => cause,
+        None => part_cause(
+            variable.parts.is_empty(),
+            reached(scope, variable, 0).is_none(),
+        ),
     }
-    let (what, help) = if variable.parts.is_empty() {
-        (
-            " is counted by a FOR loop around, and can't be assigned in it",
-            "assign to another variable, or use WHILE",
-        )
-    } else if reached(scope, variable, 0).is_none() {
-        (
-            " is a step, whose X and T only the chart sets",
-            "let a transition lead to the step",
-        )
-    } else {
-        (
-            " is, or holds, an instance of a function block, whose members can't be assigned from outside",
-            "give inputs where it is invoked, as `T1(IN := Go);`; its outputs can be read",
-        )
-    };
-    draft.quote(name);
-    draft.say(what);
-    draft.help(help);
 }
 
-/// Says why FOR may not count a variable.
-fn say_counter(draft: &mut Draft, scope: &Scope<'_>, name: &[u8]) {
-    if say_purpose(draft, scope, name) {
-        return;
-    }
-    draft.quote(name);
-    if is_number(scope, name) {
-        draft.say(" is counted by a FOR loop around already");
-        draft.help("let each loop count a variable of its own");
+/// Why a variable that is no constant and no input, or a part of it, may not be assigned.
+fn part_cause(is_whole: bool, is_step: bool) -> Cause
+    ensures { result ≡ part_cause is_whole is_step }
+{
+    if is_whole {
+        Cause::Counted
+    } else if is_step {
+        Cause::StepPart
     } else {
-        draft.say(" is no integer, and FOR counts integers alone");
-        draft.help("declare a variable of type INT for it");
+        Cause::InstancePart
+    }
+}
+
+/// Why FOR may not count a variable.
+fn counter_cause(scope: &Scope<'_>, name: &[u8]) -> Cause
+    ensures { result ≡ counter_cause (scope_at scope.now) name.now }
+{
+    if let Some(cause) = purpose_cause(purpose_of(scope, name)) {
+        return cause;
+    }
+    if is_number(scope, name) {
+        Cause::CountedTwice
+    } else {
+        Cause::NotCounted
     }
 }
 
 /// Whether a name is that of a variable of an integer type.
-fn is_number(scope: &Scope<'_>, name: &[u8]) -> bool {
+fn is_number(scope: &Scope<'_>, name: &[u8]) -> bool
+    ensures { result ≡ is_number (scope_at scope.now) name.now }
+{
     match scope.variable(name) {
         Some(symbol) => match elem_of(&symbol.shape) {
             Some(elem) => is_integer(elem),

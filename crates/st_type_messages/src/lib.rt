@@ -3,7 +3,9 @@
 #![tactic(auto)]
 
 mod assigned;
+mod cause;
 mod literals;
+mod rows;
 mod types;
 
 pub use assigned::explain_assigned;

@@ -1,17 +1,29 @@
 //! What is said of literals that are out of range.
+ghost use Rattle.std.specs.Prelude.{◌≡◌};
+ghost use Rattle.st_type_messages.specs.Literals.{range_cause, wider_than};
 
-use st_messages::{Draft, Lexed};
+use crate::cause::Cause;
+use crate::rows::tell;
+use st_messages::{Draft, Lexed, Slot};
 use st_sites::Site;
 use st_tree::tree::{Constant, Expression, SignedInteger};
 use st_types::Due;
-use st_values::{Class, Elem};
+use st_values::Elem;
 
 /// Says which range a literal or a bound is outside of.
 pub fn explain_range(draft: &mut Draft, lexed: Lexed<'_>, at: u32, site: Option<Site<'_>>) {
     if let Some(Site::Bound(upper, Some(lower))) = site
         && is_within_lint(upper)
     {
-        say_bound(draft, lexed, at, lower.position.number);
+        let (sign, number) = lexed.literal(at);
+        let (lower_sign, lower_number) = lexed.literal(lower.position.number);
+        let slots = [
+            Slot::Bytes(sign),
+            Slot::Bytes(number),
+            Slot::Bytes(lower_sign),
+            Slot::Bytes(lower_number),
+        ];
+        tell(draft, Cause::BoundsCross, &slots);
     } else {
         say_outside(draft, lexed, at, range_at(site));
     }
@@ -42,59 +54,68 @@ fn due_of(constant: &Constant, due: Due) -> Option<Elem> {
 
 /// Says that a literal is outside the range of a type, or of all types.
 fn say_outside(draft: &mut Draft, lexed: Lexed<'_>, at: u32, elem: Option<Elem>) {
-    draft.say("`");
-    lexed.say_literal(draft, at);
+    let (sign, number) = lexed.literal(at);
     match elem {
         Some(elem) => {
-            draft.say("` is outside the range of ");
-            draft.show(elem.name());
-            draft.say(", ");
-            say_range(draft, elem);
-            if let Some(help) = wider(elem) {
-                draft.help(help);
-            }
+            let slots = [
+                Slot::Bytes(sign),
+                Slot::Bytes(number),
+                Slot::Bytes(elem.name()),
+                Slot::Words(range_of(elem)),
+                Slot::Words(wider_than(elem)),
+            ];
+            tell(draft, range_cause(elem), &slots);
         }
-        None => {
-            draft.say("` is outside the range of all types");
-            draft.note(
-                "the widest range are those of LINT, -9223372036854775808 to 9223372036854775807, and of ULINT, 0 to 18446744073709551615",
-            );
-        }
+        None => tell(
+            draft,
+            Cause::OutOfAll,
+            &[Slot::Bytes(sign), Slot::Bytes(number)],
+        ),
     }
 }
 
-/// Says the range of a type.
-pub fn say_range(draft: &mut Draft, elem: Elem) {
-    let limit = elem.limit();
-    let (least, between, end) = match elem.class() {
-        Class::Boolean => return draft.say("0 and 1, or FALSE and TRUE"),
-        Class::Duration => ("T#-", "ms to T#", "ms"),
-        _ if elem.is_signed() => ("-", " to ", ""),
-        _ => ("0", " to ", ""),
-    };
-    draft.say(least);
-    if elem.is_signed() {
-        draft.number(limit.cast_signed());
-    }
-    draft.say(between);
-    draft.number(limit.saturating_sub(1).cast_signed());
-    draft.say(end);
-}
-
-/// What to do about a number that a type doesn't hold.
-fn wider(elem: Elem) -> Option<&'static str> {
+/// The range of a type.
+pub fn range_of(elem: Elem) -> &'static str {
     match elem {
-        Elem::Bool => Some("compare, as `A <> 0`"),
-        Elem::Sint => Some("choose a wider type, as INT"),
-        Elem::Usint => Some("choose a wider type, as UINT"),
-        Elem::Int => Some("choose a wider type, as DINT"),
-        Elem::Uint => Some("choose a wider type, as UDINT"),
-        Elem::Dint => Some("choose a wider type, as LINT"),
-        Elem::Udint => Some("choose a wider type, as ULINT"),
-        Elem::Byte => Some("choose a wider type, as WORD"),
-        Elem::Word => Some("choose a wider type, as DWORD"),
-        Elem::Dword => Some("choose a wider type, as LWORD"),
-        _ => None,
+        Elem::Bool => "0 and 1, or FALSE and TRUE",
+        Elem::Sint => "-128 to 127",
+        Elem::Int => "-32768 to 32767",
+        Elem::Dint => "-2147483648 to 2147483647",
+        Elem::Lint => "-9223372036854775808 to 9223372036854775807",
+        Elem::Usint | Elem::Byte => "0 to 255",
+        Elem::Uint | Elem::Word => "0 to 65535",
+        Elem::Udint | Elem::Dword => "0 to 4294967295",
+        Elem::Ulint | Elem::Lword => "0 to 18446744073709551615",
+        Elem::Time => "T#-9223372036854775808ms to T#9223372036854775807ms",
+    }
+}
+
+/// What is said of a number that a type doesn't hold.
+fn range_cause(elem: Elem) -> Cause
+    ensures { result ≡ range_cause elem }
+{
+    match elem {
+        Elem::Bool => Cause::OutOfBool,
+        Elem::Lint | Elem::Ulint | Elem::Lword | Elem::Time => Cause::OutOfRange,
+        _ => Cause::OutOfNarrow,
+    }
+}
+
+/// A type that is wider. It is empty where none is.
+fn wider_than(elem: Elem) -> &'static str
+    ensures { result.now ≡ wider_than elem }
+{
+    match elem {
+        Elem::Sint => "INT",
+        Elem::Usint => "UINT",
+        Elem::Int => "DINT",
+        Elem::Uint => "UDINT",
+        Elem::Dint => "LINT",
+        Elem::Udint => "ULINT",
+        Elem::Byte => "WORD",
+        Elem::Word => "DWORD",
+        Elem::Dword => "LWORD",
+        _ => "",
     }
 }
 
@@ -103,14 +124,4 @@ fn is_within_lint(bound: &SignedInteger) -> bool {
     let limit = Elem::Lint.limit();
     let distance = bound.magnitude.get();
     distance < limit || (distance == limit && bound.is_negative)
-}
-
-/// Says that an upper bound is below the lower one.
-fn say_bound(draft: &mut Draft, lexed: Lexed<'_>, upper: u32, lower: u32) {
-    draft.say("the upper bound `");
-    lexed.say_literal(draft, upper);
-    draft.say("` is below the lower bound `");
-    lexed.say_literal(draft, lower);
-    draft.say("`");
-    draft.help("write the lower bound first, as `[1..10]`");
 }

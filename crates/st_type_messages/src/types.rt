@@ -1,8 +1,13 @@
 //! What is said where a type is expected and another one found.
 
-use crate::literals::say_range;
+ghost use Rattle.std.specs.Prelude.{◌≡◌};
+ghost use Rattle.st_type_messages.specs.Types.{conversion_cause, due_cause, initial_cause, whole_cause};
+
+use crate::cause::Cause;
+use crate::literals::range_of;
+use crate::rows::tell;
 use st_check_expressions::{compares, elem_of, is_unknown};
-use st_messages::{Draft, Lexed};
+use st_messages::{Draft, Lexed, Slot};
 use st_operators::{is_comparison, is_integer};
 use st_scopes::{Declared, Scope, Tables};
 use st_sites::{Site, elements_of, operand_due, own, reached, target_shape};
@@ -36,10 +41,10 @@ pub fn explain_type(
             say_association(draft, scope, association.name.spelling.as_slice());
         }
         Some(Site::Type(name)) => {
-            draft.quote(name.spelling.as_slice());
-            draft.say(" can't be the type here");
-            draft.help(
-                "programs and functions are no types; an instance of a function block stands in VAR of a program or a block, alone",
+            tell(
+                draft,
+                Cause::NoType,
+                &[Slot::Name(name.spelling.as_slice())],
             );
         }
         Some(Site::Declared(_)) => say_declared(draft, lexed, tables, unit, at),
@@ -50,19 +55,19 @@ pub fn explain_type(
 
 /// Says why something can't be declared so.
 fn say_declared(draft: &mut Draft, lexed: Lexed<'_>, tables: &Tables<'_>, unit: usize, at: u32) {
-    draft.quote(lexed.spelling(at));
+    let cause = declared_cause(tables, unit, at);
+    tell(draft, cause, &[Slot::Name(lexed.spelling(at))]);
+}
+
+/// Why what is named at a token can't be declared so.
+fn declared_cause(tables: &Tables<'_>, unit: usize, at: u32) -> Cause {
     if unit >= tables.len() {
-        return draft.say(" can't be declared so");
+        return Cause::Undeclarable;
     }
-    let (what, help) = match declared_at(tables.declared(unit), at) {
+    match declared_at(tables.declared(unit), at) {
         Some(declared) => misdeclared(tables, tables.unit(unit).kind, declared),
-        None => (
-            " can't begin so",
-            "structures and instances have no initial value, and a list has no more values than its array has elements",
-        ),
-    };
-    draft.say(what);
-    draft.help(help);
+        None => Cause::BeginsOtherwise,
+    }
 }
 
 /// What is declared at the token of this number.
@@ -75,95 +80,82 @@ fn declared_at<'d, 'a>(declared: &'d [Declared<'a>], at: u32) -> Option<&'d Decl
     None
 }
 
-/// What is wrong with a declaration, and what to do.
-fn misdeclared(
-    tables: &Tables<'_>,
-    unit: UnitKind<'_>,
-    declared: &Declared<'_>,
-) -> (&'static str, &'static str) {
+/// What is wrong with a declaration.
+fn misdeclared(tables: &Tables<'_>, unit: UnitKind<'_>, declared: &Declared<'_>) -> Cause {
     let shape = tables.shape_of(&declared.declaration.specification);
     let is_function = matches!(unit, UnitKind::Function(_));
     let is_constant = matches!(declared.kind, VarKind::Constant);
+    let is_compound = !shape.is_value() && !is_unknown(shape.base);
     if is_function && matches!(declared.kind, VarKind::Output) {
-        return (
-            " is an output, and a function has none",
-            "the function's own name is its result; a function block has outputs",
-        );
+        Cause::FunctionOutput
+    } else if (is_function || is_constant) && is_compound {
+        Cause::NotSingle
+    } else {
+        initial_cause(shape.base)
     }
-    if (is_function || is_constant) && !shape.is_value() && !is_unknown(shape.base) {
-        return (
-            " is no single value, as each variable of a function and each constant has to be",
-            "use single values, or a function block",
-        );
-    }
-    if let Base::Block(_) | Base::Standard(_) = shape.base {
-        return (
-            " is an instance of a function block, which stands in VAR of a program or a block, alone, and has no initial value",
-            "declare it there, without an initial value",
-        );
-    }
-    if let Base::Structure(_) = shape.base {
-        return (
-            " is made of structures, which have no initial value here",
-            "give the members their initial values in the STRUCT",
-        );
-    }
-    (
-        " begins with more values than it has elements",
-        "leave values out, or declare more elements",
-    )
 }
 
-/// Says what is due.
-fn say_due(draft: &mut Draft, due: Due) {
+/// What is wrong with the initial value of a variable whose elements, or which itself, are this.
+fn initial_cause(base: Base) -> Cause
+    ensures { result ≡ initial_cause base }
+{
+    match base {
+        Base::Block(_) | Base::Standard(_) => Cause::InstanceDeclared,
+        Base::Structure(_) => Cause::StructureInitial,
+        _ => Cause::ListTooLong,
+    }
+}
+
+/// What is due, in words.
+fn due_words<'d>(due: Due) -> Slot<'d> {
     match due {
-        Due::Type(elem) => draft.show(elem.name()),
-        Due::Integer => draft.say("an integer"),
-        Due::NoValue => draft.say("nothing"),
-        Due::Any => draft.say("a single value"),
+        Due::Type(elem) => Slot::Bytes(elem.name()),
+        Due::Integer => Slot::Words("an integer"),
+        Due::NoValue => Slot::Words("nothing"),
+        Due::Any => Slot::Words("a single value"),
     }
 }
 
-/// Says that a type is expected, and what is found.
-fn say_expected(draft: &mut Draft, due: Due, found: Elem) {
-    draft.say("expected ");
-    say_due(draft, due);
-    draft.say(", found ");
-    draft.show(found.name());
-}
-
-/// Says that a type is expected, what is found, and which conversion would do, where there is one.
+/// Says that a type is expected, what is found, and which conversion of this value would do, where there is one.
 fn say_conversion(draft: &mut Draft, found: Elem, due: Due, value: &[u8]) {
-    say_expected(draft, due, found);
+    let range = match due {
+        Due::Type(elem) => range_of(elem),
+        _ => "",
+    };
+    let slots = [
+        due_words(due),
+        Slot::Bytes(found.name()),
+        Slot::Bytes(value),
+        Slot::Words(range),
+    ];
+    tell(draft, due_cause(found, due), &slots);
+}
+
+/// What is said where a type is found, and this is due.
+fn due_cause(found: Elem, due: Due) -> Cause
+    ensures { result ≡ due_cause found due }
+{
     match due {
-        Due::Type(Elem::Bool) => draft.help("compare, as `A <> 0`"),
-        Due::Type(Elem::Time) => draft.help(
-            "TIME converts from no other type: write a duration, as `T#500ms`, or declare a TIME",
-        ),
-        Due::Type(_) if found.is(Elem::Time) => {
-            draft.help("TIME converts into no other type: compare durations, as `T1.ET >= T#5s`");
-        }
-        Due::Type(elem) => say_converted(draft, found, elem, value),
-        Due::Integer => draft.help("an index, a selector and a count of a shift are integers"),
-        Due::Any | Due::NoValue => {}
+        Due::Type(elem) => conversion_cause(found, elem),
+        Due::Integer => Cause::ExpectedInteger,
+        Due::Any | Due::NoValue => Cause::Expected,
     }
 }
 
-/// Says how a value is converted, and where that may change it.
-fn say_converted(draft: &mut Draft, from: Elem, to: Elem, value: &[u8]) {
-    draft.help("convert it: `");
-    draft.show(from.name());
-    draft.say("_TO_");
-    draft.show(to.name());
-    draft.say("(");
-    draft.show(value);
-    draft.say(")`");
-    if from.limit() > to.limit() || (from.is_signed() && !to.is_signed()) {
-        draft.note("values outside ");
-        draft.show(to.name());
-        draft.say(" (");
-        say_range(draft, to);
-        draft.say(") wrap");
+/// What is said where a type is found, and another one is due.
+fn conversion_cause(found: Elem, due: Elem) -> Cause
+    ensures { result ≡ conversion_cause found due }
+{
+    if due.is(Elem::Bool) {
+        Cause::ExpectedBool
+    } else if due.is(Elem::Time) {
+        Cause::ExpectedTime
+    } else if found.is(Elem::Time) {
+        Cause::FoundTime
+    } else if found.limit() > due.limit() || (found.is_signed() && !due.is_signed()) {
+        Cause::Wrapped
+    } else {
+        Cause::Converted
     }
 }
 
@@ -183,8 +175,8 @@ fn say_expression(
             let shape = target_shape(alloc, scope, variable)?;
             say_variable(draft, &shape, variable, due);
         }
-        Expression::Negate(_, _) => say_taken(draft, b"-", "integers and TIME", due),
-        Expression::Not(_, _) => say_taken(draft, b"NOT", "BOOL and bit strings", due),
+        Expression::Negate(_, _) => say_untaken(draft, b"-", "integers and TIME", due),
+        Expression::Not(_, _) => say_untaken(draft, b"NOT", "BOOL and bit strings", due),
         Expression::Call(call) => {
             let found = own(alloc, scope, part)?;
             say_call(draft, call.name.spelling.as_slice(), found, due);
@@ -259,28 +251,14 @@ fn written(variable: &Variable) -> &[u8] {
 }
 
 /// Says which types an operator takes, where another one is due.
-fn say_taken(draft: &mut Draft, operator: &[u8], taken: &str, due: Due) {
-    draft.quote(operator);
-    draft.say(" takes ");
-    draft.say(taken);
-    say_due_here(draft, due);
-}
-
-/// Says that a type is due here.
-fn say_due_here(draft: &mut Draft, due: Due) {
-    draft.say(", and ");
-    say_due(draft, due);
-    draft.say(" is due here");
+fn say_untaken(draft: &mut Draft, operator: &[u8], taken: &'static str, due: Due) {
+    let slots = [Slot::Name(operator), Slot::Words(taken), due_words(due)];
+    tell(draft, Cause::Untaken, &slots);
 }
 
 /// Says that a standard function doesn't give what is due.
 fn say_function(draft: &mut Draft, name: &[u8], due: Due) {
-    draft.quote(name);
-    draft.say(" doesn't give ");
-    say_due(draft, due);
-    draft.note(
-        "ABS takes integers; SHL, SHR, ROL and ROR take BYTE, WORD, DWORD and LWORD; MIN, MAX, LIMIT and SEL take values of one type",
-    );
+    tell(draft, Cause::NotGiven, &[Slot::Name(name), due_words(due)]);
 }
 
 /// Says why operators don't give or take what is due.
@@ -290,12 +268,8 @@ fn say_operators(draft: &mut Draft, lexed: Lexed<'_>, operations: &[Operation], 
         None => b"",
     };
     match untaken(operations, due) {
-        Some(taken) if !compares(operations) => say_taken(draft, first, taken, due),
-        _ => {
-            draft.quote(first);
-            draft.say(" compares and gives a BOOL");
-            say_due_here(draft, due);
-        }
+        Some(taken) if !compares(operations) => say_untaken(draft, first, taken, due),
+        _ => tell(draft, Cause::Compared, &[Slot::Name(first), due_words(due)]),
     }
 }
 
@@ -344,62 +318,65 @@ fn say_constant(draft: &mut Draft, lexed: Lexed<'_>, constant: &Constant, due: D
     match constant {
         Constant::Integer(number) => say_number(draft, lexed, number.position.number, due),
         Constant::Typed(_, value) => {
-            say_expected(draft, due, value.get().elem);
-            draft.help(
-                "write the literal of the type that is expected, or a number without a type",
-            );
+            let found = value.get().elem;
+            let slots = [due_words(due), Slot::Bytes(found.name())];
+            tell(draft, Cause::TypedLiteral, &slots);
         }
         Constant::Duration(_) => {
-            say_expected(draft, due, Elem::Time);
-            draft.help("TIME converts into no other type: write a number");
+            let slots = [due_words(due), Slot::Bytes(Elem::Time.name())];
+            tell(draft, Cause::FoundDuration, &slots);
         }
-        Constant::Bool(position, _) => match due {
-            Due::Type(elem) if !elem.is(Elem::Time) => {
-                say_conversion(draft, Elem::Bool, due, lexed.spelling(position.number));
-            }
-            _ => say_expected(draft, due, Elem::Bool),
-        },
+        Constant::Bool(position, _) => say_truth(draft, lexed.spelling(position.number), due),
+    }
+}
+
+/// Says why TRUE or FALSE, as it is written, isn't what is due.
+fn say_truth(draft: &mut Draft, written: &[u8], due: Due) {
+    match due {
+        Due::Type(elem) if !elem.is(Elem::Time) => {
+            say_conversion(draft, Elem::Bool, due, written);
+        }
+        _ => {
+            let slots = [due_words(due), Slot::Bytes(Elem::Bool.name())];
+            tell(draft, Cause::Expected, &slots);
+        }
     }
 }
 
 /// Says why the number at a token isn't what is due.
 fn say_number(draft: &mut Draft, lexed: Lexed<'_>, at: u32, due: Due) {
-    draft.say("expected ");
-    say_due(draft, due);
-    draft.say(", found the number ");
-    lexed.say_literal(draft, at);
-    if let Due::Type(Elem::Time) = due {
-        draft.help("write a duration, as `T#");
-        draft.show(lexed.spelling(at));
-        draft.say("ms`");
-    }
+    let (sign, number) = lexed.literal(at);
+    let cause = match due {
+        Due::Type(Elem::Time) => Cause::NumberForTime,
+        _ => Cause::FoundNumber,
+    };
+    let slots = [
+        due_words(due),
+        Slot::Bytes(sign),
+        Slot::Bytes(number),
+        Slot::Bytes(lexed.spelling(at)),
+    ];
+    tell(draft, cause, &slots);
 }
 
 /// Says that a whole array, structure or instance stands for a value.
 fn say_whole(draft: &mut Draft, shape: &Shape<'_>, variable: &Variable) {
-    draft.quote(variable.name.spelling.as_slice());
-    let (what, help) = match shape.base {
-        _ if shape.subscripts.is_some() => WHOLE_ARRAY,
-        Base::Array(_) => WHOLE_ARRAY,
-        Base::Structure(_) => (
-            " is a whole structure, and a single value is due here",
-            "name one member, as `S.Member`, and assign member by member",
-        ),
-        Base::Block(_) | Base::Standard(_) => (
-            " is an instance, and a single value is due here",
-            "name one of its outputs, as `T1.Q`",
-        ),
-        _ => return draft.say(" is no single value"),
-    };
-    draft.say(what);
-    draft.help(help);
+    let name = variable.name.spelling.as_slice();
+    tell(draft, whole_cause(shape), &[Slot::Name(name)]);
 }
 
-/// What is said of a whole array, and what to do.
-const WHOLE_ARRAY: (&str, &str) = (
-    " is a whole array, and a single value is due here",
-    "name one element, as `A[1]`",
-);
+/// What is said of a whole array, structure or instance that stands for a value.
+fn whole_cause(shape: &Shape<'_>) -> Cause
+    ensures { result ≡ whole_cause shape.now }
+{
+    match shape.base {
+        _ if shape.subscripts.is_some() => Cause::WholeArray,
+        Base::Array(_) => Cause::WholeArray,
+        Base::Structure(_) => Cause::WholeStructure,
+        Base::Block(_) | Base::Standard(_) => Cause::WholeInstance,
+        _ => Cause::NoValue,
+    }
+}
 
 /// Says why a variable doesn't take a value.
 fn say_target(
@@ -409,13 +386,11 @@ fn say_target(
     variable: &Variable,
 ) -> Result<(), AllocError> {
     let shape = target_shape(alloc, scope, variable)?;
+    let name = variable.name.spelling.as_slice();
     match elem_of(&shape) {
         Some(elem) => {
-            draft.quote(variable.name.spelling.as_slice());
-            draft.say(" is ");
-            draft.show(elem.name());
-            draft.say(", and the output has another type");
-            draft.help("let a variable of the output's type take it, and convert that");
+            let slots = [Slot::Name(name), Slot::Bytes(elem.name())];
+            tell(draft, Cause::OutputType, &slots);
         }
         None => say_whole(draft, &shape, variable),
     }
@@ -424,18 +399,19 @@ fn say_target(
 
 /// Says why subscripts don't fit what stands before them.
 fn say_subscripts(draft: &mut Draft, scope: &Scope<'_>, variable: &Variable, number: usize) {
-    draft.quote(variable.name.spelling.as_slice());
+    let name = Slot::Name(variable.name.spelling.as_slice());
     let Some(shape) = reached(scope, variable, number) else {
-        return draft.say(" has no elements");
+        return tell(draft, Cause::NoElements, &[name]);
     };
     let Some(elements) = elements_of(scope, &shape) else {
-        return draft.say(" is no array here, and has no elements");
+        return tell(draft, Cause::NoArray, &[name]);
     };
-    draft.say(" has elements of another number of subscripts: ");
-    draft.number(elements.subscripts.len() as i128);
-    draft.say(", and not ");
-    draft.number(count_subscripts(variable, number) as i128);
-    draft.help("write all of them in one pair of brackets, as `A[1, 2]`");
+    let slots = [
+        name,
+        Slot::Number(elements.subscripts.len() as u64),
+        Slot::Number(count_subscripts(variable, number) as u64),
+    ];
+    tell(draft, Cause::OtherSubscripts, &slots);
 }
 
 /// How many subscripts the part of this number of a variable has.
@@ -448,17 +424,15 @@ fn count_subscripts(variable: &Variable, number: usize) -> usize {
 
 /// Says why a step can't switch a variable.
 fn say_association(draft: &mut Draft, scope: &Scope<'_>, name: &[u8]) {
-    draft.quote(name);
-    match scope.variable(name) {
-        Some(symbol) => match elem_of(&symbol.shape) {
-            Some(elem) => {
-                draft.say(" is ");
-                draft.show(elem.name());
-            }
-            None => draft.say(" is no single value"),
-        },
-        None => draft.say(" is no variable"),
+    let found = match scope.variable(name) {
+        Some(symbol) => elem_of(&symbol.shape),
+        None => return tell(draft, Cause::SwitchedUnknown, &[Slot::Name(name)]),
+    };
+    match found {
+        Some(elem) => {
+            let slots = [Slot::Name(name), Slot::Bytes(elem.name())];
+            tell(draft, Cause::SwitchedType, &slots);
+        }
+        None => tell(draft, Cause::SwitchedWhole, &[Slot::Name(name)]),
     }
-    draft.say(", and a step switches BOOL variables and actions");
-    draft.help("write an ACTION that assigns to it, and name that in the step");
 }
